@@ -1,0 +1,3 @@
+mod SymbolLemmas
+mod WorkedSessions
+mod WorkedBooks

@@ -1,0 +1,6 @@
+pub mod History
+pub mod Spelling
+pub mod Orders
+pub mod Match
+pub mod Requests
+pub mod Step

@@ -1,0 +1,41 @@
+-- Resting orders: what is left of one, which cross, and which stands ahead of which
+-- (docs/PROFILE.md, "Matching").
+use Rattle.std.specs.Prelude.{ℕ, ◌-◌, Bool, true, false, ◌&&◌, ◌||◌, nat_eq, nat_lt, nat_le}
+use Rattle.std.specs.Str.{bytes_eq}
+use Rattle.venue_model.specs.declared.orders.Side.{Side}
+use Rattle.venue_model.specs.declared.orders.Side.TheVariants.{Buy, Sell}
+use Rattle.venue_model.specs.declared.orders.Order.{Order}
+
+-- LeavesQty (151): what is left to fill
+abbrev pub leaves : Order → ℕ
+leaves o = o.total - o.cum
+
+-- something is left
+abbrev pub is_live : Order → Bool
+is_live o = nat_lt 0 (leaves o)
+
+abbrev pub same_side : Side → Side → Bool
+same_side Buy Buy = true
+same_side Sell Sell = true
+same_side Buy Sell = false
+same_side Sell Buy = false
+
+-- an order of this side and price accepts the price of one of the other side
+abbrev pub meets : Side → ℕ → Side → ℕ → Bool
+meets Buy p Sell q = nat_le q p
+meets Sell p Buy q = nat_le p q
+meets Buy p Buy q = false
+meets Sell p Sell q = false
+
+-- a buy crosses the sells of its symbol at its price or below, a sell the buys at its price or above
+abbrev pub crosses : Order → Order → Bool
+crosses incoming o = bytes_eq incoming.symbol o.symbol && meets incoming.side incoming.price o.side o.price
+
+-- a price that is better for the other side: a higher bid, a lower offer
+abbrev pub is_better : Side → ℕ → ℕ → Bool
+is_better Buy p q = nat_lt q p
+is_better Sell p q = nat_lt p q
+
+-- price-time priority: a better price, or the same price and an earlier stamp
+abbrev pub ahead : Order → Order → Bool
+ahead a b = is_better a.side a.price b.price || (nat_eq a.price b.price && nat_lt a.stamp b.stamp)

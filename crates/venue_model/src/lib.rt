@@ -1,0 +1,23 @@
+//! What the venue is about: entries, commands, outputs, resting orders, and the symbols that are traded.
+//! Each crate above speaks of these; `specs/` has what they mean: the history, the book and its step.
+#![tactic(auto)]
+
+mod commands;
+mod entries;
+mod logic;
+mod orders;
+mod outputs;
+mod symbol;
+
+pub use commands::{
+    Command, Malformed, NewOrderSingle, OrderCancelReplaceRequest, OrderCancelRequest, RefMsgType,
+    SessionRejectReason, TimeInForce,
+};
+pub use entries::Entry;
+pub use logic::{Kept, Logic};
+pub use orders::{Order, Side};
+pub use outputs::{
+    CxlRejReason, CxlRejResponseTo, ExecType, ExecutionReport, OrdRejReason, OrderCancelReject,
+    Output, Report,
+};
+pub use symbol::Symbol;

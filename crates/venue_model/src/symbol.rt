@@ -1,0 +1,77 @@
+//! The name of what is traded, as orders carry it.
+ghost use Rattle.std.specs.Prelude.{◌≡◌, ◌↔◌, IsTrue, MatchOption};
+ghost use Rattle.std.specs.List.{list_all};
+ghost use Rattle.venue_model.specs.Spelling.{IsSpelling, is_symbol_byte};
+
+use std::marker::Model;
+
+/// Symbol (55): 1 to 8 bytes of `A` to `Z` and `0` to `9`, kept in place. Contracts see the bytes.
+#[derive(Clone, Copy, PartialEq, Eq, Hash)]
+pub struct Symbol {
+    bytes: [u8; 8],
+    len: u8,
+}
+
+impl Model for Symbol {
+    ghost use Rattle.std.specs.Prelude.{List, ℕ, length, take};
+    ghost use Rattle.venue_model.specs.Spelling.{KeepsSymbol, padded, padded-take, kept_length};
+
+    ghost Value = { List ℕ };
+
+    ghost view = { λ s. take s.len s.bytes };
+
+    ghost invariant = { λ s. KeepsSymbol s.bytes s.len };
+
+    ghost inverse = { λ name. record { bytes = padded name; len = length name } };
+
+    ghost inverse_ok = { λ s keeps i. record {
+      bytes = padded-take s.bytes s.len keeps i;
+      len = kept_length s.bytes s.len keeps i;
+    } };
+}
+
+impl Symbol {
+    /// The symbol that the bytes spell, or `None` where they spell none.
+    pub fn new(name: &[u8]) -> Option<Symbol>
+        ensures { MatchOption result (IsSpelling name.now → ⊥) (λ s. s ≡ name.now) }
+    {
+        if !is_name(name) {
+            return None;
+        }
+        let mut bytes = [0; 8];
+        bytes[..name.len()].copy_from_slice(name);
+        Some(Symbol {
+            bytes,
+            len: name.len() as u8,
+        })
+    }
+
+    /// The bytes that spell it.
+    pub fn as_bytes(&self) -> &[u8]
+        ensures value { result.now ≡ self.now }
+        ensures spelling { IsSpelling self.now }
+    {
+        &self.bytes[..self.len as usize]
+    }
+}
+
+/// Whether the bytes spell a symbol.
+fn is_name(name: &[u8]) -> bool
+    ensures { IsTrue result ↔ IsSpelling name.now }
+{
+    0 < name.len() && name.len() <= 8 && has_name_bytes(name)
+}
+
+/// Whether each byte may stand in a symbol.
+fn has_name_bytes(name: &[u8]) -> bool
+    ensures { result ≡ list_all is_symbol_byte name.now }
+{
+    name.iter().all(|b| is_name_byte(*b))
+}
+
+/// Whether the byte may stand in a symbol.
+fn is_name_byte(byte: u8) -> bool
+    ensures { result ≡ is_symbol_byte byte }
+{
+    byte.is_ascii_uppercase() || byte.is_ascii_digit()
+}
