@@ -1,3 +1,4 @@
 mod SymbolLemmas
+mod TableLemmas
 mod WorkedSessions
 mod WorkedBooks

@@ -1,6 +1,7 @@
 -- How a symbol is spelled (Symbol, tag 55; docs/PROFILE.md, "Formats").
-use Rattle.std.specs.Prelude.{◌≡◌, ℕ, ◌-◌, ◌≤◌, Bool, ◌&&◌, ◌||◌, IsTrue, List, ◌++◌, length, replicate, take, drop, nat_le}
-use Rattle.std.specs.List.{list_all}
+use Rattle.std.specs.Prelude.{◌≡◌, ℕ, ◌-◌, ◌≤◌, Bool, true, false, not, [], ◌∷◌, ◌&&◌, ◌||◌, IsTrue, List, ◌++◌, length, replicate, take, drop, nat_le}
+use Rattle.std.specs.List.{list_all, list_any, AllByRecursion}
+use Rattle.std.specs.Str.{bytes_eq}
 use Rattle.std.proofs.Common.{ap, sym, ◌∙◌, arith, take-append-drop, length-take-le}
 
 -- A to Z, 0 to 9
@@ -12,6 +13,23 @@ pub record IsSpelling (name : List ℕ) : Type 0 where
   pub some : 1 ≤ length name
   pub most : length name ≤ 8
   pub each : IsTrue (list_all is_symbol_byte name)
+
+-- no name stands twice
+abbrev pub all_differ : List (List ℕ) → Bool
+all_differ [] = true
+all_differ (name ∷ names) = not (list_any (λ other. bytes_eq other name) names) && all_differ names
+
+-- the names of a venue's symbols: 1 to 8, each spelled right, none twice
+pub record AreSymbols (names : List (List ℕ)) : Type 0 where
+  pub some : 1 ≤ length names
+  pub most : length names ≤ 8
+  pub each : AllByRecursion IsSpelling names
+  pub differ : IsTrue (all_differ names)
+
+-- a name that a table of these names can take
+pub record CanJoin (names : List (List ℕ)) (name : List ℕ) : Type 0 where
+  pub spelling : IsSpelling name
+  pub new : list_any (bytes_eq name) names ≡ false
 
 -- the name in eight bytes, zeros behind it
 abbrev pub padded : List ℕ → List ℕ

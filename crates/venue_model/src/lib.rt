@@ -8,6 +8,7 @@ mod logic;
 mod orders;
 mod outputs;
 mod symbol;
+mod symbols;
 
 pub use commands::{
     Command, Malformed, NewOrderSingle, OrderCancelReplaceRequest, OrderCancelRequest, RefMsgType,
@@ -21,3 +22,4 @@ pub use outputs::{
     Output, Report,
 };
 pub use symbol::Symbol;
+pub use symbols::{Limits, LimitsFault};

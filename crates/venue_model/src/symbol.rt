@@ -33,7 +33,7 @@ impl Model for Symbol {
 impl Symbol {
     /// The symbol that the bytes spell, or `None` where they spell none.
     pub fn new(name: &[u8]) -> Option<Symbol>
-        ensures { MatchOption result (IsSpelling name.now → ⊥) (λ s. s ≡ name.now) }
+        ensures { MatchOption result (IsSpelling name.now → ⊥) (λ s. (s ≡ name.now) × IsSpelling name.now) }
     {
         if !is_name(name) {
             return None;

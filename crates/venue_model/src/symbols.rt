@@ -1,0 +1,82 @@
+//! The table of the symbols that the venue trades, fixed for a run.
+ghost use Rattle.std.specs.Prelude.{◌≡◌, [], ◌∷◌, ◌++◌, map, string_bytes, IfOk, OnOk, IsErrOf};
+ghost use Rattle.std.specs.List.{list_any};
+ghost use Rattle.std.specs.Str.{bytes_eq};
+ghost use Rattle.venue_model.specs.Spelling.{AreSymbols, CanJoin};
+
+use crate::Symbol;
+use indexmap::IndexSet;
+use std::alloc::Global;
+use std::marker::Model;
+use thiserror::Error;
+
+/// Why a table of symbols can't be made.
+#[derive(Clone, Copy, Debug, PartialEq, Eq, Error)]
+pub enum LimitsFault {
+    /// 11: there is none, there are more than 8, one is no symbol, or one stands twice.
+    #[error("bad symbol")]
+    BadSymbol,
+    /// 12: memory was refused.
+    #[error("no memory")]
+    Memory,
+}
+
+/// The symbols (1 to 8) in the order of the command line, numbered by place. Contracts see the list.
+#[derive(Drop)]
+pub struct Limits {
+    symbols: IndexSet<Symbol>,
+}
+
+impl Model for Limits {
+    ghost use Rattle.std.specs.Prelude.{List, ℕ};
+    ghost use Rattle.venue_model.specs.Spelling.{AreSymbols};
+
+    ghost Value = { List (List ℕ) };
+
+    ghost view = { λ l. l.symbols.keys };
+
+    ghost invariant = { λ l. AreSymbols l.symbols.keys };
+}
+
+impl Limits {
+    /// The table of these names. `Memory` says nothing of the names.
+    pub fn new(alloc: Global, names: &[String]) -> Result<Limits, LimitsFault>
+        ensures names { IfOk result (λ limits. limits ≡ map string_bytes names.now) }
+        ensures good { IfOk result (λ _. AreSymbols (map string_bytes names.now)) }
+        ensures bad { IsErrOf result LimitsFault.BadSymbol → AreSymbols (map string_bytes names.now) → ⊥ }
+    {
+        if names.is_empty() || names.len() > 8 {
+            return Err(LimitsFault::BadSymbol);
+        }
+        let mut symbols = IndexSet::with_capacity(alloc, names.len()).map_err(
+            |_| LimitsFault::Memory,
+        )?;
+        for name in names {
+            add(&mut symbols, name.as_bytes())?;
+        }
+        Ok(Limits { symbols })
+    }
+
+    /// Whether the venue trades the symbol.
+    pub fn has(&self, symbol: &Symbol) -> bool
+        ensures { result ≡ list_any (bytes_eq symbol.now) self.now }
+    {
+        self.symbols.contains(symbol)
+    }
+}
+
+/// Puts a name behind the others, if it is a symbol and none of them.
+fn add(symbols: &mut IndexSet<Symbol>, name: &[u8]) -> Result<(), LimitsFault>
+    ensures can { OnOk result (CanJoin symbols.old.keys name.now) }
+    ensures added { OnOk result (symbols.new.keys ≡ symbols.old.keys ++ name.now ∷ []) }
+    ensures bad { IsErrOf result LimitsFault.BadSymbol → CanJoin symbols.old.keys name.now → ⊥ }
+{
+    let Some(symbol) = Symbol::new(name) else {
+        return Err(LimitsFault::BadSymbol);
+    };
+    match symbols.insert(symbol) {
+        Ok(true) => Ok(()),
+        Ok(false) => Err(LimitsFault::BadSymbol),
+        Err(_) => Err(LimitsFault::Memory),
+    }
+}
