@@ -1,0 +1,15 @@
+pub mod CutLemmas
+pub mod NumberLemmas
+pub mod FieldLemmas
+pub mod FieldsOf
+pub mod HeadLemmas
+pub mod HeadSteps
+pub mod WrongLemmas
+pub mod FrameLemmas
+pub mod RestSteps
+pub mod LiveLemmas
+pub mod FeedLemmas
+pub mod MessageLemmas
+pub mod WritingLemmas
+pub mod CutOnce
+pub mod Vectors

@@ -1,0 +1,45 @@
+-- Why bytes are no frame: one ends before them, they go wrong, or more would have to come.
+use Rattle.std.proofs.Common.{◌≡◌, ℕ, ◌≤◌, ◌<◌, List, [], ◌++◌, length, take, drop, refl, ap, sym, ◌∙◌, subst, arith}
+use Rattle.std.proofs.lemmas.List.{append-nil, take-append-drop, length-drop, take_all}
+use Rattle.fix_frame.specs.Grammar.{Field, IsFrame, frame_text, fields_of, most_in}
+use Rattle.fix_frame.specs.Stream.{IsWrong}
+use Rattle.fix_frame.specs.Stages.{IsLive, IsStanding, body_part}
+use Rattle.fix_frame.specs.declared.fault.FrameFault.{FrameFault}
+use Rattle.fix_frame.specs.declared.stage.Stage.{Stage}
+use Rattle.fix_frame.specs.declared.stage.Stage.TheVariants.{Head, Rest, Whole, Given, Faulty}
+use Rattle.fix_frame.proofs.FrameLemmas.{frame_right, one_frame}
+use Rattle.fix_frame.proofs.LiveLemmas.{not_yet}
+
+module _ (bytes : List ℕ) (fields : List Field) (is : IsFrame most_in bytes fields) where
+  text_is : frame_text fields ++ [] ≡ bytes
+  text_is = append-nil (frame_text fields) ∙ sym is.spells
+
+  standing_before : (at body : ℕ) → IsStanding (take at bytes) body → at < length bytes → ⊥
+  standing_before at body h early =
+      let gs = fields_of (body_part (take at bytes) body) in
+      let longer : frame_text gs ++ drop at bytes ≡ frame_text fields ++ [] = ap (λ k. k ++ drop at bytes)
+      (sym h.framed.spells) ∙ take-append-drop at bytes ∙ sym text_is in
+      let none = (one_frame gs fields (drop at bytes) [] h.framed.body is.body longer).1 in
+      omega (arith, ap length none, length-drop at bytes)
+
+  -- no frame stands before the end
+  pub frame_before : (stage : Stage) (at body : ℕ) → stage ≡ Whole body → IsLive stage (take at bytes) →
+      at < length bytes → ⊥
+  frame_before stage at body is_whole h early =
+      standing_before at body (subst (λ s. IsLive s (take at bytes)) is_whole h) early
+
+  -- nothing in a frame is wrong
+  pub wrong_before : (k : ℕ) (fault : FrameFault) → IsWrong (take k bytes) fault → ⊥
+  wrong_before k fault wrong =
+      frame_right fields [] k fault is.body (subst (λ s. IsWrong (take k s) fault) (sym text_is) wrong)
+
+  -- nor is more to come
+  pub not_partial : (stage : Stage) (at : ℕ) → length bytes ≤ at → IsLive stage (take at bytes) →
+      ((body : ℕ) → stage ≡ Whole body → ⊥) → ⊥
+  not_partial (Whole body) at late h other = other body refl
+  not_partial (Head v) at late h other =
+      not_yet (Head v) (take at bytes) h fields [] is.body (take_all at bytes late ∙ sym text_is)
+  not_partial (Rest body n) at late h other =
+      not_yet (Rest body n) (take at bytes) h fields [] is.body (take_all at bytes late ∙ sym text_is)
+  not_partial Given at late h other = h
+  not_partial (Faulty f) at late h other = h

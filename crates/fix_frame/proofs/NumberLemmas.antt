@@ -1,0 +1,117 @@
+-- Numbers in decimal digits.
+use Rattle.std.proofs.Common.{◌≡◌, ◌≢◌, ℕ, zero, suc, ◌+◌, ◌-◌, ◌*◌, ◌/◌, ◌%◌, ◌^◌, ◌≤◌, ◌<◌, List, [], ◌∷◌, ◌++◌, length, take, drop, get_or, refl, ap, sym, ◌∙◌, subst, arith}
+use Rattle.std.specs.Fmt.{decimal}
+use Rattle.std.specs.Char.{digit_value}
+use Rattle.std.specs.Str.Parse.{AllDigits, digits_value}
+use Rattle.std.proofs.lemmas.List.{take_more, length-take}
+use Rattle.std.proofs.lemmas.Fmt.{decimal_is_IsNumeral, decimal_step, decimal_digit, first_decimal, length-decimal-le, decimal_nonempty}
+use Rattle.std.proofs.lemmas.Str.Parse.{IsNumeralModel, numerals_by_value, tells_digits, digits_value_short, digits_value-take-le, digit_at}
+use Rattle.fix_frame.specs.Grammar.{three_digits}
+use Rattle.fix_frame.specs.Cuts.{Lacks, IsTag}
+
+own : IsNumeralModel (AllDigits 10) (digits_value 10)
+own = numerals_by_value _ tells_digits
+
+-- one digit more
+pub decimal_more : (n d : ℕ) → 1 ≤ n → n ≤ 99999 → 48 ≤ d → d ≤ 57 → decimal (n * 10 + (d - 48)) ≡ decimal n ++ d ∷ []
+decimal_more n d from to low high =
+    let q : (n * 10 + (d - 48)) / 10 ≡ n = omega arith in
+    let r : 48 + (n * 10 + (d - 48)) % 10 ≡ d = omega arith in
+    decimal_step (n * 10 + (d - 48)) (omega arith) (omega arith) ∙
+    ap (λ k. decimal k ++ (48 + (n * 10 + (d - 48)) % 10) ∷ []) q ∙ ap (λ k. decimal n ++ k ∷ []) r
+
+digits_lack : (mark : ℕ) (ds : List ℕ) → (digit_value mark < 10 → ⊥) → AllDigits 10 ds → Lacks mark ds
+digits_lack mark [] odd all = tt
+digits_lack mark (d ∷ ds) odd all =
+    ((λ e. odd (subst (λ x. digit_value x < 10) e all.0)), digits_lack mark ds odd all.1)
+
+pub decimal_lacks : (mark n : ℕ) → n < 2 ^ 64 → (digit_value mark < 10 → ⊥) → Lacks mark (decimal n)
+decimal_lacks mark n fits odd = digits_lack mark (decimal n) odd (decimal_is_IsNumeral n fits).0.1
+
+-- so many digits bound a number
+pub decimal_short : (n k : ℕ) → n < 2 ^ 64 → length (decimal n) ≤ k → n < 10 ^ k
+decimal_short n k fits short =
+    let p = decimal_is_IsNumeral n fits in
+    subst (λ v. v < 10 ^ k) p.1 (digits_value_short own (decimal n) k p.0.1 short)
+
+-- the digits of a number that begin another's spell no more than it
+pub decimal_front : (n m : ℕ) → n < 2 ^ 64 → m < 2 ^ 64 → decimal n ≡ take (length (decimal n)) (decimal m) → n ≤ m
+decimal_front n m fits fits' e =
+    let p = (decimal_is_IsNumeral n fits).1 in
+    let q = (decimal_is_IsNumeral m fits').1 in
+    let le = digits_value-take-le 10 (decimal m) (length (decimal n)) (omega arith) in
+    let same : digits_value 10 (take (length (decimal n)) (decimal m)) ≡ n = ap (digits_value 10) (sym e) ∙ p in
+    omega (arith, le, same, q)
+
+-- each byte is a digit
+pub decimal_at : (n i : ℕ) → n < 2 ^ 64 → i < length (decimal n) →
+    (48 ≤ get_or (decimal n) i 0) × (get_or (decimal n) i 0 ≤ 57)
+decimal_at n i fits h = digit_at (decimal n) i (decimal_is_IsNumeral n fits).0.1 h
+
+-- what the spelling of a tag looks like
+pub record LooksLikeTag (ds : List ℕ) : Type 0 where
+  pub some : 0 < length ds
+  pub few : length ds ≤ 5
+  pub first : 48 < get_or ds 0 0
+  pub digits : (i : ℕ) → i < length ds → (48 ≤ get_or ds i 0) × (get_or ds i 0 ≤ 57)
+
+pub looks : (n : ℕ) (ds : List ℕ) → IsTag n → ds ≡ decimal n → LooksLikeTag ds
+looks n ds is e = subst LooksLikeTag (sym e) (record {
+  some = decimal_nonempty n (omega (arith, is.1));
+  few = length-decimal-le 5 n (omega arith) (omega (arith, is.1)) (omega (arith, is.1));
+  first = first_decimal n (omega (arith, is.0)) (omega (arith, is.1));
+  digits = λ i h. decimal_at n i (omega (arith, is.1)) h;
+})
+
+-- the first i digits spell the tag so far
+pub record SpellsSoFar (ds : List ℕ) (i tag : ℕ) : Type 0 where
+  pub none : i ≡ 0 → tag ≡ 0
+  pub some : 0 < i → (take i ds ≡ decimal tag) × (1 ≤ tag)
+  pub bound : tag ≤ 99999
+
+spells_more : (ds : List ℕ) (i tag : ℕ) → get_or ds 0 0 ≢ 48 → i < length ds → SpellsSoFar ds i tag →
+    48 ≤ get_or ds i 0 → get_or ds i 0 ≤ 57 →
+    (take (i + 1) ds ≡ decimal (tag * 10 + (get_or ds i 0 - 48))) × (1 ≤ tag * 10 + (get_or ds i 0 - 48))
+spells_more ds zero tag first within so low high =
+    let z : tag ≡ 0 = so.none refl in
+    let v : tag * 10 + (get_or ds 0 0 - 48) ≡ get_or ds 0 0 - 48 = omega arith in
+    let d : 48 + (get_or ds 0 0 - 48) ≡ get_or ds 0 0 = omega arith in (
+      take_more ds 0 0 within ∙ ap (λ k. k ∷ []) (sym d) ∙ sym (decimal_digit (get_or ds 0 0 - 48) (omega arith)) ∙
+          ap decimal (sym v),
+      omega arith,
+    )
+spells_more ds (suc i) tag first within so low high =
+    let t = so.some (omega arith) in (
+      take_more ds (suc i) 0 within ∙ ap (λ k. k ++ get_or ds (suc i) 0 ∷ []) t.0 ∙
+          sym (decimal_more tag (get_or ds (suc i) 0) t.1 so.bound low high),
+      omega (arith, t.1),
+    )
+
+pub one_more : (ds : List ℕ) (i tag : ℕ) → get_or ds 0 0 ≢ 48 → i < length ds → length ds ≤ 5 → SpellsSoFar ds i tag →
+    48 ≤ get_or ds i 0 → get_or ds i 0 ≤ 57 → SpellsSoFar ds (i + 1) (tag * 10 + (get_or ds i 0 - 48))
+one_more ds i tag first within few so low high =
+    let s = spells_more ds i tag first within so low high in
+    let n : ℕ = tag * 10 + (get_or ds i 0 - 48) in
+    let short : length (decimal n) ≤ 5 = omega (arith, sym (ap length s.0), length-take (i + 1) ds) in
+    let fits : n < 2 ^ 64 = omega (arith, so.bound) in
+    record { none = λ e. omega arith; some = λ _. s; bound = omega (arith, decimal_short n 5 fits short) }
+
+-- the digits of a number below 1,000, from the first that isn't a leading zero on
+pub decimal_one : (n : ℕ) → n < 10 → decimal n ≡ drop 2 (three_digits n)
+decimal_one n small =
+    let same : n ≡ n % 10 = omega arith in
+    decimal_digit n small ∙ ap (λ d. (48 + d) ∷ []) same
+
+pub decimal_two : (n : ℕ) → 10 ≤ n → n < 100 → decimal n ≡ drop 1 (three_digits n)
+decimal_two n low high =
+    let same : n / 10 ≡ n / 10 % 10 = omega arith in
+    decimal_step n low (omega arith) ∙ ap (λ ds. ds ++ (48 + n % 10) ∷ []) (decimal_digit (n / 10) (omega arith) ∙
+    ap (λ d. (48 + d) ∷ []) same)
+
+pub decimal_three : (n : ℕ) → 100 ≤ n → n < 1000 → decimal n ≡ three_digits n
+decimal_three n low high =
+    let same : n / 10 / 10 ≡ n / 100 = omega arith in
+    let front : decimal (n / 10) ≡ (48 + n / 100) ∷ (48 + n / 10 % 10) ∷ [] = decimal_step (n / 10) (omega arith)
+    (omega arith) ∙ ap (λ ds. ds ++ (48 + n / 10 % 10) ∷ []) (decimal_digit (n / 10 / 10) (omega arith) ∙
+    ap (λ d. (48 + d) ∷ []) same) in
+    decimal_step n (omega arith) (omega arith) ∙ ap (λ ds. ds ++ (48 + n % 10) ∷ []) front

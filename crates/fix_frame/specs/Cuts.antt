@@ -1,0 +1,30 @@
+-- Private: where a list is cut.
+use Rattle.std.specs.Prelude.{◌≡◌, ◌≢◌, ℕ, ◌-◌, ◌≤◌, List, length, take}
+use Rattle.std.specs.List.{AllByRecursion}
+use Rattle.std.specs.Fmt.{decimal}
+use Rattle.fix_frame.specs.Grammar.{Field, IsField, field_then}
+
+-- no byte of these is the mark
+abbrev pub Lacks : ℕ → List ℕ → Type 0
+Lacks mark bytes = AllByRecursion (λ b. b ≢ mark) bytes
+
+-- a number that a tag can be
+abbrev pub IsTag : ℕ → Type 0
+IsTag n = (1 ≤ n) × (n ≤ 99999)
+
+-- no tag is spelled so
+abbrev pub SpellsNoTag : List ℕ → Type 0
+SpellsNoTag digits = (n : ℕ) → IsTag n → digits ≢ decimal n
+
+-- no field stands at the front
+abbrev pub BeginsNoField : List ℕ → Type 0
+BeginsNoField bytes = (f : Field) (rest : List ℕ) → IsField f → bytes ≢ field_then f rest
+
+-- the field stands at the front, and the rest behind it
+pub record BeginsField (bytes : List ℕ) (f : Field) (rest : List ℕ) : Type 0 where
+  pub right : IsField f
+  pub spells : bytes ≡ field_then f rest
+
+-- the bytes without the last of them
+abbrev pub all_but_last : List ℕ → List ℕ
+all_but_last bytes = take (length bytes - 1) bytes

@@ -1,0 +1,20 @@
+-- Private: a message that is all there and has no fault, and bytes that were judged.
+use Rattle.std.specs.Prelude.{ℕ, ◌⊎◌, List, ◌++◌, length, take}
+use Rattle.fix_frame.specs.Grammar.{head}
+use Rattle.fix_frame.specs.Stream.{IsClosed, IsSummed, IsTyped, IsWhole, BeginsNoFrame, IsWrong, Faults}
+use Rattle.fix_frame.specs.declared.fault.FrameFault.{FrameFault}
+
+-- nothing is wrong with this body of n bytes and its trailer
+pub record IsRight (n : ℕ) (body tail : List ℕ) : Type 0 where
+  pub closed : IsClosed body tail
+  pub summed : IsSummed (head n ++ body) tail
+  pub typed : IsTyped body
+
+-- the bytes are a frame, or begin with none, and nothing in them is wrong
+pub record IsJudged (bytes : List ℕ) : Type 0 where
+  pub judged : IsWhole bytes ⊎ BeginsNoFrame bytes
+  pub right : (k : ℕ) (fault : FrameFault) → IsWrong (take k bytes) fault → ⊥
+
+-- the bytes are wrong with their last byte, and not before
+abbrev pub IsFirstFault : List ℕ → FrameFault → Type 0
+IsFirstFault bytes fault = Faults bytes (length bytes) fault

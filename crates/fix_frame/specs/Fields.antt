@@ -1,0 +1,7 @@
+-- What a clause sees of a field that the code borrows.
+use Rattle.fix_frame.specs.Grammar.{Field}
+use Rattle.fix_frame.specs.declared.field.Field as borrowed
+
+-- a borrowed field as the grammar's
+abbrev pub as_field : borrowed.Field → Field
+as_field f = record { tag = f.tag; value = f.value.now }

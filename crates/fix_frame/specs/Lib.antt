@@ -1,0 +1,14 @@
+pub mod Ascii
+pub mod Grammar
+pub mod Stream
+pub mod FaultNumber
+pub mod Cuts
+pub mod Runs
+pub mod OneProof
+pub mod Fields
+pub mod Borrowed
+pub mod Framing
+pub mod Stages
+pub mod Endings
+pub mod Lending
+pub mod Writing

@@ -1,0 +1,66 @@
+//! The head of a frame, BeginString and BodyLength, judged byte by byte as it comes in.
+ghost use Rattle.std.specs.Prelude.{◌≡◌, ◌-◌, ◌<◌, length, slice_index, MatchResult};
+ghost use Rattle.fix_frame.specs.Stream.{IsWrong};
+ghost use Rattle.fix_frame.specs.Cuts.{all_but_last};
+ghost use Rattle.fix_frame.specs.Stages.{IsHeading, IsLive};
+
+use crate::fault::FrameFault;
+use crate::field::SOH;
+use crate::stage::Stage;
+
+/// What stands before the length.
+pub(crate) const OPENING: &[u8; 12] = b"8=FIX.4.4\x019=";
+
+/// How many bytes of it BeginString is.
+const BEGIN_STRING: usize = 10;
+
+/// The least first digit of a length.
+const LEAST_DIGIT: u16 = 1;
+
+/// How many bytes a body that comes in has.
+const LEAST_BODY: u16 = 5;
+
+const MOST_BODY: u16 = 297;
+
+/// The stage after the last of these bytes, where the others begin a head whose digits spell `so_far`.
+pub(crate) fn head_step(so_far: u16, bytes: &[u8]) -> Result<Stage, FrameFault>
+    requires some { 0 < length bytes.now }
+    requires heading { IsHeading (all_but_last bytes.now) so_far }
+    ensures { MatchResult result (λ stage. IsLive stage bytes.now) (IsWrong bytes.now) }
+{
+    let at = bytes.len() - 1;
+    let byte = bytes[at];
+    if at >= OPENING.len() {
+        return length_step(so_far, bytes, byte);
+    }
+    if byte == OPENING[at] {
+        return Ok(Stage::Head(0));
+    }
+    if at < BEGIN_STRING {
+        return Err(FrameFault::BadBegin);
+    }
+    Err(FrameFault::BadLength)
+}
+
+/// The same behind the opening, where `byte` is the last.
+fn length_step(so_far: u16, bytes: &[u8], byte: u8) -> Result<Stage, FrameFault>
+    requires late { 12 < length bytes.now }
+    requires last { byte ≡ slice_index bytes.now (length bytes.now - 1) }
+    requires heading { IsHeading (all_but_last bytes.now) so_far }
+    ensures { MatchResult result (λ stage. IsLive stage bytes.now) (IsWrong bytes.now) }
+{
+    if byte == SOH && so_far >= LEAST_BODY {
+        return Ok(Stage::Rest(bytes.len(), so_far));
+    }
+    if !byte.is_ascii_digit() {
+        return Err(FrameFault::BadLength);
+    }
+    let length = so_far * 10 + u16::from(byte - b'0');
+    if length < LEAST_DIGIT {
+        return Err(FrameFault::BadLength);
+    }
+    if length > MOST_BODY {
+        return Err(FrameFault::TooLong);
+    }
+    Ok(Stage::Head(length))
+}

@@ -1,0 +1,52 @@
+//! How far a message has come, and what the next byte makes of it.
+ghost use Rattle.std.specs.Prelude.{◌<◌, length, MatchResult};
+ghost use Rattle.fix_frame.specs.Stream.{IsWrong};
+ghost use Rattle.fix_frame.specs.Cuts.{all_but_last};
+ghost use Rattle.fix_frame.specs.Stages.{IsResting, IsUnderWay, IsLive};
+
+use crate::fault::FrameFault;
+use crate::head::head_step;
+use crate::trailer::{TRAILER, judge};
+
+/// How far a message has come.
+#[derive(Clone, Copy, Debug)]
+pub(crate) enum Stage {
+    /// In its head, with this value of the length's digits so far.
+    Head(u16),
+    /// Behind its head: where the body begins, and how many bytes it has.
+    Rest(usize, u16),
+    /// All of it is there and it is a frame, whose body begins here.
+    Whole(usize),
+    /// The frame was given.
+    Given,
+    /// It is no frame.
+    Faulty(FrameFault),
+}
+
+/// The stage after the last of these bytes.
+pub(crate) fn step(stage: Stage, bytes: &[u8]) -> Result<Stage, FrameFault>
+    requires some { 0 < length bytes.now }
+    requires under_way { IsUnderWay stage (all_but_last bytes.now) }
+    ensures { MatchResult result (λ next. IsLive next bytes.now) (IsWrong bytes.now) }
+{
+    match stage {
+        Stage::Head(so_far) => head_step(so_far, bytes),
+        Stage::Rest(body, count) => rest_step(body, count, bytes),
+        Stage::Whole(_) | Stage::Given | Stage::Faulty(_) => Ok(stage),
+    }
+}
+
+/// The same behind the head: a message is judged when all of it is there.
+fn rest_step(body: usize, count: u16, bytes: &[u8]) -> Result<Stage, FrameFault>
+    requires some { 0 < length bytes.now }
+    requires resting { IsResting (all_but_last bytes.now) body count }
+    ensures { MatchResult result (λ next. IsLive next bytes.now) (IsWrong bytes.now) }
+{
+    let end = body + usize::from(count);
+    if bytes.len() < end + TRAILER {
+        return Ok(Stage::Rest(body, count));
+    }
+    let (front, tail) = bytes.split_at(end);
+    judge(front, &front[body..], tail)?;
+    Ok(Stage::Whole(body))
+}
