@@ -1,0 +1,10 @@
+pub mod Examples
+pub mod WritingLemmas
+pub mod NumberLemmas
+pub mod TimeLemmas
+pub mod FieldLemmas
+pub mod FaultLemmas
+pub mod DecodeLemmas
+pub mod ExactLemmas
+pub mod BodyLemmas
+pub mod ClockLemmas

@@ -1,0 +1,5 @@
+use Rattle.fix_orders.proofs.WritingLemmas.{◌⨟◌}
+use Rattle.fix_orders.proofs.body.put_last.Goals as goal
+
+pub returns-clause-puts : goal.returns-clause-puts
+returns-clause-puts c = rw c.in-Trade.is (c.put_number-at.ensures.puts ⨟ c.put_number.ensures.puts)

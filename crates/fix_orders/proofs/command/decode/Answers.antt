@@ -1,0 +1,21 @@
+use Rattle.std.proofs.Common.{◌∙◌, sym, refl}
+use Rattle.fix_frame.specs.Borrowed.{body_fields}
+use Rattle.fix_orders.proofs.ExactLemmas.{reads_frame, reads_none}
+use Rattle.fix_orders.proofs.command.decode.Goals as goal
+
+pub returns-in-Some : goal.returns-in-Some
+returns-in-Some c =
+    let bytes = c.args.bytes.now in
+    let read = c.command_of.ensures ∙ sym (reads_frame bytes (body_fields c.in-Some.frame) c.in-Some.ensures) in
+    record {
+      value = read;
+      frame = λ fields frame. read ∙ reads_frame bytes fields frame;
+      none = λ none. absurd (none (body_fields c.in-Some.frame) c.in-Some.ensures);
+    }
+
+pub returns-in-None : goal.returns-in-None
+returns-in-None c = record {
+  value = sym (reads_none c.args.bytes.now c.in-None.ensures);
+  frame = λ fields frame. absurd (c.in-None.ensures fields frame);
+  none = λ none. refl;
+}

@@ -1,0 +1,5 @@
+pub mod Formats
+pub mod Header
+pub mod Reading
+pub mod Text
+pub mod Writing

@@ -1,0 +1,24 @@
+//! Commands out of frames, and the bodies of reports: between the frames of a session and the book.
+#![tactic(auto)]
+
+mod body;
+mod codes;
+mod command;
+mod faults;
+mod fields;
+mod formats;
+mod header;
+mod laws;
+mod number;
+mod put;
+mod time;
+
+pub use body::body_of;
+pub use command::{command_of, decode};
+pub use header::{Header, read_header};
+pub use laws::{exactly_one_frame, times_are_kept};
+pub use put::{put_bytes, put_field, put_number};
+pub use time::{number_of_time, time_text};
+
+#[cfg(test)]
+mod tests;

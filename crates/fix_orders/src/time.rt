@@ -1,0 +1,77 @@
+//! Times: SendingTime (52) and TransactTime (60) as 17 bytes, and as a number of 14 digits.
+ghost use Rattle.std.specs.Prelude.{◌≡◌, ◌+◌, ◌≤◌, IsTrue, length};
+ghost use Rattle.std.specs.List.{list_all, zip};
+ghost use Rattle.fix_orders.specs.Formats.{time_shape, is_time, number_of_time, time_text, last_digits, fits};
+ghost use Rattle.fix_orders.specs.Writing.{Puts};
+
+use crate::number::{digits_of, is_digit};
+use crate::put::put_bytes;
+
+/// YYYYMMDD-HH:MM:SS, where 0 stands for any digit.
+const SHAPE: [u8; 17] = *b"00000000-00:00:00";
+
+/// Whether the bytes are a time.
+pub fn is_time(value: &[u8]) -> bool
+    ensures { result ≡ is_time value.now }
+{
+    value.len() == SHAPE.len() && has_shape(value)
+}
+
+/// Whether each byte fits the shape.
+fn has_shape(value: &[u8]) -> bool
+    ensures { result ≡ list_all fits (zip time_shape value.now) }
+{
+    SHAPE
+        .iter()
+        .zip(value)
+        .all(|(shape, byte)| fits(*shape, *byte))
+}
+
+/// Whether the byte fits the shape's byte at its place.
+fn fits(shape: u8, byte: u8) -> bool
+    ensures { result ≡ fits (shape, byte) }
+{
+    if shape == b'0' {
+        is_digit(byte)
+    } else {
+        byte == shape
+    }
+}
+
+/// The number of a time's 14 digits.
+pub fn number_of_time(time: &[u8]) -> u64
+    requires { IsTrue (is_time time.now) }
+    ensures value { result ≡ number_of_time time.now }
+    ensures back { time_text result ≡ time.now }
+{
+    digits_of(time)
+}
+
+/// The time of a number of 14 digits.
+pub fn time_text(time: u64) -> [u8; 17]
+    ensures { result ≡ time_text time }
+{
+    let mut text = [0; 17];
+    let end = put_last_digits(&mut text, 0, 8, time / 1_000_000);
+    let end = put_bytes(&mut text, end, b"-");
+    let end = put_last_digits(&mut text, end, 2, time / 10_000);
+    let end = put_bytes(&mut text, end, b":");
+    let end = put_last_digits(&mut text, end, 2, time / 100);
+    let end = put_bytes(&mut text, end, b":");
+    put_last_digits(&mut text, end, 2, time);
+    text
+}
+
+/// Writes the last so many digits of a number from `at` on, and answers where they end.
+fn put_last_digits(buf: &mut [u8], at: usize, count: usize, n: u64) -> usize
+    requires { at + count ≤ length buf.old }
+    ensures puts { Puts buf.old buf.new at result (last_digits count n) }
+    ensures upto { result ≡ at + count }
+{
+    if count == 0 {
+        return at;
+    }
+    let last = put_last_digits(buf, at, count - 1, n / 10);
+    buf[last] = b'0' + (n % 10) as u8;
+    last + 1
+}
