@@ -1,0 +1,79 @@
+//! The desk: where a session publishes what its client sent and takes what the venue has for it. The rings will
+//! stand behind this trait.
+ghost use Rattle.std.specs.Prelude.{◌≡◌, ◌≤◌, length};
+ghost use Rattle.venued.specs.Desks.{Ledger, PublishTells, TakeTells};
+
+/// What came of a message that was to be published.
+#[derive(Clone, Copy, Debug, PartialEq, Eq)]
+pub enum TryPublish {
+    /// It is published.
+    Done,
+    /// There is no place for it yet; it may be tried again.
+    Refused,
+    /// There is no sequence left for it, now and later.
+    Exhausted,
+}
+
+/// MsgType (35) of an output.
+#[derive(Clone, Copy, Debug, PartialEq, Eq)]
+pub enum OutputType {
+    /// 8.
+    ExecutionReport,
+    /// 9.
+    OrderCancelReject,
+    /// 3.
+    Reject,
+}
+
+/// What stands in front of an output's body: MsgType (35), SendingTime (52) as the number of its 14 digits, and how
+/// many bytes the body has, at most 320.
+#[derive(Clone, Copy, Debug, PartialEq, Eq)]
+pub struct Head {
+    pub msg_type: OutputType,
+    pub sending_time: u64,
+    pub len: usize,
+}
+
+/// What came of a look at the next output.
+#[derive(Clone, Copy, Debug, PartialEq, Eq)]
+pub enum Take {
+    /// It goes to this session's client; its body stands at the buffer's front.
+    Mine(Head),
+    /// It goes to another's client.
+    Passed,
+    /// There is none yet.
+    Nothing,
+}
+
+/// One gateway's side of the venue.
+pub trait Desk {
+    /// What was published and taken, and how often nothing could be.
+    ghost ledger: { Self → Ledger };
+
+    /// Publishes a message (1 to 320 bytes).
+    fn try_publish(&mut self, message: &[u8]) -> TryPublish
+        requires some { 1 ≤ length message.now }
+        requires most { length message.now ≤ 320 }
+        ensures { PublishTells (ledger self.old) (ledger self.new) message.now result };
+
+    /// Takes the next output, or passes it over where it goes to another's client.
+    fn take(&mut self, body: &mut [u8; 320]) -> Take
+        ensures { TakeTells (ledger self.old) (ledger self.new) body.new result };
+}
+
+impl OutputType {
+    ghost use Rattle.venued.specs.Desks.{type_text};
+    ghost use Rattle.venued.specs.Messages.{IsTypeText};
+
+    /// The text of MsgType (35).
+    pub fn text(self) -> &'static [u8]
+        ensures value { result.now ≡ type_text self }
+        ensures valid { IsTypeText result.now }
+    {
+        match self {
+            OutputType::ExecutionReport => b"8",
+            OutputType::OrderCancelReject => b"9",
+            OutputType::Reject => b"3",
+        }
+    }
+}

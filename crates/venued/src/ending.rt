@@ -1,0 +1,29 @@
+//! How a session ends.
+
+/// Why a session is over.
+#[derive(Clone, Copy, Debug, PartialEq, Eq)]
+pub enum Reason {
+    /// 51: the client has closed the connection.
+    Closed,
+    /// 52: the wire failed.
+    WireFailed,
+    /// 53: the client has sent Logout (35=5), and was answered.
+    LoggedOut,
+    /// 54: the session refused what the client sent, and has said so in a Logout.
+    Refused,
+    /// 55: the client took no byte in 100,000 turns.
+    Stalled,
+    /// 56: the venue's sequences are used up.
+    Exhausted,
+}
+
+/// What a turn of a gateway came to.
+#[derive(Clone, Copy, Debug, PartialEq, Eq)]
+pub enum Turned {
+    /// A byte was read, fed or written, a message published, or an output taken or passed over.
+    Worked,
+    /// Nothing moved.
+    Quiet,
+    /// The session is over.
+    Ended(Reason),
+}
