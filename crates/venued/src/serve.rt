@@ -1,5 +1,5 @@
 //! The mode `-`: one client's session over a wire, its turns taken one behind the other on this thread.
-ghost use Rattle.std.specs.Prelude.{◌≡◌};
+ghost use Rattle.std.specs.Prelude.{◌≡◌, ◌⊎◌, IfErr};
 
 use crate::ending::{Reason, Turned};
 use crate::gateway::Gateway;
@@ -11,7 +11,9 @@ use std::io::Write;
 
 /// Serves the client of gateway 1 until its session ends, and answers the program's status: 0, or 1 with the line of
 /// no memory where room was refused, before a byte is read or written. All the room is taken before the session begins.
-pub fn serve<W: Wire, E: Write>(alloc: Global, words: &Words, wire: &mut W, err: &mut E) -> u8 {
+pub fn serve<W: Wire, E: Write>(alloc: Global, words: &Words, wire: &mut W, err: &mut E) -> u8
+    ensures { (result ≡ 0) ⊎ ((result ≡ 1) × (W.tells wire.new ≡ W.tells wire.old)) }
+{
     match take_turns(alloc, words, wire) {
         Ok(_) => 0,
         Err(_) => refuse(WordsFault::Memory, err),
@@ -31,7 +33,9 @@ fn take_turns<W: Wire>(
     alloc: Global,
     words: &Words,
     wire: &mut W,
-) -> Result<Option<Reason>, AllocError> {
+) -> Result<Option<Reason>, AllocError>
+    ensures { IfErr result (λ _. W.tells wire.new ≡ W.tells wire.old) }
+{
     let mut desk = OrderDesk::new(&words.limits);
     let mut gateway = Gateway::new(alloc, &words.limits, 1)?;
     gateway.begin();
