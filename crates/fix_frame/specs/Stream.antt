@@ -80,7 +80,7 @@ pub data IsWrong : List ℕ → FrameFault → Type 0 where
   when_due : {bytes : List ℕ} {fault : FrameFault} (n : ℕ) (body tail : List ℕ) → IsDue bytes n body tail →
       TailFault n body tail fault → IsWrong bytes fault
 
--- The first fault of a stream, and how many bytes lead to it, the wrong one included.
+-- The first fault of a rest that begins with no frame, and how many bytes lead to it, the wrong one included.
 pub record Faults (stream : List ℕ) (at : ℕ) (fault : FrameFault) : Type 0 where
   pub within : at ≤ length stream
   pub here : IsWrong (take at stream) fault

@@ -1,5 +1,5 @@
 -- What a feed of the session comes to, from what the framer and the judgement tell.
-use Rattle.std.proofs.Common.{◌≡◌, ℕ, zero, suc, ◌≤◌, ◌+◌, List, [], ◌∷◌, ◌++◌, length, take, ap, refl, sym, ◌∙◌, subst, inl, inr, arith, append-nil, Option, Some, None}
+use Rattle.std.proofs.Common.{◌≡◌, ℕ, zero, suc, ◌≤◌, List, [], ◌++◌, length, take, ap, refl, sym, ◌∙◌, subst, inl, inr, arith, append-nil, Some, None}
 use Rattle.std.proofs.lemmas.List.{take_all}
 use Rattle.fix_frame.specs.Grammar.{Field, IsBody, frame_text, most_in}
 use Rattle.fix_frame.specs.Framing.{Framing, HasFault}
@@ -12,8 +12,8 @@ use Rattle.venued.specs.declared.refusal.Refusal.TheVariants as refusal
 use Rattle.venued.specs.Verdict.{Verdict, Welcome, Beat, Hold, Pass, Leave, Refuse, verdict, refusal_text}
 use Rattle.venued.specs.Answers.{time_after, Logout}
 use Rattle.venued.specs.Session.{Standing}
-use Rattle.venued.specs.Moves.{heard, refusing, replying, closing_by}
-use Rattle.venued.specs.Parts.{Listens, HeardFrame, HeardFault}
+use Rattle.venued.specs.Moves.{heard, refusing, replying}
+use Rattle.venued.specs.Parts.{Listens}
 
 -- bytes that end a frame are some, where no frame stood before
 some_fed : (under_way piece : List ℕ) (n : ℕ) (frame : List Field) → BeginsNoFrame under_way → IsBody most_in frame →

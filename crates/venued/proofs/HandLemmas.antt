@@ -1,11 +1,10 @@
 -- What the part that takes an output comes to.
-use Rattle.std.proofs.Common.{◌≡◌, ℕ, ◌+◌, ◌^◌, ◌≤◌, ◌<◌, Bool, true, false, if◌then◌else◌, List, [], ◌∷◌, ◌++◌, length, refl, ap, sym, subst, ◌∙◌, arith, append-nil, Option, Some, None}
+use Rattle.std.proofs.Common.{◌≡◌, ℕ, ◌+◌, ◌^◌, ◌≤◌, Bool, true, false, if◌then◌else◌, List, [], ◌∷◌, ◌++◌, length, refl, ap, sym, subst, ◌∙◌, arith, append-nil, None}
 use Rattle.fix_orders.specs.Text.{Said}
-use Rattle.venued.specs.declared.desk.Head.{Head}
-use Rattle.venued.specs.Desks.{Ledger, Carries}
+use Rattle.venued.specs.Desks.{Ledger}
 use Rattle.venued.specs.Session.{Standing, At}
 use Rattle.venued.specs.Moves.{saying}
-use Rattle.venued.specs.Turns.{Front, Moved, nothing_moved, Moves, Takes, Counts}
+use Rattle.venued.specs.Turns.{Front, nothing_moved, Moves, Takes, Counts}
 use Rattle.venued.specs.Gateways.{HandsOn}
 use Rattle.venued.proofs.Standings.{at-handed}
 use Rattle.venued.proofs.StepLemmas.{at-same, moves-nothing}

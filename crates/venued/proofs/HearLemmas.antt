@@ -1,24 +1,20 @@
 -- What the parts that hear come to.
-use Rattle.std.proofs.Common.{◌≡◌, ◌≢◌, ◌⊎◌, inl, inr, ℕ, zero, suc, ◌+◌, ◌≤◌, ◌<◌, Bool, true, false, List, [], ◌∷◌, ◌++◌, length, take, drop, refl, ap, sym, subst, ◌∙◌, arith, append_assoc, append-nil, take-append-drop, Option, Some, None, is_some}
-use Rattle.fix_frame.specs.Grammar.{Field}
+use Rattle.std.proofs.Common.{◌≡◌, ◌≢◌, ◌⊎◌, inl, inr, ℕ, zero, suc, ◌+◌, ◌≤◌, false, List, [], ◌∷◌, ◌++◌, length, take, drop, refl, ap, sym, subst, ◌∙◌, arith, append-nil, take-append-drop, Option, Some, None, is_some}
 use Rattle.fix_orders.specs.Text.{Said}
 use Rattle.venue_model.specs.Requests.{Symbols}
 use Rattle.venued.specs.declared.desk.TryPublish.{TryPublish}
 use Rattle.venued.specs.declared.desk.TryPublish.TheVariants.{Done, Refused, Exhausted}
 use Rattle.venued.specs.declared.gateway.Heard.{Heard}
 use Rattle.venued.specs.declared.gateway.Heard.TheVariants.{Something, Nothing, Failed}
-use Rattle.venued.specs.declared.ending.Reason.TheVariants as reason
-use Rattle.venued.specs.declared.refusal.Refusal.TheVariants as refusal
-use Rattle.venued.specs.Wires.{Told, grown, Rose}
+use Rattle.venued.specs.Wires.{Told}
 use Rattle.venued.specs.Desks.{Ledger}
-use Rattle.venued.specs.Verdict.{Verdict, Welcome, Beat, Hold, Pass, Leave, Refuse, verdict, refusal_text}
-use Rattle.venued.specs.Answers.{time_after}
+use Rattle.venued.specs.Verdict.{Verdict, Welcome, Beat, Hold, Pass, Leave, Refuse, verdict}
 use Rattle.venued.specs.Session.{Standing, At}
-use Rattle.venued.specs.Moves.{heard, refusing, closing_by}
-use Rattle.venued.specs.Turns.{Front, Moved, nothing_moved, Moves, Step, Counts, farewell}
+use Rattle.venued.specs.Moves.{heard}
+use Rattle.venued.specs.Turns.{Front, Moved, nothing_moved, Moves, Counts, farewell}
 use Rattle.venued.specs.Parts.{Tries, Listens, Unheard, HeardFrame, HeardFault}
 use Rattle.venued.specs.HeardOf.{heard_of}
-use Rattle.venued.specs.Gateways.{Hears, HeardSo, Silence, Reads, ReadSo}
+use Rattle.venued.specs.Gateways.{Hears, HeardSo, Reads, ReadSo}
 use Rattle.venued.proofs.Opening.{opened}
 use Rattle.venued.proofs.Standings.{at-published, at-exhausted, at-fed, at-heard, at-faulted}
 use Rattle.venued.proofs.StepLemmas.{at-same, moves-nothing}

@@ -1,8 +1,8 @@
 -- The bodies of the session's own messages.
-use Rattle.std.proofs.Common.{◌≡◌, ◌≢◌, ℕ, List, [], ◌∷◌, ◌++◌, length, codes, refl, arith, ◌≤◌, ◌<◌}
+use Rattle.std.proofs.Common.{◌≡◌, ◌≢◌, ℕ, List, [], ◌∷◌, codes, refl, arith, ◌≤◌}
 use Rattle.std.specs.List.{AllByRecursion}
 use Rattle.std.specs.Fmt.{digits}
-use Rattle.fix_frame.specs.Grammar.{Field, IsField, field_then, print_fields}
+use Rattle.fix_frame.specs.Grammar.{IsField, field_then, print_fields}
 use Rattle.fix_frame.specs.Ascii.{soh}
 use Rattle.fix_orders.specs.Text.{field}
 use Rattle.venued.specs.Messages.{IsRefusalText}

@@ -1,21 +1,14 @@
 -- A session that isn't closing, seen without the cases of its end.
-use Rattle.std.proofs.Common.{◌≡◌, ◌≢◌, ◌⊎◌, inl, inr, ℕ, suc, ◌+◌, add-zero, Bool, true, false, ◌&&◌, ◌||◌, List, [], ◌∷◌, ◌++◌, length, refl, ap, sym, subst, ◌∙◌, arith, append_assoc, append-nil, Option, Some, None, is_some}
-use Rattle.std.specs.List.{flat_map, list_all, list_any, AllByRecursion}
-use Rattle.fix_frame.specs.Grammar.{Field, IsBody, frame_text, frame_of, head, print_fields, most_in}
-use Rattle.fix_frame.specs.Stream.{BeginsNoFrame, Faults}
-use Rattle.fix_frame.specs.declared.FrameFault.{FrameFault}
+use Rattle.std.proofs.Common.{◌≡◌, ℕ, suc, ◌+◌, add-zero, Bool, true, false, List, [], ◌∷◌, ◌++◌, length, refl, ap, sym, subst, ◌∙◌, arith, append-nil, Option, None, is_some}
+use Rattle.std.specs.List.{flat_map, list_all, AllByRecursion}
+use Rattle.fix_frame.specs.Grammar.{Field, IsBody, frame_text, frame_of, head, most_in}
+use Rattle.fix_frame.specs.Stream.{BeginsNoFrame}
 use Rattle.fix_orders.specs.Text.{Said}
 use Rattle.venue_model.specs.Requests.{Symbols}
 use Rattle.venued.specs.declared.ending.Reason.{Reason}
-use Rattle.venued.specs.declared.ending.Reason.TheVariants.{LoggedOut, Refused, Exhausted}
-use Rattle.venued.specs.declared.refusal.Refusal.{Refusal}
-use Rattle.venued.specs.declared.refusal.Refusal.TheVariants as refusal
-use Rattle.venued.specs.Verdict.{Verdict, Welcome, Beat, Hold, Pass, Leave, Refuse, verdict, refusal_text}
-use Rattle.venued.specs.Answers.{Judgement, judgement, judged, last_time, time_after, no_time, goes_on, Reply, Logon, Heartbeat, Logout, replies_of, replies_by, held_of, held_by, fault_judgement, exhausted_judgement, Ending, Answers}
-use Rattle.venued.specs.Session.{Standing, Spoken, Session, Item, Answer, Output, said_of, said_by, message_text, is_logon, is_logout, orderly, Waits, Held, At}
-use Rattle.venued.specs.Moves.{fresh, saying, replying, closing_by, refusing, accepting, heard}
-use Rattle.venued.proofs.Lists.{flat_map-push, list_all-push, AllByRecursion-push, length-push}
-use Rattle.venued.proofs.Speaking.{spoken-item}
+use Rattle.venued.specs.Answers.{Judgement, judgement, judged, last_time, time_after, no_time, goes_on, replies_of, Ending}
+use Rattle.venued.specs.Session.{Standing, Spoken, Held, At}
+use Rattle.venued.specs.Moves.{fresh}
 
 -- one more frame judged
 pub judged-push : (symbols : Symbols) (gateway accepted : ℕ) (last : List ℕ) (frames : List (List Field)) (frame : List Field) →

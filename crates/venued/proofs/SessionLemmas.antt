@@ -2,7 +2,6 @@
 use Rattle.std.proofs.Common.{◌≡◌, ℕ, List, [], None, false, refl}
 use Rattle.fix_orders.specs.Formats.{time_text}
 use Rattle.venued.specs.Answers.{no_time}
-use Rattle.venued.specs.Session.{Standing}
 use Rattle.venued.specs.Moves.{fresh}
 
 -- the time of number 0 is the one before any message

@@ -1,10 +1,10 @@
 -- What a session has said, after one more item or after some bytes went out.
-use Rattle.std.proofs.Common.{◌≡◌, ℕ, suc, ◌+◌, add-zero, Bool, true, false, ◌&&◌, ◌||◌, List, [], ◌∷◌, ◌++◌, length, refl, ap, sym, subst, ◌∙◌, arith, append_assoc, append-nil, Option, Some, None, is_some}
+use Rattle.std.proofs.Common.{◌≡◌, ℕ, suc, ◌+◌, add-zero, Bool, true, false, ◌&&◌, ◌||◌, List, [], ◌∷◌, ◌++◌, length, refl, ap, sym, subst, ◌∙◌, arith, append_assoc, append-nil}
 use Rattle.std.specs.Cmp.Derive.{both_true}
-use Rattle.std.specs.List.{flat_map, list_any}
+use Rattle.std.specs.List.{list_any}
 use Rattle.fix_orders.specs.Text.{Said}
 use Rattle.venued.specs.Answers.{Reply, Logon, Heartbeat, Logout}
-use Rattle.venued.specs.Session.{Spoken, Session, Item, Answer, Output, said_of, said_by, replies_in, outputs_in, numbered, message_text, is_logon, is_logout, is_last, orderly}
+use Rattle.venued.specs.Session.{Spoken, Item, Answer, Output, said_of, said_by, replies_in, outputs_in, numbered, message_text, is_logon, is_logout, orderly}
 use Rattle.venued.proofs.Lists.{and_left, and_right, flat_map-push, list_any-push, length-push}
 
 -- the bytes of one more item

@@ -1,6 +1,6 @@
 -- Where a session stands after each thing that a turn may do.
-use Rattle.std.proofs.Common.{◌≡◌, ◌≢◌, inl, inr, ℕ, ◌+◌, zero-add, Bool, true, false, ◌||◌, List, [], ◌∷◌, ◌++◌, length, refl, ap, sym, subst, ◌∙◌, arith, append_assoc, append-nil, Option, Some, None, is_some}
-use Rattle.std.specs.List.{flat_map, list_all, list_any}
+use Rattle.std.proofs.Common.{◌≡◌, inl, inr, ℕ, ◌+◌, zero-add, Bool, true, false, List, [], ◌∷◌, ◌++◌, length, refl, ap, sym, subst, ◌∙◌, arith, append_assoc, append-nil, Option, Some, None, is_some}
+use Rattle.std.specs.List.{flat_map, list_all}
 use Rattle.fix_frame.specs.Grammar.{Field, IsBody, frame_text, most_in}
 use Rattle.fix_frame.specs.Stream.{BeginsNoFrame, Faults}
 use Rattle.fix_frame.specs.declared.FrameFault.{FrameFault}
@@ -8,12 +8,11 @@ use Rattle.fix_orders.specs.Text.{Said}
 use Rattle.venue_model.specs.Requests.{Symbols}
 use Rattle.venued.specs.declared.ending.Reason.{Reason}
 use Rattle.venued.specs.declared.ending.Reason.TheVariants.{LoggedOut, Refused, Exhausted}
-use Rattle.venued.specs.declared.refusal.Refusal.{Refusal}
 use Rattle.venued.specs.declared.refusal.Refusal.TheVariants as refusal
 use Rattle.venued.specs.Verdict.{Verdict, Welcome, Beat, Hold, Pass, Leave, Refuse, verdict, refusal_text}
 use Rattle.venued.specs.Answers.{Judgement, judgement, judged, last_time, time_after, no_time, goes_on, Reply, Logon, Heartbeat, Logout, replies_of, replies_by, held_of, held_by, fault_judgement, exhausted_judgement, Ending}
-use Rattle.venued.specs.Session.{Standing, Spoken, Item, Answer, Output, said_of, said_by, message_text, replies_in, outputs_in, is_logon, is_logout, orderly, Waits, Held, At}
-use Rattle.venued.specs.Moves.{saying, replying, closing_by, refusing, accepting, heard}
+use Rattle.venued.specs.Session.{Standing, Spoken, said_by, message_text, Waits, Held, At}
+use Rattle.venued.specs.Moves.{saying, closing_by, refusing, accepting, heard}
 use Rattle.venued.proofs.Lists.{flat_map-push, list_all-push, AllByRecursion-push, length-push}
 use Rattle.venued.proofs.Speaking.{spoken-output, spoken-logon, spoken-heartbeat, spoken-logout}
 use Rattle.venued.proofs.Opening.{Open, opened, closed, judged-push, last_time-push, no_frame_in_nothing}

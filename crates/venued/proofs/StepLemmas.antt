@@ -1,11 +1,11 @@
 -- Steps of a turn, one after another.
-use Rattle.std.proofs.Common.{◌≡◌, ◌≢◌, ◌⊎◌, inl, inr, ℕ, ◌+◌, ◌≤◌, ◌<◌, Bool, true, false, List, [], ◌∷◌, ◌++◌, length, refl, ap, sym, subst, ◌∙◌, arith, append_assoc, append-nil, Option, Some, None}
+use Rattle.std.proofs.Common.{◌≡◌, ℕ, List, [], ◌++◌, refl, ap, sym, subst, ◌∙◌, append_assoc, append-nil}
 use Rattle.fix_orders.specs.Text.{Said}
 use Rattle.venue_model.specs.Requests.{Symbols}
-use Rattle.venued.specs.Wires.{Told, grown, Rose}
+use Rattle.venued.specs.Wires.{Told, grown}
 use Rattle.venued.specs.Desks.{Ledger}
 use Rattle.venued.specs.Session.{Standing, At}
-use Rattle.venued.specs.Turns.{Front, Moved, nothing_moved, Moves, Step}
+use Rattle.venued.specs.Turns.{Moved, nothing_moved, Moves, Step}
 use Rattle.venued.proofs.Standings.{at-flushed}
 use Rattle.venued.proofs.WireLemmas.{grown-append, grown-nil}
 

@@ -1,23 +1,22 @@
 -- What the parts of a turn come to, one behind the other.
-use Rattle.std.proofs.Common.{◌≡◌, ◌≢◌, ◌⊎◌, inl, inr, ℕ, suc, nat_lt, ◌+◌, ◌≤◌, ◌<◌, ◌^◌, Bool, true, false, if◌then◌else◌, List, [], ◌∷◌, ◌++◌, length, refl, ap, sym, subst, ◌∙◌, arith, append-nil, append_assoc, length-append, Option, Some, None}
+use Rattle.std.proofs.Common.{◌≡◌, ◌≢◌, ◌⊎◌, inl, inr, ℕ, suc, nat_lt, ◌+◌, ◌≤◌, ◌<◌, ◌^◌, Bool, true, false, if◌then◌else◌, List, [], ◌∷◌, ◌++◌, length, refl, ap, sym, subst, ◌∙◌, arith, append-nil, length-append, Some, None}
 use borrow.Author.Tests.{ltb-true, ltb-false}
 use Rattle.fix_orders.specs.Text.{Said}
 use Rattle.venued.specs.declared.ending.Reason.{Reason}
 use Rattle.venued.specs.declared.ending.Reason.TheVariants.{Closed, WireFailed, LoggedOut, Refused, Stalled, Exhausted}
 use Rattle.venued.specs.declared.ending.Turned.{Turned}
 use Rattle.venued.specs.declared.ending.Turned.TheVariants.{Worked, Quiet, Ended}
-use Rattle.venued.specs.declared.flushing.Flushed.{Flushed}
 use Rattle.venued.specs.declared.flushing.Flushed.TheVariants as flushed
 use Rattle.venued.specs.declared.gateway.Heard.{Heard}
 use Rattle.venued.specs.declared.gateway.Heard.TheVariants.{Something, Nothing, Failed}
 use Rattle.venued.specs.Wires.{Told, grown, Rose}
 use Rattle.venued.specs.Desks.{Ledger}
-use Rattle.venued.specs.Flushing.{Flushes, FlushTells}
+use Rattle.venued.specs.Flushing.{Flushes}
 use Rattle.venued.specs.Session.{Standing}
 use Rattle.venued.specs.Sessions.{ClosesItself}
-use Rattle.venued.specs.Turns.{Front, Moved, nothing_moved, Moves, Step, Takes, IsQuiet, Moving, EndedBy, Means, Turn, Counts, GoesWith}
+use Rattle.venued.specs.Turns.{Front, Moved, nothing_moved, Moves, Step, Takes, IsQuiet, EndedBy, Means, Turn, Counts, GoesWith}
 use Rattle.venued.specs.Gateways.{Hears, HeardSo, HandsOn, TookSo, Rests, RestsSo, Stuck, StuckSo}
-use Rattle.venued.proofs.StepLemmas.{both, step-then, flush-step, moves-nothing}
+use Rattle.venued.proofs.StepLemmas.{both, step-then, flush-step}
 use Rattle.venued.proofs.WireLemmas.{grown-nil}
 
 -- no outputs are taken

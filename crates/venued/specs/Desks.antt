@@ -1,5 +1,5 @@
 -- What a desk tells of itself, and what each of its calls tells.
-use Rattle.std.specs.Prelude.{◌≡◌, ℕ, ◌+◌, ◌^◌, ◌≤◌, List, [], ◌∷◌, ◌++◌, length, take, codes}
+use Rattle.std.specs.Prelude.{◌≡◌, ℕ, ◌+◌, ◌^◌, ◌≤◌, List, [], ◌∷◌, ◌++◌, take, codes}
 use Rattle.std.specs.List.{AllByRecursion}
 use Rattle.fix_frame.specs.Grammar.{IsField, print_fields}
 use Rattle.fix_orders.specs.Formats.{time_text}

@@ -1,5 +1,5 @@
 -- What the fields of a gateway stand for, and what its parts tell.
-use Rattle.std.specs.Prelude.{◌≡◌, ◌≢◌, ◌⊎◌, ℕ, ◌+◌, ◌≤◌, ◌<◌, ◌^◌, Bool, true, false, List, [], ◌++◌, length, None, ⊤}
+use Rattle.std.specs.Prelude.{◌≡◌, ◌≢◌, ◌⊎◌, ℕ, ◌+◌, ◌≤◌, ◌<◌, ◌^◌, Bool, true, false, List, [], ◌++◌, length, None}
 use Rattle.fix_orders.specs.Text.{Said}
 use Rattle.venue_model.specs.Requests.{Symbols}
 use Rattle.venued.specs.declared.ending.Reason.TheVariants.{Closed, Stalled}
@@ -10,7 +10,6 @@ use Rattle.venued.specs.declared.gateway.Heard.TheVariants.{Something, Nothing, 
 use Rattle.venued.specs.declared.gateway.Gateway.TheInside.{Inside}
 use Rattle.venued.specs.Wires.{Told, grown, Rose}
 use Rattle.venued.specs.Desks.{Ledger}
-use Rattle.venued.specs.Session.{Standing}
 use Rattle.venued.specs.Turns.{Front, Moved, nothing_moved, Moves, Step, Takes, Counts}
 use Rattle.venued.specs.Moves.{fresh}
 

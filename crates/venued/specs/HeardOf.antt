@@ -2,7 +2,7 @@
 use Rattle.venued.specs.declared.desk.TryPublish.{TryPublish}
 use Rattle.venued.specs.declared.desk.TryPublish.TheVariants.{Done, Refused, Exhausted}
 use Rattle.venued.specs.declared.gateway.Heard.{Heard}
-use Rattle.venued.specs.declared.gateway.Heard.TheVariants.{Something, Nothing, Failed}
+use Rattle.venued.specs.declared.gateway.Heard.TheVariants.{Something, Nothing}
 
 -- what a try to publish comes to
 abbrev pub heard_of : TryPublish → Heard

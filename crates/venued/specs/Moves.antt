@@ -1,14 +1,11 @@
 -- What each part of a turn does to where a session stands.
-use Rattle.std.specs.Prelude.{ℕ, ◌+◌, Bool, true, false, List, [], ◌∷◌, ◌++◌, codes, Option, Some, None}
-use Rattle.fix_frame.specs.Grammar.{Field, frame_text}
-use Rattle.fix_frame.specs.declared.FrameFault.{FrameFault}
+use Rattle.std.specs.Prelude.{ℕ, ◌+◌, true, false, List, [], ◌++◌, Some, None}
 use Rattle.fix_orders.specs.Text.{Said}
 use Rattle.venued.specs.declared.ending.Reason.{Reason}
-use Rattle.venued.specs.declared.ending.Reason.TheVariants.{LoggedOut, Refused, Exhausted}
+use Rattle.venued.specs.declared.ending.Reason.TheVariants.{LoggedOut, Refused}
 use Rattle.venued.specs.declared.refusal.Refusal.{Refusal}
-use Rattle.venued.specs.declared.refusal.Refusal.TheVariants as refusal
 use Rattle.venued.specs.Verdict.{Verdict, Welcome, Beat, Hold, Pass, Leave, Refuse, refusal_text}
-use Rattle.venued.specs.Answers.{Reply, Logon, Heartbeat, Logout, no_time, time_after}
+use Rattle.venued.specs.Answers.{Reply, Logon, Heartbeat, Logout, no_time}
 use Rattle.venued.specs.Session.{Standing, message_text, said_by}
 
 -- a new session of a gateway

@@ -1,9 +1,8 @@
 -- What each part of a turn tells: parts are private, a turn is what they come to.
-use Rattle.std.specs.Prelude.{◌≡◌, ◌≢◌, ◌⊎◌, ℕ, ◌+◌, ◌≤◌, Bool, true, false, List, [], ◌∷◌, ◌++◌, length, take, Option, Some, None}
+use Rattle.std.specs.Prelude.{◌≡◌, ◌⊎◌, ℕ, ◌≤◌, List, ◌++◌, length, take, Some, None}
 use Rattle.fix_frame.specs.Grammar.{Field, IsBody, frame_text, most_in}
 use Rattle.fix_frame.specs.Stream.{BeginsNoFrame, Faults}
 use Rattle.fix_frame.specs.declared.FrameFault.{FrameFault}
-use Rattle.fix_orders.specs.Text.{Said}
 use Rattle.venue_model.specs.Requests.{Symbols}
 use Rattle.venued.specs.declared.desk.TryPublish.{TryPublish}
 use Rattle.venued.specs.declared.desk.TryPublish.TheVariants.{Done, Refused, Exhausted}

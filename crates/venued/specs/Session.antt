@@ -2,13 +2,12 @@
 -- stands after some input (docs/PROFILE.md, "Session").
 use Rattle.std.specs.Prelude.{◌≡◌, ◌⊎◌, ℕ, ◌+◌, Bool, true, false, ◌&&◌, List, [], ◌∷◌, ◌++◌, length, codes, Option, Some, None, is_some}
 use Rattle.std.specs.List.{flat_map, list_any}
-use Rattle.std.specs.Fmt.{decimal}
 use Rattle.fix_frame.specs.Grammar.{Field, frame_text}
 use Rattle.fix_orders.specs.Text.{Said, field, number}
 use Rattle.venue_model.specs.Requests.{Symbols}
 use Rattle.venued.specs.declared.ending.Reason.{Reason}
 use Rattle.venued.specs.declared.ending.Reason.TheVariants.{Exhausted}
-use Rattle.venued.specs.Verdict.{Verdict, Hold, client_name, venue_name}
+use Rattle.venued.specs.Verdict.{Hold, client_name, venue_name}
 use Rattle.venued.specs.Answers.{Judgement, Reply, Logon, Heartbeat, Logout, Answers, judged, no_time, last_time, replies_of, held_of}
 
 -- the body of Logon

@@ -1,5 +1,5 @@
 -- What the fields of a session stand for.
-use Rattle.std.specs.Prelude.{◌≡◌, ℕ, ◌≤◌, ◌<◌, List, length, Option, Some, None, IfSome, option_map, ⊤}
+use Rattle.std.specs.Prelude.{◌≡◌, ◌≤◌, length, None, IfSome, option_map, ⊤}
 use Rattle.fix_frame.specs.Stream.{BeginsNoFrame}
 use Rattle.fix_orders.specs.Formats.{time_text}
 use Rattle.venued.specs.declared.session.Session.TheInside.{Inside}

@@ -1,5 +1,5 @@
 -- What a turn of a gateway does: the bytes and messages that move in it, and where they leave the session.
-use Rattle.std.specs.Prelude.{◌≡◌, ◌≢◌, ◌⊎◌, ℕ, ◌+◌, ◌-◌, ◌^◌, ◌<◌, ◌≤◌, Bool, true, false, if◌then◌else◌, List, [], ◌∷◌, ◌++◌, length, Option, Some, None}
+use Rattle.std.specs.Prelude.{◌≡◌, ◌≢◌, ◌⊎◌, ℕ, ◌+◌, ◌^◌, ◌<◌, ◌≤◌, Bool, true, false, if◌then◌else◌, List, [], ◌++◌, length, Option, Some, None}
 use Rattle.fix_orders.specs.Text.{Said}
 use Rattle.venue_model.specs.Requests.{Symbols}
 use Rattle.venued.specs.declared.ending.Reason.{Reason}

@@ -59,6 +59,7 @@ impl<'a> Gateway<'a> {
     ghost use Rattle.venued.specs.Turns.{Turn, GoesWith};
     ghost use Rattle.venued.specs.Gateways.{begun, Hears, Publishes, Reads, HandsOn, Rests, Stuck};
     ghost use Rattle.venued.specs.Moves.{fresh};
+    ghost use Rattle.venued.specs.Session.{At};
 
     /// A gateway (1 to 8) for a client's sessions. All its room is made here; no session is begun.
     pub fn new(alloc: Global, limits: &'a Limits, gateway: u8) -> Result<Gateway<'a>, AllocError>
@@ -79,8 +80,10 @@ impl<'a> Gateway<'a> {
     }
 
     /// Begins a new session of the client.
+    #[tactic(auto, using(crate::proofs::Opening::at_beginning))]
     pub fn begin(&mut self)
-        ensures { self.new ≡ begun self.old.symbols self.old.session.gateway self.old.passed }
+        ensures new { self.new ≡ begun self.old.symbols self.old.session.gateway self.old.passed }
+        ensures at { At self.new.symbols self.new.session [] [] [] [] }
     {
         self.session.begin();
         self.waiting = Input::new();

@@ -1,5 +1,5 @@
 -- An output is handed on, or passed over.
-use Rattle.std.proofs.Common.{◌≡◌, ap, refl, sym, ◌∙◌, subst, true, false, is_some, ◌+◌}
+use Rattle.std.proofs.Common.{ap, refl, sym, ◌∙◌, subst, true, is_some, ◌+◌}
 use Rattle.venued.specs.Gateways.{front, HandsOn}
 use Rattle.venued.specs.Turns.{Front}
 use Rattle.venued.proofs.HandLemmas.{hands-said, hands-unsaid, hands-other}

@@ -1,7 +1,7 @@
 -- A read, and a feed, are one step.
-use Rattle.std.proofs.Common.{◌≡◌, ◌⊎◌, inl, inr, [], None, true, false, is_some, ap, refl, sym, ◌∙◌, subst, Option, List, ℕ, rules}
+use Rattle.std.proofs.Common.{◌≡◌, ◌⊎◌, inl, inr, [], ap, refl, sym, ◌∙◌, subst, rules}
 use Rattle.venued.specs.declared.gateway.Heard.TheVariants.{Failed}
-use Rattle.venued.specs.Gateways.{front, Hears, Reads}
+use Rattle.venued.specs.Gateways.{front, Reads}
 use Rattle.venued.specs.Turns.{Front}
 use Rattle.venued.proofs.HearLemmas.{read-hears, fed-hears, is_free}
 use Rattle.venued.proofs.gateway.Gateway.hear.Goals as goal

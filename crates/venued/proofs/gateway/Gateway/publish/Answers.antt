@@ -1,5 +1,5 @@
 -- A try to publish is one step.
-use Rattle.std.proofs.Common.{◌≡◌, ap, refl, sym, ◌∙◌, subst}
+use Rattle.std.proofs.Common.{ap, refl, sym, ◌∙◌, subst}
 use Rattle.venued.specs.declared.gateway.Heard.{Heard}
 use Rattle.venued.specs.Gateways.{front, Hears}
 use Rattle.venued.specs.Turns.{Front}

@@ -1,12 +1,7 @@
 -- A turn is its parts, one behind the other.
-use Rattle.std.proofs.Common.{◌≡◌, ap, refl, sym, ◌∙◌, subst, true, false, true≢false, rules, Some, None, Option, IfSome, nat_lt, length}
-use Rattle.venued.specs.declared.ending.Reason.{Reason}
-use Rattle.venued.specs.declared.ending.Reason.TheVariants.{WireFailed}
+use Rattle.std.proofs.Common.{ap, sym, ◌∙◌, subst, false, true≢false, rules, nat_lt, length}
 use Rattle.venued.specs.declared.ending.Turned.{Turned}
-use Rattle.venued.specs.declared.ending.Turned.TheVariants.{Ended}
-use Rattle.venued.specs.declared.gateway.Heard.TheVariants.{Failed}
 use Rattle.venued.specs.Gateways.{front}
-use Rattle.venued.specs.Sessions.{ClosesItself}
 use Rattle.venued.specs.Turns.{Front, Turn, GoesWith}
 use Rattle.venued.proofs.TurnLemmas.{turn-failed, turn-stuck, turn-closed, turn-unheard, mate-unheard, turn-rested, mate-rested}
 use Rattle.venued.proofs.gateway.Gateway.turn.Goals as goal

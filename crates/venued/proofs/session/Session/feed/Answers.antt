@@ -1,9 +1,9 @@
 -- What was fed ends no frame, or one, or goes wrong.
-use Rattle.std.proofs.Common.{◌≡◌, ◌++◌, take, inl, inr, ap, refl, sym, ◌∙◌, subst, MatchOption, Option, Some, length}
+use Rattle.std.proofs.Common.{◌≡◌, ap, sym, ◌∙◌, subst, length}
 use Rattle.fix_frame.specs.Borrowed.{body_fields}
 use Rattle.fix_frame.specs.Framing.{Framing, fresh}
 use Rattle.fix_frame.specs.Grammar.{frame_text}
-use Rattle.fix_frame.specs.Stream.{BeginsNoFrame, Faults}
+use Rattle.fix_frame.specs.Stream.{BeginsNoFrame}
 use Rattle.fix_orders.specs.Formats.{time_text}
 use Rattle.venued.specs.Session.{Standing}
 use Rattle.venued.specs.declared.refusal.Refusal.TheVariants.{Frame}

@@ -1,5 +1,5 @@
 -- A session begins with nothing heard and nothing said.
-use Rattle.std.proofs.Common.{◌≡◌, ap, rules, subst, sym}
+use Rattle.std.proofs.Common.{ap, rules, subst, sym}
 use Rattle.fix_frame.specs.Framing.{Framing}
 use Rattle.fix_frame.specs.Stream.{BeginsNoFrame}
 use Rattle.venued.proofs.Opening.{no_frame_in_nothing}

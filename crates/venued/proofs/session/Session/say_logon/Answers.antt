@@ -1,5 +1,5 @@
 -- The Logon's body is its three fields.
-use Rattle.std.proofs.Common.{◌≡◌, refl, rules}
+use Rattle.std.proofs.Common.{refl}
 use Rattle.fix_orders.specs.Formats.{time_text}
 use Rattle.venued.specs.Answers.{Logon}
 use Rattle.venued.specs.Session.{said_by, logon_fields}

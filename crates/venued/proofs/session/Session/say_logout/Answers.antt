@@ -1,5 +1,5 @@
 -- The Logout's body is its text.
-use Rattle.std.proofs.Common.{◌≡◌, ◌∷◌, [], ap, refl, sym, ◌∙◌, subst}
+use Rattle.std.proofs.Common.{◌∷◌, [], ap, refl, sym, ◌∙◌, subst}
 use Rattle.std.specs.List.{AllByRecursion}
 use Rattle.fix_frame.specs.Grammar.{IsField, print_fields}
 use Rattle.fix_orders.specs.Formats.{time_text}
