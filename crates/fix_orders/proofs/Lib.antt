@@ -4,6 +4,7 @@ pub mod NumberLemmas
 pub mod TimeLemmas
 pub mod FieldLemmas
 pub mod FaultLemmas
+pub mod RangeLemmas
 pub mod DecodeLemmas
 pub mod ExactLemmas
 pub mod BodyLemmas

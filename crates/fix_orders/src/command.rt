@@ -2,6 +2,7 @@
 ghost use Rattle.std.specs.Prelude.{◌≡◌, List, None, IsTrue};
 ghost use Rattle.fix_frame.specs.Grammar.{Field, IsFrame, most_in};
 ghost use Rattle.fix_frame.specs.Borrowed.{body_fields};
+ghost use Rattle.venue_model.specs.Step.{IsCommand};
 ghost use Rattle.fix_orders.specs.Formats.{format_of, is_short};
 ghost use Rattle.fix_orders.specs.Reading.{required, is_among, type_of, side_of, time_in_force_of, value_at, number_at, new_of, cancel_of, replace_of, asked, classes, first_fault, command_of, reads};
 
@@ -23,6 +24,7 @@ pub fn decode(bytes: &[u8]) -> Command
         IsFrame most_in bytes.now fields → result ≡ command_of fields }
     ensures none { ((fields : List Field) → IsFrame most_in bytes.now fields → ⊥) →
         result ≡ Command.Void }
+    ensures range { IsCommand result }
 {
     match whole(bytes) {
         Some(frame) => command_of(&frame),

@@ -1,8 +1,9 @@
 //! Laws of the definitions: functions that do nothing, whose contracts are the laws.
 ghost use Rattle.std.specs.Prelude.{◌≡◌, ℕ, IsTrue, List, Some};
 ghost use Rattle.fix_frame.specs.Grammar.{Field, IsFrame, most_in};
+ghost use Rattle.venue_model.specs.Step.{IsCommand};
 ghost use Rattle.fix_orders.specs.Formats.{is_time, number_of_time, time_text};
-ghost use Rattle.fix_orders.specs.Reading.{exact_fields};
+ghost use Rattle.fix_orders.specs.Reading.{exact_fields, command_of, reads};
 
 /// The test for exactly one frame finds the fields of a frame and nothing else.
 pub fn exactly_one_frame()
@@ -15,4 +16,11 @@ pub fn exactly_one_frame()
 /// A time is the text of its number: an output has SendingTime of the message that caused it.
 pub fn times_are_kept()
     ensures { (time : List ℕ) → IsTrue (is_time time) → time_text (number_of_time time) ≡ time }
+{}
+
+/// Whatever bytes come, the numbers of the command that they are read as are in range: ClOrdIDs 1 to
+/// 999,999,999,999,999, prices and quantities 1 to 1,000,000. So are those of the command of any fields.
+pub fn numbers_are_in_range()
+    ensures bytes { (bytes : List ℕ) → IsCommand (reads bytes) }
+    ensures fields { (fields : List Field) → IsCommand (command_of fields) }
 {}

@@ -48,7 +48,7 @@ symbol_eq-Decides x y = (
   (λ e. both_true ((bytes_eq-Decides (padded x) (padded y)).1 (ap padded e)) (eq-eqb (length x) (length y) (ap length e))),
 )
 
-symbol_eq-bytes_eq : (x y : List ℕ) → symbol_eq x y ≡ bytes_eq x y
+pub symbol_eq-bytes_eq : (x y : List ℕ) → symbol_eq x y ≡ bytes_eq x y
 symbol_eq-bytes_eq x y = same_from_decides _ _ (symbol_eq-Decides x y) (bytes_eq-Decides x y)
 
 -- the table's look-up looks for the name

@@ -5,18 +5,13 @@ use Rattle.std.specs.List.{flat_map}
 use Rattle.venue_model.specs.declared.orders.Order.{Order}
 use Rattle.venue_model.specs.declared.commands.TimeInForce.{TimeInForce}
 use Rattle.venue_model.specs.declared.commands.TimeInForce.TheVariants.{Day, ImmediateOrCancel, FillOrKill}
+use Rattle.venue_model.specs.declared.outputs.Cause.{Cause}
 use Rattle.venue_model.specs.declared.outputs.ExecType.{ExecType}
 use Rattle.venue_model.specs.declared.outputs.ExecType.TheVariants.{Trade, Canceled}
 use Rattle.venue_model.specs.declared.outputs.Report.{Report}
 use Rattle.venue_model.specs.declared.outputs.Report.TheVariants.{Exec}
 use Rattle.venue_model.specs.declared.outputs.Output.{Output}
 use Rattle.venue_model.specs.Orders.{leaves, is_live, crosses, ahead}
-
--- where outputs come from: a client's gateway, the sequence of its command, and SendingTime (52) of that message
-pub record Cause : Type 0 where
-  pub gateway : ℕ
-  pub sequence : ℕ
-  pub sending_time : ℕ
 
 -- an output of this cause to a gateway
 abbrev pub output : Cause → ℕ → Report → Output

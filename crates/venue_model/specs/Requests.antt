@@ -10,6 +10,7 @@ use Rattle.venue_model.specs.declared.commands.NewOrderSingle.{NewOrderSingle}
 use Rattle.venue_model.specs.declared.commands.OrderCancelRequest.{OrderCancelRequest}
 use Rattle.venue_model.specs.declared.commands.OrderCancelReplaceRequest.{OrderCancelReplaceRequest}
 use Rattle.venue_model.specs.declared.commands.Malformed.{Malformed}
+use Rattle.venue_model.specs.declared.outputs.Cause.{Cause}
 use Rattle.venue_model.specs.declared.outputs.OrdRejReason.{OrdRejReason}
 use Rattle.venue_model.specs.declared.outputs.OrdRejReason.TheVariants.{BookFull, UnknownSymbol, DuplicateOrder}
 use Rattle.venue_model.specs.declared.outputs.CxlRejReason.{CxlRejReason}
@@ -19,7 +20,7 @@ use Rattle.venue_model.specs.declared.outputs.ExecType.TheVariants as exec_type
 use Rattle.venue_model.specs.declared.outputs.Report.TheVariants.{CancelReject, SessionReject}
 use Rattle.venue_model.specs.declared.outputs.Output.{Output}
 use Rattle.venue_model.specs.Orders.{same_side}
-use Rattle.venue_model.specs.Match.{Cause, output, exec, matched, match_outputs}
+use Rattle.venue_model.specs.Match.{output, exec, matched, match_outputs}
 
 -- the venue's symbols, in the order of the command line
 abbrev pub Symbols : Type 0

@@ -1,11 +1,27 @@
 -- What the venue does with commands, one after another: its state and its outputs.
-use Rattle.std.specs.Prelude.{ℕ, ◌+◌, List, [], ◌∷◌, ◌++◌, replicate}
+use Rattle.std.specs.Prelude.{⊤, ℕ, ◌+◌, ◌≤◌, List, [], ◌∷◌, ◌++◌, replicate}
 use Rattle.venue_model.specs.History.{Message}
 use Rattle.venue_model.specs.declared.commands.Command.{Command}
 use Rattle.venue_model.specs.declared.commands.Command.TheVariants.{New, Cancel, Replace, Malformed, Void}
+use Rattle.venue_model.specs.declared.outputs.Cause.{Cause}
 use Rattle.venue_model.specs.declared.outputs.Output.{Output}
-use Rattle.venue_model.specs.Match.{Cause}
 use Rattle.venue_model.specs.Requests.{State, Stepped, Symbols, on_new, on_cancel, on_replace, on_malformed}
+
+-- ClOrdID, and prices and quantities, as they are read out of messages (docs/PROFILE.md, "Formats")
+abbrev pub IsName : ℕ → Type 0
+IsName n = (1 ≤ n) × (n ≤ 999999999999999)
+
+abbrev pub IsAmount : ℕ → Type 0
+IsAmount n = (1 ≤ n) × (n ≤ 1000000)
+
+-- the numbers of a command are in these ranges
+abbrev pub IsCommand : Command → Type 0
+IsCommand (New time order) = IsName order.cl_ord_id × IsAmount order.price × IsAmount order.quantity
+IsCommand (Cancel time request) = IsName request.cl_ord_id × IsName request.orig_cl_ord_id
+IsCommand (Replace time request) =
+    IsName request.cl_ord_id × IsName request.orig_cl_ord_id × IsAmount request.price × IsAmount request.quantity
+IsCommand (Malformed time fault) = ⊤
+IsCommand Void = ⊤
 
 -- a command and the gateway that it came through
 pub record Request : Type 0 where

@@ -18,7 +18,7 @@ pub use entries::Entry;
 pub use logic::{Kept, Logic};
 pub use orders::{Order, Side};
 pub use outputs::{
-    CxlRejReason, CxlRejResponseTo, ExecType, ExecutionReport, OrdRejReason, OrderCancelReject,
+    Cause, CxlRejReason, CxlRejResponseTo, ExecType, ExecutionReport, OrdRejReason, OrderCancelReject,
     Output, Report,
 };
 pub use symbol::Symbol;

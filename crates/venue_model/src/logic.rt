@@ -8,14 +8,14 @@ pub trait Logic {
     ghost use Rattle.venue_model.specs.declared.outputs.Output.{Output};
 
     /// The command of the entry at this sequence.
-    ghost reads: { ℕ → Message → Command };
+    ghost reads: { Self → ℕ → Message → Command };
 
     /// All outputs of a history, in order.
-    ghost outputs: { List Message → List Output };
+    ghost outputs: { Self → List Message → List Output };
 
     /// A longer history's outputs begin with the shorter's, and one more entry adds at most 8,194.
-    ghost grows: { (h : List Message) (e : Message) →
-        (more : List Output) × (outputs (h ++ e ∷ []) ≡ outputs h ++ more) × (length more ≤ 8194) };
+    ghost grows: { (logic : Self) (h : List Message) (e : Message) →
+        (more : List Output) × (outputs logic (h ++ e ∷ []) ≡ outputs logic h ++ more) × (length more ≤ 8194) };
 }
 
 /// What outlives a crash.

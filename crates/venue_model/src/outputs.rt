@@ -82,6 +82,15 @@ pub enum Report {
     SessionReject(Malformed),
 }
 
+/// Where outputs come from: the gateway (1 to 8) of a command, its sequence, and SendingTime (52) of its message
+/// as a number of 14 digits.
+#[derive(Clone, Copy)]
+pub struct Cause {
+    pub gateway: u8,
+    pub sequence: u64,
+    pub sending_time: u64,
+}
+
 /// A report, the gateway (1 to 8) that it goes to, the sequence of the entry that caused it, and SendingTime (52)
 /// of that entry's message as a number of 14 digits.
 #[derive(Clone, Copy)]

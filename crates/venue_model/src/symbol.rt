@@ -1,6 +1,7 @@
 //! The name of what is traded, as orders carry it.
 ghost use Rattle.std.specs.Prelude.{◌≡◌, ◌↔◌, IsTrue, MatchOption};
 ghost use Rattle.std.specs.List.{list_all};
+ghost use Rattle.std.specs.Str.{bytes_eq};
 ghost use Rattle.venue_model.specs.Spelling.{IsSpelling, is_symbol_byte};
 
 use std::marker::Model;
@@ -44,6 +45,13 @@ impl Symbol {
             bytes,
             len: name.len() as u8,
         })
+    }
+
+    /// Whether both are one symbol. It is what `==` answers, said of the names.
+    pub fn is(&self, other: &Symbol) -> bool
+        ensures { result ≡ bytes_eq self.now other.now }
+    {
+        self == other
     }
 
     /// The bytes that spell it.

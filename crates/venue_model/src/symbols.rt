@@ -57,6 +57,14 @@ impl Limits {
         Ok(Limits { symbols })
     }
 
+    /// The symbols, in order.
+    pub fn symbols(&self) -> &[Symbol]
+        ensures value { result.now ≡ self.now }
+        ensures table { AreSymbols self.now }
+    {
+        self.symbols.as_slice()
+    }
+
     /// Whether the venue trades the symbol.
     pub fn has(&self, symbol: &Symbol) -> bool
         ensures { result ≡ list_any (bytes_eq symbol.now) self.now }

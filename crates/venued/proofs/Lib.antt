@@ -16,5 +16,4 @@ pub mod NameLemmas
 pub mod FrameBytes
 pub mod HeaderLemmas
 pub mod HearingLemmas
-pub mod NamedOrders
 pub mod OneOrder

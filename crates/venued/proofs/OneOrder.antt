@@ -1,20 +1,20 @@
 -- The history of one order: its one output, and what it says.
-use Rattle.std.proofs.Common.{◌≡◌, ℕ, true, List, [], ◌∷◌, ◌++◌, refl, ap, arith}
+use Rattle.std.proofs.Common.{◌≡◌, ℕ, true, List, [], ◌∷◌, ◌++◌, refl, ap, subst, arith}
 use Rattle.fix_orders.specs.Reading.{reads}
 use Rattle.fix_orders.specs.Text.{text}
 use Rattle.venue_model.specs.Requests.{Symbols}
+use Rattle.venue_model.specs.Step.{IsCommand}
 use Rattle.venue_model.specs.declared.commands.Command.TheVariants.{New}
 use Rattle.venue_model.specs.declared.commands.NewOrderSingle.{NewOrderSingle}
 use Rattle.venue_model.specs.declared.outputs.Output.{Output}
-use Rattle.venued.proofs.NamedOrders.{new_order_named}
 use Rattle.venued.specs.OrderDesks.{OneDesk, IsOnlyOutput, texts_from, all_said, is_order, taken, due, ledger_of, acknowledgement}
 
 -- The one output of one plain order is its acknowledgement: it meets no order and nothing of it is canceled.
 pub one_output : (symbols : Symbols) (message : List ℕ) (time : ℕ) (order : NewOrderSingle) →
-    reads message ≡ New time order → is_order symbols message ≡ true →
+    reads message ≡ New time order → IsCommand (reads message) → is_order symbols message ≡ true →
     IsOnlyOutput symbols message (acknowledgement time order)
-one_output symbols message time order asks plain =
-    let named = new_order_named message time order asks in grind arith
+one_output symbols message time order asks range plain =
+    let named = subst IsCommand asks range in grind arith
 
 -- the desk behind one message, with its output still due, and with it taken
 abbrev pub before : Symbols → List ℕ → ℕ → ℕ → OneDesk
@@ -52,7 +52,7 @@ none_due symbols = refl
 
 -- what is due behind one plain order is its acknowledgement
 pub due-acknowledged : (symbols : Symbols) (message : List ℕ) (time : ℕ) (order : NewOrderSingle)
-    (refusals nothings : ℕ) → reads message ≡ New time order → is_order symbols message ≡ true →
+    (refusals nothings : ℕ) → reads message ≡ New time order → IsCommand (reads message) → is_order symbols message ≡ true →
     due (before symbols message refusals nothings) ≡ text (acknowledgement time order) 0 ∷ []
-due-acknowledged symbols message time order refusals nothings asks plain =
-    one_said symbols message (acknowledgement time order) (one_output symbols message time order asks plain)
+due-acknowledged symbols message time order refusals nothings asks range plain =
+    one_said symbols message (acknowledgement time order) (one_output symbols message time order asks range plain)

@@ -1,6 +1,8 @@
 //! The desk of this release, for the one client of gateway 1: it stands where the rings will, between a session that
 //! publishes an order and the same session that takes the report of it.
 ghost use Rattle.std.specs.Prelude.{◌≡◌, ◌≤◌, length, MatchOption, is_some, ⊤};
+ghost use Rattle.venue_model.specs.Step.{IsCommand};
+ghost use Rattle.fix_orders.specs.Reading.{reads};
 ghost use Rattle.fix_orders.specs.Text.{kind_of, text};
 ghost use Rattle.venued.specs.Desks.{type_text, Carries};
 ghost use Rattle.venued.specs.OrderDesks.{IsOnlyOutput, is_order, acknowledgement};
@@ -116,6 +118,7 @@ impl<'a> Desk for OrderDesk<'a> {
 fn first_output(limits: &Limits, message: &[u8]) -> Option<Output>
     ensures found { is_some result ≡ is_order limits.now message.now }
     ensures meant { MatchOption result ⊤ (IsOnlyOutput limits.now message.now) }
+    ensures range { IsCommand (reads message.now) }
 {
     let Command::New {
         sending_time,

@@ -1,6 +1,7 @@
 use Rattle.std.proofs.Common.{◌∙◌, sym, refl}
 use Rattle.fix_frame.specs.Borrowed.{body_fields}
 use Rattle.fix_orders.proofs.ExactLemmas.{reads_frame, reads_none}
+use Rattle.fix_orders.proofs.RangeLemmas.{reads_within}
 use Rattle.fix_orders.proofs.command.decode.Goals as goal
 
 pub returns-in-Some : goal.returns-in-Some
@@ -11,6 +12,7 @@ returns-in-Some c =
       value = read;
       frame = λ fields frame. read ∙ reads_frame bytes fields frame;
       none = λ none. absurd (none (body_fields c.in-Some.frame) c.in-Some.ensures);
+      range = rw read (reads_within bytes);
     }
 
 pub returns-in-None : goal.returns-in-None
@@ -18,4 +20,5 @@ returns-in-None c = record {
   value = sym (reads_none c.args.bytes.now c.in-None.ensures);
   frame = λ fields frame. absurd (c.in-None.ensures fields frame);
   none = λ none. refl;
+  range = tt;
 }

@@ -16,7 +16,8 @@ returns-in-Some-output-clause-due c = λ time order asks.
           let plain = sym w.first_output-output.ensures.found ∙ ap is_some found in
           let untaken = subst (KeepsOutput symbols c.self.inside.taken) w.in-None.is c.self.invariant in
           rw (w.self-inside-is, c.new-entry.ensures, untaken) (
-          due-acknowledged symbols message time order c.self.inside.refusals c.self.inside.nothings asks plain)
+          due-acknowledged symbols message time order c.self.inside.refusals c.self.inside.nothings asks
+          w.first_output-output.ensures.range plain)
       | in-Some w ↦
           let none = w.output-is in
           let some = c.in-Some-output.is in cc

@@ -1,0 +1,15 @@
+mod Lists
+mod TableLemmas
+mod Sides
+mod Priority
+mod Fills
+mod Passes
+mod BestLemmas
+mod Places
+mod StandingLemmas
+mod FillLemmas
+mod Overs
+mod NameLemmas
+mod BookLemmas
+mod RequestLemmas
+mod AmendLemmas

@@ -1,0 +1,5 @@
+pub mod Standing
+pub mod Passes
+pub mod Best
+pub mod Tables
+pub mod Books

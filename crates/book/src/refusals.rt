@@ -1,0 +1,72 @@
+//! Why a request is refused: the first reason that holds.
+ghost use Rattle.std.specs.Prelude.{◌≡◌, nat_le, Some, if◌then◌else◌};
+ghost use Rattle.venue_model.specs.Orders.{same_side};
+ghost use Rattle.venue_model.specs.Requests.{cancel_fits, replace_fits, unfit};
+
+use crate::orders::is_day;
+use venue_model::{CxlRejReason, Order, OrderCancelReplaceRequest, OrderCancelRequest, Side};
+
+/// Why a cancel is refused, where this is the order that it names and this the client's greatest ClOrdID.
+pub(crate) fn cancel_refusal(
+    greatest: u64,
+    request: &OrderCancelRequest,
+    named: &Option<Order>,
+) -> Option<CxlRejReason>
+    ensures { result ≡ (if nat_le request.now.cl_ord_id greatest then Some CxlRejReason.DuplicateClOrdId
+        else unfit (cancel_fits request.now) named.now) }
+{
+    if request.cl_ord_id <= greatest {
+        return Some(CxlRejReason::DuplicateClOrdId);
+    }
+    match named {
+        None => Some(CxlRejReason::UnknownOrder),
+        Some(order) if cancel_fits(request, order) => None,
+        Some(_) => Some(CxlRejReason::BrokerOption),
+    }
+}
+
+/// Why a replace is refused, where this is the order that it names and this the client's greatest ClOrdID.
+pub(crate) fn replace_refusal(
+    greatest: u64,
+    request: &OrderCancelReplaceRequest,
+    named: &Option<Order>,
+) -> Option<CxlRejReason>
+    ensures { result ≡ (if nat_le request.now.cl_ord_id greatest then Some CxlRejReason.DuplicateClOrdId
+        else unfit (replace_fits request.now) named.now) }
+{
+    if request.cl_ord_id <= greatest {
+        return Some(CxlRejReason::DuplicateClOrdId);
+    }
+    match named {
+        None => Some(CxlRejReason::UnknownOrder),
+        Some(order) if replace_fits(request, order) => None,
+        Some(_) => Some(CxlRejReason::BrokerOption),
+    }
+}
+
+/// A cancel fits an order of its symbol and side.
+fn cancel_fits(request: &OrderCancelRequest, order: &Order) -> bool
+    ensures { result ≡ cancel_fits request.now order.now }
+{
+    request.symbol.is(&order.symbol) && same_side(request.side, order.side)
+}
+
+/// A replace fits an order of its symbol and side that is to stay a day order with something left.
+fn replace_fits(request: &OrderCancelReplaceRequest, order: &Order) -> bool
+    ensures { result ≡ replace_fits request.now order.now }
+{
+    request.symbol.is(&order.symbol)
+        && same_side(request.side, order.side)
+        && is_day(request.time_in_force)
+        && order.cum < request.quantity
+}
+
+/// Whether both are of one side.
+fn same_side(side: Side, other: Side) -> bool
+    ensures { result ≡ same_side side other }
+{
+    match (side, other) {
+        (Side::Buy, Side::Buy) | (Side::Sell, Side::Sell) => true,
+        _ => false,
+    }
+}
