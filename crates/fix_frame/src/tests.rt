@@ -69,7 +69,7 @@ const FAULTS: &[(&str, &[u8], FrameFault)] = &[
         b"8=FIX.4.4\x019=12\x0135=0\x01112=13\x0110=7\x018=",
         BadChecksum,
     ),
-    ("a body above 297", b"8=FIX.4.4\x019=298", TooLong),
+    ("a body of 298", b"8=FIX.4.4\x019=298", TooLong),
     ("a length of four digits", b"8=FIX.4.4\x019=1000", TooLong),
     (
         "another type first",
