@@ -60,3 +60,15 @@ impl BookLogic {
         self.symbols().iter().any(|known| symbol.is(known))
     }
 }
+
+impl Logic for BookLogic {
+    ghost use Rattle.fix_orders.specs.Reading.{reads};
+    ghost use Rattle.venue_model.specs.Step.{requests, outputs};
+    ghost use Rattle.venue_model.proofs.Bounds.{grows};
+
+    ghost reads = { λ symbols sequence m. reads m.bytes };
+
+    ghost outputs = { λ symbols h. outputs symbols (requests (λ sequence m. reads m.bytes) h) };
+
+    ghost grows = { grows (λ sequence m. reads m.bytes) };
+}

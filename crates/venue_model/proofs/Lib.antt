@@ -2,3 +2,5 @@ mod SymbolLemmas
 mod TableLemmas
 mod WorkedSessions
 mod WorkedBooks
+pub mod Replaced
+pub mod Bounds
