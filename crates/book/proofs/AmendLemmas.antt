@@ -14,6 +14,7 @@ use Rattle.venue_model.specs.Match.{live_alone, exec, matched, match_outputs}
 use Rattle.venue_model.specs.declared.outputs.ExecType.TheVariants.{Replaced}
 use Rattle.venue_model.specs.declared.commands.TimeInForce.TheVariants.{Day}
 use Rattle.venue_model.specs.Requests.{Symbols, State, Stepped, is_named, is_day, named, others, accepted, unfit, replace_fits, amended, restamped, keeps_place, amended_in_place, order_replaced}
+use Rattle.venue_model.proofs.Replaced.{in_place, again}
 use Rattle.book.specs.Standing.{InRange, Rests, Standing}
 use Rattle.book.specs.Books.{Book, NamedApart, Belongs, IsBook, NamedAt, NoneNamed}
 use Rattle.book.proofs.Fills.{live-true}
@@ -140,24 +141,11 @@ module _ (symbols : Symbols) (s : State) (c : Cause) (r : OrderCancelReplaceRequ
       ∙ sym (amended-at c.gateway r.orig_cl_ord_id s.orders place at (amended r))
 
 module _ (s : State) (c : Cause) (r : OrderCancelReplaceRequest) (o : Order) where
-  abbrev pub kept : Stepped
-  kept = record {
-    state = accepted s c.gateway r.cl_ord_id (amended_in_place s c.gateway r);
-    outputs = exec c (Replaced r.orig_cl_ord_id) (amended r o) ∷ [];
-  }
+  pub replaced-kept : named s c.gateway r.orig_cl_ord_id ≡ Some o → keeps_place r o ≡ true → order_replaced s c r (named s c.gateway r.orig_cl_ord_id) ≡ in_place s c r o
+  replaced-kept is keeps = ap (order_replaced s c r) is ∙ ap (λ b. if b then in_place s c r o else again s c r o) keeps
 
-  abbrev pub moved : Stepped
-  moved = record {
-    state = accepted s c.gateway r.cl_ord_id (matched Day (restamped c (amended r o)) (others s c.gateway r.orig_cl_ord_id));
-    outputs = exec c (Replaced r.orig_cl_ord_id) (restamped c (amended r o))
-        ∷ match_outputs c Day (restamped c (amended r o)) (others s c.gateway r.orig_cl_ord_id);
-  }
-
-  pub replaced-kept : named s c.gateway r.orig_cl_ord_id ≡ Some o → keeps_place r o ≡ true → order_replaced s c r (named s c.gateway r.orig_cl_ord_id) ≡ kept
-  replaced-kept is keeps = ap (order_replaced s c r) is ∙ ap (λ b. if b then kept else moved) keeps
-
-  pub replaced-moved : named s c.gateway r.orig_cl_ord_id ≡ Some o → keeps_place r o ≡ false → order_replaced s c r (named s c.gateway r.orig_cl_ord_id) ≡ moved
-  replaced-moved is loses = ap (order_replaced s c r) is ∙ ap (λ b. if b then kept else moved) loses
+  pub replaced-moved : named s c.gateway r.orig_cl_ord_id ≡ Some o → keeps_place r o ≡ false → order_replaced s c r (named s c.gateway r.orig_cl_ord_id) ≡ again s c r o
+  replaced-moved is loses = ap (order_replaced s c r) is ∙ ap (λ b. if b then in_place s c r o else again s c r o) loses
 
 -- the target, as the code has read it out of the book
 pub seen : (b : Book) (logic : Symbols) (items : List Order) (greatest : List ℕ) →

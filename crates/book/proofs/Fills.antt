@@ -12,7 +12,7 @@ use Rattle.book.proofs.Lists.{filter-in, filter-out, filter-none, each-append, e
 
 -- what stands ahead of x, with one more in the middle that is, or isn't
 module _ (xs ys : List Order) (o x : Order) where
-  ahead-more : ahead o x ≡ true → leaves_ahead (xs ++ o ∷ ys) x ≡ leaves o + leaves_ahead (xs ++ ys) x
+  pub ahead-more : ahead o x ≡ true → leaves_ahead (xs ++ o ∷ ys) x ≡ leaves o + leaves_ahead (xs ++ ys) x
   ahead-more leads =
       ap (sum_by leaves) (filter-in (λ y. ahead y x) xs ys o leads)
       ∙ sum-middle leaves (filter (λ y. ahead y x) xs) (filter (λ y. ahead y x) ys) o

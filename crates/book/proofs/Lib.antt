@@ -13,3 +13,13 @@ mod NameLemmas
 mod BookLemmas
 mod RequestLemmas
 mod AmendLemmas
+mod LawSteps
+mod LawLimits
+mod LawPriority
+mod LawPairs
+mod LawSums
+mod LawOrder
+mod LawCrossed
+mod LawOrderly
+mod LawTotals
+mod LawTraded

@@ -8,7 +8,7 @@ use Rattle.venue_model.specs.Match.{insert_by_priority, by_priority}
 use Rattle.book.specs.Passes.{Leads}
 
 -- what holds of each holds of each
-each-insert : (P : Order → Type 0) (o : Order) (xs : List Order) → P o → AllByRecursion P xs → AllByRecursion P (insert_by_priority o xs)
+pub each-insert : (P : Order → Type 0) (o : Order) (xs : List Order) → P o → AllByRecursion P xs → AllByRecursion P (insert_by_priority o xs)
 each-insert P o [] this all = (this, tt)
 each-insert P o (x ∷ xs) this all = elim (ahead o x) as (λ b. AllByRecursion P (if b then o ∷ x ∷ xs else x ∷ insert_by_priority o xs))
     [ true ↦ (this, all) | false ↦ (all.0, each-insert P o xs this all.1) ]

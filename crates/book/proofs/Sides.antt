@@ -48,7 +48,7 @@ leads-earlier a b one_side earlier h = leads-of a b one_side
     (prior-earlier a.side a.price a.stamp b.price b.stamp earlier (ap (λ s. prior s b.price b.stamp a.price a.stamp) one_side ∙ h))
 
 -- the side that an order of this side crosses
-abbrev other_side : Side → Side
+abbrev pub other_side : Side → Side
 other_side Buy = Sell
 other_side Sell = Buy
 
@@ -62,7 +62,7 @@ meets-side Buy p Sell q h = refl
 meets-side Sell p Buy q h = refl
 meets-side Sell p Sell q h = cc
 
-crossed-side : (i o : Order) → crosses i o ≡ true → o.side ≡ other_side i.side
+pub crossed-side : (i o : Order) → crosses i o ≡ true → o.side ≡ other_side i.side
 crossed-side i o h = meets-side i.side i.price o.side o.price (and_right (bytes_eq i.symbol o.symbol) _ h)
 
 -- all orders that one crosses are of one side

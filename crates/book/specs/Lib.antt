@@ -3,3 +3,4 @@ pub mod Passes
 pub mod Best
 pub mod Tables
 pub mod Books
+pub mod Laws

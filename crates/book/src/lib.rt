@@ -4,6 +4,7 @@
 
 mod best;
 mod book;
+mod laws;
 mod logic;
 mod matching;
 mod names;
@@ -11,6 +12,13 @@ mod orders;
 mod refusals;
 mod reports;
 mod requests;
+#[cfg(test)]
+mod tests;
 
 pub use book::{Book, MOST_RESTING};
+pub use laws::{
+    both_sides_trade_the_same, fill_or_kill_is_whole, fills_come_in_order, no_order_is_overfilled,
+    outputs_only_grow, priority_holds, the_book_is_bounded, the_book_is_never_crossed,
+    trades_keep_limits, what_is_bought_is_sold,
+};
 pub use logic::BookLogic;

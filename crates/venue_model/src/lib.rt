@@ -18,8 +18,8 @@ pub use entries::Entry;
 pub use logic::{Kept, Logic};
 pub use orders::{Order, Side};
 pub use outputs::{
-    Cause, CxlRejReason, CxlRejResponseTo, ExecType, ExecutionReport, OrdRejReason, OrderCancelReject,
-    Output, Report,
+    Cause, CxlRejReason, CxlRejResponseTo, ExecType, ExecutionReport, OrdRejReason,
+    OrderCancelReject, Output, Report,
 };
 pub use symbol::Symbol;
 pub use symbols::{Limits, LimitsFault};

@@ -1,0 +1,120 @@
+-- Words of the laws of matching.
+use Rattle.std.specs.Prelude.{◌≡◌, ⊤, ℕ, ◌-◌, ◌*◌, ◌<◌, ◌≤◌, true, false, List, [], ◌∷◌, length, slice_index, MatchOption, sum_by, ◌&&◌, if◌then◌else◌}
+use Rattle.std.specs.List.{AllByRecursion, Contains}
+use Rattle.std.specs.Str.{bytes_eq}
+use Rattle.venue_model.specs.declared.orders.Side.{Side}
+use Rattle.venue_model.specs.declared.orders.Side.TheVariants.{Buy, Sell}
+use Rattle.venue_model.specs.declared.orders.Order.{Order}
+use Rattle.venue_model.specs.declared.outputs.ExecType.{ExecType}
+use Rattle.venue_model.specs.declared.outputs.ExecType.TheVariants.{New, Trade, Canceled, Replaced, Rejected}
+use Rattle.venue_model.specs.declared.outputs.Report.{Report}
+use Rattle.venue_model.specs.declared.outputs.Report.TheVariants.{Exec, CancelReject, SessionReject}
+use Rattle.venue_model.specs.declared.outputs.Output.{Output}
+use Rattle.venue_model.specs.Orders.{same_side, crosses}
+use Rattle.venue_model.specs.Requests.{State, is_named}
+use Rattle.venue_model.specs.Step.{Request}
+
+-- a price is no worse than a limit: for a buy no higher, for a sell no lower
+abbrev pub IsWithin : Side → ℕ → ℕ → Type 0
+IsWithin Buy limit price = price ≤ limit
+IsWithin Sell limit price = limit ≤ price
+
+-- what happened to an order, if it was a trade, was one at such a price
+abbrev pub TradedAt : (ℕ → Type 0) → ExecType → Type 0
+TradedAt P New = ⊤
+TradedAt P (Trade last_qty last_px) = P last_px
+TradedAt P (Canceled orig_cl_ord_id) = ⊤
+TradedAt P (Replaced orig_cl_ord_id) = ⊤
+TradedAt P (Rejected reason) = ⊤
+
+-- an output, if it tells an order's trade, tells one at such a price of this order
+abbrev pub TellsTradeAt : (Order → ℕ → Type 0) → Report → Type 0
+TellsTradeAt P (Exec report) = TradedAt (P report.order) report.exec_type
+TellsTradeAt P (CancelReject reject) = ⊤
+TellsTradeAt P (SessionReject reject) = ⊤
+
+-- an output, if it tells a trade, tells one at a price that keeps the limit of the order in it
+abbrev pub KeepsLimit : Output → Type 0
+KeepsLimit o = TellsTradeAt (λ order price. IsWithin order.side order.price price) o.report
+
+-- the price of one of these orders, which the incoming one crosses
+pub record PriceOfOne (incoming : Order) (orders : List Order) (price : ℕ) : Type 0 where
+  pub order : Order
+  pub is_there : Contains orders order
+  pub is_crossed : crosses incoming order ≡ true
+  pub price_is : price ≡ order.price
+
+-- an output, if it tells a trade, tells one at the price of a resting order that the incoming one crosses
+abbrev pub KeepsPrice : Order → List Order → Output → Type 0
+KeepsPrice incoming orders o = TellsTradeAt (λ order price. PriceOfOne incoming orders price) o.report
+
+-- a command comes through one of the eight gateways
+pub record IsFromGateway (r : Request) : Type 0 where
+  pub from : 1 ≤ r.gateway
+  pub to : r.gateway ≤ 8
+
+-- it holds of each order and each later one
+abbrev pub Pairwise : (Order → Order → Type 0) → List Order → Type 0
+Pairwise R [] = ⊤
+Pairwise R (o ∷ os) = AllByRecursion (R o) os × Pairwise R os
+
+-- two orders can rest side by side: the first has the earlier stamp, they don't cross, and no client has both under one name
+pub record RestBeside (a b : Order) : Type 0 where
+  pub earlier : a.stamp < b.stamp
+  pub apart : is_named a.client a.cl_ord_id b ≡ false
+  pub uncrossed : crosses a b ≡ false
+
+-- an order of one of the eight clients, stamped before this sequence, under a name that is not above its client's greatest,
+-- and something is left of it
+pub record CanRest (sequence : ℕ) (greatest : List ℕ) (o : Order) : Type 0 where
+  pub before : o.stamp < sequence
+  pub from : 1 ≤ o.client
+  pub to : o.client ≤ 8
+  pub name : o.cl_ord_id ≤ slice_index greatest (o.client - 1)
+  pub live : o.cum < o.total
+
+-- what stands in every state that commands lead to
+pub record IsOrderly (sequence : ℕ) (s : State) : Type 0 where
+  pub pairs : Pairwise RestBeside s.orders
+  pub each : AllByRecursion (CanRest sequence s.greatest) s.orders
+  pub clients : length s.greatest ≡ 8
+
+-- none of these orders crosses another
+abbrev pub IsUncrossed : List Order → Type 0
+IsUncrossed orders = AllByRecursion (λ a. AllByRecursion (λ b. crosses a b ≡ false) orders) orders
+
+-- it holds of the order that an output tells of, where it tells of one
+abbrev pub TellsOf : (Order → Type 0) → Report → Type 0
+TellsOf P (Exec report) = P report.order
+TellsOf P (CancelReject reject) = MatchOption reject.order ⊤ P
+TellsOf P (SessionReject reject) = ⊤
+
+-- CumQty isn't above OrderQty
+abbrev pub IsNotOver : Order → Type 0
+IsNotOver o = o.cum ≤ o.total
+
+-- the order that an output tells of is not filled over its total
+abbrev pub KeepsTotal : Output → Type 0
+KeepsTotal o = TellsOf IsNotOver o.report
+
+-- what happened to an order counts by the quantity and the price of its fill, where it is of this side and symbol
+abbrev pub fill_counted : (ℕ → ℕ → ℕ) → Side → List ℕ → Order → ExecType → ℕ
+fill_counted count side symbol o New = 0
+fill_counted count side symbol o (Trade last_qty last_px) =
+    if same_side o.side side && bytes_eq o.symbol symbol then count last_qty last_px else 0
+fill_counted count side symbol o (Canceled orig_cl_ord_id) = 0
+fill_counted count side symbol o (Replaced orig_cl_ord_id) = 0
+fill_counted count side symbol o (Rejected reason) = 0
+
+abbrev pub report_counted : (ℕ → ℕ → ℕ) → Side → List ℕ → Report → ℕ
+report_counted count side symbol (Exec report) = fill_counted count side symbol report.order report.exec_type
+report_counted count side symbol (CancelReject reject) = 0
+report_counted count side symbol (SessionReject reject) = 0
+
+-- the quantity that one side traded in a symbol, as outputs tell it: the sum of LastQty
+abbrev pub quantity_traded : Side → List ℕ → List Output → ℕ
+quantity_traded side symbol outputs = sum_by (λ o. report_counted (λ quantity price. quantity) side symbol o.report) outputs
+
+-- the money that it traded it for: the sum of LastQty times LastPx
+abbrev pub money_traded : Side → List ℕ → List Output → ℕ
+money_traded side symbol outputs = sum_by (λ o. report_counted (λ quantity price. quantity * price) side symbol o.report) outputs

@@ -1,0 +1,128 @@
+//! Laws of matching, in the words of those who trade and audit: functions that do nothing, whose contracts are the laws.
+//! They speak of the definitions that the book is proved to follow, so they hold of the book.
+ghost use Rattle.std.specs.Prelude.{◌≡◌, ℕ, ◌+◌, ◌<◌, ◌≤◌, min, nat_lt, true, false, List, [], ◌∷◌, ◌++◌, length, map, filter, sum_by};
+ghost use Rattle.std.specs.List.{AllByRecursion, Contains};
+ghost use Rattle.std.specs.List.Sorted.{IsPermutation};
+ghost use Rattle.fix_orders.specs.Reading.{reads};
+ghost use Rattle.venue_model.specs.History.{History, IsMessage};
+ghost use Rattle.venue_model.specs.declared.commands.TimeInForce.TheVariants.{FillOrKill};
+ghost use Rattle.venue_model.specs.declared.orders.Order.{Order};
+ghost use Rattle.venue_model.specs.declared.orders.Side.TheVariants.{Buy, Sell};
+ghost use Rattle.venue_model.specs.declared.outputs.Cause.{Cause};
+ghost use Rattle.venue_model.specs.Orders.{leaves, is_live, crosses, ahead};
+ghost use Rattle.venue_model.specs.Match.{crossing, fill, settled, done, rest, filled_orders, trades, can_fill, canceled_rest, matched, match_outputs};
+ghost use Rattle.venue_model.specs.Requests.{Symbols, State};
+ghost use Rattle.venue_model.specs.Step.{Request, step, state, outputs_from, outputs, requests};
+ghost use Rattle.book.specs.Standing.{Rising};
+ghost use Rattle.book.specs.Laws.{KeepsLimit, KeepsPrice, KeepsTotal, IsFromGateway, Pairwise, IsOrderly, IsUncrossed, quantity_traded, money_traded};
+
+/// What was told stays told: a history's outputs begin with the outputs of each of its beginnings, and each command
+/// adds its own behind them.
+pub fn outputs_only_grow()
+    ensures begin { (symbols : Symbols) (rs more : List Request) →
+        outputs symbols (rs ++ more) ≡ outputs symbols rs ++ outputs_from symbols (length rs) (state symbols rs) more }
+    ensures one_more { (symbols : Symbols) (rs : List Request) (r : Request) →
+        outputs symbols (rs ++ r ∷ []) ≡ outputs symbols rs ++ (step symbols (state symbols rs) (length rs) r).outputs }
+    ensures state { (symbols : Symbols) (rs : List Request) (r : Request) →
+        state symbols (rs ++ r ∷ []) ≡ (step symbols (state symbols rs) (length rs) r).state }
+{}
+
+/// After any history at most 4,096 orders rest, and a command has at most 8,194 outputs: that it was accepted, two for
+/// a fill with each order that rests, and that what is left was canceled.
+pub fn the_book_is_bounded()
+    ensures resting { (symbols : Symbols) (rs : List Request) → length (state symbols rs).orders ≤ 4096 }
+    ensures outputs { (symbols : Symbols) (rs : List Request) (r : Request) →
+        length (step symbols (state symbols rs) (length rs) r).outputs ≤ 8194 }
+{}
+
+/// No trade is worse than a limit: every fill that the venue ever tells of an order is at the order's limit price or a
+/// better one, for the buyer and for the seller. A match trades at the prices of resting orders.
+pub fn trades_keep_limits()
+    ensures limit { (symbols : Symbols) (rs : List Request) → AllByRecursion KeepsLimit (outputs symbols rs) }
+    ensures price { (c : Cause) (incoming : Order) (orders : List Order) →
+        AllByRecursion (KeepsPrice incoming orders) (trades c incoming orders) }
+{}
+
+/// Price-time priority: an order gets something from a match only where every resting order ahead of it got all that
+/// it had left to fill. So while something is left of an order, no order behind it of its symbol and side is filled.
+pub fn priority_holds()
+    ensures first { (incoming : Order) (orders : List Order) (o x : Order) → Contains orders o →
+        crosses incoming o ≡ true → crosses incoming x ≡ true → ahead o x ≡ true →
+        (quantity : ℕ) → 0 < fill quantity (crossing incoming orders) x
+        → fill quantity (crossing incoming orders) o ≡ leaves o }
+    ensures behind { (incoming : Order) (orders : List Order) (o x : Order) → Contains orders o →
+        o.symbol ≡ x.symbol → o.side ≡ x.side → ahead o x ≡ true →
+        is_live (settled incoming (crossing incoming orders) o) ≡ true
+        → settled incoming (crossing incoming orders) x ≡ x }
+{}
+
+/// The fills of a match are told in the order of priority, each ahead of all that follow, and they are all that there
+/// are, each once.
+pub fn fills_come_in_order()
+    ensures order { (incoming : Order) (orders : List Order) (quantity : ℕ) → Rising orders
+        → Pairwise (λ a b. ahead a b ≡ true) (filled_orders quantity (crossing incoming orders)) }
+    ensures all { (quantity : ℕ) (queue : List Order) →
+        IsPermutation (filter (λ o. nat_lt 0 (fill quantity queue o)) queue) (filled_orders quantity queue) }
+{}
+
+/// Nothing is made and nothing is lost in a match. What the incoming order gains, the resting orders gain in sum: in
+/// quantity and in money. It is as much as both sides have, and no order is filled over its total.
+pub fn both_sides_trade_the_same()
+    ensures quantity { (incoming : Order) (orders : List Order) →
+        sum_by (λ o. o.cum) (map (settled incoming (crossing incoming orders)) orders) + incoming.cum
+        ≡ sum_by (λ o. o.cum) orders + (done incoming orders).cum }
+    ensures money { (incoming : Order) (orders : List Order) →
+        sum_by (λ o. o.notional) (map (settled incoming (crossing incoming orders)) orders) + incoming.notional
+        ≡ sum_by (λ o. o.notional) orders + (done incoming orders).notional }
+    ensures all { (incoming : Order) (orders : List Order) (quantity : ℕ) → Rising orders →
+        sum_by (fill quantity (crossing incoming orders)) (crossing incoming orders)
+        ≡ min quantity (sum_by leaves (crossing incoming orders)) }
+    ensures most { (incoming : Order) (orders : List Order) → Rising orders →
+        (done incoming orders).cum
+        ≡ incoming.cum + min (leaves incoming) (sum_by leaves (crossing incoming orders)) }
+    ensures incoming { (incoming : Order) (orders : List Order) → Rising orders →
+        incoming.cum ≤ incoming.total → (done incoming orders).cum ≤ incoming.total }
+    ensures resting { (incoming : Order) (orders : List Order) →
+        AllByRecursion (λ o. o.cum ≤ o.total) orders → AllByRecursion (λ o. o.cum ≤ o.total) (rest incoming orders) }
+{}
+
+/// Of each symbol as much was bought as was sold, and as much was paid as was received, in the fills that the venue has
+/// told after any history.
+pub fn what_is_bought_is_sold()
+    ensures quantity { (symbols : Symbols) (rs : List Request) (symbol : List ℕ) →
+        quantity_traded Buy symbol (outputs symbols rs) ≡ quantity_traded Sell symbol (outputs symbols rs) }
+    ensures money { (symbols : Symbols) (rs : List Request) (symbol : List ℕ) →
+        money_traded Buy symbol (outputs symbols rs) ≡ money_traded Sell symbol (outputs symbols rs) }
+{}
+
+/// A fill-or-kill order is filled whole, or it is canceled and the book is as it was.
+pub fn fill_or_kill_is_whole()
+    ensures whole { (incoming : Order) (orders : List Order) → Rising orders →
+        can_fill incoming orders ≡ true → leaves (done incoming orders) ≡ 0 }
+    ensures untouched { (incoming : Order) (orders : List Order) →
+        can_fill incoming orders ≡ false → matched FillOrKill incoming orders ≡ orders }
+    ensures told { (c : Cause) (incoming : Order) (orders : List Order) →
+        can_fill incoming orders ≡ false → match_outputs c FillOrKill incoming orders ≡ canceled_rest c incoming }
+{}
+
+/// The book is never crossed: after any commands of the eight gateways, so after any history of their messages, no
+/// resting buy meets a resting sell of its symbol. The resting orders stand in the order of their stamps, each with something left, and no client has two under
+/// one name; each command keeps all this.
+pub fn the_book_is_never_crossed()
+    ensures uncrossed { (symbols : Symbols) (rs : List Request) → AllByRecursion IsFromGateway rs
+        → IsUncrossed (state symbols rs).orders }
+    ensures history { (symbols : Symbols) (h : History) → AllByRecursion IsMessage h
+        → IsUncrossed (state symbols (requests (λ sequence m. reads m.bytes) h)).orders }
+    ensures rising { (symbols : Symbols) (rs : List Request) → AllByRecursion IsFromGateway rs
+        → Rising (state symbols rs).orders }
+    ensures orderly { (symbols : Symbols) (rs : List Request) → AllByRecursion IsFromGateway rs
+        → IsOrderly (length rs) (state symbols rs) }
+    ensures kept { (symbols : Symbols) (sequence : ℕ) (s : State) (r : Request) → IsFromGateway r →
+        IsOrderly sequence s → IsOrderly (sequence + 1) (step symbols s sequence r).state }
+{}
+
+/// No order is ever overfilled: whatever the venue tells of an order, its CumQty is at most its OrderQty.
+pub fn no_order_is_overfilled()
+    ensures { (symbols : Symbols) (rs : List Request) → AllByRecursion IsFromGateway rs
+        → AllByRecursion KeepsTotal (outputs symbols rs) }
+{}
