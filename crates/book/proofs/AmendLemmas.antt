@@ -15,13 +15,13 @@ use Rattle.venue_model.specs.declared.outputs.ExecType.TheVariants.{Replaced}
 use Rattle.venue_model.specs.declared.commands.TimeInForce.TheVariants.{Day}
 use Rattle.venue_model.specs.Requests.{Symbols, State, Stepped, is_named, is_day, named, others, accepted, unfit, replace_fits, amended, restamped, keeps_place, amended_in_place, order_replaced}
 use Rattle.venue_model.proofs.Replaced.{in_place, again}
-use Rattle.book.specs.Standing.{InRange, Rests, Standing}
+use Rattle.book.specs.Standing.{InRange, Rests, Standing, Below}
 use Rattle.book.specs.Books.{Book, NamedApart, Belongs, IsBook, NamedAt, NoneNamed}
 use Rattle.book.proofs.Fills.{live-true}
 use Rattle.book.proofs.Places.{put-back, before-is, behind-is, place-within, order-is}
 use Rattle.book.proofs.NameLemmas.{named-is, amended-at}
 use Rattle.std.proofs.lemmas.List.{set_split}
-use Rattle.book.proofs.Lists.{each-back}
+use Rattle.book.proofs.Lists.{each-back, each-set}
 use Rattle.book.proofs.BookLemmas.{not-mutual}
 use Rattle.book.proofs.StandingLemmas.{each-instead, standing-instead}
 
@@ -155,3 +155,13 @@ pub seen : (b : Book) (logic : Symbols) (items : List Order) (greatest : List �
 seen b logic items greatest view book c r place at o is fit =
     target b.symbols b.state c r place at o (is ∙ ap (λ (x : Book). get_or x.state.orders place o) view)
     (subst (λ (x : Book). IsBook x.symbols x.state.orders x.state.greatest) view book) fit
+
+-- the amended order keeps its stamp, so all stamps stay below the sequence
+pub amended-below : (client name sequence : ℕ) (os : List Order) (place : ℕ) → NamedAt client name os place → (old o : Order) → old ≡ get_or os place old →
+    o.stamp ≡ old.stamp → Below sequence os → Below sequence (slice_set os place o)
+amended-below client name sequence os place at old o is stamp below =
+    let same : old ≡ at.order = order-is os at.before at.behind at.order place at.split at.place_is old is in
+    let its_stamp : o.stamp ≡ at.order.stamp = stamp ∙ ap (λ (x : Order). x.stamp) same in
+    let its_below : at.order.stamp < sequence =
+    (each-back (λ x. x.stamp < sequence) at.before (at.order ∷ at.behind) (subst (Below sequence) at.split below)).0 in
+    each-set (λ x. x.stamp < sequence) os place o below (rw its_stamp its_below)

@@ -1,6 +1,6 @@
 -- Lists whose elements a function treats alike, and lists with one element in the middle.
-use Rattle.std.proofs.Common.{◌≡◌, ℕ, suc, ◌+◌, Bool, true, false, List, [], ◌∷◌, ◌++◌, length, map, refl, ap, sym, ◌∙◌, arith}
-use Rattle.std.specs.Prelude.{sum_by, filter, if◌then◌else◌}
+use Rattle.std.proofs.Common.{◌≡◌, ℕ, zero, suc, ◌+◌, Bool, true, false, List, [], ◌∷◌, ◌++◌, length, map, refl, ap, sym, ◌∙◌, arith}
+use Rattle.std.specs.Prelude.{slice_set, sum_by, filter, if◌then◌else◌}
 use Rattle.std.specs.List.{flat_map, AllByRecursion}
 use Rattle.std.proofs.lemmas.Grind.{flat_map-append}
 use Rattle.std.proofs.lemmas.List.{map-append}
@@ -94,3 +94,9 @@ module _ {X : Type 0} where
   pub length-without : (xs ys : List X) (x : X) → length (xs ++ x ∷ ys) ≡ suc (length (xs ++ ys))
   length-without [] ys x = refl
   length-without (y ∷ xs) ys x = ap suc (length-without xs ys x)
+
+  -- one set
+  pub each-set : (P : X → Type 0) (xs : List X) (k : ℕ) (y : X) → AllByRecursion P xs → P y → AllByRecursion P (slice_set xs k y)
+  each-set P [] k y all this = tt
+  each-set P (x ∷ xs) zero y all this = (this, all.1)
+  each-set P (x ∷ xs) (suc k) y all this = (all.0, each-set P xs k y all.1 this)

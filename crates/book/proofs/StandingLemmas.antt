@@ -103,3 +103,7 @@ standing-without xs ys o standing = record {
   each = each-without Rests xs ys o standing.each;
   few = let more = length-without xs ys o in let few = standing.few in omega (arith, more, few);
 }
+
+-- what is below a sequence is below the next
+pub below_more : (xs : List Order) (sequence : ℕ) → Below sequence xs → Below (sequence + 1) xs
+below_more xs sequence below = each-map (λ x. x.stamp < sequence) (λ x. x.stamp < sequence + 1) (λ x h. omega (arith, h)) xs below

@@ -1,5 +1,5 @@
 //! The book: what rests, and each client's greatest accepted ClOrdID.
-ghost use Rattle.std.specs.Prelude.{◌≡◌, ◌^◌, ◌<◌, ◌≤◌, [], ◌∷◌, ◌++◌, IfOk, OnOk, OnErr};
+ghost use Rattle.std.specs.Prelude.{◌≡◌, ◌+◌, ◌^◌, ◌<◌, ◌≤◌, [], ◌∷◌, ◌++◌, IfOk, OnOk, OnErr};
 ghost use Rattle.std.specs.Vec.{vec_len, vec_capacity};
 ghost use Rattle.venue_model.specs.Match.{output};
 ghost use Rattle.venue_model.specs.Step.{empty, cause, step, IsCommand};
@@ -68,6 +68,7 @@ impl Book {
         }) }
         ensures told { OnOk result (out.new.items ≡ out.old.items
             ++ (step self.old.symbols self.old.state sequence (record { gateway = gateway; command = command.now })).outputs) }
+        ensures behind { OnOk result (Below (sequence + 1) self.new.state.orders) }
         ensures refused { OnErr result ((self.new ≡ self.old) × (out.new.items ≡ out.old.items)) }
     {
         out.reserve(2 * self.orders.len() + 2)?;

@@ -9,18 +9,18 @@ use venue_model::{CxlRejReason, Order, OrderCancelReplaceRequest, OrderCancelReq
 /// Why a cancel is refused, where this is the order that it names and this the client's greatest ClOrdID.
 pub(crate) fn cancel_refusal(
     greatest: u64,
-    request: &OrderCancelRequest,
+    cancel: &OrderCancelRequest,
     named: &Option<Order>,
 ) -> Option<CxlRejReason>
-    ensures { result ≡ (if nat_le request.now.cl_ord_id greatest then Some CxlRejReason.DuplicateClOrdId
-        else unfit (cancel_fits request.now) named.now) }
+    ensures { result ≡ (if nat_le cancel.now.cl_ord_id greatest then Some CxlRejReason.DuplicateClOrdId
+        else unfit (cancel_fits cancel.now) named.now) }
 {
-    if request.cl_ord_id <= greatest {
+    if cancel.cl_ord_id <= greatest {
         return Some(CxlRejReason::DuplicateClOrdId);
     }
     match named {
         None => Some(CxlRejReason::UnknownOrder),
-        Some(order) if cancel_fits(request, order) => None,
+        Some(order) if cancel_fits(cancel, order) => None,
         Some(_) => Some(CxlRejReason::BrokerOption),
     }
 }
@@ -28,18 +28,18 @@ pub(crate) fn cancel_refusal(
 /// Why a replace is refused, where this is the order that it names and this the client's greatest ClOrdID.
 pub(crate) fn replace_refusal(
     greatest: u64,
-    request: &OrderCancelReplaceRequest,
+    replace: &OrderCancelReplaceRequest,
     named: &Option<Order>,
 ) -> Option<CxlRejReason>
-    ensures { result ≡ (if nat_le request.now.cl_ord_id greatest then Some CxlRejReason.DuplicateClOrdId
-        else unfit (replace_fits request.now) named.now) }
+    ensures { result ≡ (if nat_le replace.now.cl_ord_id greatest then Some CxlRejReason.DuplicateClOrdId
+        else unfit (replace_fits replace.now) named.now) }
 {
-    if request.cl_ord_id <= greatest {
+    if replace.cl_ord_id <= greatest {
         return Some(CxlRejReason::DuplicateClOrdId);
     }
     match named {
         None => Some(CxlRejReason::UnknownOrder),
-        Some(order) if replace_fits(request, order) => None,
+        Some(order) if replace_fits(replace, order) => None,
         Some(_) => Some(CxlRejReason::BrokerOption),
     }
 }

@@ -93,6 +93,7 @@ impl Book {
         requires room { vec_len out.old + (2 * length self.old.state.orders + 2) ≤ vec_capacity out.old }
         ensures state { self.new ≡ record self.old { state = (on_new self.old.symbols self.old.state cause request.now).state } }
         ensures told { out.new.items ≡ out.old.items ++ (on_new self.old.symbols self.old.state cause request.now).outputs }
+        ensures behind { Below (cause.sequence + 1) self.new.state.orders }
     {
         let order = entering(cause, request);
         if let Some(reason) = self.new_refusal(cause.gateway, request) {
@@ -113,9 +114,11 @@ impl Book {
     )
         requires from { 1 ≤ cause.gateway }
         requires to { cause.gateway ≤ 8 }
+        requires behind { Below cause.sequence self.old.state.orders }
         requires room { vec_len out.old + 1 ≤ vec_capacity out.old }
         ensures state { self.new ≡ record self.old { state = (on_cancel self.old.state cause request.now).state } }
         ensures told { out.new.items ≡ out.old.items ++ (on_cancel self.old.state cause request.now).outputs }
+        ensures behind { Below (cause.sequence + 1) self.new.state.orders }
     {
         let found = self.find(cause.gateway, request.orig_cl_ord_id);
         let greatest = self.greatest_of(cause.gateway);
@@ -148,6 +151,7 @@ impl Book {
         requires room { vec_len out.old + (2 * length self.old.state.orders + 2) ≤ vec_capacity out.old }
         ensures state { self.new ≡ record self.old { state = (on_replace self.old.state cause request.now).state } }
         ensures told { out.new.items ≡ out.old.items ++ (on_replace self.old.state cause request.now).outputs }
+        ensures behind { Below (cause.sequence + 1) self.new.state.orders }
     {
         let found = self.find(cause.gateway, request.orig_cl_ord_id);
         let greatest = self.greatest_of(cause.gateway);
@@ -184,6 +188,7 @@ impl Book {
         } }
         ensures told { out.new.items ≡ out.old.items ++ (order_replaced self.old.state cause request.now
             (named self.old.state cause.gateway request.now.orig_cl_ord_id)).outputs }
+        ensures behind { Below (cause.sequence + 1) self.new.state.orders }
     {
         let order = self.orders[place];
         let exec_type = ExecType::Replaced {

@@ -1,5 +1,8 @@
 //! Commands: what the messages of traders ask of the book, as the unmarshaller reads them.
 
+ghost use Rattle.std.specs.Prelude.{IsTrue, ◌↔◌};
+ghost use Rattle.venue_model.specs.Step.{IsName, IsAmount, IsCommand};
+
 use crate::{Side, Symbol};
 
 /// TimeInForce (59).
@@ -127,4 +130,42 @@ pub enum Command {
     },
     /// Bytes that are no message with a right header of type D, F or G: they change nothing.
     Void,
+}
+
+impl Command {
+    /// Whether its numbers are in the ranges of what is read out of messages: ClOrdIDs 1 to 999,999,999,999,999, prices
+    /// and quantities 1 to 1,000,000.
+    pub fn is_in_range(&self) -> bool
+        ensures { IsTrue result ↔ IsCommand self.now }
+    {
+        match self {
+            Command::New { order, .. } => {
+                is_name(order.cl_ord_id) && is_amount(order.price) && is_amount(order.quantity)
+            }
+            Command::Cancel { request, .. } => {
+                is_name(request.cl_ord_id) && is_name(request.orig_cl_ord_id)
+            }
+            Command::Replace { request, .. } => {
+                is_name(request.cl_ord_id)
+                    && is_name(request.orig_cl_ord_id)
+                    && is_amount(request.price)
+                    && is_amount(request.quantity)
+            }
+            Command::Malformed { .. } | Command::Void => true,
+        }
+    }
+}
+
+/// Whether the number is one of a ClOrdID.
+fn is_name(number: u64) -> bool
+    ensures { IsTrue result ↔ IsName number }
+{
+    1 <= number && number <= 999_999_999_999_999
+}
+
+/// Whether the number is a price or a quantity.
+fn is_amount(number: u64) -> bool
+    ensures { IsTrue result ↔ IsAmount number }
+{
+    1 <= number && number <= 1_000_000
 }

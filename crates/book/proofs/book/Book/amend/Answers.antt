@@ -1,5 +1,5 @@
 -- The order stands amended at its place, or it left and came in again.
-use Rattle.std.proofs.Common.{◌≡◌, ◌-◌, ◌≤◌, List, [], ◌∷◌, ◌++◌, get_or, ap, sym, subst, ◌∙◌, arith, append_assoc}
+use Rattle.std.proofs.Common.{◌≡◌, ◌+◌, ◌-◌, ◌≤◌, List, [], ◌∷◌, ◌++◌, get_or, ap, sym, subst, ◌∙◌, arith, append_assoc}
 use Rattle.std.specs.Prelude.{slice_set, slice_index}
 use Rattle.venue_model.specs.declared.orders.Order.{Order}
 use Rattle.venue_model.specs.declared.commands.TimeInForce.TheVariants.{Day}
@@ -7,8 +7,9 @@ use Rattle.venue_model.specs.declared.outputs.ExecType.TheVariants.{Replaced}
 use Rattle.venue_model.specs.Match.{exec, matched, match_outputs}
 use Rattle.venue_model.specs.Requests.{Stepped, others, amended, restamped, greatest_of, accepted, amended_in_place}
 use Rattle.book.specs.Books.{Book, NamedAt}
-use Rattle.book.proofs.AmendLemmas.{seen, set-is, amended-range, restamped-range, book-amended, replaced-kept, replaced-moved}
+use Rattle.book.proofs.AmendLemmas.{seen, set-is, amended-below, amended-range, restamped-range, book-amended, replaced-kept, replaced-moved}
 use Rattle.book.proofs.BookLemmas.{book-entered}
+use Rattle.book.proofs.StandingLemmas.{below_more}
 use Rattle.book.proofs.book.Book.amend.Goals as goal
 
 pub enter-requires-clause-in_range : goal.enter-requires-clause-in_range
@@ -142,3 +143,20 @@ returns-else-keeps_place-clause-told c =
     ∙ ap (λ o. c.args.out.now.items ++ exec c.args.cause (Replaced took) o ∷ match_outputs c.args.cause Day o (others b.state c.args.cause.gateway took)) i_is
     ∙ ap (λ (st : Stepped). c.args.out.now.items ++ st.outputs)
     (sym (replaced-moved b.state c.args.cause c.args.request.now c.index.result.now t.is_named (sym c.keeps_place.ensures ∙ c.if-keeps_place.false)))
+
+pub returns-then-keeps_place-clause-behind : goal.returns-then-keeps_place-clause-behind
+returns-then-keeps_place-clause-behind c =
+    let orders_are : c.self-then-keeps_place.inside.orders.items ≡ c.args.self.now.state.orders =
+    ap (λ (b : Book). b.state.orders) (c.self-then-keeps_place.view_is ∙ c.accept.ensures.value) in
+    rw orders_are (amended-below c.args.cause.gateway c.args.request.now.orig_cl_ord_id (c.args.cause.sequence + 1) c.args.self.now.state.orders c.args.place
+    c.requires.named c.index.result.now c.amended-order.result
+    (c.index.ensures ∙ ap (λ (b : Book). get_or b.state.orders c.args.place c.index.result.now) c.self.view_is)
+    (ap (λ (o : Order). o.stamp) c.amended-order.ensures) (below_more c.args.self.now.state.orders c.args.cause.sequence c.requires.behind))
+
+pub returns-else-keeps_place-clause-behind : goal.returns-else-keeps_place-clause-behind
+returns-else-keeps_place-clause-behind c =
+    let stamp : c.restamped-order.result.stamp ≡ c.args.cause.sequence = ap (λ (o : Order). o.stamp) c.restamped-order.ensures in
+    let orders_are : c.self-else-keeps_place.inside.orders.items ≡ c.take_out.new.self.state.orders =
+    ap (λ (b : Book). b.state.orders) (c.self-else-keeps_place.view_is ∙ c.accept-else-keeps_place.ensures.value) in
+    c.enter.ensures.below (c.args.cause.sequence + 1) (omega (arith, stamp))
+    (rw orders_are (below_more c.take_out.new.self.state.orders c.args.cause.sequence (c.take_out.ensures.below c.args.cause.sequence c.requires.behind)))

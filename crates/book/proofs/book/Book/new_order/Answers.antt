@@ -1,9 +1,10 @@
 -- The order came in under a new name.
-use Rattle.std.proofs.Common.{◌≡◌, ◌≤◌, List, ◌∷◌, ◌++◌, ap, sym, subst, ◌∙◌, arith}
+use Rattle.std.proofs.Common.{◌≡◌, ◌+◌, ◌≤◌, List, ◌∷◌, ◌++◌, ap, sym, subst, ◌∙◌, arith}
 use Rattle.venue_model.specs.declared.orders.Order.{Order}
 use Rattle.venue_model.specs.Requests.{greatest_of}
 use Rattle.book.specs.Books.{Book, IsBook, NoneNamed}
 use Rattle.book.proofs.BookLemmas.{book-entered}
+use Rattle.book.proofs.StandingLemmas.{below_more}
 use Rattle.book.proofs.RequestLemmas.{known-new}
 use Rattle.book.proofs.book.Book.new_order.Goals as goal
 
@@ -27,3 +28,10 @@ invariant_of-self c =
           (rw (client, name, orders_are) c.accept.ensures.fresh) c.args.request.now.time_in_force (rw (← c.enter.ensures.orders) c.enter.ensures.standing)),
       rw c.enter.ensures.kept c.self.invariant.1,
     )
+
+pub returns-clause-behind : goal.returns-clause-behind
+returns-clause-behind c =
+    let stamp : c.entering-order.result.stamp ≡ c.args.cause.sequence = ap (λ (o : Order). o.stamp) c.entering-order.ensures in
+    let orders_are : c.self.inside.orders.items ≡ c.args.self.now.state.orders = ap (λ (b : Book). b.state.orders) (c.self.view_is ∙ c.accept.ensures.value) in
+    c.enter.ensures.below (c.args.cause.sequence + 1) (omega (arith, stamp))
+    (rw orders_are (below_more c.args.self.now.state.orders c.args.cause.sequence c.requires.behind))
