@@ -1,5 +1,5 @@
 //! The book: what rests, and each client's greatest accepted ClOrdID.
-ghost use Rattle.std.specs.Prelude.{◌≡◌, ◌+◌, ◌^◌, ◌<◌, ◌≤◌, [], ◌∷◌, ◌++◌, IfOk, OnOk, OnErr};
+ghost use Rattle.std.specs.Prelude.{◌≡◌, ◌+◌, ◌*◌, ◌^◌, ◌<◌, ◌≤◌, [], ◌∷◌, ◌++◌, length, IfOk, OnOk, OnErr};
 ghost use Rattle.std.specs.Vec.{vec_len, vec_capacity};
 ghost use Rattle.venue_model.specs.Match.{output};
 ghost use Rattle.venue_model.specs.Step.{empty, cause, step, IsCommand};
@@ -49,8 +49,9 @@ impl Book {
         })
     }
 
-    /// Does what the command at this sequence asks, and puts its outputs behind those in `out`. The room for them, at
-    /// most 8,194, is made first: where it is refused, book and `out` are as before.
+    /// Does what the command at this sequence asks, and puts its outputs behind those in `out`. The room for them, two
+    /// for each resting order and two more (8,194 at most), is made first: where it is missing and refused (12, no
+    /// memory), book and `out` are as before, and the command can be tried again.
     pub fn apply(
         &mut self,
         sequence: u64,
@@ -70,6 +71,7 @@ impl Book {
             ++ (step self.old.symbols self.old.state sequence (record { gateway = gateway; command = command.now })).outputs) }
         ensures behind { OnOk result (Below (sequence + 1) self.new.state.orders) }
         ensures refused { OnErr result ((self.new ≡ self.old) × (out.new.items ≡ out.old.items)) }
+        ensures full { OnErr result (vec_capacity out.old < vec_len out.old + (2 * length self.old.state.orders + 2)) }
     {
         out.reserve(2 * self.orders.len() + 2)?;
         match command {
