@@ -19,7 +19,7 @@ use Rattle.book.proofs.Sides.{other_side, crossed-side, leads-trans}
 use Rattle.book.proofs.LawPairs.{each-both}
 use Rattle.book.proofs.LawSums.{IsOf, rising-filter}
 
-abbrev Ahead : Order → Order → Type 0
+abbrev pub Ahead : Order → Order → Type 0
 Ahead a b = ahead a b ≡ true
 
 prior-later : (side : Side) (p s q t : ℕ) → s < t → (is_better side p q || (nat_eq p q && nat_lt s t)) ≡ false → (is_better side q p || (nat_eq q p && nat_lt t s)) ≡ true
@@ -52,7 +52,7 @@ insert-in_order o (x ∷ xs) later pairs = elim (ahead o x) as (λ b. ahead o x 
   | false ↦ λ h. (each-insert (Ahead x) o xs (ahead-later o x later.0.side later.0.stamp h) pairs.0, insert-in_order o xs later.1 pairs.1)
 ] refl
 
-in_order : (side : Side) (xs : List Order) → Rising xs → AllByRecursion (IsOf side) xs → Pairwise Ahead (by_priority xs)
+pub in_order : (side : Side) (xs : List Order) → Rising xs → AllByRecursion (IsOf side) xs → Pairwise Ahead (by_priority xs)
 in_order side [] rising sides = tt
 in_order side (x ∷ xs) rising sides = insert-in_order x (by_priority xs)
     (each-by_priority (Later x) xs (each-map (λ y. (x.stamp < y.stamp) × IsOf side y) (Later x) (λ y h. record { side = sides.0 ∙ sym h.1; stamp = h.0 }) xs
@@ -68,7 +68,7 @@ filled-in_order i orders q rising =
     (each-passes (IsOf (other_side i.side)) (crosses i) orders (each-of (λ x. crosses i x ≡ true → IsOf (other_side i.side) x) (crossed-side i) orders)))
 
 -- and they are all that get something
-insert-same : (o : Order) (xs : List Order) → IsPermutation (o ∷ xs) (insert_by_priority o xs)
+pub insert-same : (o : Order) (xs : List Order) → IsPermutation (o ∷ xs) (insert_by_priority o xs)
 insert-same o [] = IsPermutation-refl (o ∷ [])
 insert-same o (x ∷ xs) = elim (ahead o x) as (λ b. IsPermutation (o ∷ x ∷ xs) (if b then o ∷ x ∷ xs else x ∷ insert_by_priority o xs)) [
   | true ↦ IsPermutation-refl (o ∷ x ∷ xs)

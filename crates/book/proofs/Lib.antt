@@ -23,3 +23,6 @@ mod LawCrossed
 mod LawOrderly
 mod LawTotals
 mod LawTraded
+mod NextLemmas
+mod ListingLemmas
+mod ListedLemmas

@@ -4,3 +4,5 @@ pub mod Best
 pub mod Tables
 pub mod Books
 pub mod Laws
+pub mod Listing
+pub mod Next

@@ -5,6 +5,7 @@
 mod best;
 mod book;
 mod laws;
+mod listing;
 mod logic;
 mod matching;
 mod names;
@@ -21,4 +22,5 @@ pub use laws::{
     outputs_only_grow, priority_holds, the_book_is_bounded, the_book_is_never_crossed,
     trades_keep_limits, what_is_bought_is_sold,
 };
+pub use listing::every_order_is_listed_once;
 pub use logic::BookLogic;

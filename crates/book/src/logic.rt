@@ -2,6 +2,7 @@
 ghost use Rattle.std.specs.Prelude.{◌≡◌};
 ghost use Rattle.std.specs.List.{list_any};
 ghost use Rattle.std.specs.Str.{bytes_eq};
+ghost use Rattle.venue_model.specs.Spelling.{AreSymbols};
 
 use std::marker::Model;
 use venue_model::{Limits, Logic, Symbol};
@@ -48,7 +49,8 @@ impl BookLogic {
 
     /// The symbols, in the order of the command line.
     pub fn symbols(&self) -> &[Symbol]
-        ensures { result.now ≡ self.now }
+        ensures value { result.now ≡ self.now }
+        ensures table { AreSymbols self.now }
     {
         &self.symbols[..self.count]
     }

@@ -1,0 +1,188 @@
+-- The listing stands in the order of numbers, sides and priority: each order comes before all that follow.
+use Rattle.std.proofs.Common.{◌≡◌, ℕ, ◌+◌, ◌<◌, ◌≤◌, Bool, true, false, not, cond, ◌&&◌, ◌||◌, nat_eq, nat_lt, List, [], ◌∷◌, ◌++◌, length, refl, ap, sym, ◌∙◌, arith, Some, None}
+use Rattle.std.specs.Prelude.{filter, position}
+use Rattle.std.specs.Option.{unwrap_or}
+use Rattle.std.specs.List.{AllByRecursion, list_any, position_or_len}
+use Rattle.std.specs.Str.{bytes_eq}
+use Rattle.std.proofs.lemmas.List.Sums.{prefix_len-le-length}
+use Rattle.std.proofs.lemmas.Bool.{and_parts}
+use Rattle.std.proofs.lemmas.Bool.Decides.{nat_tests}
+use Rattle.std.proofs.lemmas.Slice.Eq.{bytes_eq-Decides}
+use Rattle.venue_model.specs.declared.orders.Side.{Side}
+use Rattle.venue_model.specs.declared.orders.Side.TheVariants.{Buy, Sell}
+use Rattle.venue_model.specs.declared.orders.Order.{Order}
+use Rattle.venue_model.specs.Orders.{same_side, ahead}
+use Rattle.venue_model.specs.Requests.{Symbols}
+use Rattle.venue_model.specs.Spelling.{all_differ}
+use Rattle.book.specs.Standing.{Rising}
+use Rattle.book.specs.Laws.{Pairwise}
+use Rattle.book.specs.Listing.{is_of, queue, listing}
+use Rattle.book.specs.Next.{number_of, by_side, stands_before, comes_before}
+use Rattle.book.proofs.Lists.{each-append, each-map, each-of, each-passes}
+use Rattle.book.proofs.Priority.{each-by_priority}
+use Rattle.book.proofs.LawPairs.{each-both}
+use Rattle.book.proofs.LawSums.{IsOf, rising-filter}
+use Rattle.book.proofs.LawOrder.{Ahead, in_order}
+
+-- NUMBERS OF SYMBOLS
+
+place-cases : {X : Type 0} (xs : List X) (n : ℕ) → n ≤ length xs → (b : Bool) → nat_lt n (length xs) ≡ b → unwrap_or (cond b (Some n) None) (length xs) ≡ n
+place-cases xs n within true h = refl
+place-cases xs n within false h = grind (arith, nat_tests)
+
+pub place-or-length : {X : Type 0} (xs : List X) (p : X → Bool) → unwrap_or (position p xs) (length xs) ≡ position_or_len p xs
+place-or-length xs p = place-cases xs (position_or_len p xs) (prefix_len-le-length (λ x. not (p x)) xs) (nat_lt (position_or_len p xs) (length xs)) refl
+
+module _ (s : List ℕ) (ss : Symbols) (symbol : List ℕ) where
+  number-first : bytes_eq symbol s ≡ true → number_of (s ∷ ss) symbol ≡ 0
+  number-first h = ap (λ b. cond (not b) (1 + number_of ss symbol) 0) h
+
+  number-later : bytes_eq symbol s ≡ false → number_of (s ∷ ss) symbol ≡ 1 + number_of ss symbol
+  number-later h = ap (λ b. cond (not b) (1 + number_of ss symbol) 0) h
+
+pub same-bytes : (a b c : List ℕ) → bytes_eq a b ≡ true → bytes_eq b c ≡ false → bytes_eq a c ≡ false
+same-bytes a b c h k = ap (λ x. bytes_eq x c) ((bytes_eq-Decides a b).0 h) ∙ k
+
+-- PAIRS
+
+module _ (R : Order → Order → Type 0) where
+  pairs-append : (xs ys : List Order) → Pairwise R xs → Pairwise R ys → AllByRecursion (λ x. AllByRecursion (R x) ys) xs → Pairwise R (xs ++ ys)
+  pairs-append [] ys pairs more between = more
+  pairs-append (x ∷ xs) ys pairs more between = (each-append (R x) xs ys pairs.0 between.0, pairs-append xs ys pairs.1 more between.1)
+
+  -- what follows for each pair of a list, of whose elements P holds
+  pairs-weaker : (Q : Order → Order → Type 0) (P : Order → Type 0) → ((a b : Order) → P a → P b → R a b → Q a b) →
+      (xs : List Order) → AllByRecursion P xs → Pairwise R xs → Pairwise Q xs
+  pairs-weaker Q P f [] all pairs = tt
+  pairs-weaker Q P f (x ∷ xs) all pairs =
+      (each-map (λ y. P y × R x y) (Q x) (λ y h. f x y all.0 h.0 h.1) xs (each-both P (R x) xs all.1 pairs.0), pairs-weaker Q P f xs all.1 pairs.1)
+
+-- of two lists, where it holds of each and each
+each-each : (R : Order → Order → Type 0) (P Q : Order → Type 0) → ((a b : Order) → P a → Q b → R a b) →
+    (xs ys : List Order) → AllByRecursion P xs → AllByRecursion Q ys → AllByRecursion (λ x. AllByRecursion (R x) ys) xs
+each-each R P Q f xs ys all also = each-map P (λ x. AllByRecursion (R x) ys) (λ x p. each-map Q (R x) (λ y q. f x y p q) ys also) xs all
+
+-- ONE QUEUE
+
+record Of (s : List ℕ) (t : Side) (o : Order) : Type 0 where
+  symbol : bytes_eq o.symbol s ≡ true
+  side : o.side ≡ t
+
+one_side : (a b : Side) → same_side a b ≡ true → a ≡ b
+one_side Buy Buy h = refl
+one_side Sell Sell h = refl
+one_side Buy Sell h = cc
+one_side Sell Buy h = cc
+
+of-test : (symbol : List ℕ) (side : Side) (o : Order) → is_of symbol side o ≡ true → Of symbol side o
+of-test symbol side o h =
+    let both = and_parts (bytes_eq o.symbol symbol) (same_side o.side side) h in
+    record { symbol = both.0; side = one_side o.side side both.1 }
+
+module _ (orders : List Order) where
+  each-test : (symbol : List ℕ) (side : Side) → AllByRecursion (Of symbol side) (filter (is_of symbol side) orders)
+  each-test symbol side = each-passes (Of symbol side) (is_of symbol side) orders
+      (each-of (λ x. is_of symbol side x ≡ true → Of symbol side x) (of-test symbol side) orders)
+
+  each-queue : (symbol : List ℕ) (side : Side) → AllByRecursion (Of symbol side) (queue symbol side orders)
+  each-queue symbol side = each-by_priority (Of symbol side) (filter (is_of symbol side) orders) (each-test symbol side)
+
+  queue-in_order : Rising orders → (symbol : List ℕ) (side : Side) → Pairwise Ahead (queue symbol side orders)
+  queue-in_order rising symbol side = in_order side (filter (is_of symbol side) orders) (rising-filter (is_of symbol side) orders rising)
+      (each-map (Of symbol side) (IsOf side) (λ x h. h.side) (filter (is_of symbol side) orders) (each-test symbol side))
+
+  -- what holds of each order of the listing
+  each-listing : (P : Order → Type 0) (ss : Symbols) → AllByRecursion (λ s. (x : Order) → bytes_eq x.symbol s ≡ true → P x) ss → AllByRecursion P (listing ss orders)
+  each-listing P [] all = tt
+  each-listing P (s ∷ ss) all =
+      let of_side : (side : Side) → AllByRecursion P (queue s side orders) =
+      λ side. each-map (Of s side) P (λ x h. all.0 x h.symbol) (queue s side orders) (each-queue s side) in
+      each-append P (queue s Buy orders ++ queue s Sell orders) (listing ss orders)
+      (each-append P (queue s Buy orders) (queue s Sell orders) (of_side Buy) (of_side Sell)) (each-listing P ss all.1)
+
+  -- orders of symbols that differ from one aren't of that one
+  each-other : (s : List ℕ) (ss : Symbols) → list_any (λ other. bytes_eq other s) ss ≡ false →
+      AllByRecursion (λ other. (x : Order) → bytes_eq x.symbol other ≡ true → bytes_eq x.symbol s ≡ false) ss
+  each-other s [] none = tt
+  each-other s (other ∷ ss) none = elim (bytes_eq other s) as (λ b. bytes_eq other s ≡ b → (b || list_any (λ other. bytes_eq other s) ss) ≡ false →
+      AllByRecursion (λ other. (x : Order) → bytes_eq x.symbol other ≡ true → bytes_eq x.symbol s ≡ false) (other ∷ ss)) [
+        | true ↦ λ h k. cc
+        | false ↦ λ h k. ((λ x is. same-bytes x.symbol other s is h), each-other s ss k)
+      ] refl none
+
+-- THE LISTING
+
+abbrev pub Before : Symbols → Order → Order → Type 0
+Before ss a b = comes_before ss a b ≡ true
+
+listed-tie : (n m : ℕ) (b : Bool) → n ≡ m → b ≡ true → (nat_lt n m || (nat_eq n m && b)) ≡ true
+listed-tie n m b same h = grind (arith, nat_tests)
+
+listed-less : (n m : ℕ) (b : Bool) → n < m → (nat_lt n m || (nat_eq n m && b)) ≡ true
+listed-less n m b less = grind (arith, nat_tests)
+
+listed-more : (n m k l : ℕ) (b : Bool) → k ≡ 1 + n → l ≡ 1 + m → (nat_lt n m || (nat_eq n m && b)) ≡ true → (nat_lt k l || (nat_eq k l && b)) ≡ true
+listed-more n m k l b up also h = grind (arith, nat_tests)
+
+module _ (s : List ℕ) (ss : Symbols) where
+  abbrev number : Order → ℕ
+  number o = number_of (s ∷ ss) o.symbol
+
+  -- of the first symbol, by side and priority
+  before-ahead : (side : Side) (a b : Order) → Of s side a → Of s side b → Ahead a b → Before (s ∷ ss) a b
+  before-ahead side a b p q h = listed-tie (number a) (number b) (stands_before a b)
+      (number-first s ss a.symbol p.symbol ∙ sym (number-first s ss b.symbol q.symbol))
+      (ap (λ t. by_side t b.side (ahead a b)) p.side ∙ ap (λ t. by_side side t (ahead a b)) q.side ∙ one side ∙ h)
+    where
+      one : (t : Side) → by_side t t (ahead a b) ≡ ahead a b
+      one Buy = refl
+      one Sell = refl
+
+  before-sides : (a b : Order) → Of s Buy a → Of s Sell b → Before (s ∷ ss) a b
+  before-sides a b p q = listed-tie (number a) (number b) (stands_before a b)
+      (number-first s ss a.symbol p.symbol ∙ sym (number-first s ss b.symbol q.symbol))
+      (ap (λ t. by_side t b.side (ahead a b)) p.side ∙ ap (λ t. by_side Buy t (ahead a b)) q.side)
+
+  -- before those of later symbols
+  before-later : (a b : Order) → bytes_eq a.symbol s ≡ true → bytes_eq b.symbol s ≡ false → Before (s ∷ ss) a b
+  before-later a b p q =
+      let first = number-first s ss a.symbol p in
+      let later = number-later s ss b.symbol q in
+      listed-less (number a) (number b) (stands_before a b) (omega (arith, first, later))
+
+  -- of later symbols, as without the first
+  before-more : (a b : Order) → bytes_eq a.symbol s ≡ false → bytes_eq b.symbol s ≡ false → Before ss a b → Before (s ∷ ss) a b
+  before-more a b p q h = listed-more (number_of ss a.symbol) (number_of ss b.symbol) (number a) (number b) (stands_before a b)
+      (number-later s ss a.symbol p) (number-later s ss b.symbol q) h
+
+pub differ-parts : (s : List ℕ) (ss : Symbols) → all_differ (s ∷ ss) ≡ true → (list_any (λ other. bytes_eq other s) ss ≡ false) × (all_differ ss ≡ true)
+differ-parts s ss differ =
+    let both = and_parts (not (list_any (λ other. bytes_eq other s) ss)) (all_differ ss) differ in
+    (no (list_any (λ other. bytes_eq other s) ss) both.0, both.1)
+  where
+    no : (b : Bool) → not b ≡ true → b ≡ false
+    no true h = cc
+    no false h = refl
+
+-- each order comes before all that follow
+pub listing-in_order : (orders : List Order) → Rising orders → (ss : Symbols) → all_differ ss ≡ true →
+    Pairwise (λ a b. comes_before ss a b ≡ true) (listing ss orders)
+listing-in_order orders rising [] differ = tt
+listing-in_order orders rising (s ∷ ss) differ =
+    let apart = differ-parts s ss differ in
+    let later : AllByRecursion (λ x. bytes_eq x.symbol s ≡ false) (listing ss orders) =
+    each-listing orders (λ x. bytes_eq x.symbol s ≡ false) ss (each-other orders s ss apart.0) in
+    let ranked : (side : Side) → Pairwise (Before (s ∷ ss)) (queue s side orders) =
+    λ side. pairs-weaker Ahead (Before (s ∷ ss)) (Of s side) (before-ahead s ss side) (queue s side orders) (each-queue orders s side)
+    (queue-in_order orders rising s side) in
+    let of_first : (side : Side) → AllByRecursion (λ x. AllByRecursion (Before (s ∷ ss) x) (listing ss orders)) (queue s side orders) =
+    λ side. each-each (Before (s ∷ ss)) (Of s side) (λ x. bytes_eq x.symbol s ≡ false) (λ a b p q. before-later s ss a b p.symbol q)
+    (queue s side orders) (listing ss orders) (each-queue orders s side) later in
+    pairs-append (Before (s ∷ ss)) (queue s Buy orders ++ queue s Sell orders) (listing ss orders)
+    (pairs-append (Before (s ∷ ss)) (queue s Buy orders) (queue s Sell orders) (ranked Buy) (ranked Sell)
+    (each-each (Before (s ∷ ss)) (Of s Buy) (Of s Sell) (before-sides s ss) (queue s Buy orders) (queue s Sell orders)
+    (each-queue orders s Buy) (each-queue orders s Sell)))
+    (pairs-weaker (Before ss) (Before (s ∷ ss)) (λ x. bytes_eq x.symbol s ≡ false) (before-more s ss) (listing ss orders) later
+    (listing-in_order orders rising ss apart.1))
+    (each-append (λ x. AllByRecursion (Before (s ∷ ss) x) (listing ss orders)) (queue s Buy orders) (queue s Sell orders)
+    (of_first Buy) (of_first Sell))
