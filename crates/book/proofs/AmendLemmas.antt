@@ -1,7 +1,6 @@
 -- An order that a request amends: it stays an order of the book under its new name.
-use Rattle.std.proofs.Common.{◌≡◌, ℕ, suc, ◌+◌, ◌-◌, ◌*◌, ◌<◌, ◌≤◌, Bool, true, false, ◌&&◌, not, nat_eq, nat_le, List, [], ◌∷◌, ◌++◌, length, take, drop, get_or, refl, ap, sym, subst, ◌∙◌, arith, add-one, Option, Some, None}
+use Rattle.std.proofs.Common.{◌≡◌, ℕ, ◌+◌, ◌-◌, ◌<◌, ◌≤◌, Bool, true, false, ◌&&◌, not, nat_eq, nat_le, List, [], ◌∷◌, ◌++◌, length, take, drop, get_or, refl, ap, sym, subst, ◌∙◌, arith, add-one, Some, None}
 use Rattle.std.specs.Prelude.{slice_index, slice_set, if◌then◌else◌}
-use Rattle.std.specs.List.{AllByRecursion}
 use Rattle.std.specs.Str.{bytes_eq}
 use Rattle.std.proofs.lemmas.Bool.{eqb-true}
 use Rattle.std.proofs.lemmas.Bool.Decides.{nat_tests}
@@ -10,14 +9,11 @@ use Rattle.venue_model.specs.declared.outputs.Cause.{Cause}
 use Rattle.venue_model.specs.declared.outputs.CxlRejReason.TheVariants.{BrokerOption}
 use Rattle.venue_model.specs.declared.commands.OrderCancelReplaceRequest.{OrderCancelReplaceRequest}
 use Rattle.venue_model.specs.Orders.{leaves, is_live, same_side}
-use Rattle.venue_model.specs.Match.{live_alone, exec, matched, match_outputs}
-use Rattle.venue_model.specs.declared.outputs.ExecType.TheVariants.{Replaced}
-use Rattle.venue_model.specs.declared.commands.TimeInForce.TheVariants.{Day}
-use Rattle.venue_model.specs.Requests.{Symbols, State, Stepped, is_named, is_day, named, others, accepted, unfit, replace_fits, amended, restamped, keeps_place, amended_in_place, order_replaced}
+use Rattle.venue_model.specs.Match.{live_alone}
+use Rattle.venue_model.specs.Requests.{Symbols, State, is_named, is_day, named, unfit, replace_fits, amended, restamped, keeps_place, amended_in_place, order_replaced}
 use Rattle.venue_model.proofs.Replaced.{in_place, again}
-use Rattle.book.specs.Standing.{InRange, Rests, Standing, Below}
+use Rattle.book.specs.Standing.{InRange, Rests, Below}
 use Rattle.book.specs.Books.{Book, NamedApart, Belongs, IsBook, NamedAt, NoneNamed}
-use Rattle.book.proofs.Fills.{live-true}
 use Rattle.book.proofs.Places.{put-back, before-is, behind-is, place-within, order-is}
 use Rattle.book.proofs.NameLemmas.{named-is, amended-at}
 use Rattle.std.proofs.lemmas.List.{set_split}

@@ -1,11 +1,11 @@
 -- The best of some orders, with one more behind them.
-use Rattle.std.proofs.Common.{◌≡◌, ℕ, suc, ◌+◌, ◌<◌, ◌≤◌, Bool, true, false, List, [], ◌∷◌, ◌++◌, length, get_or, refl, ap, sym, subst, ◌∙◌, arith, append_assoc, append-nil, take, drop, add-one, take-append-drop, drop-cons, length-take-le, Option, Some, None}
+use Rattle.std.proofs.Common.{◌≡◌, ℕ, suc, ◌+◌, ◌<◌, true, false, List, [], ◌∷◌, ◌++◌, length, get_or, refl, ap, sym, subst, ◌∙◌, arith, append_assoc, take, drop, add-one, take-append-drop, drop-cons, length-take-le, Option, Some, None}
 use Rattle.std.proofs.Math.Seq.{take-suc}
 use Rattle.std.specs.List.{AllByRecursion}
 use Rattle.venue_model.specs.declared.orders.Order.{Order}
 use Rattle.venue_model.specs.Orders.{crosses, ahead}
 use Rattle.book.specs.Standing.{Rising}
-use Rattle.book.specs.Passes.{Leads, First}
+use Rattle.book.specs.Passes.{Leads}
 use Rattle.book.specs.Best.{BestAt, NoneCrossed, BestOf}
 use Rattle.book.proofs.Lists.{each-append, each-map, each-back}
 use Rattle.book.proofs.Sides.{leads-of, leads-trans, leads-earlier, one-side}

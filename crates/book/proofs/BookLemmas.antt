@@ -1,5 +1,5 @@
 -- What stands in the book stands in it after each thing that a request may do.
-use Rattle.std.proofs.Common.{◌≡◌, ℕ, suc, ◌+◌, ◌-◌, ◌<◌, ◌≤◌, Bool, true, false, ◌&&◌, not, nat_eq, nat_lt, List, [], ◌∷◌, ◌++◌, length, map, refl, ap, sym, subst, ◌∙◌, arith, append-nil, zero, length-set, take, drop, get_or, take-append-drop, drop-cons, add-one}
+use Rattle.std.proofs.Common.{◌≡◌, ℕ, suc, ◌+◌, ◌-◌, ◌<◌, ◌≤◌, Bool, true, false, ◌&&◌, nat_eq, List, [], ◌∷◌, ◌++◌, length, map, refl, ap, sym, subst, ◌∙◌, arith, append-nil, zero, length-set, take, drop, get_or, take-append-drop, drop-cons, add-one}
 use Rattle.std.specs.Prelude.{filter, if◌then◌else◌, slice_index, slice_set}
 use Rattle.std.specs.List.{AllByRecursion}
 use Rattle.std.proofs.lemmas.Bool.{eqb-true}
@@ -8,9 +8,9 @@ use Rattle.venue_model.specs.declared.orders.Order.{Order}
 use Rattle.venue_model.specs.declared.commands.TimeInForce.{TimeInForce}
 use Rattle.venue_model.specs.declared.commands.TimeInForce.TheVariants.{Day, ImmediateOrCancel, FillOrKill}
 use Rattle.venue_model.specs.Orders.{leaves, is_live, crosses}
-use Rattle.venue_model.specs.Match.{crossing, after_fill, settled, rest, done, matched, live_alone, can_fill}
+use Rattle.venue_model.specs.Match.{crossing, after_fill, settled, rest, done, matched, can_fill}
 use Rattle.venue_model.specs.Requests.{Symbols, is_named}
-use Rattle.book.specs.Standing.{Standing, Rising}
+use Rattle.book.specs.Standing.{Standing}
 use Rattle.book.specs.Books.{NamedApart, Belongs, IsBook, NoneNamed}
 use Rattle.book.proofs.Lists.{each-append, each-map, each-filter, each-without, length-without}
 use Rattle.book.proofs.StandingLemmas.{standing-filter, standing-without}

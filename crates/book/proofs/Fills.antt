@@ -1,14 +1,13 @@
 -- What the orders of a queue get, where one of them leads all others.
-use Rattle.std.proofs.Common.{◌≡◌, inl, inr, ℕ, ◌+◌, ◌-◌, ◌*◌, ◌<◌, ◌≤◌, min, Bool, true, false, not, nat_lt, List, [], ◌∷◌, ◌++◌, refl, ap, sym, ◌∙◌, arith, append_assoc}
+use Rattle.std.proofs.Common.{◌≡◌, ℕ, ◌+◌, ◌-◌, ◌<◌, ◌≤◌, min, true, false, List, [], ◌∷◌, ◌++◌, refl, ap, sym, ◌∙◌, arith}
 use Rattle.std.specs.Prelude.{sum_by, filter, if◌then◌else◌}
 use Rattle.std.specs.List.{AllByRecursion}
 use Rattle.venue_model.specs.declared.orders.Order.{Order}
 use Rattle.venue_model.specs.Orders.{leaves, is_live, ahead}
 use Rattle.venue_model.specs.Match.{filled, fill, leaves_ahead, live_alone}
-use Rattle.book.specs.Passes.{Leads}
 use Rattle.std.proofs.lemmas.List.Elements.{filter-append}
 use Rattle.std.proofs.lemmas.Bool.Decides.{nat_tests}
-use Rattle.book.proofs.Lists.{filter-in, filter-out, filter-none, each-append, each-map, sum-middle}
+use Rattle.book.proofs.Lists.{filter-in, filter-out, filter-none, each-append, sum-middle}
 
 -- what stands ahead of x, with one more in the middle that is, or isn't
 module _ (xs ys : List Order) (o x : Order) where

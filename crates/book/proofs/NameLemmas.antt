@@ -1,5 +1,5 @@
 -- Orders under the names that their clients gave them.
-use Rattle.std.proofs.Common.{◌≡◌, ℕ, suc, ◌+◌, ◌<◌, ◌≤◌, Bool, true, false, ◌&&◌, nat_eq, not, List, [], ◌∷◌, ◌++◌, length, take, drop, get_or, map, refl, ap, sym, subst, ◌∙◌, arith, take-append-drop, drop-cons, length-take-le, Option, Some, None}
+use Rattle.std.proofs.Common.{◌≡◌, ℕ, suc, ◌+◌, ◌<◌, Bool, true, false, not, List, [], ◌∷◌, ◌++◌, length, take, drop, get_or, map, refl, ap, sym, subst, ◌∙◌, arith, take-append-drop, drop-cons, length-take-le, Some, None}
 use Rattle.std.specs.Prelude.{filter, find, if◌then◌else◌}
 use Rattle.std.specs.List.{AllByRecursion}
 use Rattle.std.proofs.lemmas.Bool.Decides.{nat_tests}
@@ -9,7 +9,7 @@ use Rattle.book.specs.Books.{NamedApart, NamedAt, NoneNamed}
 use Rattle.std.proofs.lemmas.List.{map-append}
 use Rattle.std.proofs.lemmas.List.Elements.{filter-append}
 use Rattle.book.proofs.Places.{before-is, behind-is, order-is}
-use Rattle.book.proofs.Lists.{each-append, each-map, filter-all, filter-out, same_map, same-self}
+use Rattle.book.proofs.Lists.{each-map, filter-all, filter-out, same_map, same-self}
 
 -- one name is one order's
 same-name : (client name : ℕ) (o x : Order) → is_named client name o ≡ true → is_named o.client o.cl_ord_id x ≡ false → is_named client name x ≡ false

@@ -1,5 +1,5 @@
 -- A match that is over: nothing is left of the incoming order, or it crosses none.
-use Rattle.std.proofs.Common.{◌≡◌, inl, inr, ℕ, ◌+◌, ◌*◌, ◌<◌, Bool, true, false, nat_lt, List, [], ◌∷◌, ◌++◌, map, refl, ap, sym, ◌∙◌, arith, add-zero, append-nil}
+use Rattle.std.proofs.Common.{◌≡◌, inl, inr, ℕ, ◌+◌, ◌*◌, true, false, nat_lt, List, [], refl, ap, ◌∙◌, arith}
 use Rattle.std.specs.Prelude.{sum_by, filter, if◌then◌else◌}
 use Rattle.std.specs.List.{AllByRecursion, flat_map}
 use Rattle.venue_model.specs.declared.orders.Order.{Order}
@@ -7,7 +7,7 @@ use Rattle.venue_model.specs.declared.outputs.Cause.{Cause}
 use Rattle.venue_model.specs.Orders.{leaves, is_live, crosses}
 use Rattle.venue_model.specs.Match.{crossing, fill, after_fill, after_fills, settled, done, rest, by_priority, filled_orders, trade, trades}
 use Rattle.book.specs.Standing.{Rests}
-use Rattle.book.specs.Best.{Over, NoneCrossed}
+use Rattle.book.specs.Best.{Over}
 use Rattle.book.proofs.Lists.{same-self, same_map, same_sum, filter-all, filter-none, each-of, each-map}
 use Rattle.book.proofs.Fills.{live-true}
 use Rattle.book.proofs.Passes.{filled-none, sum-zeros, product, counted, counted-none}

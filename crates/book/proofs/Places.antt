@@ -1,9 +1,9 @@
 -- A list with one order at a place changed or taken out.
-use Rattle.std.proofs.Common.{◌≡◌, ℕ, suc, ◌+◌, ◌<◌, ◌≤◌, Bool, true, false, List, [], ◌∷◌, ◌++◌, length, take, drop, get_or, refl, ap, sym, ◌∙◌, arith, add-one, length-append}
+use Rattle.std.proofs.Common.{◌≡◌, ℕ, suc, ◌+◌, ◌<◌, List, [], ◌∷◌, ◌++◌, length, take, drop, get_or, refl, ap, sym, ◌∙◌, arith, add-one, length-append}
 use Rattle.std.proofs.lemmas.List.{set_split}
 use Rattle.std.specs.Prelude.{slice_set, if◌then◌else◌}
 use Rattle.venue_model.specs.declared.orders.Order.{Order}
-use Rattle.venue_model.specs.Orders.{leaves, is_live}
+use Rattle.venue_model.specs.Orders.{leaves}
 use Rattle.venue_model.specs.Match.{live_alone}
 use Rattle.book.proofs.Fills.{live-true}
 use Rattle.book.proofs.BestLemmas.{get_or-middle}

@@ -1,14 +1,14 @@
 -- What stands in the book's list, behind a fill, with orders taken out, and with one more at the end.
-use Rattle.std.proofs.Common.{◌≡◌, ℕ, suc, ◌+◌, ◌-◌, ◌*◌, ◌<◌, ◌≤◌, min, Bool, true, false, List, [], ◌∷◌, ◌++◌, length, refl, ap, sym, subst, ◌∙◌, arith, length-append}
+use Rattle.std.proofs.Common.{◌≡◌, ℕ, suc, ◌+◌, ◌<◌, ◌≤◌, Bool, true, false, List, [], ◌∷◌, ◌++◌, length, refl, sym, subst, arith, length-append}
 use Rattle.std.specs.Prelude.{if◌then◌else◌, filter}
 use Rattle.std.specs.List.{AllByRecursion}
 use Rattle.std.proofs.lemmas.Bool.Decides.{nat_tests}
 use Rattle.venue_model.specs.declared.orders.Order.{Order}
 use Rattle.venue_model.specs.Orders.{leaves, is_live}
-use Rattle.venue_model.specs.Match.{live_alone, filled}
+use Rattle.venue_model.specs.Match.{live_alone}
 use Rattle.venue_model.specs.Requests.{most_resting}
 use Rattle.book.specs.Standing.{InRange, Rests, Rising, Below, Standing}
-use Rattle.book.proofs.Lists.{each-append, each-front, each-back, each-map, each-filter, each-without, length-without}
+use Rattle.book.proofs.Lists.{each-append, each-map, each-filter, each-without, length-without}
 
 -- rising stamps, in two parts
 pub rising-append : (xs ys : List Order) → Rising xs → Rising ys → AllByRecursion (λ x. AllByRecursion (λ y. x.stamp < y.stamp) ys) xs → Rising (xs ++ ys)

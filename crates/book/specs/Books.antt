@@ -1,9 +1,9 @@
 -- The book as contracts see it, and what stands in it at any time.
-use Rattle.std.specs.Prelude.{◌≡◌, ⊤, ℕ, ◌-◌, ◌+◌, ◌≤◌, true, false, List, [], ◌∷◌, ◌++◌, length, slice_index, Option, Some, None}
+use Rattle.std.specs.Prelude.{◌≡◌, ⊤, ℕ, ◌-◌, ◌≤◌, true, false, List, [], ◌∷◌, ◌++◌, length, slice_index, Some}
 use Rattle.std.specs.List.{AllByRecursion, list_any}
 use Rattle.std.specs.Str.{bytes_eq}
 use Rattle.venue_model.specs.declared.orders.Order.{Order}
-use Rattle.venue_model.specs.Requests.{Symbols, State, is_named, named, others, greatest_of}
+use Rattle.venue_model.specs.Requests.{Symbols, State, is_named, named, others}
 use Rattle.book.specs.Standing.{Standing}
 
 -- the venue's symbols, and the state

@@ -1,5 +1,5 @@
 -- The resting orders as the book keeps them: one list, in the order of their stamps.
-use Rattle.std.specs.Prelude.{◌≡◌, ⊤, ℕ, ◌*◌, ◌≤◌, ◌<◌, true, List, [], ◌∷◌, length}
+use Rattle.std.specs.Prelude.{⊤, ℕ, ◌*◌, ◌≤◌, ◌<◌, List, [], ◌∷◌, length}
 use Rattle.std.specs.List.{AllByRecursion}
 use Rattle.venue_model.specs.declared.orders.Order.{Order}
 use Rattle.venue_model.specs.Requests.{most_resting}

@@ -1,7 +1,7 @@
 -- The fill is the best order's, and the list stands as before.
 use Rattle.std.proofs.Common.{ap, min, ◌∙◌}
 use Rattle.venue_model.specs.Orders.{leaves}
-use Rattle.book.proofs.FillLemmas.{min-of, best-live, fill-passed, fill-standing, fill-below}
+use Rattle.book.proofs.FillLemmas.{min-of, best-live, fill-passed, fill-standing}
 use Rattle.book.proofs.matching.fill_at.Goals as goal
 
 pub returns-clause-passed : goal.returns-clause-passed

@@ -1,6 +1,5 @@
 -- The fills so far and one more; and when no more comes, the definitions say that the match is over.
-use Rattle.std.proofs.Common.{◌≡◌, ◌<◌, ◌++◌, ap, sym, ◌∙◌, subst, arith, length, append-nil}
-use Rattle.venue_model.specs.Match.{rest, done, trades}
+use Rattle.std.proofs.Common.{◌<◌, ◌++◌, ap, sym, ◌∙◌, subst, arith, length, append-nil}
 use Rattle.book.specs.Best.{Over}
 use Rattle.book.proofs.FillLemmas.{passed-trans}
 use Rattle.book.proofs.Places.{place-within}

@@ -1,5 +1,5 @@
 -- The name is above all that the client's orders have.
-use Rattle.std.proofs.Common.{◌-◌, ◌<◌, ap, subst}
+use Rattle.std.proofs.Common.{◌-◌, ap, subst}
 use Rattle.std.specs.Prelude.{slice_index}
 use Rattle.book.specs.Books.{Book, NoneNamed}
 use Rattle.book.proofs.BookLemmas.{book-fresh, book-accepted}

@@ -1,12 +1,12 @@
 -- The order stands amended at its place, or it left and came in again.
-use Rattle.std.proofs.Common.{◌≡◌, ◌+◌, ◌-◌, ◌≤◌, List, [], ◌∷◌, ◌++◌, get_or, ap, sym, subst, ◌∙◌, arith, append_assoc}
-use Rattle.std.specs.Prelude.{slice_set, slice_index}
+use Rattle.std.proofs.Common.{◌≡◌, ◌+◌, [], ◌∷◌, ◌++◌, get_or, ap, sym, ◌∙◌, arith, append_assoc}
+use Rattle.std.specs.Prelude.{slice_set}
 use Rattle.venue_model.specs.declared.orders.Order.{Order}
 use Rattle.venue_model.specs.declared.commands.TimeInForce.TheVariants.{Day}
 use Rattle.venue_model.specs.declared.outputs.ExecType.TheVariants.{Replaced}
 use Rattle.venue_model.specs.Match.{exec, matched, match_outputs}
-use Rattle.venue_model.specs.Requests.{Stepped, others, amended, restamped, greatest_of, accepted, amended_in_place}
-use Rattle.book.specs.Books.{Book, NamedAt}
+use Rattle.venue_model.specs.Requests.{Stepped, others, amended, restamped, greatest_of, accepted}
+use Rattle.book.specs.Books.{Book}
 use Rattle.book.proofs.AmendLemmas.{seen, set-is, amended-below, amended-range, restamped-range, book-amended, replaced-kept, replaced-moved}
 use Rattle.book.proofs.BookLemmas.{book-entered}
 use Rattle.book.proofs.StandingLemmas.{below_more}

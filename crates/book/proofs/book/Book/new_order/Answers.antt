@@ -1,8 +1,8 @@
 -- The order came in under a new name.
-use Rattle.std.proofs.Common.{◌≡◌, ◌+◌, ◌≤◌, List, ◌∷◌, ◌++◌, ap, sym, subst, ◌∙◌, arith}
+use Rattle.std.proofs.Common.{◌≡◌, ◌+◌, ap, sym, ◌∙◌, arith}
 use Rattle.venue_model.specs.declared.orders.Order.{Order}
 use Rattle.venue_model.specs.Requests.{greatest_of}
-use Rattle.book.specs.Books.{Book, IsBook, NoneNamed}
+use Rattle.book.specs.Books.{Book}
 use Rattle.book.proofs.BookLemmas.{book-entered}
 use Rattle.book.proofs.StandingLemmas.{below_more}
 use Rattle.book.proofs.RequestLemmas.{known-new}

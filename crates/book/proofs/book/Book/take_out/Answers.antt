@@ -1,5 +1,5 @@
 -- What the place held is gone, and it was the order of that name.
-use Rattle.std.proofs.Common.{◌≡◌, ◌<◌, List, length, ap, sym, subst, ◌∙◌, rules}
+use Rattle.std.proofs.Common.{◌≡◌, ◌<◌, length, ap, ◌∙◌}
 use Rattle.venue_model.specs.declared.orders.Order.{Order}
 use Rattle.std.proofs.Common.{not}
 use Rattle.std.specs.Prelude.{filter}
