@@ -1,10 +1,8 @@
 -- Lists that are cut at the first of some byte.
-use Rattle.std.proofs.Common.{◌≡◌, ℕ, ◌≤◌, ◌<◌, List, [], ◌∷◌, ◌++◌, length, take, get_or, refl, ap, arith, false, not, zero, suc, ◌+◌, drop, ◌==◌, sym, ◌∙◌, Some, None}
-use Rattle.std.specs.List.{position, prefix_len}
-use Rattle.std.proofs.lemmas.List.{take-append-drop, drop_more}
-use Rattle.std.proofs.lemmas.List.Quantifiers.{position-Some}
-use Rattle.std.proofs.lemmas.Bool.Decides.{nat_tests}
-use Rattle.fix_frame.specs.Cuts.{Lacks}
+use Rattle.std.proofs.Common.{◌≡◌, ◌≢◌, ℕ, ◌-◌, ◌≤◌, ◌<◌, List, [], ◌∷◌, ◌++◌, length, take, get_or, length-append, inl, inr, refl, ap, arith, zero, suc, ◌+◌, drop, sym, ◌∙◌}
+use Rattle.std.proofs.lemmas.Bool.{cases_lt}
+use Rattle.std.proofs.lemmas.List.{take-append-drop, drop_more, get_or-append-add}
+use Rattle.fix_frame.specs.Cuts.{Lacks, EndsInSoh}
 
 -- the first mark cuts a list in one way
 pub one_cut : (mark : ℕ) (xs us ys vs : List ℕ) → Lacks mark xs → Lacks mark us → xs ++ mark ∷ ys ≡ us ++ mark ∷ vs →
@@ -39,29 +37,68 @@ not_lacks mark [] ys l = l.0 refl
 not_lacks mark (x ∷ xs) ys l = not_lacks mark xs ys l.1
 
 -- what stands before the first place of the mark lacks it
-lacks_below : (mark : ℕ) (xs : List ℕ) (i : ℕ) → i ≤ length xs → ((k : ℕ) → k < i → (get_or xs k 0 == mark) ≡ false) →
-    Lacks mark (take i xs)
+lacks_below : (mark : ℕ) (xs : List ℕ) (i : ℕ) → i ≤ length xs → ((k : ℕ) → k < i → get_or xs k 0 ≢ mark)
+    → Lacks mark (take i xs)
 lacks_below mark xs zero le h = tt
 lacks_below mark [] (suc i) le h = absurd (omega arith)
 lacks_below mark (x ∷ xs) (suc i) le h = (
-  (λ e. grind (arith, nat_tests, h 0 (omega arith))),
+  h 0 (omega arith),
   lacks_below mark xs i (omega arith) (λ k l. h (suc k) (omega arith)),
 )
 
-pub cut_at : (mark : ℕ) (xs : List ℕ) (i : ℕ) → position (λ b. b == mark) xs ≡ Some i →
+-- what stands before the mark that no byte before it is, and what behind
+pub cut_at : (mark : ℕ) (xs : List ℕ) (i : ℕ) → i < length xs → get_or xs i 0 ≡ mark
+    → ((k : ℕ) → k < i → get_or xs k 0 ≢ mark) →
     Lacks mark (take i xs) × (xs ≡ take i xs ++ mark ∷ drop (i + 1) xs)
-cut_at mark xs i e =
-    let p = position-Some (λ b. b == mark) xs i 0 e in
-    let here : get_or xs i 0 ≡ mark = grind (arith, nat_tests, p.1) in (
-      lacks_below mark xs i (omega (arith, p.0)) p.2,
-      sym (take-append-drop i xs) ∙
-          ap (λ k. take i xs ++ k) (drop_more xs i 0 p.0 ∙ ap (λ k. k ∷ drop (i + 1) xs) here),
-    )
+cut_at mark xs i within here before = (
+  lacks_below mark xs i (omega arith) before,
+  sym (take-append-drop i xs) ∙
+      ap (λ k. take i xs ++ k) (drop_more xs i 0 within ∙ ap (λ k. k ∷ drop (i + 1) xs) here),
+)
 
-lacks_throughout : (mark : ℕ) (xs : List ℕ) → length xs ≤ prefix_len (λ b. not (b == mark)) xs → Lacks mark xs
-lacks_throughout mark [] h = tt
-lacks_throughout mark (x ∷ xs) h =
-    ((λ e. grind (arith, nat_tests, h)), lacks_throughout mark xs (grind (arith, nat_tests, h)))
+-- SOH is at the end, so it comes behind any other byte
+pub ends_later : (bytes : List ℕ) (at : ℕ) → EndsInSoh bytes → at < length bytes → get_or bytes at 0 ≢ 1
+    → at + 1 < length bytes
+ends_later bytes at ends within other = elim (cases_lt (at + 1) (length bytes)) [
+  | inl more ↦ more
+  | inr last ↦ absurd (other (ap (λ k. get_or bytes k 0) (let same : at ≡ length bytes - 1 = omega arith in same)
+      ∙ ends))
+]
 
-pub uncut : (mark : ℕ) (xs : List ℕ) → position (λ b. b == mark) xs ≡ None → Lacks mark xs
-uncut mark xs e = lacks_throughout mark xs (grind (arith, nat_tests, e))
+pub ends_some : (bytes : List ℕ) → EndsInSoh bytes → 0 < length bytes
+ends_some [] ends = absurd (omega (arith, ends))
+ends_some (b ∷ bytes) ends = omega arith
+
+-- the last byte is that of what stands behind
+last_behind : (front : List ℕ) (b : ℕ) (behind : List ℕ) →
+    get_or (front ++ b ∷ behind) (length (front ++ b ∷ behind) - 1) 0 ≡ get_or (b ∷ behind) (length behind) 0
+last_behind front b behind =
+    let at : length (front ++ b ∷ behind) - 1 ≡ length front + length behind =
+    omega (arith, length-append front (b ∷ behind)) in
+    ap (λ k. get_or (front ++ b ∷ behind) k 0) at ∙ get_or-append-add front (b ∷ behind) (length behind) 0
+
+last_later : (b : ℕ) (behind : List ℕ) → 0 < length behind
+    → get_or (b ∷ behind) (length behind) 0 ≡ get_or behind (length behind - 1) 0
+last_later b behind some =
+    let at : length behind ≡ suc (length behind - 1) = omega arith in ap (λ k. get_or (b ∷ behind) k 0) at
+
+-- so SOH ends what stands behind another byte
+pub ends_behind : (front : List ℕ) (b : ℕ) (behind : List ℕ) → b ≢ 1 → EndsInSoh (front ++ b ∷ behind)
+    → EndsInSoh behind
+ends_behind front b [] other ends = absurd (other (sym (last_behind front b []) ∙ ends))
+ends_behind front b (c ∷ behind) other ends =
+    sym (last_behind front b (c ∷ behind) ∙ last_later b (c ∷ behind) (omega arith)) ∙ ends
+
+-- and what stands behind any, if something does
+pub ends_after : (front : List ℕ) (b : ℕ) (rest : List ℕ) → EndsInSoh (front ++ b ∷ rest) → 0 < length rest
+    → EndsInSoh rest
+ends_after front b rest ends some = sym (last_behind front b rest ∙ last_later b rest some) ∙ ends
+
+pub ends_push : (front : List ℕ) → EndsInSoh (front ++ 1 ∷ [])
+ends_push front = last_behind front 1 []
+
+-- a front that SOH ends stays such before what is nothing or ends so
+pub ends_before : (front rest : List ℕ) → (0 < length rest → EndsInSoh rest) → EndsInSoh (front ++ 1 ∷ rest)
+ends_before front [] ends = ends_push front
+ends_before front (b ∷ rest) ends =
+    last_behind front 1 (b ∷ rest) ∙ last_later 1 (b ∷ rest) (omega arith) ∙ ends (omega arith)

@@ -1,13 +1,17 @@
 -- A piece fed byte by byte: what is held, and that each answer of feed is right.
-use Rattle.std.proofs.Common.{◌≡◌, ℕ, ◌+◌, ◌≤◌, ◌<◌, inl, inr, List, [], ◌∷◌, ◌++◌, length, take, drop, get_or, ap, sym, ◌∙◌, subst, arith, Option, None}
-use Rattle.std.proofs.lemmas.List.{append_assoc, append-nil, length-append, take-append-drop, take-append-le, take_more, drop_all, drop_more}
+use Rattle.std.proofs.Common.{◌≡◌, ℕ, ◌+◌, ◌≤◌, ◌<◌, inl, inr, List, [], ◌++◌, length, take, drop, ap, sym, ◌∙◌, subst, arith, Option, None}
+use Rattle.std.proofs.lemmas.List.{append_assoc, append-nil, length-append, length-take, take-append-drop, take-append-le, drop_all}
+use Rattle.std.proofs.Math.Seq.{take-add}
 use Rattle.std.proofs.lemmas.Bool.{cases_lt}
 use Rattle.fix_frame.specs.Stream.{IsWhole, BeginsNoFrame, IsWrong, Faults}
 use Rattle.fix_frame.specs.Framing.{Framing, holding, failed, IsFaultless, Takes, Refuses}
-use Rattle.fix_frame.specs.Endings.{IsJudged, IsFirstFault}
+use Rattle.fix_frame.specs.Endings.{IsJudged, IsFirstFault, TakesFront, FaultsFront}
 use Rattle.fix_frame.specs.declared.fault.FrameFault.{FrameFault}
 use Rattle.fix_frame.proofs.FrameLemmas.{frame_right}
-use Rattle.fix_frame.proofs.LiveLemmas.{none_whole}
+use Rattle.fix_frame.specs.Cuts.{all_but_last}
+use Rattle.fix_frame.specs.Stages.{IsUnderWay, IsLive, framing}
+use Rattle.fix_frame.specs.declared.stage.Stage.{Stage}
+use Rattle.fix_frame.proofs.LiveLemmas.{none_whole, live_framing, live_judged, first_fault}
 
 -- a stream with a fault keeps it, whatever follows
 pub faults_longer : (stream more : List ℕ) (at : ℕ) (fault : FrameFault) → Faults stream at fault →
@@ -53,7 +57,7 @@ module _ (old now : Framing) (piece : List ℕ) (taken : ℕ) (t : HasTaken old 
   held_is : now.held ≡ old.held ++ take taken piece
   held_is = ap (λ (v : Framing). v.held) t.state
 
-  after : now.fault ≡ None
+  pub after : now.fault ≡ None
   after = ap (λ (v : Framing). v.fault) t.state
 
   -- what is held and the rest of the piece are the stream
@@ -96,12 +100,14 @@ module _ (old now : Framing) (piece : List ℕ) (taken : ℕ) (t : HasTaken old 
         ap (λ k. now.held ++ k) (drop_all taken piece (omega arith)) ∙ append-nil now.held) f.here);
   }
 
-  module _ (byte : ℕ) (more : taken < length piece) (byte_is : byte ≡ get_or piece taken 0) where
-    one_more : now.held ++ byte ∷ [] ≡ old.held ++ take (taken + 1) piece
-    one_more =
-        ap (λ k. k ++ byte ∷ []) held_is ∙ append_assoc old.held (take taken piece) (byte ∷ []) ∙
-        ap (λ k. old.held ++ (take taken piece ++ k ∷ [])) byte_is ∙
-        ap (λ k. old.held ++ k) (sym (take_more piece taken 0 more))
+  module _ (n : ℕ) where
+    abbrev chunk : List ℕ
+    chunk = take n (drop taken piece)
+
+    more_held : now.held ++ chunk ≡ old.held ++ take (taken + n) piece
+    more_held =
+        ap (λ k. k ++ chunk) held_is ∙ append_assoc old.held (take taken piece) chunk ∙
+        ap (λ k. old.held ++ k) (sym (take-add taken n piece))
 
     no_frame_before : BeginsNoFrame now.held → BeginsNoFrame old.held
     no_frame_before none = elim (cases_lt 0 taken) [
@@ -110,30 +116,53 @@ module _ (old now : Framing) (piece : List ℕ) (taken : ℕ) (t : HasTaken old 
           ap (λ k. old.held ++ take k piece) (let z : taken ≡ 0 = omega arith in z) ∙ append-nil old.held) none
     ]
 
-    -- another byte was taken
-    pub took_more : (new : Framing) → BeginsNoFrame now.held → new ≡ holding (now.held ++ byte ∷ []) →
-        IsJudged (now.held ++ byte ∷ []) → HasTaken old new piece (taken + 1)
-    took_more new none state judged = record {
+    -- more bytes were taken
+    pub took_more : (new : Framing) → BeginsNoFrame now.held → TakesFront now new (drop taken piece) n →
+        HasTaken old new piece (taken + n)
+    took_more new none takes = record {
       before = t.before;
-      state = state ∙ ap holding one_more;
-      judged = subst IsJudged (sym (ap (λ (v : Framing). v.held) state)) judged;
+      state = takes.held ∙ ap holding more_held;
+      judged = subst IsJudged (sym (ap (λ (v : Framing). v.held) takes.held)) takes.judged;
       first = λ _. no_frame_before none;
     }
 
-    -- another byte was wrong
+    -- the last of them was wrong
     pub spoilt : (new : Framing) (fault : FrameFault) → new ≡ failed fault →
-        IsFirstFault (now.held ++ byte ∷ []) fault → Refuses old new piece fault
+        IsFirstFault (now.held ++ chunk) fault → Refuses old new piece fault
     spoilt new fault state f =
-        let stream : old.held ++ piece ≡ (now.held ++ byte ∷ []) ++ drop (taken + 1) piece = stream_is ∙
-        ap (λ k. now.held ++ k) (drop_more piece taken 0 more ∙
-        ap (λ b. b ∷ drop (taken + 1) piece) (sym byte_is)) ∙
-        sym (append_assoc now.held (byte ∷ []) (drop (taken + 1) piece)) in
+        let stream : old.held ++ piece ≡ (now.held ++ chunk) ++ drop n (drop taken piece) = stream_is ∙
+        ap (λ k. now.held ++ k) (sym (take-append-drop n (drop taken piece))) ∙
+        sym (append_assoc now.held chunk (drop n (drop taken piece))) in
         record {
           after = ap (λ (v : Framing). v.fault) state;
           cause = inr (
             t.before,
-            length (now.held ++ byte ∷ []),
-            subst (λ s. Faults s (length (now.held ++ byte ∷ [])) fault) (sym stream)
-                (faults_longer (now.held ++ byte ∷ []) (drop (taken + 1) piece) _ fault f),
+            length (now.held ++ chunk),
+            subst (λ s. Faults s (length (now.held ++ chunk)) fault) (sym stream)
+                (faults_longer (now.held ++ chunk) (drop n (drop taken piece)) _ fault f),
           );
         }
+
+-- one step's bytes were taken, or the last of them is wrong
+module _ (held more bytes : List ℕ) (n : ℕ) (some : 0 < n) (within : n ≤ length more)
+    (bytes_are : bytes ≡ held ++ take n more) (stage : Stage) where
+  pub front_taken : (old new : Framing) → old.held ≡ held → IsLive stage bytes → new ≡ framing stage bytes
+      → TakesFront old new more n
+  front_taken old new held_is live now =
+      let same : bytes ≡ old.held ++ take n more = bytes_are ∙ ap (λ k. k ++ take n more) (sym held_is) in record {
+        some = some;
+        within = within;
+        held = now ∙ (live_framing stage bytes live).0 ∙ ap holding same;
+        judged = subst IsJudged same (live_judged stage bytes live);
+      }
+
+  pub front_wrong : (fault : FrameFault) → IsUnderWay stage (all_but_last (held ++ take n more)) → IsWrong bytes fault
+      → FaultsFront held more fault
+  front_wrong fault under wrong =
+      let long : 0 < length (held ++ take n more) =
+      omega (arith, length-append held (take n more), length-take n more) in (
+        n,
+        within,
+        first_fault stage (held ++ take n more) fault long under
+            (subst (λ k. IsWrong k fault) bytes_are wrong),
+      )

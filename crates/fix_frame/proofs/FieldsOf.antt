@@ -9,7 +9,8 @@ use Rattle.std.proofs.lemmas.Bool.Decides.{nat_tests}
 use Rattle.fix_frame.specs.Grammar.{Field, IsField, LacksSoh, field_then, print_fields, BeginsWithType, IsBody, most_in, pieces, onto_first, field_of, fields_of}
 use Rattle.fix_frame.specs.Stream.{IsTyped}
 use Rattle.fix_frame.specs.Runs.{IsRun}
-use Rattle.fix_frame.specs.Cuts.{Lacks, BeginsNoField, BeginsField}
+use Rattle.fix_frame.specs.Cuts.{Lacks, EndsInSoh, BeginsNoField, BeginsField}
+use Rattle.fix_frame.proofs.CutLemmas.{ends_before, ends_after}
 use Rattle.fix_frame.proofs.NumberLemmas.{decimal_lacks}
 use Rattle.fix_frame.proofs.FieldLemmas.{piece_of, piece_lacks, field_then-piece, one_field}
 
@@ -136,3 +137,20 @@ few_fields (f ∷ fs) all =
 
 pub few_of_body : (fs : List Field) → IsBody most_in fs → length fs ≤ 74
 few_of_body fs b = omega (arith, few_fields fs b.each, b.at_most)
+
+-- SOH ends a run, if it has a field
+print_ends : (fs : List Field) → 0 < length (print_fields fs) → EndsInSoh (print_fields fs)
+print_ends [] some = absurd (omega arith)
+print_ends (f ∷ fs) some =
+    subst EndsInSoh (sym (field_then-piece f (print_fields fs)))
+    (ends_before (piece_of f) (print_fields fs) (print_ends fs))
+
+pub run_ends : (bytes : List ℕ) → IsRun bytes → 0 < length bytes → EndsInSoh bytes
+run_ends bytes run some =
+    subst EndsInSoh (sym run.spells) (print_ends (fields_of bytes) (omega (arith, some, ap length run.spells)))
+
+-- and what stands behind a field of bytes that SOH ends, if something does
+pub field_ends : (bytes : List ℕ) (f : Field) (rest : List ℕ) → BeginsField bytes f rest → EndsInSoh bytes
+    → 0 < length rest → EndsInSoh rest
+field_ends bytes f rest b ends some =
+    ends_after (piece_of f) 1 rest (subst EndsInSoh (b.spells ∙ field_then-piece f rest) ends) some

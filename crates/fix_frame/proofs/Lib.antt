@@ -8,6 +8,7 @@ pub mod WrongLemmas
 pub mod FrameLemmas
 pub mod RestSteps
 pub mod LiveLemmas
+pub mod StrideLemmas
 pub mod FeedLemmas
 pub mod MessageLemmas
 pub mod WritingLemmas

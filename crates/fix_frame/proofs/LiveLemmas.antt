@@ -1,13 +1,14 @@
 -- While a message is under way, or its frame stands: nothing was wrong, and no frame came before.
 use Rattle.std.proofs.Common.{◌≡◌, ℕ, ◌+◌, ◌-◌, ◌*◌, ◌≤◌, ◌<◌, inl, inr, List, [], ◌∷◌, ◌++◌, length, take, drop, refl, ap, sym, ◌∙◌, subst, arith, None}
 use Rattle.std.specs.Fmt.{decimal}
-use Rattle.std.proofs.lemmas.List.{append_assoc, append-nil, length-append, take-append-drop, length-take, length-drop, take_all, take-append-le, length_push}
+use Rattle.std.proofs.lemmas.List.{append_assoc, append-nil, length-append, take-append-drop, length-take, length-drop, take_all, take-take}
 use Rattle.std.proofs.lemmas.Fmt.{length-decimal-le}
 use Rattle.std.proofs.lemmas.Bool.{cases_lt}
 use Rattle.fix_frame.specs.Grammar.{head, trailer, frame_text, print_fields, fields_of}
 use Rattle.fix_frame.specs.Stream.{BeginsHead, IsWrong, IsWhole, BeginsNoFrame}
 use Rattle.fix_frame.specs.Stages.{opening, IsHeading, IsResting, IsStanding, body_part, IsUnderWay, IsLive, IsAt, IsReady, framing}
 use Rattle.fix_frame.specs.Framing.{holding}
+use Rattle.fix_frame.specs.Cuts.{all_but_last}
 use Rattle.fix_frame.specs.Endings.{IsJudged, IsFirstFault}
 use Rattle.fix_frame.specs.declared.fault.FrameFault.{FrameFault}
 use Rattle.fix_frame.specs.declared.stage.Stage.{Stage}
@@ -204,13 +205,13 @@ room_for_one (Whole at) bytes h = absurd h
 room_for_one Given bytes h = absurd h
 room_for_one (Faulty f) bytes h = absurd h
 
--- a wrong byte behind bytes that nothing is wrong with is the first fault
-pub first_fault : (stage : Stage) (front : List ℕ) (byte : ℕ) (fault : FrameFault) → IsUnderWay stage front →
-    IsWrong (front ++ byte ∷ []) fault → IsFirstFault (front ++ byte ∷ []) fault
-first_fault stage front byte fault under wrong = record {
+-- a wrong last byte, behind bytes that nothing is wrong with, is the first fault
+pub first_fault : (stage : Stage) (bytes : List ℕ) (fault : FrameFault) → 0 < length bytes
+    → IsUnderWay stage (all_but_last bytes) →
+    IsWrong bytes fault → IsFirstFault bytes fault
+first_fault stage bytes fault some under wrong = record {
   within = omega arith;
-  here = subst (λ s. IsWrong s fault) (sym (take_all (length (front ++ byte ∷ [])) (front ++ byte ∷ [])
-      (omega arith))) wrong;
-  first = λ k other early w. right_under_way stage front k other under
-      (subst (λ s. IsWrong s other) (take-append-le k front (byte ∷ []) (omega (arith, length_push front byte))) w);
+  here = subst (λ s. IsWrong s fault) (sym (take_all (length bytes) bytes (omega arith))) wrong;
+  first = λ k other early w. right_under_way stage (all_but_last bytes) k other under
+      (subst (λ s. IsWrong s other) (sym (take-take k (length bytes - 1) bytes (omega arith))) w);
 }

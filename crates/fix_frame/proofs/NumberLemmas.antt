@@ -1,13 +1,16 @@
 -- Numbers in decimal digits.
-use Rattle.std.proofs.Common.{◌≡◌, ◌≢◌, ℕ, zero, suc, ◌+◌, ◌-◌, ◌*◌, ◌/◌, ◌%◌, ◌^◌, ◌≤◌, ◌<◌, List, [], ◌∷◌, ◌++◌, length, take, drop, get_or, refl, ap, sym, ◌∙◌, subst, arith}
+use Rattle.std.proofs.Common.{◌≡◌, ◌≢◌, ℕ, zero, suc, ◌+◌, ◌-◌, ◌*◌, ◌/◌, ◌%◌, ◌^◌, ◌≤◌, ◌<◌, List, [], ◌∷◌, ◌++◌, length, take, drop, get_or, inl, inr, refl, ap, sym, ◌∙◌, subst, arith}
 use Rattle.std.specs.Fmt.{decimal}
 use Rattle.std.specs.Char.{digit_value}
 use Rattle.std.specs.Str.Parse.{AllDigits, digits_value}
-use Rattle.std.proofs.lemmas.List.{take_more, length-take}
+use Rattle.std.proofs.Math.ListN.{get_or-append}
+use Rattle.std.proofs.Math.Seq.{get_or-append_seam}
+use Rattle.std.proofs.lemmas.Bool.{cases_lt}
+use Rattle.std.proofs.lemmas.List.{take_more, length-take, get_or-take}
 use Rattle.std.proofs.lemmas.Fmt.{decimal_is_IsNumeral, decimal_step, decimal_digit, first_decimal, length-decimal-le, decimal_nonempty}
 use Rattle.std.proofs.lemmas.Str.Parse.{IsNumeralModel, numerals_by_value, tells_digits, digits_value_short, digits_value-take-le, digit_at}
 use Rattle.fix_frame.specs.Grammar.{three_digits}
-use Rattle.fix_frame.specs.Cuts.{Lacks, IsTag}
+use Rattle.fix_frame.specs.Cuts.{Lacks, IsTag, BeginsNoTag}
 
 own : IsNumeralModel (AllDigits 10) (digits_value 10)
 own = numerals_by_value _ tells_digits
@@ -48,20 +51,31 @@ pub decimal_at : (n i : ℕ) → n < 2 ^ 64 → i < length (decimal n) →
     (48 ≤ get_or (decimal n) i 0) × (get_or (decimal n) i 0 ≤ 57)
 decimal_at n i fits h = digit_at (decimal n) i (decimal_is_IsNumeral n fits).0.1 h
 
--- what the spelling of a tag looks like
-pub record LooksLikeTag (ds : List ℕ) : Type 0 where
-  pub some : 0 < length ds
-  pub few : length ds ≤ 5
-  pub first : 48 < get_or ds 0 0
-  pub digits : (i : ℕ) → i < length ds → (48 ≤ get_or ds i 0) × (get_or ds i 0 ≤ 57)
+-- what bytes look like that begin with a tag and its equals sign
+pub record LooksTagged (bytes : List ℕ) (long : ℕ) : Type 0 where
+  pub some : 0 < long
+  pub few : long ≤ 5
+  pub first : (49 ≤ get_or bytes 0 0) × (get_or bytes 0 0 ≤ 57)
+  pub digits : (i : ℕ) → i < long → (48 ≤ get_or bytes i 0) × (get_or bytes i 0 ≤ 57)
+  pub sign : get_or bytes long 0 ≡ 61
 
-pub looks : (n : ℕ) (ds : List ℕ) → IsTag n → ds ≡ decimal n → LooksLikeTag ds
-looks n ds is e = subst LooksLikeTag (sym e) (record {
-  some = decimal_nonempty n (omega (arith, is.1));
-  few = length-decimal-le 5 n (omega arith) (omega (arith, is.1)) (omega (arith, is.1));
-  first = first_decimal n (omega (arith, is.0)) (omega (arith, is.1));
-  digits = λ i h. decimal_at n i (omega (arith, is.1)) h;
-})
+looks_tagged : (n : ℕ) (rest : List ℕ) → IsTag n → LooksTagged (decimal n ++ 61 ∷ rest) (length (decimal n))
+looks_tagged n rest is =
+    let fits : n < 2 ^ 64 = omega (arith, is.1) in
+    let some = decimal_nonempty n fits in
+    let front = λ (i : ℕ) (h : i < length (decimal n)). get_or-append (decimal n) (61 ∷ rest) 0 i h in
+    let first = first_decimal n (omega (arith, is.0)) fits in
+    let digit = decimal_at n 0 fits some in record {
+      some = some;
+      few = length-decimal-le 5 n (omega arith) (omega (arith, is.1)) fits;
+      first = rw (front 0 some) (omega (arith, first), digit.1);
+      digits = λ i h. rw (front i h) (decimal_at n i fits h);
+      sign = get_or-append_seam (decimal n) 61 rest 0;
+    }
+
+pub looks : (n : ℕ) (bytes rest : List ℕ) → IsTag n → bytes ≡ decimal n ++ 61 ∷ rest
+    → LooksTagged bytes (length (decimal n))
+looks n bytes rest is e = subst (λ (k : List ℕ). LooksTagged k (length (decimal n))) (sym e) (looks_tagged n rest is)
 
 -- the first i digits spell the tag so far
 pub record SpellsSoFar (ds : List ℕ) (i tag : ℕ) : Type 0 where
@@ -87,14 +101,59 @@ spells_more ds (suc i) tag first within so low high =
       omega (arith, t.1),
     )
 
-pub one_more : (ds : List ℕ) (i tag : ℕ) → get_or ds 0 0 ≢ 48 → i < length ds → length ds ≤ 5 → SpellsSoFar ds i tag →
+pub one_more : (ds : List ℕ) (i tag : ℕ) → get_or ds 0 0 ≢ 48 → i < length ds → tag ≤ 9999 → SpellsSoFar ds i tag →
     48 ≤ get_or ds i 0 → get_or ds i 0 ≤ 57 → SpellsSoFar ds (i + 1) (tag * 10 + (get_or ds i 0 - 48))
 one_more ds i tag first within few so low high =
     let s = spells_more ds i tag first within so low high in
-    let n : ℕ = tag * 10 + (get_or ds i 0 - 48) in
-    let short : length (decimal n) ≤ 5 = omega (arith, sym (ap length s.0), length-take (i + 1) ds) in
-    let fits : n < 2 ^ 64 = omega (arith, so.bound) in
-    record { none = λ e. omega arith; some = λ _. s; bound = omega (arith, decimal_short n 5 fits short) }
+    record { none = λ e. omega arith; some = λ _. s; bound = omega arith }
+
+-- why no tag stands at the front, where these digits do
+pub first_wrong : (bytes : List ℕ) → (49 ≤ get_or bytes 0 0 → get_or bytes 0 0 ≤ 57 → ⊥) → BeginsNoTag bytes
+first_wrong bytes odd n rest is e = let l = looks n bytes rest is e in odd l.first.0 l.first.1
+
+module _ (bytes : List ℕ) (at tag : ℕ) (within : at < length bytes) (so : SpellsSoFar bytes at tag)
+    (other : get_or bytes at 0 ≢ 61) where
+  digits_long : 0 < at → length (decimal tag) ≡ at
+  digits_long some = omega (arith, ap length (so.some some).0, length-take at bytes)
+
+  digit_before : (k : ℕ) → k < at → (48 ≤ get_or bytes k 0) × (get_or bytes k 0 ≤ 57)
+  digit_before k early =
+      let some : 0 < at = omega arith in
+      let long = digits_long some in
+      let same : get_or (decimal tag) k 0 ≡ get_or bytes k 0 =
+      ap (λ ds. get_or ds k 0) (sym (so.some some).0) ∙ get_or-take at bytes k 0 early in
+      rw same at (decimal_at tag k (omega (arith, so.bound)) (omega (arith, long)))
+
+  not_behind : (n : ℕ) (rest : List ℕ) → IsTag n → bytes ≡ decimal n ++ 61 ∷ rest → length (decimal n) ≤ at → ⊥
+  not_behind n rest is e late =
+      let l = looks n bytes rest is e in elim (cases_lt (length (decimal n)) at) [
+        | inl early ↦ let digit = digit_before (length (decimal n)) early in omega (arith, digit, l.sign)
+        | inr there ↦ other (ap (λ k. get_or bytes k 0) (let same : at ≡ length (decimal n) = omega arith in same)
+            ∙ l.sign)
+      ]
+
+  pub odd_byte : (48 ≤ get_or bytes at 0 → get_or bytes at 0 ≤ 57 → ⊥) → BeginsNoTag bytes
+  odd_byte odd n rest is e =
+      let l = looks n bytes rest is e in elim (cases_lt at (length (decimal n))) [
+        | inl early ↦ let digit = l.digits at early in odd digit.0 digit.1
+        | inr late ↦ not_behind n rest is e late
+      ]
+
+  many_digits : 9999 < tag → 5 ≤ at
+  many_digits large = elim (cases_lt at 5) [
+    | inl few ↦
+        let some : 0 < at = elim (cases_lt 0 at) [
+          | inl some ↦ some
+          | inr none ↦ absurd
+              (omega (arith, so.none (omega arith)))
+        ] in
+        absurd (omega (arith, decimal_short tag 4 (omega (arith, so.bound)) (omega (arith, digits_long some))))
+    | inr many ↦ many
+  ]
+
+  pub too_long : 9999 < tag → BeginsNoTag bytes
+  too_long large n rest is e =
+      let l = looks n bytes rest is e in not_behind n rest is e (omega (arith, l.few, many_digits large))
 
 -- the digits of a number below 1,000, from the first that isn't a leading zero on
 pub decimal_one : (n : ℕ) → n < 10 → decimal n ≡ drop 2 (three_digits n)

@@ -1,7 +1,8 @@
 -- Private: where a list is cut.
-use Rattle.std.specs.Prelude.{◌≡◌, ◌≢◌, ℕ, ◌-◌, ◌≤◌, List, length, take}
+use Rattle.std.specs.Prelude.{◌≡◌, ◌≢◌, ℕ, ◌-◌, ◌≤◌, List, ◌∷◌, ◌++◌, length, take, slice_index}
 use Rattle.std.specs.List.{AllByRecursion}
 use Rattle.std.specs.Fmt.{decimal}
+use Rattle.fix_frame.specs.Ascii.{soh, equals_sign}
 use Rattle.fix_frame.specs.Grammar.{Field, IsField, field_then}
 
 -- no byte of these is the mark
@@ -12,9 +13,13 @@ Lacks mark bytes = AllByRecursion (λ b. b ≢ mark) bytes
 abbrev pub IsTag : ℕ → Type 0
 IsTag n = (1 ≤ n) × (n ≤ 99999)
 
--- no tag is spelled so
-abbrev pub SpellsNoTag : List ℕ → Type 0
-SpellsNoTag digits = (n : ℕ) → IsTag n → digits ≢ decimal n
+-- the last byte is SOH
+abbrev pub EndsInSoh : List ℕ → Type 0
+EndsInSoh bytes = slice_index bytes (length bytes - 1) ≡ soh
+
+-- no tag stands at the front, with its equals sign
+abbrev pub BeginsNoTag : List ℕ → Type 0
+BeginsNoTag bytes = (n : ℕ) (rest : List ℕ) → IsTag n → bytes ≢ decimal n ++ equals_sign ∷ rest
 
 -- no field stands at the front
 abbrev pub BeginsNoField : List ℕ → Type 0

@@ -1,7 +1,7 @@
 //! Fields, tag=value and SOH: what a body is made of, read where it lies.
-ghost use Rattle.std.specs.Prelude.{◌≡◌, ◌++◌, ◌∷◌, ◌==◌, MatchOption, IsTrue, ◌↔◌};
-ghost use Rattle.std.specs.List.{position};
-ghost use Rattle.fix_frame.specs.Cuts.{Lacks, BeginsNoField, BeginsField};
+ghost use Rattle.std.specs.Prelude.{◌≡◌, ◌<◌, ◌+◌, ◌++◌, ◌∷◌, length, take, drop, MatchOption, IsTrue, ◌↔◌};
+ghost use Rattle.fix_frame.specs.Ascii.{soh};
+ghost use Rattle.fix_frame.specs.Cuts.{Lacks, EndsInSoh, BeginsNoField, BeginsField};
 ghost use Rattle.fix_frame.specs.Runs.{IsRun};
 ghost use Rattle.fix_frame.specs.Fields.{as_field};
 ghost use Rattle.fix_frame.specs.OneProof.{IsRun-prop};
@@ -40,49 +40,55 @@ impl<'a> Iterator for Fields<'a> {
     ghost remaining = { item_count fields_left };
 
     fn next(&mut self) -> Option<Field<'a>> {
+        if self.rest.is_empty() {
+            return None;
+        }
         let (field, rest) = read_field(self.rest)?;
         self.rest = rest;
         Some(field)
     }
 }
 
-/// Where the first mark stands.
-fn find(bytes: &[u8], mark: u8) -> Option<usize>
-    ensures { result ≡ position (λ b. b == mark) bytes.now }
+/// How many bytes stand before the first SOH.
+fn find_soh(bytes: &[u8]) -> usize
+    requires { EndsInSoh bytes.now }
+    ensures within { result < length bytes.now }
+    ensures lacks { Lacks soh (take result bytes.now) }
+    ensures ends { bytes.now ≡ take result bytes.now ++ soh ∷ drop (result + 1) bytes.now }
 {
-    bytes.iter().position(|byte| *byte == mark)
-}
-
-/// What stands before the first mark, and what behind it.
-fn cut(bytes: &[u8], mark: u8) -> Option<(&[u8], &[u8])>
-    ensures { MatchOption result (Lacks mark bytes.now)
-        (λ p. Lacks mark p.0.now × (bytes.now ≡ p.0.now ++ mark ∷ p.1.now)) }
-{
-    let at = find(bytes, mark)?;
-    Some((&bytes[..at], &bytes[at + 1..]))
+    let mut at = 0;
+    while bytes[at] != SOH {
+        at += 1;
+    }
+    at
 }
 
 /// The field at the front, and the bytes behind it.
 pub(crate) fn read_field(bytes: &[u8]) -> Option<(Field<'_>, &[u8])>
+    requires { EndsInSoh bytes.now }
     ensures { MatchOption result (BeginsNoField bytes.now)
         (λ p. BeginsField bytes.now (as_field p.0) p.1.now) }
 {
-    let (piece, rest) = cut(bytes, SOH)?;
-    let (digits, value) = cut(piece, b'=')?;
-    let tag = read_tag(digits)?;
-    if value.is_empty() {
+    let (tag, behind) = read_tag(bytes)?;
+    let end = find_soh(behind);
+    if end == 0 {
         return None;
     }
-    Some((Field { tag, value }, rest))
+    let value = &behind[..end];
+    Some((Field { tag, value }, &behind[end + 1..]))
 }
 
-/// Whether the bytes are a run of fields.
+/// Whether the bytes, none or such as SOH ends, are a run of fields.
 pub(crate) fn is_run(bytes: &[u8]) -> bool
+    requires { 0 < length bytes.now → EndsInSoh bytes.now }
     ensures { IsTrue result ↔ IsRun bytes.now }
 {
     let mut rest = bytes;
-    while let Some((_, behind)) = read_field(rest) {
+    while !rest.is_empty() {
+        let Some((_, behind)) = read_field(rest) else {
+            return false;
+        };
         rest = behind;
     }
-    rest.is_empty()
+    true
 }

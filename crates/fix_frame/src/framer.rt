@@ -1,19 +1,19 @@
 //! The framer: cuts the bytes that a client sends into frames, in whatever pieces they come.
-ghost use Rattle.std.specs.Prelude.{◌≡◌, ◌≤◌, [], ◌++◌, ◌∷◌, ℕ, Option, None, Some, MatchOption, MatchBool, IfOk, IfErr, OnOk};
+ghost use Rattle.std.specs.Prelude.{◌≡◌, ◌<◌, ◌≤◌, length, None, Some, MatchOption, MatchBool, IfOk, IfErr};
 ghost use Rattle.std.specs.Borrow.{sem};
 ghost use Rattle.std.specs.Vec.{vec_capacity, vec_len};
-ghost use Rattle.fix_frame.specs.Framing.{fresh, holding, failed, Takes, Refuses};
+ghost use Rattle.fix_frame.specs.Framing.{fresh, failed, Takes, Refuses};
 ghost use Rattle.fix_frame.specs.Lending.{EndsGiven};
 ghost use Rattle.fix_frame.specs.Stream.{IsWhole, BeginsNoFrame, Faults};
 ghost use Rattle.fix_frame.specs.Stages.{IsReady, IsUnderWay, framing};
-ghost use Rattle.fix_frame.specs.Endings.{IsJudged, IsFirstFault};
+ghost use Rattle.fix_frame.specs.Endings.{IsJudged, TakesFront, FaultsFront};
 ghost use Rattle.fix_frame.specs.Grammar.{IsFrame, most_in};
 ghost use Rattle.fix_frame.specs.Borrowed.{body_fields};
 ghost use Rattle.fix_frame.specs.declared.fault.FrameFault.{FrameFault};
 
 use crate::fault::FrameFault;
 use crate::frame::Frame;
-use crate::stage::{Stage, step};
+use crate::stage::{Stage, step, stride};
 use std::alloc::{AllocError, Global};
 use std::marker::Model;
 
@@ -63,13 +63,14 @@ impl Framer {
         if let Some(fault) = self.fault() {
             return Err(fault);
         }
-        for (taken, byte) in piece.iter().enumerate() {
+        let mut taken = 0;
+        while taken < piece.len() {
             if self.is_whole() {
                 return Ok(taken);
             }
-            self.push(*byte)?;
+            taken += self.take(&piece[taken..])?;
         }
-        Ok(piece.len())
+        Ok(taken)
     }
 
     /// The frame that stands, if one does. The next `feed` begins another message.
@@ -111,21 +112,22 @@ impl Framer {
         matches!(self.stage, Stage::Whole(_))
     }
 
-    /// Takes a byte, while no frame stands.
-    fn push(&mut self, byte: u8) -> Result<(), FrameFault>
+    /// Takes bytes from the front of these, while no frame stands, and answers how many.
+    fn take(&mut self, more: &[u8]) -> Result<usize, FrameFault>
         requires right { self.old.fault ≡ None }
         requires partial { BeginsNoFrame self.old.held }
-        ensures ok { OnOk result (self.new ≡ holding (self.old.held ++ byte ∷ [])) }
-        ensures judged { OnOk result (IsJudged (self.old.held ++ byte ∷ [])) }
+        requires some { 0 < length more.now }
+        ensures ok { IfOk result (TakesFront self.old self.new more.now) }
         ensures err { IfErr result (λ f. self.new ≡ failed f) }
-        ensures wrong { IfErr result (IsFirstFault (self.old.held ++ byte ∷ [])) }
+        ensures wrong { IfErr result (FaultsFront self.old.held more.now) }
     {
         let stage = started(self.stage, &mut self.bytes);
-        self.bytes.push(byte).unwrap();
+        let count = stride(stage, self.bytes.as_slice(), more);
+        self.bytes.extend_from_slice(&more[..count]).unwrap();
         match step(stage, self.bytes.as_slice()) {
             Ok(next) => {
                 self.stage = next;
-                Ok(())
+                Ok(count)
             }
             Err(fault) => {
                 self.stage = Stage::Faulty(fault);

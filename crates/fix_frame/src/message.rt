@@ -4,7 +4,7 @@ ghost use Rattle.fix_frame.specs.Grammar.{Field, IsFrame, most_in};
 ghost use Rattle.fix_frame.specs.Borrowed.{body_fields};
 
 use crate::frame::Frame;
-use crate::stage::{Stage, step};
+use crate::stage::{Stage, step, stride};
 
 /// The frame that the bytes are, all of them, if they are one that may come in.
 pub fn whole(bytes: &[u8]) -> Option<Frame<'_>>
@@ -12,11 +12,14 @@ pub fn whole(bytes: &[u8]) -> Option<Frame<'_>>
         (λ frame. IsFrame most_in bytes.now (body_fields frame)) }
 {
     let mut stage = Stage::Head(0);
-    for at in 0..bytes.len() {
+    let mut at = 0;
+    while at < bytes.len() {
         if let Stage::Whole(_) = stage {
             return None;
         }
-        let Ok(next) = step(stage, &bytes[..at + 1]) else {
+        let (held, more) = bytes.split_at(at);
+        at += stride(stage, held, more);
+        let Ok(next) = step(stage, &bytes[..at]) else {
             return None;
         };
         stage = next;

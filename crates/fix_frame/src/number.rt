@@ -1,23 +1,34 @@
 //! Numbers in decimal digits, as tags and BodyLength are spelled: the smallest part of a frame.
-ghost use Rattle.std.specs.Prelude.{◌≡◌, MatchOption};
+ghost use Rattle.std.specs.Prelude.{◌≡◌, ◌++◌, ◌∷◌, MatchOption};
 ghost use Rattle.std.specs.Fmt.{decimal};
-ghost use Rattle.fix_frame.specs.Cuts.{IsTag, SpellsNoTag};
+ghost use Rattle.fix_frame.specs.Ascii.{equals_sign};
+ghost use Rattle.fix_frame.specs.Cuts.{IsTag, EndsInSoh, BeginsNoTag};
 
-#[tactic(auto, using(crate::proofs::NumberLemmas::looks))]
-/// The tag that these digits spell: 1 to 99,999, and no zero in front.
-pub(crate) fn read_tag(digits: &[u8]) -> Option<u32>
-    ensures { MatchOption result (SpellsNoTag digits.now)
-        (λ tag. IsTag tag × (digits.now ≡ decimal tag)) }
+/// The greatest tag that has room for another digit.
+const MOST_FRONT: u32 = 9_999;
+
+/// The tag at the front, 1 to 99,999 and no zero in front, and what stands behind its equals sign. The SOH at the end
+/// is where the search for that sign ends.
+pub(crate) fn read_tag(bytes: &[u8]) -> Option<(u32, &[u8])>
+    requires { EndsInSoh bytes.now }
+    ensures { MatchOption result (BeginsNoTag bytes.now)
+        (λ p. IsTag p.0 × (bytes.now ≡ decimal p.0 ++ equals_sign ∷ p.1.now)) }
 {
-    if digits.is_empty() || digits.len() > 5 || digits[0] == b'0' {
+    if bytes[0] < b'1' || b'9' < bytes[0] {
         return None;
     }
     let mut tag = 0;
-    for digit in digits {
-        if !digit.is_ascii_digit() {
+    let mut at = 0;
+    while bytes[at] != b'=' {
+        let byte = bytes[at];
+        if !byte.is_ascii_digit() {
             return None;
         }
-        tag = tag * 10 + u32::from(*digit - b'0');
+        if tag > MOST_FRONT {
+            return None;
+        }
+        tag = tag * 10 + u32::from(byte - b'0');
+        at += 1;
     }
-    Some(tag)
+    Some((tag, &bytes[at + 1..]))
 }

@@ -1,11 +1,11 @@
 //! How far a message has come, and what the next byte makes of it.
-ghost use Rattle.std.specs.Prelude.{◌<◌, length, MatchResult};
+ghost use Rattle.std.specs.Prelude.{◌<◌, ◌≤◌, ◌+◌, ◌++◌, length, take, MatchResult};
 ghost use Rattle.fix_frame.specs.Stream.{IsWrong};
 ghost use Rattle.fix_frame.specs.Cuts.{all_but_last};
 ghost use Rattle.fix_frame.specs.Stages.{IsResting, IsUnderWay, IsLive};
 
 use crate::fault::FrameFault;
-use crate::head::head_step;
+use crate::head::{OPENING, head_step};
 use crate::trailer::{TRAILER, judge};
 
 /// How far a message has come.
@@ -21,6 +21,27 @@ pub(crate) enum Stage {
     Given,
     /// It is no frame.
     Faulty(FrameFault),
+}
+
+/// How many of these bytes the next step takes, behind those that are held: the opening whole or a byte of the head,
+/// and behind the head all up to the message's end.
+pub(crate) fn stride(stage: Stage, held: &[u8], more: &[u8]) -> usize
+    requires some { 0 < length more.now }
+    requires under_way { IsUnderWay stage held.now }
+    ensures some { 0 < result }
+    ensures within { result ≤ length more.now }
+    ensures room { length held.now + result ≤ 320 }
+    ensures under_way { IsUnderWay stage (all_but_last (held.now ++ take result more.now)) }
+{
+    if let Stage::Rest(body, count) = stage {
+        return more
+            .len()
+            .min(body + usize::from(count) + TRAILER - held.len());
+    }
+    if held.is_empty() && more.starts_with(OPENING) {
+        return OPENING.len();
+    }
+    1
 }
 
 /// The stage after the last of these bytes.

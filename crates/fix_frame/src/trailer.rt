@@ -1,5 +1,6 @@
 //! The trailer of a frame, CheckSum, and what is wrong with a message once its trailer is there.
 ghost use Rattle.std.specs.Prelude.{◌≡◌, ◌<◌, ◌≤◌, ◌↔◌, ◌%◌, ◌++◌, ℕ, length, sum, IsTrue, MatchResult};
+ghost use Rattle.fix_frame.specs.Cuts.{EndsInSoh};
 ghost use Rattle.fix_frame.specs.Grammar.{head, three_digits, trailer};
 ghost use Rattle.fix_frame.specs.Stream.{IsClosed, IsSummed, IsTyped, TailFault};
 ghost use Rattle.fix_frame.specs.Endings.{IsRight};
@@ -67,8 +68,9 @@ fn is_summed(front: &[u8], tail: &[u8]) -> bool
     tail.ends_with(&due[3..])
 }
 
-/// Whether the body is a run of fields, MsgType first.
+/// Whether the body, which SOH ends, is a run of fields, MsgType first.
 fn is_typed(body: &[u8]) -> bool
+    requires { EndsInSoh body.now }
     ensures { IsTrue result ↔ IsTyped body.now }
 {
     match read_field(body) {

@@ -149,7 +149,7 @@ digits_lack [] all = tt
 digits_lack (d ∷ ds) all =
     ((λ (e : d ≡ soh). let P : ℕ → Type 0 = λ b. digit_value b < 10 in let low : P soh = subst P e all.0 in absurd (omega (arith, low))), digits_lack ds all.1)
 
-all_push : (fields : List Field) (f : Field) → AllByRecursion IsField fields → IsField f
+pub all_push : (fields : List Field) (f : Field) → AllByRecursion IsField fields → IsField f
     → AllByRecursion IsField (fields ++ f ∷ [])
 all_push [] f all is = (is, tt)
 all_push (g ∷ fields) f all is = (all.0, all_push fields f all.1 is)

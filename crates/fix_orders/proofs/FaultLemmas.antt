@@ -12,6 +12,10 @@ use Rattle.venue_model.specs.declared.commands.SessionRejectReason.TheVariants.{
 use Rattle.fix_orders.specs.Formats.{Format, format_of, has_format, is_in_range, is_number, is_short, is_symbol, value_of}
 use Rattle.fix_orders.specs.Formats.Format.{number_to, byte_of, symbol, time, any}
 use Rattle.fix_orders.specs.Reading.{tags, is_among, value_at, required, is_wrong, faulty_tags, least, or_next, first_fault, classes}
+use Rattle.fix_orders.specs.declared.tags.Need.TheVariants.{Required}
+use Rattle.fix_orders.specs.declared.tags.OrderTag.TheVariants as tags_of
+use Rattle.fix_orders.specs.OrderTags.{need_of}
+use Rattle.fix_orders.specs.Findings.{least_in, fault_in}
 use Rattle.fix_orders.specs.Text.{field}
 use Rattle.fix_orders.specs.declared.faults.Fault.{Fault}
 
@@ -109,27 +113,28 @@ short_number time value short format range = cc
 short_number any value short format range = cc
 
 -- going over the reasons: where one has a tag it is the fault, else the next ones decide
-first_fault_step : (i : ℕ) (d : SessionRejectReason) (kind : RefMsgType) (fields : List Field) → i < length classes
-    → first_fault (drop i classes) kind fields
-    ≡ or_next (get_or classes i d) (least (faulty_tags (get_or classes i d) kind fields)) (first_fault (drop (i + 1) classes) kind fields)
-first_fault_step i d kind fields within =
-    ap (λ rs. first_fault rs kind fields) (drop-cons classes i d within)
-    ∙ ap (λ k. or_next (get_or classes i d) (least (faulty_tags (get_or classes i d) kind fields)) (first_fault (drop k classes) kind fields)) (sym (add-one i))
+fault_step : (i : ℕ) (d : SessionRejectReason) (kind : RefMsgType) (fields : List Field) → i < length classes
+    → fault_in (drop i classes) kind fields
+    ≡ or_next (get_or classes i d) (least_in (get_or classes i d) kind fields)
+    (fault_in (drop (i + 1) classes) kind fields)
+fault_step i d kind fields within =
+    ap (λ rs. fault_in rs kind fields) (drop-cons classes i d within)
+    ∙ ap (λ k. or_next (get_or classes i d) (least_in (get_or classes i d) kind fields)
+    (fault_in (drop k classes) kind fields)) (sym (add-one i))
 
 pub fault_found : (i : ℕ) (d : SessionRejectReason) (kind : RefMsgType) (fields : List Field) (tag : ℕ)
-    → i < length classes
-    → least (faulty_tags (get_or classes i d) kind fields) ≡ Some tag
-    → first_fault (drop i classes) kind fields ≡ Some (record { reason = get_or classes i d; tag = tag })
+    → i < length classes → least_in (get_or classes i d) kind fields ≡ Some tag
+    → fault_in (drop i classes) kind fields ≡ Some (record { reason = get_or classes i d; tag = tag })
 fault_found i d kind fields tag within found =
-    first_fault_step i d kind fields within
-    ∙ ap (λ t. or_next (get_or classes i d) t (first_fault (drop (i + 1) classes) kind fields)) found
+    fault_step i d kind fields within
+    ∙ ap (λ t. or_next (get_or classes i d) t (fault_in (drop (i + 1) classes) kind fields)) found
 
 pub fault_later : (i : ℕ) (d : SessionRejectReason) (kind : RefMsgType) (fields : List Field) → i < length classes
-    → least (faulty_tags (get_or classes i d) kind fields) ≡ None
-    → first_fault (drop i classes) kind fields ≡ first_fault (drop (i + 1) classes) kind fields
+    → least_in (get_or classes i d) kind fields ≡ None
+    → fault_in (drop i classes) kind fields ≡ fault_in (drop (i + 1) classes) kind fields
 fault_later i d kind fields within none =
-    first_fault_step i d kind fields within
-    ∙ ap (λ t. or_next (get_or classes i d) t (first_fault (drop (i + 1) classes) kind fields)) none
+    fault_step i d kind fields within
+    ∙ ap (λ t. or_next (get_or classes i d) t (fault_in (drop (i + 1) classes) kind fields)) none
 
 -- a symbol is spelled as one
 pub spelling : (value : List ℕ) → IsTrue (is_symbol value) → IsSpelling value
@@ -139,7 +144,7 @@ spelling value is =
     record { some = grind (arith, nat_tests, long.0); most = grind (arith, nat_tests, long.1); each = parts.1 }
 
 -- every type requires Symbol
-pub symbol_required : (kind : RefMsgType) → IsTrue (is_among (required kind) 55)
-symbol_required NewOrderSingle = refl
-symbol_required OrderCancelRequest = refl
-symbol_required OrderCancelReplaceRequest = refl
+pub symbol_needed : (kind : RefMsgType) → need_of kind tags_of.Symbol ≡ Required
+symbol_needed NewOrderSingle = refl
+symbol_needed OrderCancelRequest = refl
+symbol_needed OrderCancelReplaceRequest = refl

@@ -3,8 +3,14 @@ pub mod WritingLemmas
 pub mod NumberLemmas
 pub mod TimeLemmas
 pub mod FieldLemmas
+pub mod ValueLemmas
+pub mod FindingLemmas
+pub mod TagLemmas
+pub mod FoundLemmas
+pub mod AgainLemmas
 pub mod FaultLemmas
 pub mod RangeLemmas
+pub mod WholeLemmas
 pub mod DecodeLemmas
 pub mod ExactLemmas
 pub mod BodyLemmas

@@ -1,17 +1,18 @@
 -- Numbers, digit by digit.
-use Rattle.std.proofs.Common.{◌≡◌, ℕ, ◌+◌, ◌-◌, ◌*◌, ◌^◌, ◌<◌, ◌≤◌, Bool, true, false, cond, ◌&&◌, nat_le, List, [], ◌∷◌, ◌++◌, length, IsTrue, take, get_or, min, ap, ◌∙◌, refl, arith, suc, append-nil}
+use Rattle.std.proofs.Common.{◌≡◌, ℕ, ◌+◌, ◌-◌, ◌*◌, ◌^◌, ◌<◌, ◌≤◌, Bool, true, false, cond, List, [], ◌∷◌, ◌++◌, length, IsTrue, IsFalse, take, get_or, min, ap, ◌∙◌, refl, arith, suc, append-nil}
 use Rattle.std.specs.List.{list_all, filter}
 use Rattle.std.specs.Char.{digit_value}
 use Rattle.std.specs.Str.Parse.{AllDigits}
 use Rattle.std.proofs.lemmas.Bool.{and_parts, and_from}
 use Rattle.std.proofs.lemmas.Bool.Decides.{nat_tests}
 use Rattle.std.proofs.lemmas.Int.Digits.{digits_value_push, digits_value-lt}
+use Rattle.std.proofs.lemmas.List.{take_more, length-take}
 use Rattle.std.proofs.lemmas.List.Elements.{filter_more}
+use Rattle.std.proofs.lemmas.List.Folds.{list_all_more}
 use Rattle.std.proofs.lemmas.Str.{digit_value_digit}
 use Rattle.std.proofs.Math.Nat.{pow-le-pow_right}
 use Rattle.fix_frame.specs.Ascii.{is_digit}
 use Rattle.fix_orders.specs.Formats.{value_of, is_number}
-use Rattle.fix_orders.specs.Header.{is_seq_num}
 use Rattle.fix_orders.specs.declared.number.TheConstants.{MOST}
 
 -- a digit is 48 to 57, and its value is what it is above 48
@@ -66,29 +67,25 @@ value_small bytes k short =
     let power : 10 ^ length (filter is_digit bytes) ≤ 10 ^ k = pow-le-pow_right (omega arith) (omega (arith, few.1)) in
     omega (arith, below, power)
 
--- the value of a number of whatever length, cut at the most
-pub value_cut : (value : List ℕ) → IsTrue (is_number value)
-    → min (value_of (filter is_digit value)) MOST ≡ min (value_of value) MOST
-value_cut value number =
-    let parts = and_parts _ _ number in
-    ap (λ digits. min (value_of digits) MOST) (filter_digits value (and_parts _ _ parts.0).1)
+-- one more digit behind digits
+pub value_more : (bytes : List ℕ) (i : ℕ) → i < length bytes
+    → value_of (take (i + 1) bytes) ≡ value_of (take i bytes) * 10 + digit_value (get_or bytes i 0)
+value_more bytes i within =
+    ap value_of (take_more bytes i 0 within) ∙ digits_value_push 10 (take i bytes) (get_or bytes i 0)
 
--- MsgSeqNum fits the code's numbers
-pub record IsShort (value : List ℕ) : Type 0 where
-  pub number : IsTrue (is_seq_num value)
-  pub cut : min (value_of (filter is_digit value)) MOST ≡ value_of value
-  pub from : 1 ≤ value_of value
-  pub upto : value_of value ≤ 999999999
+pub digits_more : (bytes : List ℕ) (i : ℕ) → i < length bytes → list_all is_digit (take i bytes) ≡ true
+    → is_digit (get_or bytes i 0) ≡ true → list_all is_digit (take (i + 1) bytes) ≡ true
+digits_more bytes i within all is = list_all_more is_digit bytes i 0 within ∙ and_from _ _ all is
 
-pub seq_num_value : (value : List ℕ) → is_number value ≡ true
-    → (nat_le 1 (value_of value) && nat_le (value_of value) 999999999) ≡ true → IsShort value
-seq_num_value value number within =
-    let parts = and_parts (nat_le 1 (value_of value)) (nat_le (value_of value) 999999999) within in
-    let low : 1 ≤ value_of value = grind (arith, nat_tests, parts.0) in
-    let high : value_of value ≤ 999999999 = grind (arith, nat_tests, parts.1) in
-    record {
-      number = and_from _ _ (and_from _ _ number parts.0) parts.1;
-      cut = value_cut value number ∙ omega arith;
-      from = low;
-      upto = high;
-    }
+-- what is a number is read as one
+pub no_number : (read value : List ℕ) → read ≡ value → IsFalse (is_number read) → IsTrue (is_number value) → ⊥
+no_number read value same none is = let there = ap is_number same in cc
+
+-- a digit more of so few bytes still fits
+pub value_fits : (bytes : List ℕ) (i : ℕ) → length bytes ≤ 17
+    → value_of (filter is_digit (take i bytes)) < 100000000000000000
+value_fits bytes i few = value_small (take i bytes) 17 (omega (arith, length-take i bytes))
+
+-- one more byte of some, of which the digits count
+pub value_step : (n v b d : ℕ) → n ≡ v → d + 48 ≡ b → n * 10 + (b - 48) ≡ v * 10 + d
+value_step n v b d is digit = omega arith

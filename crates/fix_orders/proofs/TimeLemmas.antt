@@ -1,9 +1,9 @@
 -- Times and their numbers.
-use Rattle.std.proofs.Common.{◌≡◌, ℕ, zero, suc, ◌+◌, ◌-◌, ◌/◌, ◌%◌, ◌<◌, ◌≤◌, true, IsTrue, List, [], ◌∷◌, ◌++◌, length, set, sym, ◌∙◌, refl, arith, ◌==◌}
+use Rattle.std.proofs.Common.{◌≡◌, ℕ, ◌+◌, ◌/◌, ◌%◌, ◌≤◌, true, IsTrue, List, ◌++◌, length, length-set, set, codes, ap, sym, ◌∙◌, refl, arith, ◌==◌}
 use Rattle.std.proofs.lemmas.Bool.{and_parts}
 use Rattle.std.proofs.lemmas.Bool.Decides.{nat_tests}
 use Rattle.std.proofs.lemmas.List.{take_all}
-use Rattle.fix_orders.specs.Formats.{last_digits, is_time}
+use Rattle.fix_orders.specs.Formats.{last_digits, is_time, time_text}
 use Rattle.fix_orders.specs.Writing.{Puts}
 use Rattle.fix_orders.proofs.WritingLemmas.{puts_join, puts_byte}
 
@@ -11,17 +11,38 @@ use Rattle.fix_orders.proofs.WritingLemmas.{puts_join, puts_byte}
 pub length_time : (time : List ℕ) → IsTrue (is_time time) → length time ≡ 17
 length_time time is = let long : (length time == 17) ≡ true = (and_parts _ _ is).0 in grind (arith, nat_tests, long)
 
--- the last digits of a number end in its last one
-last_digits_more : (count n : ℕ) → (count ≡ 0 → ⊥)
-    → last_digits count n ≡ last_digits (count - 1) (n / 10) ++ (48 + n % 10) ∷ []
-last_digits_more zero n some = absurd (some refl)
-last_digits_more (suc count) n some = let e : suc count - 1 ≡ count = omega arith in rw e refl
+-- the last two digits of a number
+pub puts_two : (a : List ℕ) (i n : ℕ) → i + 2 ≤ length a
+    → Puts a (set (set a i (48 + n / 10 % 10)) (i + 1) (48 + n % 10)) i (i + 2) (last_digits 2 n)
+puts_two a i n room =
+    let first = puts_byte a i (48 + n / 10 % 10) (omega arith) in
+    let last = puts_byte (set a i (48 + n / 10 % 10)) (i + 1) (48 + n % 10)
+    (omega (arith, length-set a i (48 + n / 10 % 10))) in
+    let end : i + 1 + 1 ≡ i + 2 = omega arith in
+    rw end at (puts_join first last)
 
-pub puts_last_digit : (a b : List ℕ) (i j count n : ℕ) → (count ≡ 0 → ⊥) → j < length b
-    → Puts a b i j (last_digits (count - 1) (n / 10))
-    → Puts a (set b j (48 + n % 10)) i (j + 1) (last_digits count n)
-puts_last_digit a b i j count n some within first =
-    rw (last_digits_more count n some) (puts_join first (puts_byte b j (48 + n % 10) within))
+-- eight of them are four times two
+eight_of : (m a b c : ℕ) → m / 10 / 10 ≡ a → a / 10 / 10 ≡ b → b / 10 / 10 ≡ c
+    → last_digits 8 m ≡ last_digits 2 c ++ last_digits 2 b ++ last_digits 2 a ++ last_digits 2 m
+eight_of m a b c ma ab bc = rw (ma, ab, bc) refl
+
+eight_digits : (n : ℕ) → last_digits 8 (n / 1000000)
+    ≡ last_digits 2 (n / 1000000000000) ++ last_digits 2 (n / 10000000000) ++ last_digits 2 (n / 100000000)
+    ++ last_digits 2 (n / 1000000)
+eight_digits n = eight_of (n / 1000000) (n / 100000000) (n / 10000000000) (n / 1000000000000) (omega arith)
+    (omega arith) (omega arith)
+
+-- so a time is written two digits at once
+pub time_parts : (n : ℕ) → last_digits 2 (n / 1000000000000) ++ last_digits 2 (n / 10000000000) ++ last_digits 2
+    (n / 100000000)
+    ++ last_digits 2 (n / 1000000) ++ codes "-" ++ last_digits 2 (n / 10000) ++ codes ":" ++ last_digits 2 (n / 100)
+    ++ codes ":" ++ last_digits 2 n
+    ≡ time_text n
+unfolding time_text
+time_parts n =
+    ap (λ date. date ++ codes "-" ++ last_digits 2 (n / 10000) ++ codes ":" ++ last_digits 2 (n / 100)
+    ++ codes ":" ++ last_digits 2 n)
+    (sym (eight_digits n))
 
 -- what was written is the whole buffer
 pub puts_all : {a b : List ℕ} {j : ℕ} {bytes : List ℕ} → Puts a b 0 j bytes → length b ≤ j → b ≡ bytes

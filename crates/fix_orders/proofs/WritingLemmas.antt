@@ -29,15 +29,16 @@ puts_byte a i b within = record {
   long = refl;
 }
 
--- a number of one digit, and one of more
-pub puts_digit : (a : List ℕ) (i n : ℕ) → n < 10 → i < length a → Puts a (set a i (48 + n % 10)) i (i + 1) (decimal n)
-puts_digit a i n small within =
-    let same : n % 10 ≡ n = omega arith in rw (decimal_digit n small, same) (puts_byte a i (48 + n) within)
+-- a digit, and one behind the digits of a number
+pub puts_digit : (a : List ℕ) (i n : ℕ) → n < 10 → i < length a → Puts a (set a i (48 + n)) i (i + 1) (decimal n)
+puts_digit a i n small within = rw (decimal_digit n small) (puts_byte a i (48 + n) within)
 
-pub puts_digits : (a b : List ℕ) (i j n : ℕ) → 10 ≤ n → n < 2 ^ 64 → j < length b → Puts a b i j (decimal (n / 10))
-    → Puts a (set b j (48 + n % 10)) i (j + 1) (decimal n)
-puts_digits a b i j n large fits within first =
-    rw (decimal_step n large fits) (puts_join first (puts_byte b j (48 + n % 10) within))
+pub puts_more : {a b c : List ℕ} {i j k : ℕ} (n : ℕ) → 10 ≤ n → n < 2 ^ 64 → Puts a b i j (decimal (n / 10))
+    → Puts b c j k (decimal (n % 10))
+    → Puts a c i k (decimal n)
+puts_more n large fits first last =
+    let end : n % 10 < 10 = omega arith in
+    rw (decimal_step n large fits, ← decimal_digit (n % 10) end) (puts_join first last)
 
 -- a tag has 5 digits at most, a number 20
 pub tag_digits : (tag : ℕ) → tag ≤ 99999 → length (decimal tag) ≤ 5

@@ -1,5 +1,10 @@
 pub mod Formats
 pub mod Header
 pub mod Reading
+pub mod OrderTags
+pub mod Judging
 pub mod Text
+pub mod Values
+pub mod Findings
+pub mod Asking
 pub mod Writing

@@ -1,16 +1,22 @@
 //! Commands out of frames: the first thing that happens to an entry behind the input ring.
-ghost use Rattle.std.specs.Prelude.{◌≡◌, List, None, IsTrue};
+ghost use Rattle.std.specs.Prelude.{◌≡◌, List, IsTrue};
 ghost use Rattle.fix_frame.specs.Grammar.{Field, IsFrame, most_in};
 ghost use Rattle.fix_frame.specs.Borrowed.{body_fields};
 ghost use Rattle.venue_model.specs.Step.{IsCommand};
-ghost use Rattle.fix_orders.specs.Formats.{format_of, is_short};
-ghost use Rattle.fix_orders.specs.Reading.{required, is_among, type_of, side_of, time_in_force_of, value_at, number_at, new_of, cancel_of, replace_of, asked, classes, first_fault, command_of, reads};
+ghost use Rattle.fix_orders.specs.Formats.{format_of, is_short, value_of};
+ghost use Rattle.fix_orders.specs.OrderTags.{number_of, need_of};
+ghost use Rattle.fix_orders.specs.declared.tags.Need.TheVariants.{Required};
+ghost use Rattle.fix_orders.specs.Reading.{type_of, side_of, time_in_force_of, command_of, reads};
+ghost use Rattle.fix_orders.specs.Values.{value_in};
+ghost use Rattle.fix_orders.specs.Asking.{AreRight, asked_in, new_in, cancel_in, replace_in};
 
 use crate::faults::first_fault;
-use crate::fields::value_at;
+use crate::fields::OrderFields;
 use crate::header::read_header;
-use crate::number::digits_of;
+use crate::number::read_number;
+use crate::tags::OrderTag;
 use crate::time::number_of_time;
+use crate::values::Values;
 use fix_frame::{Frame, whole};
 use venue_model::{
     Command, Malformed, NewOrderSingle, OrderCancelReplaceRequest, OrderCancelRequest, RefMsgType,
@@ -43,8 +49,9 @@ pub fn command_of(frame: &Frame) -> Command
         return Command::Void;
     };
     let sending_time = number_of_time(header.time);
-    match first_fault(kind, frame) {
-        None => asked(kind, sending_time, frame),
+    let found = OrderFields::read(kind, header.rest);
+    match first_fault(kind, &found) {
+        None => asked(kind, sending_time, &found.values),
         Some(fault) => Command::Malformed {
             sending_time,
             fault: Malformed {
@@ -69,90 +76,93 @@ fn type_of(msg_type: &[u8]) -> Option<RefMsgType>
     }
 }
 
-/// What a message without a fault asks.
-fn asked(kind: RefMsgType, sending_time: u64, frame: &Frame) -> Command
-    requires { first_fault classes kind (body_fields frame.now) ≡ None }
-    ensures { result ≡ asked kind sending_time (body_fields frame.now) }
+/// What a message without a fault asks, by its values.
+fn asked(kind: RefMsgType, sending_time: u64, values: &Values) -> Command
+    requires { AreRight kind values.now }
+    ensures { result ≡ asked_in kind sending_time values.now }
 {
     match kind {
         RefMsgType::NewOrderSingle => Command::New {
             sending_time,
-            order: new_of(frame),
+            order: new_of(values),
         },
         RefMsgType::OrderCancelRequest => Command::Cancel {
             sending_time,
-            request: cancel_of(frame),
+            request: cancel_of(values),
         },
         RefMsgType::OrderCancelReplaceRequest => Command::Replace {
             sending_time,
-            request: replace_of(frame),
+            request: replace_of(values),
         },
     }
 }
 
 /// NewOrderSingle (35=D).
-fn new_of(frame: &Frame) -> NewOrderSingle
-    requires { first_fault classes RefMsgType.NewOrderSingle (body_fields frame.now) ≡ None }
-    ensures { result ≡ new_of (body_fields frame.now) }
+fn new_of(values: &Values) -> NewOrderSingle
+    requires { AreRight RefMsgType.NewOrderSingle values.now }
+    ensures { result ≡ new_in values.now }
 {
     let kind = RefMsgType::NewOrderSingle;
     NewOrderSingle {
-        cl_ord_id: number_at(kind, frame, 11),
-        symbol: symbol_of(kind, frame),
-        side: side_of(value_at(frame, 54)),
-        price: number_at(kind, frame, 44),
-        quantity: number_at(kind, frame, 38),
-        time_in_force: time_in_force_of(value_at(frame, 59)),
+        cl_ord_id: number_at(kind, values, OrderTag::ClOrdId),
+        symbol: symbol_of(kind, values),
+        side: side_of(values.get(OrderTag::Side)),
+        price: number_at(kind, values, OrderTag::Price),
+        quantity: number_at(kind, values, OrderTag::OrderQty),
+        time_in_force: time_in_force_of(values.get(OrderTag::TimeInForce)),
     }
 }
 
 /// OrderCancelRequest (35=F).
-fn cancel_of(frame: &Frame) -> OrderCancelRequest
-    requires { first_fault classes RefMsgType.OrderCancelRequest (body_fields frame.now) ≡ None }
-    ensures { result ≡ cancel_of (body_fields frame.now) }
+fn cancel_of(values: &Values) -> OrderCancelRequest
+    requires { AreRight RefMsgType.OrderCancelRequest values.now }
+    ensures { result ≡ cancel_in values.now }
 {
     let kind = RefMsgType::OrderCancelRequest;
     OrderCancelRequest {
-        cl_ord_id: number_at(kind, frame, 11),
-        orig_cl_ord_id: number_at(kind, frame, 41),
-        symbol: symbol_of(kind, frame),
-        side: side_of(value_at(frame, 54)),
+        cl_ord_id: number_at(kind, values, OrderTag::ClOrdId),
+        orig_cl_ord_id: number_at(kind, values, OrderTag::OrigClOrdId),
+        symbol: symbol_of(kind, values),
+        side: side_of(values.get(OrderTag::Side)),
     }
 }
 
 /// OrderCancelReplaceRequest (35=G).
-fn replace_of(frame: &Frame) -> OrderCancelReplaceRequest
-    requires { first_fault classes RefMsgType.OrderCancelReplaceRequest (body_fields frame.now) ≡ None }
-    ensures { result ≡ replace_of (body_fields frame.now) }
+fn replace_of(values: &Values) -> OrderCancelReplaceRequest
+    requires { AreRight RefMsgType.OrderCancelReplaceRequest values.now }
+    ensures { result ≡ replace_in values.now }
 {
     let kind = RefMsgType::OrderCancelReplaceRequest;
     OrderCancelReplaceRequest {
-        cl_ord_id: number_at(kind, frame, 11),
-        orig_cl_ord_id: number_at(kind, frame, 41),
-        symbol: symbol_of(kind, frame),
-        side: side_of(value_at(frame, 54)),
-        price: number_at(kind, frame, 44),
-        quantity: number_at(kind, frame, 38),
-        time_in_force: time_in_force_of(value_at(frame, 59)),
+        cl_ord_id: number_at(kind, values, OrderTag::ClOrdId),
+        orig_cl_ord_id: number_at(kind, values, OrderTag::OrigClOrdId),
+        symbol: symbol_of(kind, values),
+        side: side_of(values.get(OrderTag::Side)),
+        price: number_at(kind, values, OrderTag::Price),
+        quantity: number_at(kind, values, OrderTag::OrderQty),
+        time_in_force: time_in_force_of(values.get(OrderTag::TimeInForce)),
     }
 }
 
 /// The number of a required tag.
-fn number_at(kind: RefMsgType, frame: &Frame, tag: u32) -> u64
-    requires faultless { first_fault classes kind (body_fields frame.now) ≡ None }
-    requires required { IsTrue (is_among (required kind) tag) }
-    requires number { IsTrue (is_short (format_of tag)) }
-    ensures { result ≡ number_at tag (body_fields frame.now) }
+fn number_at(kind: RefMsgType, values: &Values, tag: OrderTag) -> u64
+    requires right { AreRight kind values.now }
+    requires required { need_of kind tag ≡ Required }
+    requires number { IsTrue (is_short (format_of (number_of tag))) }
+    ensures { result ≡ value_of (value_in values.now tag) }
 {
-    digits_of(value_at(frame, tag))
+    match read_number(values.get(tag)) {
+        Some(number) => number,
+        None => unreachable!(),
+    }
 }
 
 /// Symbol (55).
-fn symbol_of(kind: RefMsgType, frame: &Frame) -> Symbol
-    requires { first_fault classes kind (body_fields frame.now) ≡ None }
-    ensures { result ≡ value_at 55 (body_fields frame.now) }
+fn symbol_of(kind: RefMsgType, values: &Values) -> Symbol
+    requires { AreRight kind values.now }
+    ensures { result ≡ value_in values.now OrderTag.Symbol }
 {
-    match Symbol::new(value_at(frame, 55)) {
+    match Symbol::new(values.get(OrderTag::Symbol)) {
         Some(symbol) => symbol,
         None => unreachable!(),
     }

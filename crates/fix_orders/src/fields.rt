@@ -1,63 +1,164 @@
-//! The fields of a message by tag.
-ghost use Rattle.std.specs.Prelude.{◌≡◌, nat_lt, IsTrue, IsFalse, MatchOption};
-ghost use Rattle.fix_frame.specs.Borrowed.{body_fields};
-ghost use Rattle.fix_orders.specs.Reading.{tags, times, is_among, value_at};
+//! The fields of an order message behind its header, read once: the value of each tag, and the least tag at fault for
+//! each reason.
+ghost use Rattle.std.specs.Prelude.{◌≡◌, ◌<◌, ◌≤◌, ◌++◌, ◌∷◌, [], length, List, ℕ, true};
+ghost use Rattle.fix_frame.specs.Grammar.{Field as FixField, IsField};
+ghost use Rattle.fix_frame.specs.Fields.{as_field};
+ghost use Rattle.fix_frame.specs.Borrowed.{fields_left};
+ghost use Rattle.fix_orders.specs.OrderTags.{number_of};
+ghost use Rattle.fix_orders.specs.Reading.{is_among, least, missing_tags};
+ghost use Rattle.fix_orders.specs.Findings.{IsFound, outside, is_other, lesser_if, least_in, is_missing};
+ghost use Rattle.fix_orders.specs.Text.{field};
 
-use fix_frame::Frame;
+use crate::formats::{Judged, format_of, judge};
+use crate::tags::{Need, ORDER_TAGS, OrderTag};
+use crate::values::Values;
+use arrayvec::ArrayVec;
+use fix_frame::{Field, Fields};
+use venue_model::{RefMsgType, SessionRejectReason};
 
-/// BeginString, BodyLength and CheckSum.
-pub const FRAME: [u32; 3] = [8, 9, 10];
+/// How many fields the body of a message that comes in has at most.
+const MOST_FIELDS: usize = 74;
 
-/// The value of the first field of this tag.
-pub fn find_value<'a>(frame: &Frame<'a>, tag: u32) -> Option<&'a [u8]>
-    ensures { MatchOption result (IsFalse (is_among (tags (body_fields frame.now)) tag))
-        (λ v. IsTrue (is_among (tags (body_fields frame.now)) tag)
-        × (v.now ≡ value_at tag (body_fields frame.now))) }
-{
-    for field in frame.fields() {
-        if field.tag == tag {
-            return Some(field.value);
+/// The tags that stand in front of these fields or behind them, each once: BeginString, BodyLength, CheckSum and those
+/// of the header.
+const OUTSIDE: [u32; 8] = [8, 9, 10, 35, 49, 56, 34, 52];
+
+/// What is found of the fields that were read: the values, and of each fault that a field can have the least tag.
+#[derive(Drop)]
+pub struct OrderFields<'a> {
+    pub values: Values<'a>,
+    /// The tags that no order message has. A right message has none, so these alone are compared one by one.
+    others: ArrayVec<u32, MOST_FIELDS>,
+    repeated: Option<u32>,
+    undefined: Option<u32>,
+    ill_formed: Option<u32>,
+    out_of_range: Option<u32>,
+}
+
+impl<'a> OrderFields<'a> {
+    /// What is found of all these fields in a message of this type.
+    pub fn read(kind: RefMsgType, fields: Fields<'a>) -> OrderFields<'a>
+        requires { length (fields_left fields) ≤ 74 }
+        ensures { IsFound kind (fields_left fields.entry) result }
+    {
+        let mut found = OrderFields::new();
+        for field in fields {
+            found.take(kind, field);
+        }
+        found
+    }
+
+    /// What is found of no fields.
+    fn new() -> OrderFields<'a>
+        ensures { (kind : RefMsgType) → IsFound kind [] result }
+    {
+        OrderFields {
+            values: Values::new(),
+            others: ArrayVec::new(),
+            repeated: None,
+            undefined: None,
+            ill_formed: None,
+            out_of_range: None,
         }
     }
-    None
-}
 
-/// The value of the first field of this tag; nothing where there is none.
-pub fn value_at<'a>(frame: &Frame<'a>, tag: u32) -> &'a [u8]
-    ensures { result.now ≡ value_at tag (body_fields frame.now) }
-{
-    match find_value(frame, tag) {
-        Some(value) => value,
-        None => &[],
-    }
-}
-
-/// Whether some field has this tag.
-pub fn has_tag(frame: &Frame, tag: u32) -> bool
-    ensures { result ≡ is_among (tags (body_fields frame.now)) tag }
-{
-    find_value(frame, tag).is_some()
-}
-
-/// Whether the tag stands more than once in the whole message. BeginString, BodyLength and CheckSum
-/// stand once outside of the body.
-pub fn is_repeated(frame: &Frame, tag: u32) -> bool
-    ensures { result ≡ nat_lt 1 (times tag (body_fields frame.now)) }
-{
-    let mut seen = is_among(&FRAME, tag);
-    for field in frame.fields() {
-        if field.tag == tag {
-            if seen {
-                return true;
-            }
-            seen = true;
+    /// Takes the next field.
+    fn take(&mut self, kind: RefMsgType, field: Field<'a>)
+        requires room { length self.old.others.items < 74 }
+        requires field { IsField (as_field field) }
+        ensures { (fields : List FixField) → IsFound kind fields self.old →
+            IsFound kind (fields ++ as_field field.entry ∷ []) self.new }
+    {
+        match OrderTag::of(field.tag) {
+            Some(tag) => self.take_value(kind, tag, field.value),
+            None if is_among(&OUTSIDE, field.tag) => self.take_outside(field.tag),
+            None => self.take_other(field.tag),
         }
     }
-    false
+
+    /// The same of a tag that some type of order message has.
+    fn take_value(&mut self, kind: RefMsgType, tag: OrderTag, value: &'a [u8])
+        requires { IsField (field (number_of tag) value.now) }
+        ensures { (fields : List FixField) → IsFound kind fields self.old →
+            IsFound kind (fields ++ field (number_of tag) value.now ∷ []) self.new }
+    {
+        let number = tag.number();
+        let judged = judge(format_of(tag), value);
+        self.repeated = lesser_if(self.values.has(tag), number, self.repeated);
+        self.undefined = lesser_if(tag.need(kind) == Need::Undefined, number, self.undefined);
+        self.ill_formed = lesser_if(judged == Judged::WrongFormat, number, self.ill_formed);
+        self.out_of_range = lesser_if(judged == Judged::OutOfRange, number, self.out_of_range);
+        self.values.keep(tag, value);
+    }
+
+    /// The same of a tag that the message has outside of these fields.
+    fn take_outside(&mut self, tag: u32)
+        requires { is_among outside tag ≡ true }
+        ensures { (kind : RefMsgType) (fields : List FixField) (value : List ℕ) → IsField (field tag value) →
+            IsFound kind fields self.old → IsFound kind (fields ++ field tag value ∷ []) self.new }
+    {
+        self.repeated = lesser_if(true, tag, self.repeated);
+    }
+
+    /// The same of a tag that no message has.
+    fn take_other(&mut self, tag: u32)
+        requires room { length self.old.others.items < 74 }
+        requires other { is_other tag ≡ true }
+        ensures { (kind : RefMsgType) (fields : List FixField) (value : List ℕ) → IsField (field tag value) →
+            IsFound kind fields self.old → IsFound kind (fields ++ field tag value ∷ []) self.new }
+    {
+        self.repeated = lesser_if(is_among(self.others.as_slice(), tag), tag, self.repeated);
+        self.undefined = lesser_if(true, tag, self.undefined);
+        self.others.push(tag);
+    }
+
+    /// The least tag at fault for this reason.
+    pub fn least(&self, reason: SessionRejectReason, kind: RefMsgType) -> Option<u32>
+        ensures { (fields : List FixField) → IsFound kind fields self.now →
+            result ≡ least_in reason kind fields }
+    {
+        match reason {
+            SessionRejectReason::TagAppearsMoreThanOnce => self.repeated,
+            SessionRejectReason::TagNotDefined => self.undefined,
+            SessionRejectReason::RequiredTagMissing => self.least_missing(kind),
+            SessionRejectReason::IncorrectFormat => self.ill_formed,
+            SessionRejectReason::ValueIncorrect => self.out_of_range,
+        }
+    }
+
+    /// The least required tag that no field has.
+    fn least_missing(&self, kind: RefMsgType) -> Option<u32>
+        ensures { (fields : List FixField) → IsFound kind fields self.now →
+            result ≡ least (missing_tags kind fields) }
+    {
+        let mut found = None;
+        for tag in ORDER_TAGS {
+            found = lesser_if(self.is_missing(kind, tag), tag.number(), found);
+        }
+        found
+    }
+
+    /// Whether the type requires the tag and no field has it.
+    fn is_missing(&self, kind: RefMsgType, tag: OrderTag) -> bool
+        ensures { result ≡ is_missing kind self.now.values tag }
+    {
+        tag.need(kind) == Need::Required && !self.values.has(tag)
+    }
+}
+
+/// The lesser of a tag that was found and this one, where it is wrong.
+fn lesser_if(wrong: bool, tag: u32, found: Option<u32>) -> Option<u32>
+    ensures { result ≡ lesser_if wrong tag found }
+{
+    match found {
+        Some(least) if wrong => Some(tag.min(least)),
+        None if wrong => Some(tag),
+        _ => found,
+    }
 }
 
 /// Whether the tag is one of these.
-pub fn is_among(tags: &[u32], tag: u32) -> bool
+fn is_among(tags: &[u32], tag: u32) -> bool
     ensures { result ≡ is_among tags.now tag }
 {
     tags.contains(&tag)

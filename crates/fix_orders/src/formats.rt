@@ -1,21 +1,68 @@
 //! The formats and ranges of values, by tag (docs/PROFILE.md, "Formats").
-ghost use Rattle.std.specs.Prelude.{◌≡◌, ◌&&◌, ◌<◌, nat_le, IsTrue};
-ghost use Rattle.fix_orders.specs.Formats.{has_format, format_of, is_in_range, is_symbol, is_number, value_of};
+ghost use Rattle.std.specs.Prelude.{◌≡◌};
+ghost use Rattle.fix_orders.specs.Formats.{format_of, is_symbol};
+ghost use Rattle.fix_orders.specs.OrderTags.{number_of};
+ghost use Rattle.fix_orders.specs.Judging.{as_format, IsBounded, judged};
 
-use crate::number::{MOST, digits_of, is_number};
+use crate::number::{MOST, read_number};
+use crate::tags::OrderTag;
 use crate::time::is_time;
 use venue_model::Symbol;
 
-/// Whether the value has the format of its tag.
-pub fn has_format(tag: u32, value: &[u8]) -> bool
-    ensures { result ≡ has_format (format_of tag) value.now }
+/// What the value of a tag has to be.
+#[derive(Clone, Copy, Debug)]
+pub enum Format {
+    /// A number from 1 to so much.
+    NumberTo(u64),
+    /// One byte, one of these.
+    ByteOf(&'static [u8]),
+    Symbol,
+    Time,
+}
+
+/// What a value is by its format.
+#[derive(Clone, Copy, Debug, PartialEq, Eq)]
+pub enum Judged {
+    Right,
+    WrongFormat,
+    OutOfRange,
+}
+
+/// The format of a tag.
+pub fn format_of(tag: OrderTag) -> Format
+    ensures value { as_format result ≡ format_of (number_of tag) }
+    ensures bounded { IsBounded result }
 {
     match tag {
-        11 | 38 | 41 | 44 => is_number(value),
-        40 | 54 | 59 => value.len() == 1,
-        55 => is_symbol(value),
-        60 => is_time(value),
-        _ => true,
+        OrderTag::ClOrdId | OrderTag::OrigClOrdId => Format::NumberTo(999_999_999_999_999),
+        OrderTag::OrderQty | OrderTag::Price => Format::NumberTo(1_000_000),
+        OrderTag::OrdType => Format::ByteOf(b"2"),
+        OrderTag::Side => Format::ByteOf(b"12"),
+        OrderTag::TimeInForce => Format::ByteOf(b"034"),
+        OrderTag::Symbol => Format::Symbol,
+        OrderTag::TransactTime => Format::Time,
+    }
+}
+
+/// What a value of this format is.
+pub fn judge(format: Format, value: &[u8]) -> Judged
+    requires { IsBounded format }
+    ensures { result ≡ judged (as_format format) value.now }
+{
+    match format {
+        Format::NumberTo(most) => match read_number(value) {
+            Some(number) if 1 <= number && number <= most => Judged::Right,
+            Some(_) => Judged::OutOfRange,
+            None => Judged::WrongFormat,
+        },
+        Format::ByteOf(bytes) => match value {
+            [byte] if bytes.contains(byte) => Judged::Right,
+            [_] => Judged::OutOfRange,
+            _ => Judged::WrongFormat,
+        },
+        Format::Symbol if is_symbol(value) => Judged::Right,
+        Format::Time if is_time(value) => Judged::Right,
+        Format::Symbol | Format::Time => Judged::WrongFormat,
     }
 }
 
@@ -24,29 +71,4 @@ fn is_symbol(value: &[u8]) -> bool
     ensures { result ≡ is_symbol value.now }
 {
     Symbol::new(value).is_some()
-}
-
-/// Whether a value of the right format is in the range of its tag.
-pub fn is_in_range(tag: u32, value: &[u8]) -> bool
-    requires { IsTrue (has_format (format_of tag) value.now) }
-    ensures { result ≡ is_in_range (format_of tag) value.now }
-{
-    match tag {
-        11 | 41 => is_within(value, 999_999_999_999_999),
-        38 | 44 => is_within(value, 1_000_000),
-        40 => value[0] == b'2',
-        54 => matches!(value[0], b'1' | b'2'),
-        59 => matches!(value[0], b'0' | b'3' | b'4'),
-        _ => true,
-    }
-}
-
-/// Whether the number is from 1 to so much.
-pub fn is_within(value: &[u8], most: u64) -> bool
-    requires number { IsTrue (is_number value.now) }
-    requires small { most < MOST }
-    ensures { result ≡ (nat_le 1 (value_of value.now) && nat_le (value_of value.now) most) }
-{
-    let number = digits_of(value);
-    1 <= number && number <= most
 }

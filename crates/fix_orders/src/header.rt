@@ -6,8 +6,7 @@ ghost use Rattle.fix_orders.specs.Formats.{is_time, value_of};
 ghost use Rattle.fix_orders.specs.Header.{LacksFirst, is_seq_num, header, header_of};
 ghost use Rattle.fix_orders.specs.Text.{field};
 
-use crate::formats::is_within;
-use crate::number::{digits_of, is_number};
+use crate::number::read_number;
 use crate::time::is_time;
 use fix_frame::Fields;
 
@@ -70,9 +69,8 @@ fn seq_num(value: &[u8]) -> Option<u32>
     ensures { MatchOption result (IsFalse (is_seq_num value.now))
         (λ n. IsTrue (is_seq_num value.now) × (n ≡ value_of value.now)) }
 {
-    if is_number(value) && is_within(value, 999_999_999) {
-        Some(digits_of(value) as u32)
-    } else {
-        None
+    match read_number(value) {
+        Some(number) if 1 <= number && number <= 999_999_999 => Some(number as u32),
+        _ => None,
     }
 }

@@ -11,7 +11,9 @@ mod header;
 mod laws;
 mod number;
 mod put;
+mod tags;
 mod time;
+mod values;
 
 pub use body::body_of;
 pub use command::{command_of, decode};

@@ -1,22 +1,46 @@
 //! Fields into a buffer, one behind the other: the last step of all that is written.
-ghost use Rattle.std.specs.Prelude.{◌≡◌, ◌+◌, ◌≤◌, [], ◌∷◌, length};
+ghost use Rattle.std.specs.Prelude.{◌≡◌, ◌+◌, ◌<◌, ◌≤◌, [], ◌∷◌, length};
 ghost use Rattle.std.specs.Fmt.{decimal};
 ghost use Rattle.fix_frame.specs.Grammar.{IsField};
 ghost use Rattle.fix_orders.specs.Text.{field, number};
 ghost use Rattle.fix_orders.specs.Writing.{Puts, PutsFields};
 
 /// Writes the digits of a number from `at` on, and answers where they end.
+#[inline(always)]
 fn put_digits(buf: &mut [u8], at: usize, n: u64) -> usize
     requires { at + length (decimal n) ≤ length buf.old }
     ensures { Puts buf.old buf.new at result (decimal n) }
 {
-    let last = if n < 10 {
-        at
-    } else {
-        put_digits(buf, at, n / 10)
-    };
-    buf[last] = b'0' + (n % 10) as u8;
-    last + 1
+    if n < 10 {
+        return put_digit(buf, at, n);
+    }
+    if n < 100 {
+        let last = put_digit(buf, at, n / 10);
+        return put_digit(buf, last, n % 10);
+    }
+    put_many(buf, at, n)
+}
+
+/// The same, however many there are.
+fn put_many(buf: &mut [u8], at: usize, n: u64) -> usize
+    requires { at + length (decimal n) ≤ length buf.old }
+    ensures { Puts buf.old buf.new at result (decimal n) }
+{
+    if n < 10 {
+        return put_digit(buf, at, n);
+    }
+    let last = put_many(buf, at, n / 10);
+    put_digit(buf, last, n % 10)
+}
+
+/// The same of a single digit.
+fn put_digit(buf: &mut [u8], at: usize, digit: u64) -> usize
+    requires small { digit < 10 }
+    requires room { at < length buf.old }
+    ensures { Puts buf.old buf.new at result (decimal digit) }
+{
+    buf[at] = b'0' + digit as u8;
+    at + 1
 }
 
 /// Writes bytes from `at` on, and answers where they end.

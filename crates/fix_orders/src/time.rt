@@ -4,7 +4,7 @@ ghost use Rattle.std.specs.List.{list_all, zip};
 ghost use Rattle.fix_orders.specs.Formats.{time_shape, is_time, number_of_time, time_text, last_digits, fits};
 ghost use Rattle.fix_orders.specs.Writing.{Puts};
 
-use crate::number::{digits_of, is_digit};
+use crate::number::is_digit;
 use crate::put::put_bytes;
 
 /// YYYYMMDD-HH:MM:SS, where 0 stands for any digit.
@@ -44,7 +44,13 @@ pub fn number_of_time(time: &[u8]) -> u64
     ensures value { result ≡ number_of_time time.now }
     ensures back { time_text result ≡ time.now }
 {
-    digits_of(time)
+    let mut number = 0;
+    for byte in time {
+        if is_digit(*byte) {
+            number = number * 10 + (*byte - b'0') as u64;
+        }
+    }
+    number
 }
 
 /// The time of a number of 14 digits.
@@ -52,26 +58,25 @@ pub fn time_text(time: u64) -> [u8; 17]
     ensures { result ≡ time_text time }
 {
     let mut text = [0; 17];
-    let end = put_last_digits(&mut text, 0, 8, time / 1_000_000);
+    let end = put_two(&mut text, 0, time / 1_000_000_000_000);
+    let end = put_two(&mut text, end, time / 10_000_000_000);
+    let end = put_two(&mut text, end, time / 100_000_000);
+    let end = put_two(&mut text, end, time / 1_000_000);
     let end = put_bytes(&mut text, end, b"-");
-    let end = put_last_digits(&mut text, end, 2, time / 10_000);
+    let end = put_two(&mut text, end, time / 10_000);
     let end = put_bytes(&mut text, end, b":");
-    let end = put_last_digits(&mut text, end, 2, time / 100);
+    let end = put_two(&mut text, end, time / 100);
     let end = put_bytes(&mut text, end, b":");
-    put_last_digits(&mut text, end, 2, time);
+    put_two(&mut text, end, time);
     text
 }
 
-/// Writes the last so many digits of a number from `at` on, and answers where they end.
-fn put_last_digits(buf: &mut [u8], at: usize, count: usize, n: u64) -> usize
-    requires { at + count ≤ length buf.old }
-    ensures puts { Puts buf.old buf.new at result (last_digits count n) }
-    ensures upto { result ≡ at + count }
+/// Writes the last two digits of a number from `at` on, and answers where they end.
+fn put_two(buf: &mut [u8], at: usize, n: u64) -> usize
+    requires { at + 2 ≤ length buf.old }
+    ensures { Puts buf.old buf.new at result (last_digits 2 n) }
 {
-    if count == 0 {
-        return at;
-    }
-    let last = put_last_digits(buf, at, count - 1, n / 10);
-    buf[last] = b'0' + (n % 10) as u8;
-    last + 1
+    buf[at] = b'0' + (n / 10 % 10) as u8;
+    buf[at + 1] = b'0' + (n % 10) as u8;
+    at + 2
 }

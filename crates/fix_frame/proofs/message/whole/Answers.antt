@@ -4,11 +4,11 @@ use Rattle.fix_frame.proofs.message.whole.Goals as goal
 
 pub returns-in-Whole : goal.returns-in-Whole
 returns-in-Whole c = λ fields is.
-    frame_before _ fields is _ _ _ c.in-Whole.is c.loop-at.invariant c.loop-at-test.true
+    frame_before _ fields is _ _ _ c.in-Whole.is c.loop-at.invariant.live c.loop-at-test.true
 
 pub returns-in_default-step : goal.returns-in_default-step
 returns-in_default-step c = λ fields is. wrong_before _ fields is _ _ c.in_default-step.ensures
 
 pub returns-in_default-stage : goal.returns-in_default-stage
 returns-in_default-stage c = λ fields is.
-    not_partial _ fields is _ _ c.loop-at-test.false c.loop-at.invariant c.in_default-stage.not-Whole
+    not_partial _ fields is _ _ c.loop-at-test.false c.loop-at.invariant.live c.in_default-stage.not-Whole

@@ -1,7 +1,7 @@
 -- The first field is MsgType, and a run of fields follows it.
 use Rattle.std.proofs.Common.{arith}
 use Rattle.std.proofs.lemmas.Bool.Decides.{nat_tests}
-use Rattle.fix_frame.proofs.FieldsOf.{typed_before, typed_behind}
+use Rattle.fix_frame.proofs.FieldsOf.{typed_before, typed_behind, field_ends}
 use Rattle.fix_frame.proofs.trailer.is_typed.Goals as goal
 
 pub returns-then-first-eq-MSG_TYPE : goal.returns-then-first-eq-MSG_TYPE
@@ -17,3 +17,6 @@ returns-else-first-eq-MSG_TYPE c =
       (λ r. absurd (c.if-first-eq-MSG_TYPE.false (grind (arith, nat_tests)))),
       λ t. absurd (c.if-first-eq-MSG_TYPE.false (typed_behind _ _ _ b t).0),
     )
+
+pub is_run-requires : goal.is_run-requires
+is_run-requires c = field_ends _ _ _ c.in-Some.ensures c.requires

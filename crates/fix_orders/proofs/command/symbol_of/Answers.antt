@@ -1,8 +1,10 @@
-use Rattle.fix_frame.specs.Borrowed.{body_fields}
-use Rattle.fix_orders.proofs.FaultLemmas.{right_value, spelling, symbol_required}
+use Rattle.std.proofs.Common.{subst, sym}
+use Rattle.venue_model.specs.Spelling.{IsSpelling}
+use Rattle.fix_orders.specs.declared.tags.OrderTag.TheVariants.{Symbol}
+use Rattle.fix_orders.proofs.FaultLemmas.{spelling, symbol_needed}
 use Rattle.fix_orders.proofs.command.symbol_of.Goals as goal
 
 pub unreachable-requires : goal.unreachable-requires
 unreachable-requires c =
-    let right = right_value c.args.kind (body_fields c.args.frame.now) 55 c.requires (symbol_required c.args.kind) in
-    c.in-None.ensures (rw c.value_at.ensures (spelling _ right.format))
+    c.in-None.ensures (subst IsSpelling (sym c.get.ensures)
+    (spelling _ (c.requires.format Symbol (symbol_needed c.args.kind))))

@@ -1,8 +1,11 @@
-use Rattle.std.proofs.Common.{◌≡◌, drop}
-use Rattle.fix_frame.specs.Borrowed.{body_fields}
-use Rattle.fix_orders.specs.Reading.{classes, first_fault}
+-- The reasons that are left decide.
+use Rattle.std.proofs.Common.{◌≡◌, drop, List}
+use Rattle.fix_frame.specs.Grammar.{Field}
+use Rattle.fix_orders.specs.Findings.{IsFound, fault_in}
+use Rattle.fix_orders.specs.Reading.{classes}
 use Rattle.fix_orders.proofs.faults.first_fault.Given as goal
 
 abbrev pub invariant-loop-reason : goal.invariant-loop-reason
 invariant-loop-reason l =
-    first_fault (drop l.reason-index l.reason-items) l.kind (body_fields l.frame) ≡ first_fault classes l.kind (body_fields l.frame)
+    (fields : List Field) → IsFound l.kind fields l.found
+    → fault_in (drop l.reason-index l.reason-items) l.kind fields ≡ fault_in classes l.kind fields

@@ -1,26 +1,46 @@
--- Each byte is taken until a frame stands or the stream goes wrong.
-use Rattle.std.proofs.Common.{◌≡◌, sym, ◌∙◌, refl, subst, length, arith}
+-- Bytes are taken until a frame stands or the stream goes wrong.
+use Rattle.std.proofs.Common.{sym, ◌∙◌, arith}
+use Rattle.std.proofs.lemmas.List.{take_rest, length-drop}
 use Rattle.std.proofs.lemmas.Result.{err_from_is_err_and}
-use Rattle.fix_frame.specs.Framing.{Takes}
-use Rattle.fix_frame.proofs.FeedLemmas.{took_none, stopped, finished, spoilt}
+use Rattle.fix_frame.proofs.FeedLemmas.{took_none, took_more, after, stopped, finished, spoilt}
 use Rattle.fix_frame.proofs.framer.Framer.feed.Goals as goal
 
 pub loop-taken-init : goal.loop-taken-init
 loop-taken-init c =
     let right = sym c.fault.ensures.value ∙ c.in_default.is in
-    took_none _ _ right (c.fault.ensures.judged right)
+    record { within = omega arith; held = took_none _ _ right (c.fault.ensures.judged right) }
 
 pub returns-then-is_whole-clause-taken : goal.returns-then-is_whole-clause-taken
-returns-then-is_whole-clause-taken c = stopped _ _ _ _ c.loop-taken.invariant (omega arith) c.if-is_whole.ensures
+returns-then-is_whole-clause-taken c =
+    stopped _ _ _ _ c.loop-taken.invariant.held c.loop-taken.invariant.within c.if-is_whole.ensures
 
-pub returns-in_err-push-clause-refused : goal.returns-in_err-push-clause-refused
-returns-in_err-push-clause-refused c =
+pub take-requires : goal.take-requires
+take-requires c =
+    rw (take_rest c.args.piece.now c.loop-taken.taken) (record {
+      right = after _ _ _ _ c.loop-taken.invariant.held;
+      partial = c.if-is_whole.ensures;
+      some = omega (arith, length-drop c.loop-taken.taken c.args.piece.now);
+    })
+
+pub loop-taken-preserved : goal.loop-taken-preserved
+loop-taken-preserved c =
+    let takes = rw (take_rest c.args.piece.now c.loop-taken.taken) at c.in_ok-taken.ensures.ok in record {
+      within = omega (arith, takes.within, length-drop c.loop-taken.taken c.args.piece.now);
+      held = took_more _ _ _ _ c.loop-taken.invariant.held c.in_ok-taken.field-0 c.take.new.self c.if-is_whole.ensures
+          takes;
+    }
+
+pub loop-taken-smaller : goal.loop-taken-smaller
+loop-taken-smaller c = let some = c.in_ok-taken.ensures.ok.some in omega (arith, some)
+
+pub returns-in_err-taken-clause-refused : goal.returns-in_err-taken-clause-refused
+returns-in_err-taken-clause-refused c =
     let p = err_from_is_err_and c.from_residual.result c.from_residual.ensures.1 in
-    let spoils = spoilt _ _ _ _ c.loop-taken.invariant _ c.loop-taken-test.true refl _ _ c.in_err-push.ensures.err
-    c.in_err-push.ensures.wrong in
+    let wrong = rw (take_rest c.args.piece.now c.loop-taken.taken) at c.in_err-taken.ensures.wrong in
+    let spoils = spoilt _ _ _ _ c.loop-taken.invariant.held wrong.0 c.take.new.self _ c.in_err-taken.ensures.err wrong.2
+    in
     rw (p.1, p.2) spoils
 
 pub returns-clause-taken : goal.returns-clause-taken
 returns-clause-taken c =
-    let all : c.loop-taken.taken ≡ length c.args.piece.now = omega arith in
-    subst (Takes c.args.self.now c.loop-taken.self c.args.piece.now) all (finished _ _ _ _ c.loop-taken.invariant all)
+    finished _ _ _ _ c.loop-taken.invariant.held (omega (arith, c.loop-taken.invariant.within, c.loop-taken-test.false))

@@ -1,0 +1,12 @@
+-- So far no byte is SOH, and it is still to come.
+use Rattle.std.proofs.Common.{◌≢◌, ℕ, ◌<◌, ◌-◌, length, get_or}
+use Rattle.fix_frame.proofs.field.find_soh.Given as goal
+
+abbrev pub invariant-loop-at : goal.invariant-loop-at
+invariant-loop-at l = record {
+  within : l.at < length l.bytes;
+  before : (k : ℕ) → k < l.at → get_or l.bytes k 0 ≢ 1;
+}
+
+abbrev pub decreases-loop-at : goal.decreases-loop-at
+decreases-loop-at l = length l.bytes - l.at

@@ -1,0 +1,51 @@
+-- What stands before the last byte taken begins as what is held.
+use Rattle.std.proofs.Common.{◌≡◌, ◌<◌, ◌≤◌, ◌+◌, ◌++◌, length, take, sym, subst, refl, arith}
+use Rattle.std.proofs.lemmas.Slice.Eq.{slice_eq-Decides}
+use Rattle.std.proofs.lemmas.Bool.Decides.{Decides-eqb, nat_tests}
+use Rattle.std.proofs.lemmas.List.{nil_from_length}
+use Rattle.fix_frame.specs.Cuts.{all_but_last}
+use Rattle.fix_frame.specs.Stages.{IsResting, IsUnderWay}
+use Rattle.fix_frame.specs.declared.stage.Stage.{Stage}
+use Rattle.fix_frame.proofs.LiveLemmas.{room_for_one}
+use Rattle.fix_frame.proofs.RestSteps.{resting_small}
+use Rattle.fix_frame.proofs.StrideLemmas.{under_way_one, under_way_rest, under_way_opening}
+use Rattle.fix_frame.proofs.stage.stride.Goals as goal
+
+pub returns-in-Rest : goal.returns-in-Rest
+returns-in-Rest c =
+    let held = c.args.held.now in
+    let more = c.args.more.now in
+    let resting : IsResting held c.in-Rest.body c.in-Rest.count =
+    subst (λ (s : Stage). IsUnderWay s held) c.in-Rest.is c.requires.under_way in
+    let small = resting_small held c.in-Rest.body c.in-Rest.count resting in
+    let some : 0 < c.min.result = omega (arith, c.min.ensures, c.from.ensures, resting.short, c.requires.some) in
+    let within : c.min.result ≤ length more = omega (arith, c.min.ensures) in
+    let upto : length held + c.min.result ≤ c.in-Rest.body + c.in-Rest.count + 7 =
+    omega (arith, c.min.ensures, c.from.ensures, resting.short) in
+    record {
+      some = some;
+      within = within;
+      room = omega (arith, upto, small.0, small.1);
+      under_way =
+          subst (λ (s : Stage). IsUnderWay s (all_but_last (held ++ take c.min.result more))) (sym c.in-Rest.is)
+          (under_way_rest held more c.in-Rest.body c.in-Rest.count c.min.result some within upto resting);
+    }
+
+pub returns-then-starts_with : goal.returns-then-starts_with
+returns-then-starts_with c =
+    let empty : length c.args.held.now ≡ 0 = grind (arith, nat_tests, c.if-is_empty.ensures) in
+    let begins = slice_eq-Decides Decides-eqb _ _ _ c.if-starts_with.ensures.value in record {
+      some = omega arith;
+      within = c.if-starts_with.ensures.bound refl;
+      room = omega (arith, empty);
+      under_way = under_way_opening c.args.stage c.args.held.now c.args.more.now (nil_from_length _ empty)
+          (sym (begins.0 refl)) c.in_default.not-Rest c.requires.under_way;
+    }
+
+pub returns : goal.returns
+returns c = record {
+  some = omega arith;
+  within = c.requires.some;
+  room = omega (arith, room_for_one c.args.stage c.args.held.now c.requires.under_way);
+  under_way = under_way_one c.args.stage c.args.held.now c.args.more.now c.requires.some c.requires.under_way;
+}

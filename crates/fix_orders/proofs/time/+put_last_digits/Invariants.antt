@@ -1,4 +1,0 @@
-use Rattle.fix_orders.proofs.time.+put_last_digits.Given as goal
-
-abbrev pub decreases-put_last_digits : goal.decreases-put_last_digits
-decreases-put_last_digits l = l.count

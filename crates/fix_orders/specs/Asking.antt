@@ -1,0 +1,66 @@
+-- Private: what the values of a message without a fault ask.
+use Rattle.std.specs.Prelude.{◌≡◌, ℕ, IsTrue}
+use Rattle.venue_model.specs.declared.commands.Command.{Command}
+use Rattle.venue_model.specs.declared.commands.Command.TheVariants.{New, Cancel, Replace}
+use Rattle.venue_model.specs.declared.commands.NewOrderSingle.{NewOrderSingle}
+use Rattle.venue_model.specs.declared.commands.OrderCancelRequest.{OrderCancelRequest}
+use Rattle.venue_model.specs.declared.commands.OrderCancelReplaceRequest.{OrderCancelReplaceRequest}
+use Rattle.venue_model.specs.declared.commands.RefMsgType.{RefMsgType}
+use Rattle.venue_model.specs.declared.commands.RefMsgType.TheVariants as types
+use Rattle.fix_orders.specs.declared.tags.Need.TheVariants.{Required}
+use Rattle.fix_orders.specs.declared.tags.OrderTag.{OrderTag}
+use Rattle.fix_orders.specs.declared.tags.OrderTag.TheVariants.{ClOrdId, OrderQty, OrigClOrdId, Price, Side, Symbol, TimeInForce}
+use Rattle.fix_orders.specs.declared.values.Values.{Values}
+use Rattle.fix_orders.specs.Formats.{value_of, format_of, has_format, is_in_range}
+use Rattle.fix_orders.specs.OrderTags.{number_of, need_of}
+use Rattle.fix_orders.specs.Reading.{side_of, time_in_force_of}
+use Rattle.fix_orders.specs.Values.{value_in}
+
+-- the value of each required tag is of its format and in its range
+pub record AreRight (type : RefMsgType) (values : Values) : Type 0 where
+  pub format : (tag : OrderTag) → need_of type tag ≡ Required
+      → IsTrue (has_format (format_of (number_of tag)) (value_in values tag))
+  pub range : (tag : OrderTag) → need_of type tag ≡ Required
+      → IsTrue (is_in_range (format_of (number_of tag)) (value_in values tag))
+
+-- the number of a tag
+abbrev pub number_in : Values → OrderTag → ℕ
+number_in values tag = value_of (value_in values tag)
+
+-- NewOrderSingle
+abbrev pub new_in : Values → NewOrderSingle
+new_in values = record {
+  cl_ord_id = number_in values ClOrdId;
+  symbol = value_in values Symbol;
+  side = side_of (value_in values Side);
+  price = number_in values Price;
+  quantity = number_in values OrderQty;
+  time_in_force = time_in_force_of (value_in values TimeInForce);
+}
+
+-- OrderCancelRequest
+abbrev pub cancel_in : Values → OrderCancelRequest
+cancel_in values = record {
+  cl_ord_id = number_in values ClOrdId;
+  orig_cl_ord_id = number_in values OrigClOrdId;
+  symbol = value_in values Symbol;
+  side = side_of (value_in values Side);
+}
+
+-- OrderCancelReplaceRequest
+abbrev pub replace_in : Values → OrderCancelReplaceRequest
+replace_in values = record {
+  cl_ord_id = number_in values ClOrdId;
+  orig_cl_ord_id = number_in values OrigClOrdId;
+  symbol = value_in values Symbol;
+  side = side_of (value_in values Side);
+  price = number_in values Price;
+  quantity = number_in values OrderQty;
+  time_in_force = time_in_force_of (value_in values TimeInForce);
+}
+
+-- what these values ask
+abbrev pub asked_in : RefMsgType → ℕ → Values → Command
+asked_in types.NewOrderSingle time values = New time (new_in values)
+asked_in types.OrderCancelRequest time values = Cancel time (cancel_in values)
+asked_in types.OrderCancelReplaceRequest time values = Replace time (replace_in values)

@@ -1,0 +1,71 @@
+-- Private: what is found of the fields of an order message behind its header, when they are read from the first to the
+-- last.
+use Rattle.std.specs.Prelude.{◌≡◌, ℕ, Bool, not, ◌&&◌, if◌then◌else◌, List, [], ◌∷◌, ◌++◌, map, filter, Option, Some, None}
+use Rattle.std.specs.List.{AllByRecursion}
+use Rattle.fix_frame.specs.Grammar.{Field, IsField}
+use Rattle.venue_model.specs.declared.commands.RefMsgType.{RefMsgType}
+use Rattle.venue_model.specs.declared.commands.SessionRejectReason.{SessionRejectReason}
+use Rattle.venue_model.specs.declared.commands.SessionRejectReason.TheVariants.{RequiredTagMissing, TagNotDefined, ValueIncorrect, IncorrectFormat, TagAppearsMoreThanOnce}
+use Rattle.fix_orders.specs.declared.faults.Fault.{Fault}
+use Rattle.fix_orders.specs.declared.fields.OrderFields.{OrderFields}
+use Rattle.fix_orders.specs.declared.tags.OrderTag.{OrderTag}
+use Rattle.fix_orders.specs.declared.values.Values.{Values}
+use Rattle.fix_orders.specs.OrderTags.{number_of, order_numbers}
+use Rattle.fix_orders.specs.Reading.{frame_tags, header_tags, required, tags, is_among, value_at, faulty_tags, lesser, least, or_next}
+use Rattle.fix_orders.specs.Values.{value_in, is_nothing}
+
+-- the tags that stand outside of these fields, each once
+abbrev pub outside : List ℕ
+outside = frame_tags ++ header_tags
+
+-- no type of order message has the tag
+abbrev pub is_other : ℕ → Bool
+is_other tag = not (is_among (outside ++ order_numbers) tag)
+
+-- a tag that is wrong counts
+abbrev pub lesser_if : Bool → ℕ → Option ℕ → Option ℕ
+lesser_if wrong tag found = if wrong then Some (lesser tag found) else found
+
+-- the tags that stand once more, behind some that were seen
+abbrev pub again : List ℕ → List ℕ → List ℕ
+again seen [] = []
+again seen (tag ∷ more) =
+    if is_among seen tag then tag ∷ again (seen ++ tag ∷ []) more else again (seen ++ tag ∷ []) more
+
+-- the least tag at fault for a reason among these fields
+abbrev pub least_in : SessionRejectReason → RefMsgType → List Field → Option ℕ
+least_in TagAppearsMoreThanOnce type fields = least (again outside (tags fields))
+least_in TagNotDefined type fields = least (faulty_tags TagNotDefined type fields)
+least_in RequiredTagMissing type fields = least (faulty_tags RequiredTagMissing type fields)
+least_in IncorrectFormat type fields = least (faulty_tags IncorrectFormat type fields)
+least_in ValueIncorrect type fields = least (faulty_tags ValueIncorrect type fields)
+
+-- a type requires the tag, and it has no value
+abbrev pub is_missing : RefMsgType → Values → OrderTag → Bool
+is_missing type values tag = is_among (required type) (number_of tag) && is_nothing (value_in values tag)
+
+-- the numbers of the missing ones among some tags
+abbrev pub missing_among : RefMsgType → Values → List OrderTag → List ℕ
+missing_among type values some = map number_of (filter (is_missing type values) some)
+
+-- this is what is found of these fields
+pub record IsFound (type : RefMsgType) (fields : List Field) (found : OrderFields) : Type 0 where
+  pub each : AllByRecursion IsField fields
+  pub values : (tag : OrderTag) → value_in found.values tag ≡ value_at (number_of tag) fields
+  pub others : found.others.items ≡ filter is_other (tags fields)
+  pub repeated : found.repeated ≡ least_in TagAppearsMoreThanOnce type fields
+  pub undefined : found.undefined ≡ least_in TagNotDefined type fields
+  pub ill_formed : found.ill_formed ≡ least_in IncorrectFormat type fields
+  pub out_of_range : found.out_of_range ≡ least_in ValueIncorrect type fields
+
+-- the first of some reasons for which one of these fields is wrong, and its least tag
+abbrev pub fault_in : List SessionRejectReason → RefMsgType → List Field → Option Fault
+fault_in [] type fields = None
+fault_in (r ∷ rs) type fields = or_next r (least_in r type fields) (fault_in rs type fields)
+
+-- this is what is found of all fields but these last ones
+pub record IsReading (type : RefMsgType) (rest all : List Field) (found : OrderFields) : Type 0 where
+  pub front : List Field
+  pub found_in : IsFound type front found
+  pub whole : front ++ rest ≡ all
+  pub each : AllByRecursion IsField rest

@@ -1,0 +1,102 @@
+//! The tags of order messages behind the header, and the table of what each type has (docs/PROFILE.md, "Order
+//! messages").
+ghost use Rattle.std.specs.Prelude.{◌≡◌, ◌<◌, MatchOption, IsFalse};
+ghost use Rattle.fix_orders.specs.OrderTags.{number_of, place_of, need_of, order_numbers};
+ghost use Rattle.fix_orders.specs.Reading.{is_among};
+
+use venue_model::RefMsgType;
+
+/// A tag that some type of order message has.
+#[derive(Clone, Copy, Debug, PartialEq, Eq)]
+pub enum OrderTag {
+    ClOrdId = 11,
+    OrderQty = 38,
+    OrdType = 40,
+    OrigClOrdId = 41,
+    Price = 44,
+    Side = 54,
+    Symbol = 55,
+    TimeInForce = 59,
+    TransactTime = 60,
+}
+
+/// All of them.
+pub const ORDER_TAGS: [OrderTag; 9] = [
+    OrderTag::ClOrdId,
+    OrderTag::OrderQty,
+    OrderTag::OrdType,
+    OrderTag::OrigClOrdId,
+    OrderTag::Price,
+    OrderTag::Side,
+    OrderTag::Symbol,
+    OrderTag::TimeInForce,
+    OrderTag::TransactTime,
+];
+
+/// What a type of message does with a tag.
+#[derive(Clone, Copy, Debug, PartialEq, Eq)]
+pub enum Need {
+    Required,
+    Optional,
+    Undefined,
+}
+
+impl OrderTag {
+    /// The tag of this number.
+    pub fn of(number: u32) -> Option<OrderTag>
+        ensures { MatchOption result (IsFalse (is_among order_numbers number)) (λ tag. number_of tag ≡ number) }
+    {
+        match number {
+            11 => Some(OrderTag::ClOrdId),
+            38 => Some(OrderTag::OrderQty),
+            40 => Some(OrderTag::OrdType),
+            41 => Some(OrderTag::OrigClOrdId),
+            44 => Some(OrderTag::Price),
+            54 => Some(OrderTag::Side),
+            55 => Some(OrderTag::Symbol),
+            59 => Some(OrderTag::TimeInForce),
+            60 => Some(OrderTag::TransactTime),
+            _ => None,
+        }
+    }
+
+    /// Its number.
+    pub fn number(self) -> u32
+        ensures { result ≡ number_of self }
+    {
+        self as u32
+    }
+
+    /// Its place among all of them.
+    pub fn place(self) -> usize
+        ensures value { result ≡ place_of self }
+        ensures few { result < 9 }
+    {
+        match self {
+            OrderTag::ClOrdId => 0,
+            OrderTag::OrderQty => 1,
+            OrderTag::OrdType => 2,
+            OrderTag::OrigClOrdId => 3,
+            OrderTag::Price => 4,
+            OrderTag::Side => 5,
+            OrderTag::Symbol => 6,
+            OrderTag::TimeInForce => 7,
+            OrderTag::TransactTime => 8,
+        }
+    }
+
+    /// What messages of this type do with it.
+    pub fn need(self, kind: RefMsgType) -> Need
+        ensures { result ≡ need_of kind self }
+    {
+        match (kind, self) {
+            (RefMsgType::NewOrderSingle, OrderTag::OrigClOrdId) => Need::Undefined,
+            (
+                RefMsgType::OrderCancelRequest,
+                OrderTag::OrdType | OrderTag::Price | OrderTag::TimeInForce,
+            ) => Need::Undefined,
+            (_, OrderTag::TimeInForce) => Need::Optional,
+            _ => Need::Required,
+        }
+    }
+}
