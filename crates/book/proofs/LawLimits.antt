@@ -1,5 +1,5 @@
 -- Each trade is at the price of the resting order, which keeps both orders' limits.
-use Rattle.std.proofs.Common.{◌≡◌, ℕ, suc, true, false, nat_lt, List, [], ◌∷◌, map, refl, arith, None}
+use Rattle.std.proofs.Common.{◌≡◌, inl, inr, ℕ, suc, true, false, nat_lt, List, [], ◌∷◌, map, refl, arith, None}
 use Rattle.std.specs.Prelude.{filter, if◌then◌else◌}
 use Rattle.std.specs.List.{flat_map, AllByRecursion, Contains}
 use Rattle.std.specs.Str.{bytes_eq}
@@ -17,7 +17,7 @@ use Rattle.venue_model.specs.Orders.{leaves, is_live, crosses, meets}
 use Rattle.venue_model.specs.Match.{crossing, fill, done, exec, filled_orders, trade, trades, can_fill, canceled_rest, match_outputs}
 use Rattle.venue_model.specs.Requests.{Symbols}
 use Rattle.venue_model.specs.Step.{Request, outputs}
-use Rattle.book.specs.Laws.{IsWithin, KeepsLimit, PriceOfOne, KeepsPrice}
+use Rattle.book.specs.Laws.{IsWithin, KeepsLimit, KeepsPrice}
 use Rattle.book.proofs.Lists.{each-append, each-map, each-of, each-filter, each-passes}
 use Rattle.book.proofs.LawSteps.{tells-none, outputs-good}
 use Rattle.book.proofs.Priority.{each-by_priority}
@@ -66,7 +66,10 @@ module _ (c : Cause) (i : Order) (orders : List Order) where
   pub trades-price : AllByRecursion (KeepsPrice i orders) (trades c i orders)
   trades-price = each-trade (KeepsPrice i orders) (each-map (Contains orders)
       (λ o. crosses i o ≡ true → AllByRecursion (KeepsPrice i orders) (trade c i (crossing i orders) o))
-      (λ o there h. let one : PriceOfOne i orders o.price = record { order = o; is_there = there; is_crossed = h; price_is = refl } in (one, (one, tt)))
+      (λ o there h. (
+        record { resting = o; is_there = there; is_crossed = h; price_is = refl; told_of = inl refl },
+        (record { resting = o; is_there = there; is_crossed = h; price_is = refl; told_of = inr refl }, tt),
+      ))
       orders (each-there orders))
 
 canceled-limit : (c : Cause) (o : Order) → AllByRecursion KeepsLimit (canceled_rest c o)

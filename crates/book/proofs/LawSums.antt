@@ -5,8 +5,8 @@ use Rattle.std.specs.List.{AllByRecursion}
 use Rattle.std.proofs.lemmas.List.Sums.{sum_by-cons}
 use Rattle.venue_model.specs.declared.orders.Side.{Side}
 use Rattle.venue_model.specs.declared.orders.Order.{Order}
-use Rattle.venue_model.specs.Orders.{leaves, is_live, crosses, ahead}
-use Rattle.venue_model.specs.Match.{crossing, fill, after_fill, settled, done, rest}
+use Rattle.venue_model.specs.Orders.{leaves, crosses, ahead}
+use Rattle.venue_model.specs.Match.{crossing, fill, after_fill, settled, done}
 use Rattle.book.specs.Passes.{Leads}
 use Rattle.book.specs.Standing.{Rising}
 use Rattle.book.proofs.Lists.{same_sum, each-append, each-front, each-back, each-map, each-of, each-filter, each-passes, sum-middle}
@@ -188,9 +188,10 @@ settled-within i queue o within = elim (crosses i o) as
     (λ b. (if b then after_fill (leaves i) queue o else o).cum ≤ (if b then after_fill (leaves i) queue o else o).total)
     [ true ↦ omega (arith, within) | false ↦ within ]
 
-pub rest-within : (i : Order) (orders : List Order) → AllByRecursion (λ o. o.cum ≤ o.total) orders → AllByRecursion (λ o. o.cum ≤ o.total) (rest i orders)
-rest-within i orders within = each-filter (λ o. o.cum ≤ o.total) is_live (map (settled i (crossing i orders)) orders)
-    (each-mapped (λ o. o.cum ≤ o.total) (λ o. o.cum ≤ o.total) (settled i (crossing i orders)) (settled-within i (crossing i orders)) orders within)
+pub orders-within : (i : Order) (orders : List Order) → AllByRecursion (λ o. o.cum ≤ o.total) orders →
+    AllByRecursion (λ o. o.cum ≤ o.total) (map (settled i (crossing i orders)) orders)
+orders-within i orders within = each-mapped (λ o. o.cum ≤ o.total) (λ o. o.cum ≤ o.total) (settled i (crossing i orders))
+    (settled-within i (crossing i orders)) orders within
 
 pub done-within : (i : Order) (orders : List Order) → Rising orders → i.cum ≤ i.total → (done i orders).cum ≤ i.total
 done-within i orders rising within = let sum = done-sum i orders rising in omega (arith, sum, within)

@@ -1,5 +1,5 @@
 -- Words of the laws of matching.
-use Rattle.std.specs.Prelude.{◌≡◌, ⊤, ℕ, ◌-◌, ◌*◌, ◌<◌, ◌≤◌, true, false, List, [], ◌∷◌, length, slice_index, MatchOption, sum_by, ◌&&◌, if◌then◌else◌}
+use Rattle.std.specs.Prelude.{◌≡◌, ◌⊎◌, ⊤, ℕ, ◌-◌, ◌*◌, ◌<◌, ◌≤◌, true, false, List, [], ◌∷◌, length, slice_index, MatchOption, sum_by, ◌&&◌, if◌then◌else◌}
 use Rattle.std.specs.List.{AllByRecursion, Contains}
 use Rattle.std.specs.Str.{bytes_eq}
 use Rattle.venue_model.specs.declared.orders.Side.{Side}
@@ -37,16 +37,17 @@ TellsTradeAt P (SessionReject reject) = ⊤
 abbrev pub KeepsLimit : Output → Type 0
 KeepsLimit o = TellsTradeAt (λ order price. IsWithin order.side order.price price) o.report
 
--- the price of one of these orders, which the incoming one crosses
-pub record PriceOfOne (incoming : Order) (orders : List Order) (price : ℕ) : Type 0 where
-  pub order : Order
-  pub is_there : Contains orders order
-  pub is_crossed : crosses incoming order ≡ true
-  pub price_is : price ≡ order.price
+-- a trade with one of these orders, which the incoming one crosses, at the price of that one: it is told of either side
+pub record TradesWithOne (incoming : Order) (orders : List Order) (told : Order) (price : ℕ) : Type 0 where
+  pub resting : Order
+  pub is_there : Contains orders resting
+  pub is_crossed : crosses incoming resting ≡ true
+  pub price_is : price ≡ resting.price
+  pub told_of : (told.id ≡ resting.id) ⊎ (told.id ≡ incoming.id)
 
--- an output, if it tells a trade, tells one at the price of a resting order that the incoming one crosses
+-- an output, if it tells a trade, tells one of the incoming order or of a resting one that it crosses, at the resting one's price
 abbrev pub KeepsPrice : Order → List Order → Output → Type 0
-KeepsPrice incoming orders o = TellsTradeAt (λ order price. PriceOfOne incoming orders price) o.report
+KeepsPrice incoming orders o = TellsTradeAt (TradesWithOne incoming orders) o.report
 
 -- a command comes through one of the eight gateways
 pub record IsFromGateway (r : Request) : Type 0 where

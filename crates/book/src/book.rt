@@ -51,7 +51,7 @@ impl Book {
 
     /// Does what the command at this sequence asks, and puts its outputs behind those in `out`. The room for them, two
     /// for each resting order and two more (8,194 at most), is made first: where it is missing and refused (12, no
-    /// memory), book and `out` are as before, and the command can be tried again.
+    /// memory), book and `out` are as before, and the command can be tried again. `out` keeps the room that it has.
     pub fn apply(
         &mut self,
         sequence: u64,
@@ -71,6 +71,7 @@ impl Book {
             ++ (step self.old.symbols self.old.state sequence (record { gateway = gateway; command = command.now })).outputs) }
         ensures behind { OnOk result (Below (sequence + 1) self.new.state.orders) }
         ensures refused { OnErr result ((self.new ≡ self.old) × (out.new.items ≡ out.old.items)) }
+        ensures room { vec_capacity out.old ≤ vec_capacity out.new }
         ensures full { OnErr result (vec_capacity out.old < vec_len out.old + (2 * length self.old.state.orders + 2)) }
     {
         out.reserve(2 * self.orders.len() + 2)?;
@@ -111,8 +112,9 @@ fn cause(gateway: u8, sequence: u64, sending_time: u64) -> Cause
 /// Rejects a message with a fault. There is room.
 fn reject(cause: Cause, fault: &Malformed, out: &mut Vec<Output>)
     requires { vec_len out.old < vec_capacity out.old }
-    ensures { out.new.items ≡ out.old.items ++ output cause cause.gateway (Report.SessionReject fault.now) ∷ [] }
+    ensures items { out.new.items ≡ out.old.items ++ output cause cause.gateway (Report.SessionReject fault.now) ∷ [] }
+    ensures room { vec_capacity out.new ≡ vec_capacity out.old }
 {
-    let gateway = cause.gateway;
-    put(out, &output(cause, gateway, Report::SessionReject(*fault)));
+    let report = Report::SessionReject(*fault);
+    put(out, &output(cause, cause.gateway, report));
 }

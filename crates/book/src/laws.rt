@@ -10,14 +10,14 @@ ghost use Rattle.venue_model.specs.declared.orders.Order.{Order};
 ghost use Rattle.venue_model.specs.declared.orders.Side.TheVariants.{Buy, Sell};
 ghost use Rattle.venue_model.specs.declared.outputs.Cause.{Cause};
 ghost use Rattle.venue_model.specs.Orders.{leaves, is_live, crosses, ahead};
-ghost use Rattle.venue_model.specs.Match.{crossing, fill, settled, done, rest, filled_orders, trades, can_fill, canceled_rest, matched, match_outputs};
+ghost use Rattle.venue_model.specs.Match.{crossing, fill, settled, done, filled_orders, trades, can_fill, canceled_rest, matched, match_outputs};
 ghost use Rattle.venue_model.specs.Requests.{Symbols, State};
 ghost use Rattle.venue_model.specs.Step.{Request, step, state, outputs_from, outputs, requests};
 ghost use Rattle.book.specs.Standing.{Rising};
 ghost use Rattle.book.specs.Laws.{KeepsLimit, KeepsPrice, KeepsTotal, IsFromGateway, Pairwise, IsOrderly, IsUncrossed, quantity_traded, money_traded};
 
 /// What was told stays told: a history's outputs begin with the outputs of each of its beginnings, and each command
-/// adds its own behind them.
+/// adds its own behind them. Its step begins at the state that those before it have left.
 pub fn outputs_only_grow()
     ensures begin { (symbols : Symbols) (rs more : List Request) →
         outputs symbols (rs ++ more) ≡ outputs symbols rs ++ outputs_from symbols (length rs) (state symbols rs) more }
@@ -36,7 +36,8 @@ pub fn the_book_is_bounded()
 {}
 
 /// No trade is worse than a limit: every fill that the venue ever tells of an order is at the order's limit price or a
-/// better one, for the buyer and for the seller. A match trades at the prices of resting orders.
+/// better one, for the buyer and for the seller. Each trade of a match is one of the incoming order with a resting one
+/// that it crosses, at the resting one's price, and is told of these two alone.
 pub fn trades_keep_limits()
     ensures limit { (symbols : Symbols) (rs : List Request) → AllByRecursion KeepsLimit (outputs symbols rs) }
     ensures price { (c : Cause) (incoming : Order) (orders : List Order) →
@@ -66,7 +67,8 @@ pub fn fills_come_in_order()
 {}
 
 /// Nothing is made and nothing is lost in a match. What the incoming order gains, the resting orders gain in sum: in
-/// quantity and in money. It is as much as both sides have, and no order is filled over its total.
+/// quantity and in money. It is as much as both sides have, and no order is filled over its total, those included that
+/// are filled whole and leave the book.
 pub fn both_sides_trade_the_same()
     ensures quantity { (incoming : Order) (orders : List Order) →
         sum_by (λ o. o.cum) (map (settled incoming (crossing incoming orders)) orders) + incoming.cum
@@ -83,7 +85,8 @@ pub fn both_sides_trade_the_same()
     ensures incoming { (incoming : Order) (orders : List Order) → Rising orders →
         incoming.cum ≤ incoming.total → (done incoming orders).cum ≤ incoming.total }
     ensures resting { (incoming : Order) (orders : List Order) →
-        AllByRecursion (λ o. o.cum ≤ o.total) orders → AllByRecursion (λ o. o.cum ≤ o.total) (rest incoming orders) }
+        AllByRecursion (λ o. o.cum ≤ o.total) orders
+        → AllByRecursion (λ o. o.cum ≤ o.total) (map (settled incoming (crossing incoming orders)) orders) }
 {}
 
 /// Of each symbol as much was bought as was sold, and as much was paid as was received, in the fills that the venue has
@@ -106,8 +109,8 @@ pub fn fill_or_kill_is_whole()
 {}
 
 /// The book is never crossed: after any commands of the eight gateways, so after any history of their messages, no
-/// resting buy meets a resting sell of its symbol. The resting orders stand in the order of their stamps, each with something left, and no client has two under
-/// one name; each command keeps all this.
+/// resting buy meets a resting sell of its symbol. The resting orders stand in the order of their stamps, each with
+/// something left, and no client has two under one name; each command keeps all this.
 pub fn the_book_is_never_crossed()
     ensures uncrossed { (symbols : Symbols) (rs : List Request) → AllByRecursion IsFromGateway rs
         → IsUncrossed (state symbols rs).orders }

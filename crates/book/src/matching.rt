@@ -145,6 +145,7 @@ pub(crate) fn enter(
     ensures below { (sequence : ℕ) → incoming.now.stamp < sequence → Below sequence orders.old.items
         → Below sequence orders.new.items }
     ensures kept { vec_capacity orders.new ≡ vec_capacity orders.old }
+    ensures room { vec_capacity out.new ≡ vec_capacity out.old }
 {
     match terms {
         TimeInForce::Day => {

@@ -71,8 +71,5 @@ pub(crate) fn filled(order: &Order, quantity: u64, price: u64) -> Order
 pub(crate) fn is_day(terms: TimeInForce) -> bool
     ensures { result ≡ is_day terms }
 {
-    match terms {
-        TimeInForce::Day => true,
-        TimeInForce::ImmediateOrCancel | TimeInForce::FillOrKill => false,
-    }
+    terms == TimeInForce::Day
 }

@@ -65,8 +65,5 @@ fn replace_fits(request: &OrderCancelReplaceRequest, order: &Order) -> bool
 fn same_side(side: Side, other: Side) -> bool
     ensures { result ≡ same_side side other }
 {
-    match (side, other) {
-        (Side::Buy, Side::Buy) | (Side::Sell, Side::Sell) => true,
-        _ => false,
-    }
+    side == other
 }

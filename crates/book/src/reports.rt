@@ -21,13 +21,11 @@ pub(crate) fn output(cause: Cause, gateway: u8, report: Report) -> Output
 pub(crate) fn exec(cause: Cause, exec_type: ExecType, order: &Order) -> Output
     ensures { result ≡ exec cause exec_type order.now }
 {
-    let order = *order;
-    let client = order.client;
-    output(
-        cause,
-        client,
-        Report::Exec(ExecutionReport { exec_type, order }),
-    )
+    let report = ExecutionReport {
+        exec_type,
+        order: *order,
+    };
+    output(cause, order.client, Report::Exec(report))
 }
 
 /// Puts an output behind the others. There is room.
@@ -47,6 +45,5 @@ pub(crate) fn tell(out: &mut Vec<Output>, cause: Cause, exec_type: ExecType, ord
     ensures len { vec_len out.new ≡ vec_len out.old + 1 }
     ensures capacity { vec_capacity out.new ≡ vec_capacity out.old }
 {
-    let output = exec(cause, exec_type, order);
-    put(out, &output);
+    put(out, &exec(cause, exec_type, order));
 }

@@ -94,6 +94,7 @@ impl Book {
         ensures state { self.new ≡ record self.old { state = (on_new self.old.symbols self.old.state cause request.now).state } }
         ensures told { out.new.items ≡ out.old.items ++ (on_new self.old.symbols self.old.state cause request.now).outputs }
         ensures behind { Below (cause.sequence + 1) self.new.state.orders }
+        ensures room { vec_capacity out.new ≡ vec_capacity out.old }
     {
         let order = entering(cause, request);
         if let Some(reason) = self.new_refusal(cause.gateway, request) {
@@ -119,6 +120,7 @@ impl Book {
         ensures state { self.new ≡ record self.old { state = (on_cancel self.old.state cause request.now).state } }
         ensures told { out.new.items ≡ out.old.items ++ (on_cancel self.old.state cause request.now).outputs }
         ensures behind { Below (cause.sequence + 1) self.new.state.orders }
+        ensures room { vec_capacity out.new ≡ vec_capacity out.old }
     {
         let found = self.find(cause.gateway, request.orig_cl_ord_id);
         let greatest = self.greatest_of(cause.gateway);
@@ -152,6 +154,7 @@ impl Book {
         ensures state { self.new ≡ record self.old { state = (on_replace self.old.state cause request.now).state } }
         ensures told { out.new.items ≡ out.old.items ++ (on_replace self.old.state cause request.now).outputs }
         ensures behind { Below (cause.sequence + 1) self.new.state.orders }
+        ensures room { vec_capacity out.new ≡ vec_capacity out.old }
     {
         let found = self.find(cause.gateway, request.orig_cl_ord_id);
         let greatest = self.greatest_of(cause.gateway);
@@ -189,6 +192,7 @@ impl Book {
         ensures told { out.new.items ≡ out.old.items ++ (order_replaced self.old.state cause request.now
             (named self.old.state cause.gateway request.now.orig_cl_ord_id)).outputs }
         ensures behind { Below (cause.sequence + 1) self.new.state.orders }
+        ensures room { vec_capacity out.new ≡ vec_capacity out.old }
     {
         let order = self.orders[place];
         let exec_type = ExecType::Replaced {

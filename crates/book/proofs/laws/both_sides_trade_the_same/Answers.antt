@@ -1,4 +1,4 @@
-use Rattle.book.proofs.LawSums.{same-quantity, same-money, sum-crossed, done-sum, done-within, rest-within}
+use Rattle.book.proofs.LawSums.{same-quantity, same-money, sum-crossed, done-sum, done-within, orders-within}
 use Rattle.book.proofs.laws.both_sides_trade_the_same.Goals as goal
 
 pub returns-clause-quantity : goal.returns-clause-quantity
@@ -17,4 +17,4 @@ pub returns-clause-incoming : goal.returns-clause-incoming
 returns-clause-incoming c = done-within
 
 pub returns-clause-resting : goal.returns-clause-resting
-returns-clause-resting c = rest-within
+returns-clause-resting c = orders-within
