@@ -1,0 +1,15 @@
+pub mod Windows
+pub mod Puts
+pub mod Keeps
+pub mod Logs
+pub mod Loads
+pub mod Stores
+pub mod Claims
+pub mod Writes
+pub mod Becomes
+pub mod Raws
+pub mod Marks
+pub mod Joins
+pub mod Views
+pub mod Opens
+pub mod Crews

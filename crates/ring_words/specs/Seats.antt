@@ -1,0 +1,72 @@
+-- The person of a seat in use, and what its own steps make of it.
+use Rattle.std.specs.Prelude.{None, ◌≡◌, ℕ, List, [], ◌∷◌, ◌++◌, take, drop}
+use Rattle.venue_model.specs.History.{Message}
+use Rattle.ring_words.specs.declared.view.Role.TheVariants.{Process}
+use Rattle.ring_words.specs.declared.view.Sent.{Sent}
+use Rattle.ring_words.specs.declared.view.Load.{Load}
+use Rattle.ring_words.specs.declared.view.Person.{Person}
+use Rattle.ring_words.specs.declared.view.View.{View}
+use Rattle.ring_words.specs.Log.{without}
+use Rattle.ring_words.specs.Rule.{newcomer}
+
+-- the first of these persons; where there is none, a processor that knows nothing
+abbrev pub first_of : List Person → Person
+first_of [] = newcomer Process [] 0
+first_of (p ∷ ps) = p
+
+abbrev pub load_of : ℕ → ℕ → Load
+load_of k x = record { place = k; value = x }
+
+abbrev pub sent_of : ℕ → Message → Sent
+sent_of s e = record { sequence = s; entry = e }
+
+-- it loaded x at the place k
+abbrev pub looked : Person → ℕ → ℕ → Person
+looked p k x = record p { loads = p.loads ++ load_of k x ∷ [] }
+
+-- it claimed s
+abbrev pub with_claim : Person → ℕ → Person
+with_claim p s = record p { claims = s ∷ p.claims }
+
+-- it stored x as word i of the row of s: what it stored from there on counts no more
+abbrev pub stored : Person → ℕ → ℕ → ℕ → Person
+stored p s i x = record p { part = record { sequence = s; words = take i p.part.words ++ x ∷ [] } }
+
+-- it published e at s
+abbrev pub marked : Person → ℕ → Message → Person
+marked p s e = record p { mine = p.mine ++ sent_of s e ∷ []; claims = without s p.claims; part = record { sequence = s; words = [] } }
+
+-- it knows one entry more
+abbrev pub saw : Person → Message → Person
+saw p e = record p { seen = p.seen ++ e ∷ [] }
+
+-- its own word became x
+abbrev pub moved : Person → ℕ → Person
+moved p x = record p { own = x }
+
+module _ {L : Type 0} where
+  abbrev pub person : View L → Person
+  person v = first_of v.people
+
+  -- a seat in use has one person
+  abbrev pub IsAlone : View L → Type 0
+  IsAlone v = v.people ≡ person v ∷ []
+
+  -- the view of a seat whose one person is now q
+  abbrev pub alone : View L → Person → View L
+  alone v q = record v { people = q ∷ [] }
+
+  -- the first person gets a seat of its own, and the others stay
+  abbrev pub others : View L → View L
+  others v = record v { people = drop 1 v.people }
+
+  abbrev pub apart : View L → View L
+  apart v = alone v (person v)
+
+  -- the persons of both seats
+  abbrev pub together : View L → View L → View L
+  together v w = record v { people = v.people ++ w.people }
+
+  -- what is left of a seat that was taken in
+  abbrev pub nobody : View L
+  nobody = record { logic = None; base = []; people = [] }

@@ -1,0 +1,68 @@
+-- What each kind of step tells the one who makes it: of the step, the seat before, the number found (at a store, the number stored), and the seat after.
+use Rattle.std.specs.Prelude.{◌≡◌, ◌≢◌, ◌⊎◌, ℕ, suc, ◌+◌, ◌^◌, ◌<◌, ◌≤◌, length}
+use mathlib.Core.Option.{some}
+use lib.ListN.{get_elem?}
+use Rattle.atomic_table.specs.Table.{Me, Step}
+use Rattle.venue_model.specs.History.{Message}
+use Rattle.ring_words.specs.declared.view.Load.{Load}
+use Rattle.ring_words.specs.declared.view.Part.{Part}
+use Rattle.ring_words.specs.declared.view.Person.{Person}
+use Rattle.ring_words.specs.declared.view.View.{View}
+use Rattle.ring_words.specs.Places.{processed, claim, in_row}
+use Rattle.ring_words.specs.Log.{IsEntry, times}
+use Rattle.ring_words.specs.Raw.{raw_word, raw_count, Spells}
+use Rattle.ring_words.specs.Seats.{person, alone, looked, with_claim, stored, marked, saw, moved}
+
+-- no claim value that the person loaded is above x
+abbrev pub ClaimsUpTo : Person → ℕ → Type 0
+ClaimsUpTo p x = (i : ℕ) (l : Load) → get_elem? p.loads i ≡ some l → l.place ≡ claim → l.value ≤ x
+
+-- the person loaded some processed value that leaves room for s in a ring of n rows
+abbrev pub HasRoom : ℕ → Person → ℕ → Type 0
+HasRoom n p s = (i : ℕ) × ((l : Load) × (get_elem? p.loads i ≡ some l) × (l.place ≡ processed) × (s < l.value + n))
+
+-- word i of the row of s goes on with the row under way, or begins it
+abbrev pub GoesOn : Part → ℕ → ℕ → Type 0
+GoesOn t s i = (i ≡ 0) ⊎ ((t.sequence ≡ s) × (i ≤ length t.words))
+
+abbrev pub Seated : Type 0 → Type 0 → Type 0
+Seated S L = Me S (View L)
+
+module _ {S L : Type 0} where
+  -- the seat is as before, but for its one person, who is now q
+  abbrev pub Became : Seated S L → Person → Seated S L → Type 0
+  Became m q m' = m' ≡ (alone m.0 q, m.1)
+
+  -- a load of claim
+  abbrev pub sees_claim : Step S → Seated S L → ℕ → Seated S L → Type 0
+  sees_claim st m r m' = Became m (looked (person m.0) claim r) m' × (length (person m.0).seen ≤ r) × (r ≤ 2 ^ 48)
+
+  -- a load of processed
+  abbrev pub sees_processed : ℕ → Step S → Seated S L → ℕ → Seated S L → Type 0
+  sees_processed n st m r m' = Became m (looked (person m.0) processed r) m' × ClaimsUpTo (person m.0) (r + n)
+
+  -- a compare-exchange of claim from one number to the next
+  abbrev pub claims_next : Step S → Seated S L → ℕ → Seated S L → Type 0
+  claims_next st m r m' = (r ≡ st.first → Became m (with_claim (looked (person m.0) claim r) r) m') × (r ≢ st.first → Became m (looked (person m.0) claim r) m') × ClaimsUpTo (person m.0) r
+
+  -- a store of a raw word in a row that the gateway claimed
+  abbrev pub stores_raw : ℕ → Step S → Seated S L → ℕ → Seated S L → Type 0
+  stores_raw n st m r m' = (s i : ℕ) → 0 < times s (person m.0).claims → i < 41 → st.word ≡ in_row n s (i + 1) → Became m (stored (person m.0) s i r) m'
+
+  -- a store of availability, when the words stored spell the message
+  abbrev pub marks_sent : Step S → Seated S L → ℕ → Seated S L → Type 0
+  marks_sent st m r m' = (s : ℕ) (e : Message) → r ≡ suc s → Spells (person m.0).part.words e → IsEntry e → Became m (marked (person m.0) s e) m'
+
+  -- a load of the availability word of the next sequence
+  abbrev pub sees_mark : Step S → Seated S L → ℕ → Seated S L → Type 0
+  sees_mark st m r m' = (r ≡ suc (length (person m.0).seen) → (length (person m.0).seen < 2 ^ 48) × ((e : Message) × IsEntry e × Became m (saw (looked (person m.0) st.word r) e) m'))
+      × (r ≢ suc (length (person m.0).seen) → Became m (looked (person m.0) st.word r) m')
+
+  -- a load of a raw word of an entry that is known and not released
+  abbrev pub sees_raw : ℕ → Step S → Seated S L → ℕ → Seated S L → Type 0
+  sees_raw n st m r m' = Became m (looked (person m.0) st.word r) m'
+      × ((s i : ℕ) (e : Message) → get_elem? (person m.0).seen s ≡ some e → (person m.0).own ≤ s → i < raw_count e → st.word ≡ in_row n s (i + 1) → (r ≡ raw_word e i) × IsEntry e)
+
+  -- a store of the own word
+  abbrev pub moves_own : Step S → Seated S L → ℕ → Seated S L → Type 0
+  moves_own st m r m' = Became m (moved (person m.0) r) m'

@@ -1,0 +1,175 @@
+//! How the rings begin: their words, the first seat, and the seats that it is split into.
+ghost use Rattle.std.specs.Prelude.{◌≡◌, ◌≢◌, ℕ, suc, ◌+◌, ◌-◌, ◌*◌, ◌^◌, ◌<◌, ◌≤◌, [], ◌∷◌, length, slice_index_or, vec_len, IfOk, IsErrOf, IsTrue, IsFalse, IsOk, ◌&&◌};
+ghost use mathlib.Core.Option.{some};
+ghost use lib.ListN.{get_elem?};
+ghost use Rattle.venue_model.specs.History.{Message};
+ghost use Rattle.ring_words.specs.Log.{IsEntry};
+ghost use Rattle.ring_words.specs.Rule.{gateways, crew, opening_word, view_of};
+ghost use Rattle.ring_words.specs.Sizes.{ring_size};
+ghost use Rattle.ring_words.specs.Crew.{IsFresh, AreFresh, IsFreshProcess};
+
+use crate::plays::Apart;
+use crate::rings::{Rings, Setup};
+use crate::seats::{GatewaySeat, ProcessSeat, Seats};
+use crate::view::View;
+use atomic_table::{Seat, Table};
+use std::alloc::{AllocError, Global};
+use std::snapshot::Snapshot;
+use thiserror::Error;
+use venue_model::{Entry, Logic};
+
+/// Why rings can't be opened.
+#[derive(Clone, Copy, Debug, PartialEq, Eq, Error)]
+pub enum OpenError {
+    /// 21: the number of rows of a ring isn't a power of two from 2 to 4,096.
+    #[error("not a power of two")]
+    NotPowerOfTwo,
+    /// 22: memory was refused.
+    #[error("no memory")]
+    Memory,
+}
+
+/// Whether a ring may have this many rows.
+fn is_ring_size(rows: usize) -> bool
+    ensures value { result ≡ ring_size rows }
+    ensures bounds { IsTrue result → (2 ≤ rows) × (rows ≤ 4096) }
+{
+    rows.is_power_of_two() && rows >= 2 && rows <= 4096
+}
+
+/// The word at this place at the start.
+fn word_at_start(place: usize, start: u64, given: u64) -> u64
+    ensures { result ≡ opening_word start given place }
+{
+    if place < 32 {
+        start
+    } else if place < 112 {
+        given
+    } else {
+        0
+    }
+}
+
+fn words_at_start(
+    alloc: Global,
+    count: usize,
+    start: u64,
+    given: u64,
+) -> Result<Vec<u64>, AllocError>
+    ensures count { IfOk result (λ words. vec_len words ≡ count) }
+    ensures words { IfOk result (λ words. (k : ℕ) → k < count → slice_index_or words.items k 0 ≡ opening_word start given k) }
+{
+    let mut words = Vec::with_capacity(alloc, count)?;
+    for place in 0..count {
+        words.push(word_at_start(place, start, given))?;
+    }
+    Ok(words)
+}
+
+impl<L: Logic, const N: usize, const M: usize, const G: usize> Rings<L, N, M, G> {
+    /// Splits the processor's seat off the first one.
+    fn process_seat(&self, first: &mut Seat<(), View<L>>, count: u64) -> ProcessSeat<L>
+        requires table { first.old.table_id ≡ self.now.table.shared.table_id }
+        requires bare { first.old.me.1 ≡ [] }
+        requires people { first.old.me.0 ≡ view_of self.now.table.shared.key.logic self.now.table.shared.key.base.value.items (crew G self.now.table.shared.key.base.value.items self.now.table.shared.key.given) }
+        requires count { count ≡ length self.now.table.shared.key.base.value.items }
+        requires small { count ≤ 2 ^ 48 }
+        ensures first { (first.new.table_id ≡ first.old.table_id) × (first.new.me.1 ≡ []) }
+        ensures people { first.new.me.0 ≡ view_of self.now.table.shared.key.logic self.now.table.shared.key.base.value.items (gateways 1 G self.now.table.shared.key.base.value.items self.now.table.shared.key.given) }
+        ensures seat { IsFreshProcess self.now.table.shared.table_id self.now.table.shared.key.logic self.now.table.shared.key.base.value.items result }
+    {
+        let seat = self.table.shared.split_seat::<Apart>(first);
+        ProcessSeat {
+            seat,
+            known: count,
+            own: count,
+        }
+    }
+
+    /// Splits the seat of the next gateway off the first one, which has those of `left` gateways.
+    fn gateway_seat(&self, first: &mut Seat<(), View<L>>, number: u64, left: u64) -> GatewaySeat<L>
+        requires table { first.old.table_id ≡ self.now.table.shared.table_id }
+        requires bare { first.old.me.1 ≡ [] }
+        requires people { first.old.me.0 ≡ view_of self.now.table.shared.key.logic self.now.table.shared.key.base.value.items (gateways number left self.now.table.shared.key.base.value.items self.now.table.shared.key.given) }
+        requires some { 0 < left }
+        requires number { (1 ≤ number) × (number ≤ 8) }
+        ensures first { (first.new.table_id ≡ first.old.table_id) × (first.new.me.1 ≡ []) }
+        ensures people { first.new.me.0 ≡ view_of self.now.table.shared.key.logic self.now.table.shared.key.base.value.items (gateways (number + 1) (left - 1) self.now.table.shared.key.base.value.items self.now.table.shared.key.given) }
+        ensures seat { IsFresh self.now.table.shared.table_id self.now.table.shared.key.logic self.now.table.shared.key.base.value.items self.now.table.shared.key.given number result }
+    {
+        let seat = self.table.shared.split_seat::<Apart>(first);
+        GatewaySeat { seat, number }
+    }
+
+    /// Splits the first seat into those of all gateways.
+    fn gateway_seats(
+        &self,
+        alloc: Global,
+        mut first: Seat<(), View<L>>,
+    ) -> Result<Vec<GatewaySeat<L>>, AllocError>
+        requires table { first.table_id ≡ self.now.table.shared.table_id }
+        requires bare { first.me.1 ≡ [] }
+        requires people { first.me.0 ≡ view_of self.now.table.shared.key.logic self.now.table.shared.key.base.value.items (gateways 1 G self.now.table.shared.key.base.value.items self.now.table.shared.key.given) }
+        requires few { G ≤ 8 }
+        ensures count { IfOk result (λ seats. vec_len seats ≡ G) }
+        ensures seats { IfOk result (λ seats. AreFresh self.now.table.shared.table_id self.now.table.shared.key.logic self.now.table.shared.key.base.value.items self.now.table.shared.key.given seats.items) }
+    {
+        let mut seats = Vec::with_capacity(alloc, G)?;
+        let mut number = 1;
+        let mut left = G as u64;
+        while left > 0 {
+            let seat = self.gateway_seat(&mut first, number, left);
+            seats.push(seat)?;
+            number += 1;
+            left -= 1;
+        }
+        Ok(seats)
+    }
+}
+
+impl<L: Logic + Drop, const N: usize, const M: usize, const G: usize> Rings<L, N, M, G> {
+    /// Rings of `N` and `M` rows for `G` gateways, behind this history, whose number of outputs is given. All input words
+    /// begin at its length, all output words at `given`, and all rows are empty.
+    pub fn open(
+        alloc: Global,
+        logic: L,
+        base: &Vec<Entry>,
+        given: u64,
+    ) -> Result<(Rings<L, N, M, G>, Seats<L>), OpenError>
+        requires gateways { (1 ≤ G) × (G ≤ 8) }
+        requires long { vec_len base.now ≤ 2 ^ 48 }
+        requires entries { (i : ℕ) (e : Message) → get_elem? base.now.items i ≡ some e → IsEntry e }
+        requires given { given ≡ length (L.outputs logic base.now.items) }
+        ensures sizes { IsOk result → IsTrue (ring_size N && ring_size M) }
+        ensures bad { IsErrOf result OpenError.NotPowerOfTwo → IsFalse (ring_size N && ring_size M) }
+        ensures opened { IfOk result (λ r. (r.0.table.shared.key.logic ≡ logic) × (r.0.table.shared.key.base.value.items ≡ base.now.items)) }
+        ensures count { IfOk result (λ r. vec_len r.1.gateways ≡ G) }
+        ensures gateways { IfOk result (λ r. AreFresh r.0.table.shared.table_id logic base.now.items given r.1.gateways.items) }
+        ensures process { IfOk result (λ r. IsFreshProcess r.0.table.shared.table_id logic base.now.items r.1.process) }
+    {
+        if !is_ring_size(N) || !is_ring_size(M) {
+            return Err(OpenError::NotPowerOfTwo);
+        }
+        let count = base.len() as u64;
+        let Ok(words) = words_at_start(alloc, 128 + 64 * N + 128 * M, count, given) else {
+            return Err(OpenError::Memory);
+        };
+        let setup = Setup {
+            rows: N,
+            output_rows: M,
+            gateways: G,
+            logic,
+            base: Snapshot::of(base),
+            given,
+        };
+        let Ok((table, mut first)) = Table::of_words(alloc, words.as_slice(), &setup) else {
+            return Err(OpenError::Memory);
+        };
+        let rings = Rings { table };
+        let process = rings.process_seat(&mut first, count);
+        let Ok(gateways) = rings.gateway_seats(alloc, first) else {
+            return Err(OpenError::Memory);
+        };
+        Ok((rings, Seats { gateways, process }))
+    }
+}

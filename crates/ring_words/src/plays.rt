@@ -1,0 +1,64 @@
+//! What each kind of step tells. These types are for the proofs alone.
+ghost use Rattle.ring_words.specs.Steps.{sees_claim, sees_processed, claims_next, stores_raw, marks_sent, sees_mark, sees_raw, moves_own};
+
+use crate::view::View;
+use atomic_table::{Play, Split};
+
+pub(crate) struct SeeClaim;
+
+impl<L> Play<(), View<L>> for SeeClaim {
+    ghost then = { sees_claim };
+}
+
+pub(crate) struct SeeProcessed<const N: usize>;
+
+impl<L, const N: usize> Play<(), View<L>> for SeeProcessed<N> {
+    ghost then = { sees_processed N };
+}
+
+pub(crate) struct ClaimNext;
+
+impl<L> Play<(), View<L>> for ClaimNext {
+    ghost then = { claims_next };
+}
+
+pub(crate) struct StoreRaw<const N: usize>;
+
+impl<L, const N: usize> Play<(), View<L>> for StoreRaw<N> {
+    ghost then = { stores_raw N };
+}
+
+pub(crate) struct MarkSent;
+
+impl<L> Play<(), View<L>> for MarkSent {
+    ghost then = { marks_sent };
+}
+
+pub(crate) struct SeeMark;
+
+impl<L> Play<(), View<L>> for SeeMark {
+    ghost then = { sees_mark };
+}
+
+pub(crate) struct SeeRaw<const N: usize>;
+
+impl<L, const N: usize> Play<(), View<L>> for SeeRaw<N> {
+    ghost then = { sees_raw N };
+}
+
+pub(crate) struct MoveOwn;
+
+impl<L> Play<(), View<L>> for MoveOwn {
+    ghost then = { moves_own };
+}
+
+/// The first person of a view gets a seat of its own.
+pub(crate) struct Apart;
+
+impl<L> Split<View<L>> for Apart {
+    ghost use Rattle.ring_words.specs.Seats.{others, apart};
+
+    ghost left = { others };
+
+    ghost right = { apart };
+}

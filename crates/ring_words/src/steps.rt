@@ -1,0 +1,138 @@
+//! The single steps, each a load, a store or a compare-exchange of one word.
+ghost use Rattle.std.specs.Prelude.{◌≡◌, ◌≢◌, ℕ, suc, ◌<◌, ◌≤◌, ◌^◌, ◌+◌, length, IsTrue, IsFalse};
+ghost use mathlib.Core.Option.{some};
+ghost use lib.ListN.{get_elem?};
+ghost use Rattle.venue_model.specs.History.{Message};
+ghost use Rattle.ring_words.specs.Places.{claim, processed, in_row};
+ghost use Rattle.ring_words.specs.Log.{IsEntry, times};
+ghost use Rattle.ring_words.specs.Raw.{raw_word, raw_count, Spells};
+ghost use Rattle.ring_words.specs.Seats.{person, alone, looked, with_claim, stored, marked, saw, moved};
+ghost use Rattle.ring_words.specs.Steps.{ClaimsUpTo, HasRoom, GoesOn};
+
+use crate::plays::{
+    ClaimNext, MarkSent, MoveOwn, SeeClaim, SeeMark, SeeProcessed, SeeRaw, StoreRaw,
+};
+use crate::rings::Rings;
+use crate::seats::{GatewaySeat, ProcessSeat};
+use venue_model::Logic;
+
+impl<L: Logic, const N: usize, const M: usize, const G: usize> Rings<L, N, M, G> {
+    /// Loads the number of sequences that are claimed.
+    pub fn load_claim(&self, seat: &mut GatewaySeat<L>) -> u64
+        requires table { seat.old.seat.table_id ≡ self.now.table.shared.table_id }
+        ensures table { seat.new.seat.table_id ≡ seat.old.seat.table_id }
+        ensures view { seat.new.seat.me.0 ≡ alone seat.old.seat.me.0 (looked (person seat.old.seat.me.0) claim result) }
+        ensures seen { length (person seat.old.seat.me.0).seen ≤ result }
+        ensures most { result ≤ 2 ^ 48 }
+    {
+        self.table.shared.load::<SeeClaim>(&mut seat.seat, 8)
+    }
+
+    /// Loads the number of sequences that are processed.
+    pub fn load_processed(&self, seat: &mut GatewaySeat<L>) -> u64
+        requires table { seat.old.seat.table_id ≡ self.now.table.shared.table_id }
+        ensures table { seat.new.seat.table_id ≡ seat.old.seat.table_id }
+        ensures view { seat.new.seat.me.0 ≡ alone seat.old.seat.me.0 (looked (person seat.old.seat.me.0) processed result) }
+        ensures claims { ClaimsUpTo (person seat.old.seat.me.0) (result + N) }
+    {
+        self.table.shared.load::<SeeProcessed<N>>(&mut seat.seat, 0)
+    }
+
+    /// Claims the sequence `from`, if claim is still there. Answers the number of sequences that were claimed.
+    pub fn exchange_claim(&self, seat: &mut GatewaySeat<L>, from: u64) -> u64
+        requires table { seat.old.seat.table_id ≡ self.now.table.shared.table_id }
+        requires room { HasRoom N (person seat.old.seat.me.0) from }
+        requires small { from < 2 ^ 48 }
+        ensures table { seat.new.seat.table_id ≡ seat.old.seat.table_id }
+        ensures claimed { result ≡ from → seat.new.seat.me.0 ≡ alone seat.old.seat.me.0 (with_claim (looked (person seat.old.seat.me.0) claim from) from) }
+        ensures refused { result ≢ from → seat.new.seat.me.0 ≡ alone seat.old.seat.me.0 (looked (person seat.old.seat.me.0) claim result) }
+        ensures claims { ClaimsUpTo (person seat.old.seat.me.0) result }
+    {
+        self.table
+            .shared
+            .compare_exchange::<ClaimNext>(&mut seat.seat, 8, from, from + 1)
+    }
+
+    /// The place of this word in the row of a sequence.
+    fn row_word(&self, sequence: u64, word: usize) -> usize
+        requires { word < 64 }
+        ensures place { result ≡ in_row N sequence word }
+        ensures inside { result < self.now.table.shared.table_id.words }
+    {
+        128 + 64 * (sequence % N as u64) as usize + word
+    }
+
+    /// Stores a word of the message in the row of a sequence that the gateway claimed: the first one, or one behind or among
+    /// those stored so far.
+    pub fn store_raw(&self, seat: &mut GatewaySeat<L>, sequence: u64, word: usize, value: u64)
+        requires table { seat.old.seat.table_id ≡ self.now.table.shared.table_id }
+        requires claimed { 0 < times sequence (person seat.old.seat.me.0).claims }
+        requires word { word < 41 }
+        requires order { GoesOn (person seat.old.seat.me.0).part sequence word }
+        ensures table { seat.new.seat.table_id ≡ seat.old.seat.table_id }
+        ensures view { seat.new.seat.me.0 ≡ alone seat.old.seat.me.0 (stored (person seat.old.seat.me.0) sequence word value) }
+    {
+        let place = self.row_word(sequence, word + 1);
+        self.table
+            .shared
+            .store::<StoreRaw<N>>(&mut seat.seat, place, value);
+    }
+
+    /// Stores the availability word of a sequence that the gateway claimed: what it stored in the row is published.
+    pub fn store_mark(&self, seat: &mut GatewaySeat<L>, sequence: u64)
+        requires table { seat.old.seat.table_id ≡ self.now.table.shared.table_id }
+        requires claimed { 0 < times sequence (person seat.old.seat.me.0).claims }
+        requires small { sequence < 2 ^ 48 }
+        requires row { (person seat.old.seat.me.0).part.sequence ≡ sequence }
+        requires message { (e : Message) × Spells (person seat.old.seat.me.0).part.words e × IsEntry e × (e.gateway ≡ seat.old.number) }
+        ensures table { seat.new.seat.table_id ≡ seat.old.seat.table_id }
+        ensures view { (e : Message) → Spells (person seat.old.seat.me.0).part.words e → IsEntry e → seat.new.seat.me.0 ≡ alone seat.old.seat.me.0 (marked (person seat.old.seat.me.0) sequence e) }
+    {
+        let place = self.row_word(sequence, 0);
+        self.table
+            .shared
+            .store::<MarkSent>(&mut seat.seat, place, sequence + 1);
+    }
+
+    /// Loads the availability word of the next sequence that the seat doesn't know. True where it was published: then the
+    /// seat knows its entry.
+    pub fn load_mark(&self, seat: &mut ProcessSeat<L>) -> bool
+        requires table { seat.old.seat.table_id ≡ self.now.table.shared.table_id }
+        ensures table { seat.new.seat.table_id ≡ seat.old.seat.table_id }
+        ensures fresh { IsTrue result → (e : Message) × IsEntry e × (seat.new.seat.me.0 ≡ alone seat.old.seat.me.0 (saw (looked (person seat.old.seat.me.0) (in_row N (length (person seat.old.seat.me.0).seen) 0) (suc (length (person seat.old.seat.me.0).seen))) e)) }
+        ensures other { IsFalse result → (x : ℕ) × (x ≢ suc (length (person seat.old.seat.me.0).seen)) × (seat.new.seat.me.0 ≡ alone seat.old.seat.me.0 (looked (person seat.old.seat.me.0) (in_row N (length (person seat.old.seat.me.0).seen) 0) x)) }
+    {
+        let place = self.row_word(seat.known, 0);
+        let found = self.table.shared.load::<SeeMark>(&mut seat.seat, place);
+        let fresh = found == seat.known + 1;
+        if fresh {
+            seat.known += 1;
+        }
+        fresh
+    }
+
+    /// Loads a raw word of an entry that the processor knows and hasn't released: word 0 has gateway and length, the bytes follow.
+    pub fn load_raw(&self, seat: &mut ProcessSeat<L>, sequence: u64, word: usize) -> u64
+        requires table { seat.old.seat.table_id ≡ self.now.table.shared.table_id }
+        requires from { (person seat.old.seat.me.0).own ≤ sequence }
+        requires word { word < 41 }
+        ensures table { seat.new.seat.table_id ≡ seat.old.seat.table_id }
+        ensures view { seat.new.seat.me.0 ≡ alone seat.old.seat.me.0 (looked (person seat.old.seat.me.0) (in_row N sequence (word + 1)) result) }
+        ensures raw { (e : Message) → get_elem? (person seat.old.seat.me.0).seen sequence ≡ some e → word < raw_count e → (result ≡ raw_word e word) × IsEntry e }
+    {
+        let place = self.row_word(sequence, word + 1);
+        self.table.shared.load::<SeeRaw<N>>(&mut seat.seat, place)
+    }
+
+    /// Stores the processor's word: all sequences below it are done, and their rows may be claimed again.
+    pub fn store_processed(&self, seat: &mut ProcessSeat<L>, upto: u64)
+        requires table { seat.old.seat.table_id ≡ self.now.table.shared.table_id }
+        requires from { (person seat.old.seat.me.0).own ≤ upto }
+        requires to { upto ≤ length (person seat.old.seat.me.0).seen }
+        ensures table { seat.new.seat.table_id ≡ seat.old.seat.table_id }
+        ensures view { seat.new.seat.me.0 ≡ alone seat.old.seat.me.0 (moved (person seat.old.seat.me.0) upto) }
+    {
+        self.table.shared.store::<MoveOwn>(&mut seat.seat, 0, upto);
+        seat.own = upto;
+    }
+}

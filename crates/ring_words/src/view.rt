@@ -1,0 +1,54 @@
+//! What those at the table know. No value of these types is ever made: they stand in views, which exist in proofs alone.
+use std::collections::LinkedList;
+use venue_model::Entry;
+
+/// What a person is for. A gateway has its number, 1 to 8.
+pub enum Role {
+    Process,
+    Unmarshal,
+    Journal,
+    Marshal,
+    Gateway(u64),
+}
+
+/// A publication: the sequence, and the entry that stands there.
+pub struct Sent {
+    pub sequence: u64,
+    pub entry: Entry,
+}
+
+/// A load: the place of the word, and the value that was found.
+pub struct Load {
+    pub place: u64,
+    pub value: u64,
+}
+
+/// What was stored so far in the row under way: the first words of the message, in order.
+pub struct Part {
+    pub sequence: u64,
+    pub words: LinkedList<u64>,
+}
+
+/// One gateway or one stage.
+pub struct Person {
+    pub role: Role,
+    /// The entries that it knows to be the log's first.
+    pub seen: LinkedList<Entry>,
+    /// The value of the control word that it alone stores: of a stage its sequence, of a gateway its count of outputs.
+    pub own: u64,
+    /// What it published, in order.
+    pub mine: LinkedList<Sent>,
+    /// The sequences that it claimed and hasn't published.
+    pub claims: LinkedList<u64>,
+    /// All its loads, in order.
+    pub loads: LinkedList<Load>,
+    pub part: Part,
+}
+
+/// The persons of one seat: one while it is in use, several while seats meet, all at the start, none when it is spent.
+/// Where there is one, the logic and the history that the rings were opened with stand beside them.
+pub struct View<L> {
+    pub logic: Option<L>,
+    pub base: LinkedList<Entry>,
+    pub people: LinkedList<Person>,
+}
