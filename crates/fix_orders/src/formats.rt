@@ -4,7 +4,7 @@ ghost use Rattle.fix_orders.specs.Formats.{format_of, is_symbol};
 ghost use Rattle.fix_orders.specs.OrderTags.{number_of};
 ghost use Rattle.fix_orders.specs.Judging.{as_format, IsBounded, judged};
 
-use crate::number::{MOST, read_number};
+use crate::number::read_number;
 use crate::tags::OrderTag;
 use crate::time::is_time;
 use venue_model::Symbol;

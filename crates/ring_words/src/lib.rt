@@ -3,6 +3,7 @@
 #![tactic(auto)]
 
 mod open;
+mod places;
 mod plays;
 mod rings;
 mod seats;

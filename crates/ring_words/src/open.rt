@@ -8,6 +8,7 @@ ghost use Rattle.ring_words.specs.Rule.{gateways, crew, opening_word, view_of};
 ghost use Rattle.ring_words.specs.Sizes.{ring_size};
 ghost use Rattle.ring_words.specs.Crew.{IsFresh, AreFresh, IsFreshProcess};
 
+use crate::places::{FIRST_OUTPUT_WORD, FIRST_ROW, OUTPUT_ROW_WORDS, OUTPUT_WORDS_END, ROW_WORDS};
 use crate::plays::Apart;
 use crate::rings::{Rings, Setup};
 use crate::seats::{GatewaySeat, ProcessSeat, Seats};
@@ -41,9 +42,9 @@ fn is_ring_size(rows: usize) -> bool
 fn word_at_start(place: usize, start: u64, given: u64) -> u64
     ensures { result ≡ opening_word start given place }
 {
-    if place < 32 {
+    if place < FIRST_OUTPUT_WORD {
         start
-    } else if place < 112 {
+    } else if place < OUTPUT_WORDS_END {
         given
     } else {
         0
@@ -151,7 +152,8 @@ impl<L: Logic + Drop, const N: usize, const M: usize, const G: usize> Rings<L, N
             return Err(OpenError::NotPowerOfTwo);
         }
         let count = base.len() as u64;
-        let Ok(words) = words_at_start(alloc, 128 + 64 * N + 128 * M, count, given) else {
+        let places = FIRST_ROW + ROW_WORDS * N + OUTPUT_ROW_WORDS * M;
+        let Ok(words) = words_at_start(alloc, places, count, given) else {
             return Err(OpenError::Memory);
         };
         let setup = Setup {

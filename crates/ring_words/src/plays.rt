@@ -28,15 +28,15 @@ impl<L, const N: usize> Play<(), View<L>> for StoreRaw<N> {
     ghost then = { stores_raw N };
 }
 
-pub(crate) struct MarkSent;
+pub(crate) struct StoreAvailability;
 
-impl<L> Play<(), View<L>> for MarkSent {
+impl<L> Play<(), View<L>> for StoreAvailability {
     ghost then = { marks_sent };
 }
 
-pub(crate) struct SeeMark;
+pub(crate) struct SeeAvailability;
 
-impl<L> Play<(), View<L>> for SeeMark {
+impl<L> Play<(), View<L>> for SeeAvailability {
     ghost then = { sees_mark };
 }
 

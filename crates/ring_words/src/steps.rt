@@ -9,8 +9,10 @@ ghost use Rattle.ring_words.specs.Raw.{raw_word, raw_count, Spells};
 ghost use Rattle.ring_words.specs.Seats.{person, alone, looked, with_claim, stored, marked, saw, moved};
 ghost use Rattle.ring_words.specs.Steps.{ClaimsUpTo, HasRoom, GoesOn};
 
+use crate::places::{CLAIM, FIRST_ROW, PROCESSED, ROW_WORDS};
 use crate::plays::{
-    ClaimNext, MarkSent, MoveOwn, SeeClaim, SeeMark, SeeProcessed, SeeRaw, StoreRaw,
+    ClaimNext, MoveOwn, SeeAvailability, SeeClaim, SeeProcessed, SeeRaw, StoreAvailability,
+    StoreRaw,
 };
 use crate::rings::Rings;
 use crate::seats::{GatewaySeat, ProcessSeat};
@@ -25,7 +27,7 @@ impl<L: Logic, const N: usize, const M: usize, const G: usize> Rings<L, N, M, G>
         ensures seen { length (person seat.old.seat.me.0).seen ≤ result }
         ensures most { result ≤ 2 ^ 48 }
     {
-        self.table.shared.load::<SeeClaim>(&mut seat.seat, 8)
+        self.table.shared.load::<SeeClaim>(&mut seat.seat, CLAIM)
     }
 
     /// Loads the number of sequences that are processed.
@@ -35,7 +37,9 @@ impl<L: Logic, const N: usize, const M: usize, const G: usize> Rings<L, N, M, G>
         ensures view { seat.new.seat.me.0 ≡ alone seat.old.seat.me.0 (looked (person seat.old.seat.me.0) processed result) }
         ensures claims { ClaimsUpTo (person seat.old.seat.me.0) (result + N) }
     {
-        self.table.shared.load::<SeeProcessed<N>>(&mut seat.seat, 0)
+        self.table
+            .shared
+            .load::<SeeProcessed<N>>(&mut seat.seat, PROCESSED)
     }
 
     /// Claims the sequence `from`, if claim is still there. Answers the number of sequences that were claimed.
@@ -50,7 +54,7 @@ impl<L: Logic, const N: usize, const M: usize, const G: usize> Rings<L, N, M, G>
     {
         self.table
             .shared
-            .compare_exchange::<ClaimNext>(&mut seat.seat, 8, from, from + 1)
+            .compare_exchange::<ClaimNext>(&mut seat.seat, CLAIM, from, from + 1)
     }
 
     /// The place of this word in the row of a sequence.
@@ -59,7 +63,7 @@ impl<L: Logic, const N: usize, const M: usize, const G: usize> Rings<L, N, M, G>
         ensures place { result ≡ in_row N sequence word }
         ensures inside { result < self.now.table.shared.table_id.words }
     {
-        128 + 64 * (sequence % N as u64) as usize + word
+        FIRST_ROW + ROW_WORDS * (sequence % N as u64) as usize + word
     }
 
     /// Stores a word of the message in the row of a sequence that the gateway claimed: the first one, or one behind or among
@@ -79,7 +83,7 @@ impl<L: Logic, const N: usize, const M: usize, const G: usize> Rings<L, N, M, G>
     }
 
     /// Stores the availability word of a sequence that the gateway claimed: what it stored in the row is published.
-    pub fn store_mark(&self, seat: &mut GatewaySeat<L>, sequence: u64)
+    pub fn store_availability(&self, seat: &mut GatewaySeat<L>, sequence: u64)
         requires table { seat.old.seat.table_id ≡ self.now.table.shared.table_id }
         requires claimed { 0 < times sequence (person seat.old.seat.me.0).claims }
         requires small { sequence < 2 ^ 48 }
@@ -91,19 +95,22 @@ impl<L: Logic, const N: usize, const M: usize, const G: usize> Rings<L, N, M, G>
         let place = self.row_word(sequence, 0);
         self.table
             .shared
-            .store::<MarkSent>(&mut seat.seat, place, sequence + 1);
+            .store::<StoreAvailability>(&mut seat.seat, place, sequence + 1);
     }
 
     /// Loads the availability word of the next sequence that the seat doesn't know. True where it was published: then the
     /// seat knows its entry.
-    pub fn load_mark(&self, seat: &mut ProcessSeat<L>) -> bool
+    pub fn load_availability(&self, seat: &mut ProcessSeat<L>) -> bool
         requires table { seat.old.seat.table_id ≡ self.now.table.shared.table_id }
         ensures table { seat.new.seat.table_id ≡ seat.old.seat.table_id }
         ensures fresh { IsTrue result → (e : Message) × IsEntry e × (seat.new.seat.me.0 ≡ alone seat.old.seat.me.0 (saw (looked (person seat.old.seat.me.0) (in_row N (length (person seat.old.seat.me.0).seen) 0) (suc (length (person seat.old.seat.me.0).seen))) e)) }
         ensures other { IsFalse result → (x : ℕ) × (x ≢ suc (length (person seat.old.seat.me.0).seen)) × (seat.new.seat.me.0 ≡ alone seat.old.seat.me.0 (looked (person seat.old.seat.me.0) (in_row N (length (person seat.old.seat.me.0).seen) 0) x)) }
     {
         let place = self.row_word(seat.known, 0);
-        let found = self.table.shared.load::<SeeMark>(&mut seat.seat, place);
+        let found = self
+            .table
+            .shared
+            .load::<SeeAvailability>(&mut seat.seat, place);
         let fresh = found == seat.known + 1;
         if fresh {
             seat.known += 1;
@@ -132,7 +139,9 @@ impl<L: Logic, const N: usize, const M: usize, const G: usize> Rings<L, N, M, G>
         ensures table { seat.new.seat.table_id ≡ seat.old.seat.table_id }
         ensures view { seat.new.seat.me.0 ≡ alone seat.old.seat.me.0 (moved (person seat.old.seat.me.0) upto) }
     {
-        self.table.shared.store::<MoveOwn>(&mut seat.seat, 0, upto);
+        self.table
+            .shared
+            .store::<MoveOwn>(&mut seat.seat, PROCESSED, upto);
         seat.own = upto;
     }
 }

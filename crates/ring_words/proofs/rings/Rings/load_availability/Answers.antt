@@ -1,6 +1,6 @@
 use Rattle.std.proofs.Common.{rules}
 use Rattle.ring_words.proofs.Loads.{loads_mark_in}
-use Rattle.ring_words.proofs.rings.Rings.load_mark.Goals as goal
+use Rattle.ring_words.proofs.rings.Rings.load_availability.Goals as goal
 
 pub load-found-requires : goal.load-found-requires
 load-found-requires g c = let key = c.args.self.now.table.shared.key in

@@ -1,7 +1,7 @@
 use Rattle.std.proofs.Common.{rules, ◌≡◌, ◌+◌, suc, arith}
 use Rattle.ring_words.proofs.Becomes.{still_alone, still_bare, still_role}
 use Rattle.ring_words.proofs.Marks.{marks_row_in}
-use Rattle.ring_words.proofs.rings.Rings.store_mark.Goals as goal
+use Rattle.ring_words.proofs.rings.Rings.store_availability.Goals as goal
 
 pub store-requires : goal.store-requires
 store-requires g c = let key = c.args.self.now.table.shared.key in let e = c.requires.message in let next : c.args.sequence + 1 ≡ suc c.args.sequence = omega arith in (

@@ -1,0 +1,16 @@
+//! Where the words lie: control words 8 apart, then the input rows, then the output rows (docs/RINGS.md, "The words").
+
+/// The processed word.
+pub(crate) const PROCESSED: usize = 0;
+/// The claim word.
+pub(crate) const CLAIM: usize = 8;
+/// The first of the words that begin at the number of outputs given: marshalled, then taken and published.
+pub(crate) const FIRST_OUTPUT_WORD: usize = 32;
+/// Behind the last of them.
+pub(crate) const OUTPUT_WORDS_END: usize = 112;
+/// Where the rows begin.
+pub(crate) const FIRST_ROW: usize = 128;
+/// How many words an input row has.
+pub(crate) const ROW_WORDS: usize = 64;
+/// How many words an output row has.
+pub(crate) const OUTPUT_ROW_WORDS: usize = 128;
