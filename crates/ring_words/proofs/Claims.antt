@@ -12,8 +12,10 @@ use Rattle.ring_words.specs.declared.view.Role.TheVariants.{Process, Unmarshal, 
 use Rattle.ring_words.specs.declared.view.Person.{Person}
 use Rattle.ring_words.specs.declared.view.View.{View}
 use Rattle.ring_words.specs.Places.{processed, claim, taken, first_row, in_row, place_of, number_of}
-use Rattle.ring_words.specs.Log.{IsEntry, Status, unclaimed, old, claimed, sent, entry_of, sends_of, claims_of, sent_at, times}
-use Rattle.ring_words.specs.Rule.{IsRole, PartOf, Knows, words_of, Lawful}
+use Rattle.ring_words.specs.Log.{IsEntry, Status, unclaimed, old, claimed, sent, Log, entry_of, sends_of, claims_of, sent_at, times}
+use Rattle.ring_words.specs.Raw.{raw_count, raw_word}
+use Rattle.ring_words.specs.Terms.{Terms}
+use Rattle.ring_words.specs.Rule.{IsGateway, IsRole, PartOf, Knows, words_of, Lawful}
 use Rattle.ring_words.specs.Seats.{person, IsAlone, alone, looked, with_claim}
 use Rattle.ring_words.specs.Steps.{Seated, ClaimsUpTo, HasRoom, claims_next}
 use Rattle.ring_words.proofs.Windows.{no_control}
@@ -52,93 +54,104 @@ claimed_not_old k e is = let z : zero ≡ suc zero = cc in omega arith
 pub claimed_not_sent : (k : ℕ) (e : Message) → claimed k ≢ sent e
 claimed_not_sent k e is = let z : zero ≡ suc zero = cc in omega arith
 
+pub sent_not_unclaimed : (e : Message) → sent e ≢ unclaimed
+sent_not_unclaimed e is = let z : zero ≡ suc zero = cc in omega arith
+
+pub claimed_by : (j k : ℕ) → claimed j ≡ claimed k → j ≡ k
+claimed_by j k e = cc
+
 -- what is known stays where a sequence of nobody's is claimed by another gateway, no control word falls and no row word changes
-knows_claimed : (n : ℕ) (w w' : ℕ → ℕ) (status : ℕ → Status) (a k : ℕ) (p : Person) → status a ≡ unclaimed → ((i : ℕ) → i < first_row → w i ≤ w' i) → ((s i : ℕ) → w' (in_row n s i) ≡ w (in_row n s i))
-    → w' (place_of p.role) ≡ w (place_of p.role) → (claims' : List ℕ) → ((s : ℕ) → times s claims' ≡ claims_of (number_of p.role) (put status a (claimed k) s))
-    → Knows n w status p → Knows n w' (put status a (claimed k)) (record p { claims = claims' })
-knows_claimed n w w' status a k p free risen same is claims' counted r = record {
+knows_claimed : {L : Type 0} (terms : Terms L) (w w' : ℕ → ℕ) (log : Log) (a k : ℕ) (p : Person) → log.status a ≡ unclaimed → ((i : ℕ) → i < first_row → w i ≤ w' i)
+    → ((s i : ℕ) → w' (in_row terms.rows s i) ≡ w (in_row terms.rows s i)) → w' (place_of p.role) ≡ w (place_of p.role) → (claims' : List ℕ)
+    → ((s : ℕ) → times s claims' ≡ claims_of (number_of p.role) (put log.status a (claimed k) s))
+    → Knows terms w log p → Knows terms w' (record log { status = put log.status a (claimed k) }) (record p { claims = claims' })
+knows_claimed terms w w' log a k p free risen same is claims' counted r = record {
   role = r.role;
-  front = λ s e at. by_put status a s (claimed k) (λ (x : Status). entry_of x ≡ some e) (λ here. absurd (nothing_there (status s) e (ap status here ∙ free) (r.front s e at))) (λ _. r.front s e at);
+  front = λ s e at. by_put log.status a s (claimed k) (λ (x : Status). entry_of x ≡ some e) (λ here. absurd (nothing_there (log.status s) e (ap log.status here ∙ free) (r.front s e at))) (λ _. r.front s e at);
   own = is ∙ r.own;
-  mine = λ s. by_put status a s (claimed k) (λ (x : Status). sent_at s p.mine ≡ sends_of (number_of p.role) x) (λ here. r.mine s ∙ ap (sends_of (number_of p.role)) (ap status here ∙ free)) (λ _. r.mine s);
+  mine = λ s. by_put log.status a s (claimed k) (λ (x : Status). sent_at s p.mine ≡ sends_of (number_of p.role) x) (λ here. r.mine s ∙ ap (sends_of (number_of p.role)) (ap log.status here ∙ free)) (λ _. r.mine s);
   claims = counted;
   loads = λ i l at low. (let x = r.loads i l at low in let y = risen l.place low in omega arith);
   part = part_stays p.role r.part;
 } where
-  part_stays : (role : Role) → PartOf n w status role p.part → PartOf n w' (put status a (claimed k)) role p.part
+  part_stays : (role : Role) → PartOf terms.rows w log role p.part → PartOf terms.rows w' (record log { status = put log.status a (claimed k) }) role p.part
   part_stays Process h = tt
   part_stays Unmarshal h = tt
   part_stays Journal h = tt
   part_stays Marshal h = tt
-  part_stays (Gateway j) h = λ i x at. let t = h i x at in (t.0, by_put status a p.part.sequence (claimed k) (λ (y : Status). y ≡ claimed j) (λ here. absurd (not_claimed j (sym t.1 ∙ ap status here ∙ free))) (λ _. t.1), same p.part.sequence (i + 1) ∙ t.2)
+  part_stays (Gateway j) h = λ i x at. let t = h i x at in (t.0, by_put log.status a p.part.sequence (claimed k) (λ (y : Status). y ≡ claimed j) (λ here. absurd (not_claimed j (sym t.1 ∙ ap log.status here ∙ free))) (λ _. t.1), same p.part.sequence (i + 1) ∙ t.2)
 
-module _ {L : Type 0} (S : Type 0) (n m : ℕ) (logic : L) (base : List Message) where
+module _ {L : Type 0} (S : Type 0) (terms : Terms L) where
   -- claim goes from a to a + 1, and gateway k has a
-  claimed_now : (s : State S (View L)) (r : Lawful S n m logic base s) (id k : ℕ) (me : Seated S L) → get_elem? s.views id ≡ some me.0 → IsAlone me.0 → (person me.0).role ≡ Gateway k
-      → HasRoom n (person me.0) (words_of s claim) → words_of s claim < 2 ^ 48
-      → Lawful S n m logic base record { words = set s.words claim (words_of s claim + 1); homes = s.homes; views = set s.views id (alone me.0 (with_claim (looked (person me.0) claim (words_of s claim)) (words_of s claim))) }
+  claimed_now : (s : State S (View L)) (r : Lawful S terms s) (id k : ℕ) (me : Seated S L) → get_elem? s.views id ≡ some me.0 → IsAlone me.0 → (person me.0).role ≡ Gateway k
+      → HasRoom terms.rows (person me.0) (words_of s claim) → words_of s claim < 2 ^ 48
+      → Lawful S terms record { words = set s.words claim (words_of s claim + 1); homes = s.homes; views = set s.views id (alone me.0 (with_claim (looked (person me.0) claim (words_of s claim)) (words_of s claim))) }
   claimed_now s r id k me at one role room small =
       let p = person me.0 in let ws = s.words in let w = words_of s in let a : ℕ = w claim in let ws' = set ws 8 (a + 1) in let w' : ℕ → ℕ = λ (i : ℕ). get_or ws' i 0 in
-      let knows = (mine S n m logic base s r id me.0 p at one).2 in
-      let known = knows_looked n w r.status p claim a (λ _. le_refl a) knows in
+      let knows = (mine S terms s r id me.0 p at one).2 in
+      let known = knows_looked terms w r.log p claim a (λ _. le_refl a) knows in
       let inside : 8 < length ws = (let v = r.wide in omega arith) in
       let here : w' claim ≡ a + 1 = word_here ws 8 (a + 1) inside in let zero_is : w' processed ≡ w processed = word_else ws 8 0 (a + 1) (λ (e : 0 ≡ 8). omega arith) in
-      let same : (t i : ℕ) → w' (in_row n t i) ≡ w (in_row n t i) = λ t i. word_else ws 8 (in_row n t i) (a + 1) (no_control n t i 8 (omega arith)) in
+      let same : (t i : ℕ) → w' (in_row terms.rows t i) ≡ w (in_row terms.rows t i) = λ t i. word_else ws 8 (in_row terms.rows t i) (a + 1) (no_control terms.rows t i 8 (omega arith)) in
       let rises : (i : ℕ) → i < first_row → w i ≤ w' i = λ i _. risen ws 8 (a + 1) i inside (let g : a ≤ a + 1 = omega arith in g) in
       let order = r.order in let behind = order.behind in let start = r.logged.start in
-      let seen_room : a + 1 ≤ w processed + n = (let l = room.1.0 in let low : l.value ≤ w processed = subst (λ (i : ℕ). l.value ≤ w i) room.1.2 (knows.loads room.0 l room.1.1 (let i : ℕ = l.place in let i_is : i ≡ 0 = room.1.2 in omega arith)) in let lt = room.1.3 in omega arith) in
-      let free : r.status a ≡ unclaimed = r.logged.ahead a (le_refl a) in
-      let status' : ℕ → Status = put r.status a (claimed k) in
-      let lo : 1 ≤ k = (subst IsRole role knows.role).0 in
-      after S n m logic base s r ws' id me.0 p (with_claim (looked p claim a) a) at one refl (length-set ws 8 (a + 1)) status'
+      let seen_room : a + 1 ≤ w processed + terms.rows = (let l = room.1.0 in let low : l.value ≤ w processed = subst (λ (i : ℕ). l.value ≤ w i) room.1.2 (knows.loads room.0 l room.1.1 (let i : ℕ = l.place in let i_is : i ≡ 0 = room.1.2 in omega arith)) in let lt = room.1.3 in omega arith) in
+      let status : ℕ → Status = r.log.status in let free : status a ≡ unclaimed = r.logged.ahead a (le_refl a) in
+      let log' : Log = record r.log { status = put status a (claimed k) } in
+      let gateway : IsGateway terms.gateways k = subst (IsRole terms.gateways) role knows.role in let lo : 1 ≤ k = gateway.0 in
+      after S terms s r ws' id me.0 p (with_claim (looked p claim a) a) at one refl (length-set ws 8 (a + 1)) log'
       record { behind = omega arith; room = omega arith; most = omega arith }
       record {
         start = omega arith;
-        based = λ t e there. (let early = within base t e there in put_else r.status a t (claimed k) (λ (is : t ≡ a). omega arith) ∙ r.logged.based t e there);
-        older = λ t e. by_put r.status a t (claimed k) (λ (x : Status). x ≡ old e → t < length base) (λ _ is. absurd (claimed_not_old k e is)) (λ _ is. r.logged.older t e is);
-        sound = λ t e. by_put r.status a t (claimed k) (λ (x : Status). entry_of x ≡ some e → IsEntry e) (λ _ is. absurd (some-ne-none e (sym is))) (λ _ is. r.logged.sound t e is);
-        ahead = λ t le. (let later : a + 1 ≤ t = subst (λ (y : ℕ). y ≤ t) here le in put_else r.status a t (claimed k) (λ (is : t ≡ a). omega arith) ∙ r.logged.ahead t (let g : a ≤ t = omega arith in g));
-        given = λ t lt. by_put r.status a t (claimed k) (λ (x : Status). x ≢ unclaimed) (λ _. not_claimed k) (λ (ne : t ≢ a). r.logged.given t (let below : t < a + 1 = subst (λ (y : ℕ). t < y) here lt in let g : t < a = omega arith in g));
+        based = λ t e there. (let early = within terms.base t e there in put_else status a t (claimed k) (λ (is : t ≡ a). omega arith) ∙ r.logged.based t e there);
+        older = λ t e. by_put status a t (claimed k) (λ (x : Status). x ≡ old e → t < length terms.base) (λ _ is. absurd (claimed_not_old k e is)) (λ _ is. r.logged.older t e is);
+        holder = λ t j. by_put status a t (claimed k) (λ (x : Status). x ≡ claimed j → IsGateway terms.gateways j) (λ _ is. subst (IsGateway terms.gateways) (claimed_by k j is) gateway) (λ _ is. r.logged.holder t j is);
+        sender = λ t e. by_put status a t (claimed k) (λ (x : Status). x ≡ sent e → IsEntry e × IsGateway terms.gateways e.gateway) (λ _ is. absurd (claimed_not_sent k e is)) (λ _ is. r.logged.sender t e is);
+        ahead = λ t le. (let later : a + 1 ≤ t = subst (λ (y : ℕ). y ≤ t) here le in put_else status a t (claimed k) (λ (is : t ≡ a). omega arith) ∙ r.logged.ahead t (let g : a ≤ t = omega arith in g));
+        somebodys = λ t lt. by_put status a t (claimed k) (λ (x : Status). x ≢ unclaimed) (λ _. not_claimed k) (λ (ne : t ≢ a). r.logged.somebodys t (let below : t < a + 1 = subst (λ (y : ℕ). t < y) here lt in let g : t < a = omega arith in g));
         done = λ t lt. (let below : t < w processed = subst (λ (y : ℕ). t < y) zero_is lt in let e = r.logged.done t below in
-            (e.0, ap entry_of (put_else r.status a t (claimed k) (λ (is : t ≡ a). omega arith)) ∙ e.1));
+            (e.0, ap entry_of (put_else status a t (claimed k) (λ (is : t ≡ a). omega arith)) ∙ e.1));
       }
       record {
         marks = λ t y is. (let found = r.rows.marks t y (sym (same t 0) ∙ is) in
-            (found.0, (found.1.0, ap entry_of (put_else r.status a y (claimed k) (λ (eq : y ≡ a). nothing_there (r.status y) found.1.0 (ap r.status eq ∙ free) found.1.1)) ∙ found.1.1)));
-        raw = λ t e. by_put r.status a t (claimed k) (λ (x : Status). x ≡ sent e → w' claim ≤ t + n → (i : ℕ) → i < Rattle.ring_words.specs.Raw.raw_count e → w' (in_row n t (i + 1)) ≡ Rattle.ring_words.specs.Raw.raw_word e i)
+            (found.0, (found.1.0, put_else status a y (claimed k) (λ (eq : y ≡ a). sent_not_unclaimed found.1.0 (sym found.1.1 ∙ ap status eq ∙ free)) ∙ found.1.1)));
+        shown = λ t e. by_put status a t (claimed k) (λ (x : Status). x ≡ sent e → w' claim ≤ t + terms.rows → w' (in_row terms.rows t 0) ≡ suc t)
             (λ _ is. absurd (claimed_not_sent k e is))
-            (λ _ is le i few. same t (i + 1) ∙ r.rows.raw t e is (let reach : a + 1 ≤ t + n = subst (λ (y : ℕ). y ≤ t + n) here le in let g : a ≤ t + n = omega arith in g) i few);
+            (λ _ is le. same t 0 ∙ r.rows.shown t e is (let reach : a + 1 ≤ t + terms.rows = subst (λ (y : ℕ). y ≤ t + terms.rows) here le in let g : a ≤ t + terms.rows = omega arith in g));
+        raw = λ t e. by_put status a t (claimed k) (λ (x : Status). x ≡ sent e → w' claim ≤ t + terms.rows → (i : ℕ) → i < raw_count e → w' (in_row terms.rows t (i + 1)) ≡ raw_word e i)
+            (λ _ is. absurd (claimed_not_sent k e is))
+            (λ _ is le i few. same t (i + 1) ∙ r.rows.raw t e is (let reach : a + 1 ≤ t + terms.rows = subst (λ (y : ℕ). y ≤ t + terms.rows) here le in let g : a ≤ t + terms.rows = omega arith in g) i few);
       }
-      (knows_claimed n w w' r.status a k (looked p claim a) free rises same (ap (λ (z : Role). w' (place_of z)) role ∙ word_else ws 8 (taken k) (a + 1) (λ (e : 32 + 8 * k ≡ 8). omega arith) ∙ sym (ap (λ (z : Role). w (place_of z)) role))
+      (knows_claimed terms w w' r.log a k (looked p claim a) free rises same (ap (λ (z : Role). w' (place_of z)) role ∙ word_else ws 8 (taken k) (a + 1) (λ (e : 32 + 8 * k ≡ 8). omega arith) ∙ sym (ap (λ (z : Role). w (place_of z)) role))
       (a ∷ p.claims)
-      (λ t. by_put r.status a t (claimed k) (λ (x : Status). times t (a ∷ p.claims) ≡ claims_of (number_of p.role) x)
-      (λ (is : t ≡ a). cond-true (eqb a t) (suc (times t p.claims)) (times t p.claims) (eq-eqb a t (sym is)) ∙ ap suc (knows.claims t ∙ ap (claims_of (number_of p.role)) (ap r.status is ∙ free))
+      (λ t. by_put status a t (claimed k) (λ (x : Status). times t (a ∷ p.claims) ≡ claims_of (number_of p.role) x)
+      (λ (is : t ≡ a). cond-true (eqb a t) (suc (times t p.claims)) (times t p.claims) (eq-eqb a t (sym is)) ∙ ap suc (knows.claims t ∙ ap (claims_of (number_of p.role)) (ap status is ∙ free))
       ∙ sym (cond-true (eqb k (number_of p.role)) 1 0 (eq-eqb k (number_of p.role) (sym (ap number_of role)))))
       (λ (ne : t ≢ a). cond-false (eqb a t) (suc (times t p.claims)) (times t p.claims) (ne_eqb a t (λ e. ne (sym e))) ∙ knows.claims t))
       known)
-      (λ o apart_from kn. knows_claimed n w w' r.status a k o free rises same (word_else ws 8 (place_of o.role) (a + 1) (not_claim o.role)) o.claims
-      (λ t. by_put r.status a t (claimed k) (λ (x : Status). times t o.claims ≡ claims_of (number_of o.role) x)
-      (λ (is : t ≡ a). kn.claims t ∙ ap (claims_of (number_of o.role)) (ap r.status is ∙ free)
+      (λ o apart_from kn. knows_claimed terms w w' r.log a k o free rises same (word_else ws 8 (place_of o.role) (a + 1) (not_claim o.role)) o.claims
+      (λ t. by_put status a t (claimed k) (λ (x : Status). times t o.claims ≡ claims_of (number_of o.role) x)
+      (λ (is : t ≡ a). kn.claims t ∙ ap (claims_of (number_of o.role)) (ap status is ∙ free)
       ∙ sym (cond-false (eqb k (number_of o.role)) 1 0 (ne_eqb k (number_of o.role) (λ e. other_number o.role k lo (λ z. apart_from (z ∙ sym (ap place_of role))) (sym e)))))
       (λ _. kn.claims t)) kn)
 
-  pub claims_claim : (slots id k : ℕ) (me : Seated S L) (a b : ℕ) → IsAlone me.0 → (person me.0).role ≡ Gateway k → b ≡ a + 1 → HasRoom n (person me.0) a → a < 2 ^ 48
-      → Allows (Lawful S n m logic base) slots id me claim (λ y. either (eqb y a) b y) (claims_next (step slots claim a b none) me)
+  pub claims_claim : (slots id k : ℕ) (me : Seated S L) (a b : ℕ) → IsAlone me.0 → (person me.0).role ≡ Gateway k → b ≡ a + 1 → HasRoom terms.rows (person me.0) a → a < 2 ^ 48
+      → Allows (Lawful S terms) slots id me claim (λ y. either (eqb y a) b y) (claims_next (step slots claim a b none) me)
   claims_claim slots id k me a b one role next room small s r wide at _ =
       let p = person me.0 in let w = words_of s in let y : ℕ = w claim in let then = claims_next (step slots claim a b none) me in
-      let knows = (mine S n m logic base s r id me.0 p at one).2 in
+      let knows = (mine S terms s r id me.0 p at one).2 in
       let up : ClaimsUpTo p y = λ i l there is. subst (λ (j : ℕ). l.value ≤ w j) is (knows.loads i l there (let j : ℕ = l.place in let j_is : j ≡ 8 = is in omega arith)) in
-      exchanged y a b (Goes S n m logic base s claim id me then)
+      exchanged y a b (Goes S terms s claim id me then)
       (λ hit. (
         alone me.0 (with_claim (looked p claim y) y),
         keeps,
         tt,
-        subst (λ (x : ℕ). Lawful S n m logic base record { words = set s.words claim x; homes = s.homes; views = set s.views id (alone me.0 (with_claim (looked p claim y) y)) }) (ap (λ (x : ℕ). x + 1) hit ∙ sym next)
-            (claimed_now s r id k me at one role (subst (HasRoom n p) (sym hit) room) (subst (λ (x : ℕ). x < 2 ^ 48) (sym hit) small)),
+        subst (λ (x : ℕ). Lawful S terms record { words = set s.words claim x; homes = s.homes; views = set s.views id (alone me.0 (with_claim (looked p claim y) y)) }) (ap (λ (x : ℕ). x + 1) hit ∙ sym next)
+            (claimed_now s r id k me at one role (subst (HasRoom terms.rows p) (sym hit) room) (subst (λ (x : ℕ). x < 2 ^ 48) (sym hit) small)),
         ((λ _. refl), (λ miss. absurd (miss hit)), up),
       ))
-      (λ miss. looks S n m logic base s r claim id me (looked p claim y) then at one refl (knows_looked n w r.status p claim y (λ _. le_refl y) knows) ((λ hit. absurd (miss hit)), (λ _. refl), up))
+      (λ miss. looks S terms s r claim id me (looked p claim y) then at one refl (knows_looked terms w r.log p claim y (λ _. le_refl y) knows) ((λ hit. absurd (miss hit)), (λ _. refl), up))
 
-  pub claims_claim_in : (big_n : ℕ) → n ≡ big_n → (slots id k : ℕ) (me : Seated S L) (a b : ℕ) → IsAlone me.0 → (person me.0).role ≡ Gateway k → b ≡ a + 1 → HasRoom big_n (person me.0) a → a < 2 ^ 48
-      → Allows (Lawful S n m logic base) slots id me claim (λ y. either (eqb y a) b y) (claims_next (step slots claim a b none) me)
-  claims_claim_in big_n is slots id k me a b one role next room = claims_claim slots id k me a b one role next (subst (λ (j : ℕ). HasRoom j (person me.0) a) (sym is) room)
+  pub claims_claim_in : (n : ℕ) → terms.rows ≡ n → (slots id k : ℕ) (me : Seated S L) (a b : ℕ) → IsAlone me.0 → (person me.0).role ≡ Gateway k → b ≡ a + 1 → HasRoom n (person me.0) a → a < 2 ^ 48
+      → Allows (Lawful S terms) slots id me claim (λ y. either (eqb y a) b y) (claims_next (step slots claim a b none) me)
+  claims_claim_in n is slots id k me a b one role next room = claims_claim slots id k me a b one role next (subst (λ (j : ℕ). HasRoom j (person me.0) a) (sym is) room)

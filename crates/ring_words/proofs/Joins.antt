@@ -4,34 +4,28 @@ use mathlib.Core.Option.{some, some-ne-none}
 use lib.ListN.{get_elem?}
 use Rattle.atomic_table.specs.Table.{Joins}
 use Rattle.atomic_table.proofs.Lists.{at_set}
-use Rattle.venue_model.specs.History.{Message}
 use Rattle.ring_words.specs.declared.view.Person.{Person}
 use Rattle.ring_words.specs.declared.view.View.{View}
 use Rattle.ring_words.specs.Places.{place_of}
-use Rattle.ring_words.specs.Rule.{owners, Lawful}
+use Rattle.ring_words.specs.Terms.{Terms}
+use Rattle.ring_words.specs.Rule.{owners, all_owners, crew, Lawful}
 use Rattle.ring_words.specs.Seats.{together, nobody}
-use Rattle.ring_words.proofs.Keeps.{changed_owners}
-
-owners_both : (k : ℕ) (ps qs : List Person) → owners k (ps ++ qs) ≡ owners k ps + owners k qs
-owners_both k [] qs = omega arith
-owners_both k (p ∷ ps) qs = by_case (eqb (place_of p.role) k) (owners_both k ps qs) where
-  by_case : (b : Bool) → owners k (ps ++ qs) ≡ owners k ps + owners k qs → cond b (suc (owners k (ps ++ qs))) (owners k (ps ++ qs)) ≡ cond b (suc (owners k ps)) (owners k ps) + owners k qs
-  by_case true h = omega arith
-  by_case false h = h
+use Rattle.ring_words.proofs.Owners.{owners_both, changed_owners}
 
 in_both : (ps qs : List Person) (j : ℕ) (o : Person) → get_elem? (ps ++ qs) j ≡ some o → (get_elem? ps j ≡ some o) ⊎ ((i : ℕ) × (get_elem? qs i ≡ some o))
 in_both [] qs j o at = inr (j, at)
 in_both (p ∷ ps) qs zero o at = inl at
 in_both (p ∷ ps) qs (suc j) o at = in_both ps qs j o at
 
-module _ {L : Type 0} (S : Type 0) (n m : ℕ) (logic : L) (base : List Message) where
-  pub joins : (id other : ℕ) (v w : View L) (p : Person) (ps : List Person) → v.people ≡ p ∷ ps → Joins (Lawful S n m logic base) id v other w (together v w) nobody
+module _ {L : Type 0} (S : Type 0) (terms : Terms L) where
+  pub joins : (id other : ℕ) (v w : View L) (p : Person) (ps : List Person) → v.people ≡ p ∷ ps → Joins (Lawful S terms) id v other w (together v w) nobody
   joins id other v w p ps some_one s r at apart at' = let both = together v w in let vs = set s.views id both in
       let was_there : get_elem? s.views other ≡ some w = ⊎_elim (λ (t : (other ≡ id) × (both ≡ w)). absurd (apart t.0)) (λ (t : (other ≢ id) × (get_elem? s.views other ≡ some w)). t.1) (at_set s.views id other both w at') in
       let first = r.people id 0 v p at (ap (λ (l : List Person). get_elem? l 0) some_one) in
       record {
-        status = r.status;
+        log = r.log;
         some_row = r.some_row;
+        few = r.few;
         wide = r.wide;
         order = r.order;
         logged = r.logged;
@@ -47,5 +41,5 @@ module _ {L : Type 0} (S : Type 0) (n m : ℕ) (logic : L) (base : List Message)
             (λ (d : (i ≢ id) × (get_elem? s.views i ≡ some u)). r.people i j u o d.1 in_it)
             (at_set s.views id i both u t.1))
             (at_set vs other i nobody u there);
-        once = λ k. (let a = changed_owners k s.views id v both at in let b = changed_owners k vs other w nobody at' in let c = owners_both k v.people w.people in let d = r.once k in omega arith);
+        once = λ k. (let a = changed_owners k s.views id v both at in let b = changed_owners k vs other w nobody at' in let c = owners_both k v.people w.people in let x : ℕ = owners k (crew terms.gateways terms.base terms.given) in let d : all_owners k s.views ≡ x = r.once k in omega arith);
       }

@@ -1,5 +1,6 @@
 pub mod Windows
 pub mod Puts
+pub mod Owners
 pub mod Keeps
 pub mod Logs
 pub mod Loads

@@ -1,4 +1,4 @@
--- What follows from the rule for one person: how far its histories reach, and its loads after one more.
+-- What follows from the rule for one person: how far its histories reach, and what it knows after a step.
 use Rattle.std.proofs.Common.{◌≡◌, ℕ, zero, suc, ◌+◌, ◌<◌, ◌≤◌, List, [], ◌∷◌, ◌++◌, ◌⊎◌, inl, inr, ⊎_elim, length, get_or, refl, ap, sym, subst, ◌∙◌, arith, le_refl}
 use mathlib.Core.Option.{some, some-injective, some-ne-none}
 use native.Mathlib.Decide.{dec_le}
@@ -10,7 +10,8 @@ use Rattle.ring_words.specs.declared.view.Role.{Role}
 use Rattle.ring_words.specs.declared.view.Role.TheVariants.{Process, Unmarshal, Journal, Marshal, Gateway}
 use Rattle.ring_words.specs.declared.view.Person.{Person}
 use Rattle.ring_words.specs.Places.{claim, first_row, in_row, place_of}
-use Rattle.ring_words.specs.Log.{Status, unclaimed, old, claimed, sent, entry_of, IsFront}
+use Rattle.ring_words.specs.Log.{Status, unclaimed, old, claimed, sent, Log, entry_of, IsFront}
+use Rattle.ring_words.specs.Terms.{Terms}
 use Rattle.ring_words.specs.Rule.{Logged, Knows, PartOf}
 use Rattle.ring_words.specs.Seats.{load_of, looked, saw, moved}
 
@@ -26,28 +27,6 @@ within [] i a e = absurd (some-ne-none a (sym e))
 within (x ∷ xs) zero a e = omega arith
 within (x ∷ xs) (suc i) a e = let h = within xs i a e in omega arith
 
--- a beginning of the log ends at claim or before
-pub reaches : (base h : List Message) (w : ℕ → ℕ) (status : ℕ → Status) → Logged base w status → IsFront status h → length h ≤ w claim
-reaches base h w status r front = by_end (dec_le (length h) (w claim)) where
-  nothing : (e : Message) → entry_of (status (w claim)) ≡ some e → ⊥
-  nothing e at = some-ne-none e (sym (subst (λ (x : Status). entry_of x ≡ some e) (r.ahead (w claim) (le_refl (w claim))) at))
-
-  by_end : Dec (length h ≤ w claim) → length h ≤ w claim
-  by_end (yes le) = le
-  by_end (no gt) = let e = stands h (w claim) (omega arith) in absurd (nothing e.0 (front (w claim) e.0 e.1))
-
--- what is known stays where the words and the log stay, after a load
-pub knows_looked : (n : ℕ) (w : ℕ → ℕ) (status : ℕ → Status) (p : Person) (k x : ℕ) → (k < first_row → x ≤ w k) → Knows n w status p → Knows n w status (looked p k x)
-knows_looked n w status p k x le r = record {
-  role = r.role;
-  front = r.front;
-  own = r.own;
-  mine = r.mine;
-  claims = r.claims;
-  part = r.part;
-  loads = λ i l at low. ⊎_elim (λ was. r.loads i l was low) (λ (is : load_of k x ≡ l). subst (λ (y : Load). y.place < first_row → y.value ≤ w y.place) is le low) (at_snoc p.loads (load_of k x) l i at);
-}
-
 -- what stands in a list with one more element
 pub at_end : {A : Type 0} (l : List A) (a b : A) (j : ℕ) → get_elem? (l ++ a ∷ []) j ≡ some b → (get_elem? l j ≡ some b) ⊎ ((j ≡ length l) × (a ≡ b))
 at_end [] a b zero e = inr (refl, some-injective a b e)
@@ -55,18 +34,11 @@ at_end [] a b (suc j) e = absurd (some-ne-none b (sym e))
 at_end (x ∷ xs) a b zero e = inl e
 at_end (x ∷ xs) a b (suc j) e = ⊎_elim (λ t. inl t) (λ t. inr (ap suc t.0, t.1)) (at_end xs a b j e)
 
--- after an entry of the log is seen
-pub knows_saw : (n : ℕ) (w : ℕ → ℕ) (status : ℕ → Status) (p : Person) (e : Message) → entry_of (status (length p.seen)) ≡ some e → Knows n w status p → Knows n w status (saw p e)
-knows_saw n w status p e next r = record {
-  role = r.role;
-  own = r.own;
-  mine = r.mine;
-  claims = r.claims;
-  part = r.part;
-  loads = r.loads;
-  front = λ s d at. ⊎_elim (λ was. r.front s d was)
-      (λ (t : (s ≡ length p.seen) × (e ≡ d)). ap (λ (i : ℕ). entry_of (status i)) t.0 ∙ next ∙ ap some t.1) (at_end p.seen e d s at);
-}
+-- what stands at a place is what is read there
+pub read_at : (l : List ℕ) (i a : ℕ) → get_elem? l i ≡ some a → a ≡ get_or l i 0
+read_at [] i a e = absurd (some-ne-none a (sym e))
+read_at (x ∷ xs) zero a e = sym (some-injective x a e)
+read_at (x ∷ xs) (suc i) a e = read_at xs i a e
 
 old_or_sent : (x : Status) (e : Message) → entry_of x ≡ some e → (x ≡ old e) ⊎ (x ≡ sent e)
 old_or_sent unclaimed e is = absurd (some-ne-none e (sym is))
@@ -74,31 +46,61 @@ old_or_sent (old d) e is = inl (ap old (some-injective d e is))
 old_or_sent (claimed k) e is = absurd (some-ne-none e (sym is))
 old_or_sent (sent d) e is = inr (ap sent (some-injective d e is))
 
--- an entry behind the history at the start was published
-pub published_late : (base : List Message) (w : ℕ → ℕ) (status : ℕ → Status) (s : ℕ) (e : Message) → Logged base w status → entry_of (status s) ≡ some e → length base ≤ s → status s ≡ sent e
-published_late base w status s e r at late = ⊎_elim (λ was. let early = r.older s e was in absurd (omega arith)) (λ is. is) (old_or_sent (status s) e at)
+module _ {L : Type 0} (terms : Terms L) (w : ℕ → ℕ) (log : Log) where
+  -- a beginning of the log ends at claim or before
+  pub reaches : (h : List Message) → Logged terms w log → IsFront log.status h → length h ≤ w claim
+  reaches h r front = by_end (dec_le (length h) (w claim)) where
+    nothing : (e : Message) → entry_of (log.status (w claim)) ≡ some e → ⊥
+    nothing e at = some-ne-none e (sym (subst (λ (x : Status). entry_of x ≡ some e) (r.ahead (w claim) (le_refl (w claim))) at))
 
--- what is known stays where no control word falls, no row word changes, and the own word is as it says
-pub knows_risen : (n : ℕ) (w w' : ℕ → ℕ) (status : ℕ → Status) (p : Person) (own : ℕ) → ((k : ℕ) → k < first_row → w k ≤ w' k) → ((s i : ℕ) → w' (in_row n s i) ≡ w (in_row n s i))
-    → w' (place_of p.role) ≡ own → Knows n w status p → Knows n w' status (moved p own)
-knows_risen n w w' status p own risen same is r = record {
-  role = r.role;
-  front = r.front;
-  own = is;
-  mine = r.mine;
-  claims = r.claims;
-  loads = λ i l at low. (let a = r.loads i l at low in let b = risen l.place low in omega arith);
-  part = part_stays p.role r.part;
-} where
-  part_stays : (role : Role) → PartOf n w status role p.part → PartOf n w' status role p.part
-  part_stays Process h = tt
-  part_stays Unmarshal h = tt
-  part_stays Journal h = tt
-  part_stays Marshal h = tt
-  part_stays (Gateway k) h = λ i x at. let t = h i x at in (t.0, t.1, same p.part.sequence (i + 1) ∙ t.2)
+    by_end : Dec (length h ≤ w claim) → length h ≤ w claim
+    by_end (yes le) = le
+    by_end (no gt) = let e = stands h (w claim) (omega arith) in absurd (nothing e.0 (front (w claim) e.0 e.1))
 
--- what stands at a place is what is read there
-pub read_at : (l : List ℕ) (i a : ℕ) → get_elem? l i ≡ some a → a ≡ get_or l i 0
-read_at [] i a e = absurd (some-ne-none a (sym e))
-read_at (x ∷ xs) zero a e = sym (some-injective x a e)
-read_at (x ∷ xs) (suc i) a e = read_at xs i a e
+  -- an entry behind the history at the start was published
+  pub published_late : (s : ℕ) (e : Message) → Logged terms w log → entry_of (log.status s) ≡ some e → length terms.base ≤ s → log.status s ≡ sent e
+  published_late s e r at late = ⊎_elim (λ was. let early = r.older s e was in absurd (omega arith)) (λ is. is) (old_or_sent (log.status s) e at)
+
+  -- what is known stays where the words and the log stay, after a load
+  pub knows_looked : (p : Person) (k x : ℕ) → (k < first_row → x ≤ w k) → Knows terms w log p → Knows terms w log (looked p k x)
+  knows_looked p k x le r = record {
+    role = r.role;
+    front = r.front;
+    own = r.own;
+    mine = r.mine;
+    claims = r.claims;
+    part = r.part;
+    loads = λ i l at low. ⊎_elim (λ was. r.loads i l was low) (λ (is : load_of k x ≡ l). subst (λ (y : Load). y.place < first_row → y.value ≤ w y.place) is le low) (at_snoc p.loads (load_of k x) l i at);
+  }
+
+  -- after an entry of the log is seen
+  pub knows_saw : (p : Person) (e : Message) → entry_of (log.status (length p.seen)) ≡ some e → Knows terms w log p → Knows terms w log (saw p e)
+  knows_saw p e next r = record {
+    role = r.role;
+    own = r.own;
+    mine = r.mine;
+    claims = r.claims;
+    part = r.part;
+    loads = r.loads;
+    front = λ s d at. ⊎_elim (λ was. r.front s d was)
+        (λ (t : (s ≡ length p.seen) × (e ≡ d)). ap (λ (i : ℕ). entry_of (log.status i)) t.0 ∙ next ∙ ap some t.1) (at_end p.seen e d s at);
+  }
+
+  -- what is known stays where no control word falls, no row word changes, and the own word is as it says
+  pub knows_risen : (w' : ℕ → ℕ) (p : Person) (own : ℕ) → ((k : ℕ) → k < first_row → w k ≤ w' k) → ((s i : ℕ) → w' (in_row terms.rows s i) ≡ w (in_row terms.rows s i))
+      → w' (place_of p.role) ≡ own → Knows terms w log p → Knows terms w' log (moved p own)
+  knows_risen w' p own risen same is r = record {
+    role = r.role;
+    front = r.front;
+    own = is;
+    mine = r.mine;
+    claims = r.claims;
+    loads = λ i l at low. (let a = r.loads i l at low in let b = risen l.place low in omega arith);
+    part = part_stays p.role r.part;
+  } where
+    part_stays : (role : Role) → PartOf terms.rows w log role p.part → PartOf terms.rows w' log role p.part
+    part_stays Process h = tt
+    part_stays Unmarshal h = tt
+    part_stays Journal h = tt
+    part_stays Marshal h = tt
+    part_stays (Gateway k) h = λ i x at. let t = h i x at in (t.0, t.1, same p.part.sequence (i + 1) ∙ t.2)

@@ -13,24 +13,25 @@ use Rattle.ring_words.specs.declared.view.Role.TheVariants.{Gateway}
 use Rattle.ring_words.specs.declared.view.Sent.{Sent}
 use Rattle.ring_words.specs.declared.view.View.{View}
 use Rattle.ring_words.specs.Places.{processed, claim, taken, first_row, in_row, place_of, number_of}
-use Rattle.ring_words.specs.Log.{IsEntry, Status, unclaimed, old, claimed, sent, entry_of, sends_of, claims_of, sent_at, times, without}
+use Rattle.ring_words.specs.Log.{IsEntry, Status, unclaimed, old, claimed, sent, Log, entry_of, sends_of, claims_of, sent_at, times, without}
 use Rattle.ring_words.specs.Raw.{raw_count, raw_word, Spells}
-use Rattle.ring_words.specs.Rule.{IsRole, PartOf, words_of, Lawful}
+use Rattle.ring_words.specs.Terms.{Terms}
+use Rattle.ring_words.specs.Rule.{IsGateway, IsRole, PartOf, words_of, Lawful}
 use Rattle.ring_words.specs.Seats.{person, IsAlone, alone, sent_of, marked}
 use Rattle.ring_words.specs.Steps.{Seated, marks_sent}
 use Rattle.ring_words.proofs.Windows.{same_row, row_inside, no_control}
 use Rattle.ring_words.proofs.Puts.{put, put_here, put_else, by_put, word_here, word_else}
 use Rattle.ring_words.proofs.Logs.{stands, read_at}
 use Rattle.ring_words.proofs.Keeps.{mine, after}
-use Rattle.ring_words.proofs.Claims.{other_number, claimed_not_old, not_claimed}
-use Rattle.ring_words.proofs.Writes.{claim_is, one_owner, place_low, few_words, others_know}
+use Rattle.ring_words.proofs.Claims.{other_number, claimed_not_old, claimed_not_sent, sent_not_unclaimed, claimed_by, not_claimed}
+use Rattle.ring_words.proofs.Writes.{claim_is, one_row, place_low, few_words, others_know}
 use Rattle.ring_words.proofs.Raws.{spelled_once}
 
 sent_not_old : (e d : Message) → sent e ≢ old d
 sent_not_old e d is = let z : zero ≡ suc zero = cc in omega arith
 
-sent_not_unclaimed : (e : Message) → sent e ≢ unclaimed
-sent_not_unclaimed e is = let z : zero ≡ suc zero = cc in omega arith
+sent_not_claimed : (e : Message) (k : ℕ) → sent e ≢ claimed k
+sent_not_claimed e k is = claimed_not_sent k e (sym is)
 
 sent_is : (e d : Message) → sent e ≡ sent d → e ≡ d
 sent_is e d is = cc
@@ -56,78 +57,86 @@ times_left s t (c ∷ l) ne = dite (ℕ_discrete c s)
     (λ e. ap (times t) (cond-true (eqb c s) (without s l) (c ∷ without s l) (eq-eqb c s e)) ∙ times_left s t l ne ∙ sym (cond-false (eqb c t) (suc (times t l)) (times t l) (ne_eqb c t (λ z. ne (sym z ∙ e)))))
     (λ other. ap (times t) (cond-false (eqb c s) (without s l) (c ∷ without s l) (ne_eqb c s other)) ∙ ap (λ (y : ℕ). cond (eqb c t) (suc y) y) (times_left s t l ne))
 
-module _ {L : Type 0} (S : Type 0) (n m : ℕ) (logic : L) (base : List Message) where
-  marked_now : (s : State S (View L)) (r : Lawful S n m logic base s) (id k a : ℕ) (e : Message) (me : Seated S L) → get_elem? s.views id ≡ some me.0 → IsAlone me.0 → (person me.0).role ≡ Gateway k
-      → r.status a ≡ claimed k → (person me.0).part.sequence ≡ a → Spells (person me.0).part.words e → IsEntry e → e.gateway ≡ k
-      → Lawful S n m logic base record { words = set s.words (in_row n a 0) (suc a); homes = s.homes; views = set s.views id (alone me.0 (marked (person me.0) a e)) }
+module _ {L : Type 0} (S : Type 0) (terms : Terms L) where
+  marked_now : (s : State S (View L)) (r : Lawful S terms s) (id k a : ℕ) (e : Message) (me : Seated S L) → get_elem? s.views id ≡ some me.0 → IsAlone me.0 → (person me.0).role ≡ Gateway k
+      → r.log.status a ≡ claimed k → (person me.0).part.sequence ≡ a → Spells (person me.0).part.words e → IsEntry e → e.gateway ≡ k
+      → Lawful S terms record { words = set s.words (in_row terms.rows a 0) (suc a); homes = s.homes; views = set s.views id (alone me.0 (marked (person me.0) a e)) }
   marked_now s r id k a e me at one role is on_row spelled valid own_gateway =
-      let p = person me.0 in let ws = s.words in let w = words_of s in let here : ℕ = in_row n a 0 in let ws' = set ws here (suc a) in let w' : ℕ → ℕ = λ (j : ℕ). get_or ws' j 0 in
-      let knows = (mine S n m logic base s r id me.0 p at one).2 in
-      let status' : ℕ → Status = put r.status a (sent e) in
-      let inside : here < length ws = subst (λ (y : ℕ). here < y) (sym r.wide) (row_inside n m a 0 r.some_row (let g : 0 < 64 = omega arith in g)) in
-      let control : (c : ℕ) → c < first_row → w' c ≡ w c = λ c low. word_else ws here c (suc a) (λ z. no_control n a 0 c low (sym z)) in
-      let stays : (t j : ℕ) → j < 64 → (t % n ≡ a % n → j ≢ 0) → w' (in_row n t j) ≡ w (in_row n t j) =
-      λ t j low differs. word_else ws here (in_row n t j) (suc a) (λ z. let both = same_row n t a j 0 low (let g : 0 < 64 = omega arith in g) z in differs both.0 both.1) in
-      let beyond : (t j : ℕ) → j < 41 → w' (in_row n t (j + 1)) ≡ w (in_row n t (j + 1)) = λ t j low. stays t (j + 1) (omega arith) (λ _. (λ (z : j + 1 ≡ 0). omega arith)) in
+      let p = person me.0 in let ws = s.words in let w = words_of s in let here : ℕ = in_row terms.rows a 0 in let ws' = set ws here (suc a) in let w' : ℕ → ℕ = λ (j : ℕ). get_or ws' j 0 in
+      let knows = (mine S terms s r id me.0 p at one).2 in
+      let status : ℕ → Status = r.log.status in let status' : ℕ → Status = put status a (sent e) in let log' : Log = record r.log { status = status' } in
+      let gateway : IsGateway terms.gateways k = subst (IsRole terms.gateways) role knows.role in
+      let inside : here < length ws = subst (λ (y : ℕ). here < y) (sym r.wide) (row_inside terms.rows terms.output_rows a 0 r.some_row (let g : 0 < 64 = omega arith in g)) in
+      let control : (c : ℕ) → c < first_row → w' c ≡ w c = λ c low. word_else ws here c (suc a) (λ z. no_control terms.rows a 0 c low (sym z)) in
+      let stays : (t j : ℕ) → j < 64 → (t % terms.rows ≡ a % terms.rows → j ≢ 0) → w' (in_row terms.rows t j) ≡ w (in_row terms.rows t j) =
+      λ t j low differs. word_else ws here (in_row terms.rows t j) (suc a) (λ z. let both = same_row terms.rows t a j 0 low (let g : 0 < 64 = omega arith in g) z in differs both.0 both.1) in
+      let beyond : (t j : ℕ) → j < 41 → w' (in_row terms.rows t (j + 1)) ≡ w (in_row terms.rows t (j + 1)) = λ t j low. stays t (j + 1) (omega arith) (λ _. (λ (z : j + 1 ≡ 0). omega arith)) in
       let claim_is' : w' claim ≡ w claim = control claim (omega arith) in let zero_is : w' processed ≡ w processed = control processed (omega arith) in
       let order = r.order in let behind = order.behind in let room = order.room in let most = order.most in let start = r.logged.start in
-      let entries : (t : ℕ) (d : Message) → entry_of (r.status t) ≡ some d → entry_of (status' t) ≡ some d = λ t d. by_put r.status a t (sent e) (λ (x : Status). entry_of (r.status t) ≡ some d → entry_of x ≡ some d)
-      (λ here_is there. absurd (some-ne-none d (sym (subst (λ (x : Status). entry_of x ≡ some d) (ap r.status here_is ∙ is) there)))) (λ _ there. there) in
+      let entries : (t : ℕ) (d : Message) → entry_of (status t) ≡ some d → entry_of (status' t) ≡ some d = λ t d. by_put status a t (sent e) (λ (x : Status). entry_of (status t) ≡ some d → entry_of x ≡ some d)
+      (λ here_is there. absurd (some-ne-none d (sym (subst (λ (x : Status). entry_of x ≡ some d) (ap status here_is ∙ is) there)))) (λ _ there. there) in
+      let stays_sent : (t : ℕ) (d : Message) → status t ≡ sent d → status' t ≡ sent d = λ t d there. put_else status a t (sent e) (λ here_is. sent_not_claimed d k (sym there ∙ ap status here_is ∙ is)) ∙ there in
       let num : number_of p.role ≡ k = ap number_of role in
-      let word_is : (j : ℕ) → j < raw_count e → w (in_row n a (j + 1)) ≡ raw_word e j = λ j few. (
+      let word_is : (j : ℕ) → j < raw_count e → w (in_row terms.rows a (j + 1)) ≡ raw_word e j = λ j few. (
       let there = stands p.part.words j (subst (λ (y : ℕ). j < y) (sym spelled.long) few) in
-      let h = subst (λ (z : Role). PartOf n w r.status z p.part) role knows.part j there.0 there.1 in
-      ap (λ (t : ℕ). w (in_row n t (j + 1))) (sym on_row) ∙ h.2 ∙ read_at p.part.words j there.0 there.1 ∙ spelled.each j few) in
-      after S n m logic base s r ws' id me.0 p (marked p a e) at one refl (length-set ws here (suc a)) status'
+      let h = subst (λ (z : Role). PartOf terms.rows w r.log z p.part) role knows.part j there.0 there.1 in
+      ap (λ (t : ℕ). w (in_row terms.rows t (j + 1))) (sym on_row) ∙ h.2 ∙ read_at p.part.words j there.0 there.1 ∙ spelled.each j few) in
+      after S terms s r ws' id me.0 p (marked p a e) at one refl (length-set ws here (suc a)) log'
       record { behind = omega arith; room = omega arith; most = omega arith }
       record {
         start = omega arith;
-        based = λ t d there. put_else r.status a t (sent e) (λ here_is. claimed_not_old k d (sym is ∙ ap r.status (sym here_is) ∙ r.logged.based t d there)) ∙ r.logged.based t d there;
-        older = λ t d. by_put r.status a t (sent e) (λ (x : Status). x ≡ old d → t < length base) (λ _ z. absurd (sent_not_old e d z)) (λ _ z. r.logged.older t d z);
-        ahead = λ t le. (let free = r.logged.ahead t (subst (λ (y : ℕ). y ≤ t) claim_is' le) in put_else r.status a t (sent e) (λ here_is. not_claimed k (sym is ∙ ap r.status (sym here_is) ∙ free)) ∙ free);
-        given = λ t lt. by_put r.status a t (sent e) (λ (x : Status). x ≢ unclaimed) (λ _. sent_not_unclaimed e) (λ _. r.logged.given t (subst (λ (y : ℕ). t < y) claim_is' lt));
-        sound = λ t d. by_put r.status a t (sent e) (λ (x : Status). entry_of x ≡ some d → IsEntry d) (λ _ z. subst IsEntry (some-injective e d z) valid) (λ _ z. r.logged.sound t d z);
+        based = λ t d there. put_else status a t (sent e) (λ here_is. claimed_not_old k d (sym is ∙ ap status (sym here_is) ∙ r.logged.based t d there)) ∙ r.logged.based t d there;
+        older = λ t d. by_put status a t (sent e) (λ (x : Status). x ≡ old d → t < length terms.base) (λ _ z. absurd (sent_not_old e d z)) (λ _ z. r.logged.older t d z);
+        ahead = λ t le. (let free = r.logged.ahead t (subst (λ (y : ℕ). y ≤ t) claim_is' le) in put_else status a t (sent e) (λ here_is. not_claimed k (sym is ∙ ap status (sym here_is) ∙ free)) ∙ free);
+        somebodys = λ t lt. by_put status a t (sent e) (λ (x : Status). x ≢ unclaimed) (λ _. sent_not_unclaimed e) (λ _. r.logged.somebodys t (subst (λ (y : ℕ). t < y) claim_is' lt));
+        holder = λ t j. by_put status a t (sent e) (λ (x : Status). x ≡ claimed j → IsGateway terms.gateways j) (λ _ z. absurd (sent_not_claimed e j z)) (λ _ z. r.logged.holder t j z);
+        sender = λ t d. by_put status a t (sent e) (λ (x : Status). x ≡ sent d → IsEntry d × IsGateway terms.gateways d.gateway)
+            (λ _ z. subst (λ (y : Message). IsEntry y × IsGateway terms.gateways y.gateway) (sent_is e d z) (valid, subst (IsGateway terms.gateways) (sym own_gateway) gateway)) (λ _ z. r.logged.sender t d z);
         done = λ t lt. (let d = r.logged.done t (subst (λ (y : ℕ). t < y) zero_is lt) in (d.0, entries t d.0 d.1));
       }
       record {
-        marks = λ t y eq. dite (ℕ_discrete (t % n) (a % n))
+        marks = λ t y eq. dite (ℕ_discrete (t % terms.rows) (a % terms.rows))
             (λ same. (let y_is : a ≡ y = (let q : suc y ≡ suc a = sym eq ∙ ap (λ (z : ℕ). w' (128 + 64 * z + 0)) same ∙ word_here ws here (suc a) inside in omega arith) in
-            (ap (λ (z : ℕ). z % n) (sym y_is) ∙ sym same, (e, ap (λ (z : ℕ). entry_of (status' z)) (sym y_is) ∙ ap entry_of (put_here r.status a (sent e))))))
-            (λ other. (let found = r.rows.marks t y (sym (stays t 0 (omega arith) (λ same. absurd (other same))) ∙ eq) in (found.0, (found.1.0, entries y found.1.0 found.1.1))));
-        raw = λ t d. by_put r.status a t (sent e) (λ (x : Status). x ≡ sent d → w' claim ≤ t + n → (j : ℕ) → j < raw_count d → w' (in_row n t (j + 1)) ≡ raw_word d j)
+            (ap (λ (z : ℕ). z % terms.rows) (sym y_is) ∙ sym same, (e, ap status' (sym y_is) ∙ put_here status a (sent e)))))
+            (λ other. (let found = r.rows.marks t y (sym (stays t 0 (omega arith) (λ same. absurd (other same))) ∙ eq) in (found.0, (found.1.0, stays_sent y found.1.0 found.1.1))));
+        shown = λ t d. by_put status a t (sent e) (λ (x : Status). x ≡ sent d → w' claim ≤ t + terms.rows → w' (in_row terms.rows t 0) ≡ suc t)
+            (λ here_is _ _. ap (λ (z : ℕ). w' (in_row terms.rows z 0)) here_is ∙ word_here ws here (suc a) inside ∙ ap suc (sym here_is))
+            (λ ne z le. (let late : w claim ≤ t + terms.rows = subst (λ (y : ℕ). y ≤ t + terms.rows) claim_is' le in
+            stays t 0 (omega arith) (λ same. absurd (ne (one_row terms w r.log order r.logged a t k is (λ (u : status t ≡ unclaimed). sent_not_unclaimed d (sym z ∙ u)) late same))) ∙ r.rows.shown t d z late));
+        raw = λ t d. by_put status a t (sent e) (λ (x : Status). x ≡ sent d → w' claim ≤ t + terms.rows → (j : ℕ) → j < raw_count d → w' (in_row terms.rows t (j + 1)) ≡ raw_word d j)
             (λ here_is z le j few. (let same_entry : e ≡ d = sent_is e d z in let few_e : j < raw_count e = subst (λ (x : Message). j < raw_count x) (sym same_entry) few in let bound = few_words e valid in
-            beyond t j (omega arith) ∙ ap (λ (x : ℕ). w (in_row n x (j + 1))) here_is ∙ word_is j few_e ∙ ap (λ (x : Message). raw_word x j) same_entry))
-            (λ _ z le j few. (let bound = few_words d (r.logged.sound t d (ap entry_of z)) in beyond t j (omega arith) ∙ r.rows.raw t d z (subst (λ (y : ℕ). y ≤ t + n) claim_is' le) j few));
+            beyond t j (omega arith) ∙ ap (λ (x : ℕ). w (in_row terms.rows x (j + 1))) here_is ∙ word_is j few_e ∙ ap (λ (x : Message). raw_word x j) same_entry))
+            (λ _ z le j few. (let bound = few_words d (r.logged.sender t d z).0 in beyond t j (omega arith) ∙ r.rows.raw t d z (subst (λ (y : ℕ). y ≤ t + terms.rows) claim_is' le) j few));
       }
       record {
         role = knows.role;
         front = λ t d there. entries t d (knows.front t d there);
-        own = control (place_of p.role) (place_low p.role knows.role) ∙ knows.own;
-        mine = λ t. sent_at_end t p.mine (sent_of a e) ∙ by_put r.status a t (sent e) (λ (x : Status). sent_at t p.mine ++ cond (eqb a t) (e ∷ []) [] ≡ sends_of (number_of p.role) x)
-            (λ here_is. ap (λ (l : List Message). l ++ cond (eqb a t) (e ∷ []) []) (knows.mine t ∙ ap (sends_of (number_of p.role)) (ap r.status here_is ∙ is))
+        own = control (place_of p.role) (place_low terms.gateways p.role r.few knows.role) ∙ knows.own;
+        mine = λ t. sent_at_end t p.mine (sent_of a e) ∙ by_put status a t (sent e) (λ (x : Status). sent_at t p.mine ++ cond (eqb a t) (e ∷ []) [] ≡ sends_of (number_of p.role) x)
+            (λ here_is. ap (λ (l : List Message). l ++ cond (eqb a t) (e ∷ []) []) (knows.mine t ∙ ap (sends_of (number_of p.role)) (ap status here_is ∙ is))
             ∙ cond-true (eqb a t) (e ∷ []) [] (eq-eqb a t (sym here_is)) ∙ sym (cond-true (eqb e.gateway (number_of p.role)) (e ∷ []) [] (eq-eqb e.gateway (number_of p.role) (own_gateway ∙ sym num))))
             (λ ne. ap (λ (l : List Message). sent_at t p.mine ++ l) (cond-false (eqb a t) (e ∷ []) [] (ne_eqb a t (λ z. ne (sym z)))) ∙ append-nil (sent_at t p.mine) ∙ knows.mine t);
-        claims = λ t. by_put r.status a t (sent e) (λ (x : Status). times t (without a p.claims) ≡ claims_of (number_of p.role) x)
+        claims = λ t. by_put status a t (sent e) (λ (x : Status). times t (without a p.claims) ≡ claims_of (number_of p.role) x)
             (λ here_is. ap (λ (z : ℕ). times z (without a p.claims)) here_is ∙ times_spent a p.claims)
             (λ ne. times_left a t p.claims ne ∙ knows.claims t);
         loads = λ j l there low. subst (λ (y : ℕ). l.value ≤ y) (sym (control l.place low)) (knows.loads j l there low);
-        part = subst (λ (z : Role). PartOf n w' status' z record { sequence = a; words = [] }) (sym role) (λ j y there. absurd (some-ne-none y (sym there)));
+        part = subst (λ (z : Role). PartOf terms.rows w' log' z record { sequence = a; words = [] }) (sym role) (λ j y there. absurd (some-ne-none y (sym there)));
       }
-      (λ o apart_from kn. let differs : number_of o.role ≢ k = other_number o.role k (subst IsRole role knows.role).0 (λ z. apart_from (z ∙ sym (ap place_of role))) in
-      others_know n w w' r.status status' o entries
-      (λ t. by_put r.status a t (sent e) (λ (x : Status). sends_of (number_of o.role) (r.status t) ≡ sends_of (number_of o.role) x)
-      (λ here_is. ap (sends_of (number_of o.role)) (ap r.status here_is ∙ is) ∙ sym (cond-false (eqb e.gateway (number_of o.role)) (e ∷ []) [] (ne_eqb e.gateway (number_of o.role) (λ z. differs (sym z ∙ own_gateway))))) (λ _. refl))
-      (λ t. by_put r.status a t (sent e) (λ (x : Status). claims_of (number_of o.role) (r.status t) ≡ claims_of (number_of o.role) x)
-      (λ here_is. ap (claims_of (number_of o.role)) (ap r.status here_is ∙ is) ∙ cond-false (eqb k (number_of o.role)) 1 0 (ne_eqb k (number_of o.role) (λ z. differs (sym z)))) (λ _. refl))
+      (λ o apart_from kn. let differs : number_of o.role ≢ k = other_number o.role k gateway.0 (λ z. apart_from (z ∙ sym (ap place_of role))) in
+      others_know terms w w' r.log log' o r.few entries
+      (λ t. by_put status a t (sent e) (λ (x : Status). sends_of (number_of o.role) (status t) ≡ sends_of (number_of o.role) x)
+      (λ here_is. ap (sends_of (number_of o.role)) (ap status here_is ∙ is) ∙ sym (cond-false (eqb e.gateway (number_of o.role)) (e ∷ []) [] (ne_eqb e.gateway (number_of o.role) (λ z. differs (sym z ∙ own_gateway))))) (λ _. refl))
+      (λ t. by_put status a t (sent e) (λ (x : Status). claims_of (number_of o.role) (status t) ≡ claims_of (number_of o.role) x)
+      (λ here_is. ap (claims_of (number_of o.role)) (ap status here_is ∙ is) ∙ cond-false (eqb k (number_of o.role)) 1 0 (ne_eqb k (number_of o.role) (λ z. differs (sym z)))) (λ _. refl))
       control
-      (λ t j q o_is low t_is. (put_else r.status a t (sent e) (λ here_is. apart_from (ap place_of o_is ∙ ap taken (one_owner q k (sym t_is ∙ ap r.status here_is ∙ is)) ∙ sym (ap place_of role))) ∙ t_is, beyond t j low)) kn)
+      (λ t j q o_is low t_is. (put_else status a t (sent e) (λ here_is. apart_from (ap place_of o_is ∙ ap taken (claimed_by q k (sym t_is ∙ ap status here_is ∙ is)) ∙ sym (ap place_of role))) ∙ t_is, beyond t j low)) kn)
 
   -- a gateway publishes what it stored in a row that it claimed
   pub marks_row : (slots id k a : ℕ) (e : Message) (me : Seated S L) → IsAlone me.0 → (person me.0).role ≡ Gateway k → 0 < times a (person me.0).claims → (person me.0).part.sequence ≡ a → Spells (person me.0).part.words e → IsEntry e → e.gateway ≡ k
-      → Allows (Lawful S n m logic base) slots id me (in_row n a 0) (λ _. suc a) (λ _. marks_sent (step slots (in_row n a 0) (suc a) 0 none) me (suc a))
+      → Allows (Lawful S terms) slots id me (in_row terms.rows a 0) (λ _. suc a) (λ _. marks_sent (step slots (in_row terms.rows a 0) (suc a) 0 none) me (suc a))
   marks_row slots id k a e me one role some_claim on_row spelled valid own_gateway s r wide at _ =
-      let p = person me.0 in let knows = (mine S n m logic base s r id me.0 p at one).2 in
-      let is : r.status a ≡ claimed k = claim_is (r.status a) k (subst (λ (y : ℕ). 0 < y) (knows.claims a ∙ ap (λ (j : ℕ). claims_of j (r.status a)) (ap number_of role)) some_claim) in (
+      let p = person me.0 in let knows = (mine S terms s r id me.0 p at one).2 in
+      let is : r.log.status a ≡ claimed k = claim_is (r.log.status a) k (subst (λ (y : ℕ). 0 < y) (knows.claims a ∙ ap (λ (j : ℕ). claims_of j (r.log.status a)) (ap number_of role)) some_claim) in (
         alone me.0 (marked p a e),
         keeps,
         tt,
@@ -136,8 +145,8 @@ module _ {L : Type 0} (S : Type 0) (n m : ℕ) (logic : L) (base : List Message)
             ap (λ (z : ℕ). (alone me.0 (marked p z e), me.1)) same ∙ ap (λ (z : Message). (alone me.0 (marked p t z), me.1)) (spelled_once p.part.words e d valid valid' spelled spelled')),
       )
 
-  pub marks_row_in : (big_n : ℕ) → n ≡ big_n → (slots id k a x : ℕ) (e : Message) (me : Seated S L) (place : ℕ) → IsAlone me.0 → (person me.0).role ≡ Gateway k → 0 < times a (person me.0).claims → (person me.0).part.sequence ≡ a
-      → Spells (person me.0).part.words e → IsEntry e → e.gateway ≡ k → place ≡ in_row big_n a 0 → x ≡ suc a → Allows (Lawful S n m logic base) slots id me place (λ _. x) (λ _. marks_sent (step slots place x 0 none) me x)
-  marks_row_in big_n is slots id k a x e me place one role some_claim on_row spelled valid own_gateway place_is next =
-      subst (λ (y : ℕ × ℕ). Allows (Lawful S n m logic base) slots id me y.0 (λ _. y.1) (λ _. marks_sent (step slots y.0 y.1 0 none) me y.1))
+  pub marks_row_in : (n : ℕ) → terms.rows ≡ n → (slots id k a x : ℕ) (e : Message) (me : Seated S L) (place : ℕ) → IsAlone me.0 → (person me.0).role ≡ Gateway k → 0 < times a (person me.0).claims → (person me.0).part.sequence ≡ a
+      → Spells (person me.0).part.words e → IsEntry e → e.gateway ≡ k → place ≡ in_row n a 0 → x ≡ suc a → Allows (Lawful S terms) slots id me place (λ _. x) (λ _. marks_sent (step slots place x 0 none) me x)
+  marks_row_in n is slots id k a x e me place one role some_claim on_row spelled valid own_gateway place_is next =
+      subst (λ (y : ℕ × ℕ). Allows (Lawful S terms) slots id me y.0 (λ _. y.1) (λ _. marks_sent (step slots y.0 y.1 0 none) me y.1))
       (λ i. (sym (place_is ∙ ap (λ (j : ℕ). in_row j a 0) (sym is)) i, sym next i)) (marks_row slots id k a e me one role some_claim on_row spelled valid own_gateway)

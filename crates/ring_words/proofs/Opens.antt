@@ -11,19 +11,21 @@ use Rattle.ring_words.specs.declared.view.Role.TheVariants.{Process, Gateway}
 use Rattle.ring_words.specs.declared.view.Person.{Person}
 use Rattle.ring_words.specs.declared.view.View.{View}
 use Rattle.ring_words.specs.Places.{in_row, table_words, taken, place_of}
-use Rattle.ring_words.specs.Log.{IsEntry, Status, unclaimed, old, sent, entry_of, sends_of, claims_of}
+use Rattle.ring_words.specs.Log.{Status, unclaimed, old, claimed, sent, Log, entry_of, sends_of, claims_of}
+use Rattle.ring_words.specs.Terms.{Terms}
 use Rattle.ring_words.specs.Rule.{Knows, newcomer, gateways, crew, opening_word, owners, all_owners, words_of, Lawful, view_of, first_view}
 use Rattle.ring_words.specs.Seats.{first_of, person, others, apart}
 use Rattle.ring_words.proofs.Windows.{row_inside}
 use Rattle.ring_words.proofs.Logs.{stands, within}
-use Rattle.ring_words.proofs.Keeps.{only, changed_owners}
+use Rattle.ring_words.proofs.Owners.{changed_owners, owners_snoc}
+use Rattle.ring_words.proofs.Keeps.{only}
 
 abbrev as_status : Option Message → Status
 as_status none = unclaimed
 as_status (some e) = old e
 
-abbrev start_status : List Message → ℕ → Status
-start_status base s = as_status (get_elem? base s)
+abbrev start_log : List Message → Log
+start_log base = record { status = λ s. as_status (get_elem? base s) }
 
 not_old : (o : Option Message) (e : Message) → as_status o ≡ sent e → ⊥
 not_old none e is = let z : zero ≡ suc zero = cc in omega arith
@@ -33,9 +35,9 @@ old_is : (o : Option Message) (e : Message) → as_status o ≡ old e → o ≡ 
 old_is none e is = cc
 old_is (some d) e is = let x : d ≡ e = cc in ap some x
 
-entry_is : (o : Option Message) (e : Message) → entry_of (as_status o) ≡ some e → o ≡ some e
-entry_is none e is = absurd (some-ne-none e (sym is))
-entry_is (some d) e is = is
+not_claimed_there : (o : Option Message) (k : ℕ) → as_status o ≡ claimed k → ⊥
+not_claimed_there none k is = let z : zero ≡ suc zero = cc in omega arith
+not_claimed_there (some d) k is = let z : zero ≡ suc zero = cc in omega arith
 
 no_sends : (k : ℕ) (o : Option Message) → [] ≡ sends_of k (as_status o)
 no_sends k none = refl
@@ -75,25 +77,6 @@ each_of k zero base given j p at = absurd (some-ne-none p (sym at))
 each_of k (suc g) base given zero p at = (k, le_refl k, omega arith, some-injective (newcomer (Gateway k) base given) p at)
 each_of k (suc g) base given (suc j) p at = let t = each_of (suc k) g base given j p at in (t.0, (let a : suc k ≤ t.0 = t.1 in omega arith), (let a : t.0 < suc k + g = t.2 in omega arith), t.3)
 
--- no two of them have one word, and none has a word before that of the first
-few : (k g : ℕ) (base : List Message) (given x : ℕ) → (owners x (gateways k g base given) ≤ 1) × (x < taken k → owners x (gateways k g base given) ≡ 0)
-few k zero base given x = ((omega arith), λ _. refl)
-few k (suc g) base given x = let rest : ℕ = owners x (gateways (suc k) g base given) in let t = few (suc k) g base given x in by_case (ℕ_discrete (taken k) x) t where
-  by_case : Dec (taken k ≡ x) → (owners x (gateways (suc k) g base given) ≤ 1) × (x < taken (suc k) → owners x (gateways (suc k) g base given) ≡ 0)
-      → (owners x (gateways k (suc g) base given) ≤ 1) × (x < taken k → owners x (gateways k (suc g) base given) ≡ 0)
-  by_case (yes e) t = let rest : ℕ = owners x (gateways (suc k) g base given) in let e' : 32 + 8 * k ≡ x = e in let none_left : rest ≡ 0 = t.1 (let g : x < 32 + 8 * suc k = omega arith in g) in
-      let is : owners x (gateways k (suc g) base given) ≡ suc rest = cond-true (eqb (taken k) x) (suc rest) rest (eq-eqb (taken k) x e) in ((omega arith), λ lt. absurd (omega arith))
-  by_case (no ne) t = let rest : ℕ = owners x (gateways (suc k) g base given) in
-      let is : owners x (gateways k (suc g) base given) ≡ rest = cond-false (eqb (taken k) x) (suc rest) rest (ne_eqb (taken k) x ne) in
-      ((let a : rest ≤ 1 = t.0 in omega arith), λ (lt : x < 32 + 8 * k). is ∙ t.1 (let g : x < 32 + 8 * suc k = omega arith in g))
-
-few_in_crew : (g : ℕ) (base : List Message) (given x : ℕ) → owners x (crew g base given) ≤ 1
-few_in_crew g base given x = let rest : ℕ = owners x (gateways 1 g base given) in let t = few 1 g base given x in by_case (ℕ_discrete 0 x) t where
-  by_case : Dec (0 ≡ x) → (owners x (gateways 1 g base given) ≤ 1) × (x < taken 1 → owners x (gateways 1 g base given) ≡ 0) → owners x (crew g base given) ≤ 1
-  by_case (yes e) t = let rest : ℕ = owners x (gateways 1 g base given) in let none_left : rest ≡ 0 = t.1 (let l : x < 32 + 8 * 1 = omega arith in l) in
-      let is : owners x (crew g base given) ≡ suc rest = cond-true (eqb 0 x) (suc rest) rest (eq-eqb 0 x e) in omega arith
-  by_case (no ne) t = let rest : ℕ = owners x (gateways 1 g base given) in let is : owners x (crew g base given) ≡ rest = cond-false (eqb 0 x) (suc rest) rest (ne_eqb 0 x ne) in let a : rest ≤ 1 = t.0 in omega arith
-
 one_more : (k : ℕ) (p : Person) (ps : List Person) → owners k (p ∷ ps) ≡ owners k (p ∷ []) + owners k ps
 one_more k p ps = by_case (eqb (place_of p.role) k) where
   by_case : (b : Bool) → cond b (suc (owners k ps)) (owners k ps) ≡ cond b 1 0 + owners k ps
@@ -105,71 +88,72 @@ module _ {L : Type 0} where
   only_view v zero u at = some-injective v u at
   only_view v (suc i) u at = absurd (some-ne-none u (sym at))
 
-  owners_snoc : (k : ℕ) (vs : List (View L)) (v : View L) → all_owners k (vs ++ v ∷ []) ≡ all_owners k vs + owners k v.people
-  owners_snoc k [] v = omega arith
-  owners_snoc k (u ∷ vs) v = let h = owners_snoc k vs v in omega arith
-
-module _ {L : Type 0} (S : Type 0) (n m : ℕ) (logic : L) (base : List Message) where
+module _ {L : Type 0} (S : Type 0) (terms : Terms L) where
   -- what a person of the first crew knows
-  of_crew : (w : ℕ → ℕ) (g given : ℕ) → g ≤ 8 → w 0 ≡ length base → ((k : ℕ) → 1 ≤ k → k ≤ 8 → w (taken k) ≡ given)
-      → (j : ℕ) (p : Person) → get_elem? (crew g base given) j ≡ some p → Knows n w (start_status base) p
-  of_crew w g given few_gates first each zero p at = subst (Knows n w (start_status base)) (some-injective (newcomer Process base (length base)) p at) record {
+  of_crew : (w : ℕ → ℕ) → terms.gateways ≤ 8 → w 0 ≡ length terms.base → ((k : ℕ) → 1 ≤ k → k ≤ 8 → w (taken k) ≡ terms.given)
+      → (j : ℕ) (p : Person) → get_elem? (crew terms.gateways terms.base terms.given) j ≡ some p → Knows terms w (start_log terms.base) p
+  of_crew w few_gates first each zero p at = subst (Knows terms w (start_log terms.base)) (some-injective (newcomer Process terms.base (length terms.base)) p at) record {
     role = tt;
     front = λ s e there. ap (λ (o : Option Message). entry_of (as_status o)) there;
     own = first;
-    mine = λ s. no_sends 0 (get_elem? base s);
-    claims = λ s. no_claims 0 (get_elem? base s);
+    mine = λ s. no_sends 0 (get_elem? terms.base s);
+    claims = λ s. no_claims 0 (get_elem? terms.base s);
     loads = λ i l there. absurd (some-ne-none l (sym there));
     part = tt;
   }
-  of_crew w g given few_gates first each (suc j) p at = let t = each_of 1 g base given j p at in let k : ℕ = t.0 in let lo : 1 ≤ k = t.1 in let hi : k < 1 + g = t.2 in let le : k ≤ 8 = omega arith in
-      subst (Knows n w (start_status base)) t.3 record {
-        role = (lo, le);
+  of_crew w few_gates first each (suc j) p at = let g : ℕ = terms.gateways in let t = each_of 1 g terms.base terms.given j p at in let k : ℕ = t.0 in let lo : 1 ≤ k = t.1 in let hi : k < 1 + g = t.2 in
+      let few_g : g ≤ 8 = few_gates in let le : k ≤ 8 = omega arith in let inside : k ≤ g = omega arith in
+      subst (Knows terms w (start_log terms.base)) t.3 record {
+        role = (lo, inside);
         front = λ s e there. ap (λ (o : Option Message). entry_of (as_status o)) there;
         own = each k lo le;
-        mine = λ s. no_sends k (get_elem? base s);
-        claims = λ s. no_claims k (get_elem? base s);
+        mine = λ s. no_sends k (get_elem? terms.base s);
+        claims = λ s. no_claims k (get_elem? terms.base s);
         loads = λ i l there. absurd (some-ne-none l (sym there));
         part = λ i x there. absurd (some-ne-none x (sym there));
       }
 
-  pub starts : (g given : ℕ) (ws : List ℕ) → 0 < n → g ≤ 8 → length base ≤ 2 ^ 48 → ((i : ℕ) (e : Message) → get_elem? base i ≡ some e → IsEntry e) → length ws ≡ table_words n m
-      → ((k : ℕ) → k < length ws → get_or ws k 0 ≡ opening_word (length base) given k) → Lawful S n m logic base (opening {S = S} ws [] (first_view logic g base given))
-  starts g given ws pos few_gates small valid wide is = let b : ℕ = length base in let status : ℕ → Status = start_status base in let w : ℕ → ℕ = λ (k : ℕ). get_or ws k 0 in
+  pub starts : (ws : List ℕ) → 0 < terms.rows → terms.gateways ≤ 8 → length terms.base ≤ 2 ^ 48 → length ws ≡ table_words terms.rows terms.output_rows
+      → ((k : ℕ) → k < length ws → get_or ws k 0 ≡ opening_word (length terms.base) terms.given k) → Lawful S terms (opening {S = S} ws [] (first_view terms))
+  starts ws pos few_gates small wide is = let base = terms.base in let b : ℕ = length terms.base in let w : ℕ → ℕ = λ (k : ℕ). get_or ws k 0 in
       let done_is : w 0 ≡ b = is 0 (omega arith) in let claim_is : w 8 ≡ b = is 8 (omega arith) in
       record {
-        status = status;
+        log = start_log terms.base;
         some_row = pos;
+        few = few_gates;
         wide = wide;
         order = record { behind = omega arith; room = omega arith; most = omega arith };
         logged = record {
           start = omega arith;
           based = λ s e at. ap as_status at;
-          older = λ s e o. within base s e (old_is (get_elem? base s) e o);
-          ahead = λ s le. ap as_status (beyond base s (let l : b ≤ s = omega arith in l));
-          given = λ s lt u. (let at = stands base s (let l : s < b = omega arith in l) in let z : old at.0 ≡ unclaimed = sym (ap as_status at.1) ∙ u in let y : zero ≡ suc zero = cc in omega arith);
-          sound = λ s e at. valid s e (entry_is (get_elem? base s) e at);
-          done = λ s lt. (let at = stands base s (let l : s < b = omega arith in l) in (at.0, ap (λ (o : Option Message). entry_of (as_status o)) at.1));
+          older = λ s e o. within terms.base s e (old_is (get_elem? terms.base s) e o);
+          ahead = λ s le. ap as_status (beyond terms.base s (let l : b ≤ s = omega arith in l));
+          somebodys = λ s lt u. (let at = stands terms.base s (let l : s < b = omega arith in l) in let z : old at.0 ≡ unclaimed = sym (ap as_status at.1) ∙ u in let y : zero ≡ suc zero = cc in omega arith);
+          holder = λ s k at. absurd (not_claimed_there (get_elem? terms.base s) k at);
+          sender = λ s e at. absurd (not_old (get_elem? terms.base s) e at);
+          done = λ s lt. (let at = stands terms.base s (let l : s < b = omega arith in l) in (at.0, ap (λ (o : Option Message). entry_of (as_status o)) at.1));
         };
         rows = record {
-          marks = λ s x e. (let k : ℕ = in_row n s 0 in let zero_there : w k ≡ 0 = is k (subst (λ (y : ℕ). k < y) (sym wide) (row_inside n m s 0 pos (omega arith))) ∙ row_empty b given k (omega arith) in absurd (omega arith));
-          raw = λ s e at. absurd (not_old (get_elem? base s) e at);
+          marks = λ s x e. (let k : ℕ = in_row terms.rows s 0 in let zero_there : w k ≡ 0 = is k (subst (λ (y : ℕ). k < y) (sym wide) (row_inside terms.rows terms.output_rows s 0 pos (omega arith))) ∙ row_empty b terms.given k (omega arith) in absurd (omega arith));
+          shown = λ s e at. absurd (not_old (get_elem? terms.base s) e at);
+          raw = λ s e at. absurd (not_old (get_elem? terms.base s) e at);
         };
-        people = λ id j v p there in_it. (let first : View L = first_view logic g base given in let is_first : first ≡ v = only_view first id v there in
-            let at : get_elem? (crew g base given) j ≡ some p = subst (λ (u : View L). get_elem? u.people j ≡ some p) (sym is_first) in_it in (
+        people = λ id j v p there in_it. (let first : View L = first_view terms in let is_first : first ≡ v = only_view first id v there in
+            let at : get_elem? (crew terms.gateways terms.base terms.given) j ≡ some p = subst (λ (u : View L). get_elem? u.people j ≡ some p) (sym is_first) in_it in (
               ap (λ (u : View L). u.logic) (sym is_first),
               ap (λ (u : View L). u.base) (sym is_first),
-              of_crew w g given few_gates done_is
-                  (λ k lo hi. is (taken k) (let x : 32 + 8 * k < length ws = omega arith in x) ∙ taken_given b given k lo hi) j p at,
+              of_crew w few_gates done_is
+                  (λ k lo hi. is (taken k) (let x : 32 + 8 * k < length ws = omega arith in x) ∙ taken_given b terms.given k lo hi) j p at,
             ));
-        once = λ k. (let h : owners k (crew g base given) ≤ 1 = few_in_crew g base given k in omega arith);
+        once = λ k. (let x : ℕ = owners k (crew terms.gateways terms.base terms.given) in let g : x + 0 ≡ x = omega arith in g);
       }
 
   -- a seat of several persons gives the first one a seat of its own
-  pub splits : (id : ℕ) (v : View L) (p : Person) (ps : List Person) → v.people ≡ p ∷ ps → Splits (Lawful S n m logic base) id v (others v) (apart v)
+  pub splits : (id : ℕ) (v : View L) (p : Person) (ps : List Person) → v.people ≡ p ∷ ps → Splits (Lawful S terms) id v (others v) (apart v)
   splits id v p ps one s r at = record {
-    status = r.status;
+    log = r.log;
     some_row = r.some_row;
+    few = r.few;
     wide = r.wide;
     order = r.order;
     logged = r.logged;
@@ -183,9 +167,9 @@ module _ {L : Type 0} (S : Type 0) (n m : ℕ) (logic : L) (base : List Message)
         (at_set s.views id i (others v) u within_set))
         (λ (new : apart v ≡ u). let is : q ≡ person v = only (person v) q u.people j (ap (λ (x : View L). x.people) (sym new)) in_it in
         let own = r.people id 0 v (person v) at (subst (λ (l : List Person). get_elem? l 0 ≡ some (first_of l)) (sym one) refl) in
-        (ap (λ (x : View L). x.logic) (sym new) ∙ own.0, ap (λ (x : View L). x.base) (sym new) ∙ own.1, subst (Knows n (words_of s) r.status) (sym is) own.2))
+        (ap (λ (x : View L). x.logic) (sym new) ∙ own.0, ap (λ (x : View L). x.base) (sym new) ∙ own.1, subst (Knows terms (words_of s) r.log) (sym is) own.2))
         (at_snoc (set s.views id (others v)) (apart v) u i there);
-    once = λ k. (let x : ℕ = all_owners k (set s.views id (others v)) in let all : ℕ = all_owners k s.views in let o : all ≤ 1 = r.once k in
+    once = λ k. (let x : ℕ = all_owners k (set s.views id (others v)) in let all : ℕ = all_owners k s.views in let y : ℕ = owners k (crew terms.gateways terms.base terms.given) in let o : all ≡ y = r.once k in
         let sum : x + owners k v.people ≡ all + owners k (others v).people = changed_owners k s.views id v (others v) at in
         let cut : owners k v.people ≡ owners k (apart v).people + owners k (others v).people = subst (λ (l : List Person). owners k l ≡ owners k (first_of l ∷ []) + owners k (drop 1 l)) (sym one) (one_more k p ps) in
         let last : all_owners k (set s.views id (others v) ++ apart v ∷ []) ≡ x + owners k (apart v).people = owners_snoc k (set s.views id (others v)) (apart v) in omega arith);

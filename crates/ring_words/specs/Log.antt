@@ -17,6 +17,10 @@ pub data Status : Type 0 where
   claimed : ℕ → Status
   sent : Message → Status
 
+-- the log: what stands at each sequence
+pub record Log : Type 0 where
+  pub status : ℕ → Status
+
 -- the entry that stands there
 abbrev pub entry_of : Status → Option Message
 entry_of unclaimed = none

@@ -7,10 +7,12 @@ mod places;
 mod plays;
 mod rings;
 mod seats;
+mod setup;
 mod steps;
 mod view;
 
 pub use open::OpenError;
-pub use rings::{Ring, Rings, Setup};
+pub use rings::{Ring, Rings};
 pub use seats::{GatewaySeat, ProcessSeat, Seats};
+pub use setup::Setup;
 pub use view::{Load, Part, Person, Role, Sent, View};

@@ -1,17 +1,14 @@
 //! How the rings begin: their words, the first seat, and the seats that it is split into.
 ghost use Rattle.std.specs.Prelude.{◌≡◌, ◌≢◌, ℕ, suc, ◌+◌, ◌-◌, ◌*◌, ◌^◌, ◌<◌, ◌≤◌, [], ◌∷◌, length, slice_index_or, vec_len, IfOk, IsErrOf, IsTrue, IsFalse, IsOk, ◌&&◌};
-ghost use mathlib.Core.Option.{some};
-ghost use lib.ListN.{get_elem?};
-ghost use Rattle.venue_model.specs.History.{Message};
-ghost use Rattle.ring_words.specs.Log.{IsEntry};
 ghost use Rattle.ring_words.specs.Rule.{gateways, crew, opening_word, view_of};
 ghost use Rattle.ring_words.specs.Sizes.{ring_size};
 ghost use Rattle.ring_words.specs.Crew.{IsFresh, AreFresh, IsFreshProcess};
 
 use crate::places::{FIRST_OUTPUT_WORD, FIRST_ROW, OUTPUT_ROW_WORDS, OUTPUT_WORDS_END, ROW_WORDS};
 use crate::plays::Apart;
-use crate::rings::{Rings, Setup};
+use crate::rings::Rings;
 use crate::seats::{GatewaySeat, ProcessSeat, Seats};
+use crate::setup::Setup;
 use crate::view::View;
 use atomic_table::{Seat, Table};
 use std::alloc::{AllocError, Global};
@@ -139,7 +136,6 @@ impl<L: Logic + Drop, const N: usize, const M: usize, const G: usize> Rings<L, N
     ) -> Result<(Rings<L, N, M, G>, Seats<L>), OpenError>
         requires gateways { (1 ≤ G) × (G ≤ 8) }
         requires long { vec_len base.now ≤ 2 ^ 48 }
-        requires entries { (i : ℕ) (e : Message) → get_elem? base.now.items i ≡ some e → IsEntry e }
         requires given { given ≡ length (L.outputs logic base.now.items) }
         ensures sizes { IsOk result → IsTrue (ring_size N && ring_size M) }
         ensures bad { IsErrOf result OpenError.NotPowerOfTwo → IsFalse (ring_size N && ring_size M) }

@@ -2,23 +2,12 @@
 ghost use Rattle.std.specs.Prelude.{◌≡◌, ◌<◌, ◌≤◌};
 ghost use Rattle.ring_words.specs.Places.{table_words};
 
+use crate::setup::Setup;
 use crate::view::View;
 use atomic_table::{Table, TableRule};
 use std::alloc::Global;
 use std::marker::PhantomData;
-use std::snapshot::Snapshot;
-use venue_model::{Entry, Logic};
-
-/// What the rings were opened with.
-#[derive(Drop)]
-pub struct Setup<L> {
-    pub rows: usize,
-    pub output_rows: usize,
-    pub gateways: usize,
-    pub logic: L,
-    pub base: Snapshot<Vec<Entry>>,
-    pub given: u64,
-}
+use venue_model::Logic;
 
 /// The rule of the table. No value of it is made.
 pub struct Ring<L> {
@@ -26,11 +15,12 @@ pub struct Ring<L> {
 }
 
 impl<L: Logic> TableRule<(), View<L>, Setup<L>> for Ring<L> {
+    ghost use Rattle.ring_words.specs.Terms.{terms_of};
     ghost use Rattle.ring_words.specs.Rule.{Lawful, first_view};
 
-    ghost holds = { λ k. Lawful (Unit {0}) k.rows k.output_rows k.logic k.base.value.items };
+    ghost holds = { λ k. Lawful (Unit {0}) (terms_of k) };
 
-    ghost first = { λ k. first_view k.logic k.gateways k.base.value.items k.given };
+    ghost first = { λ k. first_view (terms_of k) };
 }
 
 /// Both rings: `N` input rows and `M` output rows for `G` gateways.

@@ -1,6 +1,7 @@
 use Rattle.std.proofs.Common.{rules}
+use Rattle.ring_words.specs.Terms.{terms_of}
 use Rattle.ring_words.proofs.Loads.{loads_claim}
 use Rattle.ring_words.proofs.rings.Rings.load_claim.Goals as goal
 
 pub load-requires : goal.load-requires
-load-requires g c = let key = c.args.self.now.table.shared.key in (search rules, search rules, loads_claim (Unit {0}) key.rows key.output_rows key.logic key.base.value.items _ _ _ c.args.seat.now.alone)
+load-requires g c = let key = c.args.self.now.table.shared.key in (search rules, search rules, loads_claim (Unit {0}) (terms_of key) _ _ _ c.args.seat.now.alone)

@@ -1,7 +1,8 @@
 use Rattle.std.proofs.Common.{rules}
+use Rattle.ring_words.specs.Terms.{terms_of}
 use Rattle.ring_words.proofs.Loads.{loads_processed_in}
 use Rattle.ring_words.proofs.rings.Rings.load_processed.Goals as goal
 
 pub load-requires : goal.load-requires
 load-requires g c = let key = c.args.self.now.table.shared.key in
-    (search rules, search rules, loads_processed_in (Unit {0}) key.rows key.output_rows key.logic key.base.value.items _ c.args.self.now.rows.0 _ _ _ c.args.seat.now.alone)
+    (search rules, search rules, loads_processed_in (Unit {0}) (terms_of key) _ c.args.self.now.rows.0 _ _ _ c.args.seat.now.alone)

@@ -1,4 +1,5 @@
 use Rattle.std.proofs.Common.{rules, ◌≡◌, ◌+◌, suc, arith}
+use Rattle.ring_words.specs.Terms.{terms_of}
 use Rattle.ring_words.proofs.Becomes.{still_alone, still_bare, still_role}
 use Rattle.ring_words.proofs.Marks.{marks_row_in}
 use Rattle.ring_words.proofs.rings.Rings.store_availability.Goals as goal
@@ -7,7 +8,7 @@ pub store-requires : goal.store-requires
 store-requires g c = let key = c.args.self.now.table.shared.key in let e = c.requires.message in let next : c.args.sequence + 1 ≡ suc c.args.sequence = omega arith in (
   search rules,
   search rules,
-  marks_row_in (Unit {0}) key.rows key.output_rows key.logic key.base.value.items g.row.N c.args.self.now.rows.0 _ _ _ c.args.sequence _ e.0 _ _
+  marks_row_in (Unit {0}) (terms_of key) g.row.N c.args.self.now.rows.0 _ _ _ c.args.sequence _ e.0 _ _
       c.args.seat.now.alone c.args.seat.now.role c.requires.claimed c.requires.row e.1 e.2 e.3 c.row_word-place.ensures.place next,
 )
 

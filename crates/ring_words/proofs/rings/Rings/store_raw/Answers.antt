@@ -1,4 +1,5 @@
 use Rattle.std.proofs.Common.{rules}
+use Rattle.ring_words.specs.Terms.{terms_of}
 use Rattle.ring_words.proofs.Becomes.{still_alone, still_bare, still_role}
 use Rattle.ring_words.proofs.Writes.{writes_raw_in}
 use Rattle.ring_words.proofs.rings.Rings.store_raw.Goals as goal
@@ -7,7 +8,7 @@ pub store-requires : goal.store-requires
 store-requires g c = let key = c.args.self.now.table.shared.key in (
   search rules,
   search rules,
-  writes_raw_in (Unit {0}) key.rows key.output_rows key.logic key.base.value.items g.row.N c.args.self.now.rows.0 _ _ _ c.args.sequence c.args.word c.args.value _ _
+  writes_raw_in (Unit {0}) (terms_of key) g.row.N c.args.self.now.rows.0 _ _ _ c.args.sequence c.args.word c.args.value _ _
       c.args.seat.now.alone c.args.seat.now.role c.requires.claimed c.requires.word c.requires.order c.row_word-place.ensures.place,
 )
 
