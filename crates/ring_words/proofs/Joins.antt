@@ -1,12 +1,11 @@
 -- Two seats may join: the first one then has the persons of both, and the second has none.
-use Rattle.std.proofs.Common.{◌≡◌, ◌≢◌, ℕ, zero, suc, ◌+◌, Bool, true, false, List, [], ◌∷◌, ◌++◌, ◌⊎◌, inl, inr, ⊎_elim, cond, eqb, set, ap, sym, subst, ◌∙◌, arith}
+use Rattle.std.proofs.Common.{◌≡◌, ◌≢◌, ℕ, zero, suc, List, [], ◌∷◌, ◌++◌, ◌⊎◌, inl, inr, ⊎_elim, set, ap, sym, subst, ◌∙◌, arith}
 use mathlib.Core.Option.{some, some-ne-none}
 use lib.ListN.{get_elem?}
 use Rattle.atomic_table.specs.Table.{Joins}
 use Rattle.atomic_table.proofs.Lists.{at_set}
 use Rattle.ring_words.specs.declared.view.Person.{Person}
 use Rattle.ring_words.specs.declared.view.View.{View}
-use Rattle.ring_words.specs.Places.{place_of}
 use Rattle.ring_words.specs.Terms.{Terms}
 use Rattle.ring_words.specs.Rule.{owners, all_owners, crew, Lawful}
 use Rattle.ring_words.specs.Seats.{together, nobody}

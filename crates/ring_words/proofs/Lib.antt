@@ -14,3 +14,4 @@ pub mod Joins
 pub mod Views
 pub mod Opens
 pub mod Crews
+pub mod Endings

@@ -40,6 +40,9 @@ read_at [] i a e = absurd (some-ne-none a (sym e))
 read_at (x ∷ xs) zero a e = sym (some-injective x a e)
 read_at (x ∷ xs) (suc i) a e = read_at xs i a e
 
+pub read_same : (l ws : List ℕ) (i a : ℕ) → l ≡ ws → get_elem? ws i ≡ some a → a ≡ get_or l i 0
+read_same l ws i a is at = read_at l i a (ap (λ (x : List ℕ). get_elem? x i) is ∙ at)
+
 old_or_sent : (x : Status) (e : Message) → entry_of x ≡ some e → (x ≡ old e) ⊎ (x ≡ sent e)
 old_or_sent unclaimed e is = absurd (some-ne-none e (sym is))
 old_or_sent (old d) e is = inl (ap old (some-injective d e is))

@@ -2,7 +2,7 @@
 use Rattle.std.proofs.Common.{◌≡◌, ◌≢◌, ℕ, zero, suc, ◌+◌, ◌*◌, ◌%◌, ◌<◌, ◌≤◌, Bool, true, false, List, [], ◌∷◌, ◌++◌, cond, eqb, length, length-set, get_or, set, refl, ap, sym, subst, ◌∙◌, arith}
 use Rattle.std.proofs.lemmas.Bool.{eq-eqb, ne_eqb, cond-true, cond-false}
 use Rattle.std.proofs.lemmas.List.{append-nil}
-use mathlib.Core.Option.{none, some, some-injective, some-ne-none}
+use mathlib.Core.Option.{none, some, some-ne-none}
 use mathlib.Core.Logic.{dite}
 use native.Mathlib.Decide.{ℕ_discrete}
 use lib.ListN.{get_elem?}
@@ -82,7 +82,7 @@ module _ {L : Type 0} (S : Type 0) (terms : Terms L) where
       let h = subst (λ (z : Role). PartOf terms.rows w r.log z p.part) role knows.part j there.0 there.1 in
       ap (λ (t : ℕ). w (in_row terms.rows t (j + 1))) (sym on_row) ∙ h.2 ∙ read_at p.part.words j there.0 there.1 ∙ spelled.each j few) in
       after S terms s r ws' id me.0 p (marked p a e) at one refl (length-set ws here (suc a)) log'
-      record { behind = omega arith; room = omega arith; most = omega arith }
+      record { behind = omega arith; room = omega arith; most = omega arith; silent = control 104 (omega arith) ∙ r.order.silent }
       record {
         start = omega arith;
         based = λ t d there. put_else status a t (sent e) (λ here_is. claimed_not_old k d (sym is ∙ ap status (sym here_is) ∙ r.logged.based t d there)) ∙ r.logged.based t d there;

@@ -1,8 +1,7 @@
 -- The rule holds of the table at the start, and a seat of several persons may be split.
 use Rattle.std.proofs.Common.{◌≡◌, ◌≢◌, ℕ, zero, suc, ◌+◌, ◌-◌, ◌*◌, ◌^◌, ◌<◌, ◌≤◌, Bool, true, false, List, [], ◌∷◌, ◌++◌, ⊎_elim, cond, eqb, ltb, length, get_or, set, drop, refl, ap, sym, subst, ◌∙◌, arith, le_refl}
-use Rattle.std.proofs.lemmas.Bool.{lt-ltb, ltb-true, eq-eqb, ne_eqb, cond-true, cond-false}
+use Rattle.std.proofs.lemmas.Bool.{lt-ltb, ltb-true, cond-true, cond-false}
 use mathlib.Core.Option.{Option, none, some, some-injective, some-ne-none}
-use native.Mathlib.Decide.{ℕ_discrete}
 use lib.ListN.{get_elem?}
 use Rattle.atomic_table.specs.Table.{opening, Splits}
 use Rattle.atomic_table.proofs.Lists.{at_set, at_snoc}
@@ -122,7 +121,7 @@ module _ {L : Type 0} (S : Type 0) (terms : Terms L) where
         some_row = pos;
         few = few_gates;
         wide = wide;
-        order = record { behind = omega arith; room = omega arith; most = omega arith };
+        order = record { behind = omega arith; room = omega arith; most = omega arith; silent = is 104 (omega arith) };
         logged = record {
           start = omega arith;
           based = λ s e at. ap as_status at;

@@ -5,11 +5,10 @@ use mathlib.Core.Option.{some, some-injective, some-ne-none}
 use native.Mathlib.Decide.{ℕ_discrete}
 use lib.ListN.{get_elem?}
 use Rattle.venue_model.specs.History.{Message}
-use Rattle.ring_words.specs.declared.view.Role.TheVariants.{Gateway}
 use Rattle.ring_words.specs.declared.view.Person.{Person}
 use Rattle.ring_words.specs.declared.view.View.{View}
 use Rattle.ring_words.specs.Places.{taken, place_of}
-use Rattle.ring_words.specs.Rule.{owners, all_owners, newcomer, gateways, crew}
+use Rattle.ring_words.specs.Rule.{owners, all_owners, gateways, crew}
 
 at_least : (b : Bool) (x : ℕ) → 1 ≤ x → 1 ≤ cond b (suc x) x
 at_least true x h = omega arith

@@ -7,3 +7,5 @@ pub mod Seats
 pub mod Steps
 pub mod Sizes
 pub mod Crew
+pub mod Gathered
+pub mod Ending

@@ -11,8 +11,8 @@ use Rattle.ring_words.specs.declared.view.Load.{Load}
 use Rattle.ring_words.specs.declared.view.Part.{Part}
 use Rattle.ring_words.specs.declared.view.Person.{Person}
 use Rattle.ring_words.specs.declared.view.View.{View}
-use Rattle.ring_words.specs.Places.{processed, claim, first_row, in_row, table_words, place_of, number_of}
-use Rattle.ring_words.specs.Log.{IsEntry, Status, unclaimed, old, claimed, sent, Log, entry_of, sends_of, claims_of, sent_at, times, IsFront}
+use Rattle.ring_words.specs.Places.{processed, claim, published, first_row, in_row, table_words, place_of, number_of}
+use Rattle.ring_words.specs.Log.{IsEntry, unclaimed, old, claimed, sent, Log, entry_of, sends_of, claims_of, sent_at, times, IsFront}
 use Rattle.ring_words.specs.Raw.{raw_word, raw_count}
 use Rattle.ring_words.specs.Terms.{Terms}
 
@@ -60,11 +60,12 @@ abbrev pub opening_word : ℕ → ℕ → ℕ → ℕ
 opening_word start given i = if nat_lt i 32 then start else (if nat_lt i 112 then given else 0)
 
 module _ {L : Type 0} where
-  -- the order of the control words
+  -- the order of the control words. No outputs are put so far
   pub record Ordered (terms : Terms L) (w : ℕ → ℕ) : Type 0 where
     pub behind : w processed ≤ w claim
     pub room : w claim ≤ w processed + terms.rows
     pub most : w claim ≤ 2 ^ 48
+    pub silent : w published ≡ terms.given
 
   -- the log: what was there at the start, what is claimed and published, each by a gateway that there is, and that all below processed stands
   pub record Logged (terms : Terms L) (w : ℕ → ℕ) (log : Log) : Type 0 where

@@ -2,6 +2,7 @@
 //! Every message goes through it: gateways put entries in, the stages read them.
 #![tactic(auto)]
 
+mod close;
 mod open;
 mod places;
 mod plays;
@@ -11,6 +12,7 @@ mod setup;
 mod steps;
 mod view;
 
+pub use close::Summary;
 pub use open::OpenError;
 pub use rings::{Ring, Rings};
 pub use seats::{GatewaySeat, ProcessSeat, Seats};

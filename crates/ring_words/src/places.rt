@@ -8,6 +8,8 @@ pub(crate) const CLAIM: usize = 8;
 pub(crate) const FIRST_OUTPUT_WORD: usize = 32;
 /// Behind the last of them.
 pub(crate) const OUTPUT_WORDS_END: usize = 112;
+/// The published word.
+pub(crate) const PUBLISHED: usize = 104;
 /// Where the rows begin.
 pub(crate) const FIRST_ROW: usize = 128;
 /// How many words an input row has.

@@ -2,7 +2,7 @@
 ghost use Rattle.ring_words.specs.Steps.{sees_claim, sees_processed, claims_next, stores_raw, marks_sent, sees_mark, sees_raw, moves_own};
 
 use crate::view::View;
-use atomic_table::{Play, Split};
+use atomic_table::{Join, Play, Split};
 
 pub(crate) struct SeeClaim;
 
@@ -61,4 +61,15 @@ impl<L> Split<View<L>> for Apart {
     ghost left = { others };
 
     ghost right = { apart };
+}
+
+/// One seat takes in the persons of another.
+pub(crate) struct Together;
+
+impl<L> Join<View<L>> for Together {
+    ghost use Rattle.ring_words.specs.Seats.{together, nobody};
+
+    ghost both = { together };
+
+    ghost spent = { nobody };
 }

@@ -29,4 +29,5 @@ pub struct Rings<L: Logic, const N: usize, const M: usize, const G: usize> {
     pub(crate) table: Table<(), View<L>, Setup<L>, Ring<L>, Global>,
     ghost rows: { (table.shared.key.rows ≡ N) × (table.shared.key.output_rows ≡ M) × (table.shared.key.gateways ≡ G) },
     ghost words: { (table.shared.table_id.words ≡ table_words N M) × (0 < N) × (N ≤ 4096) × (M ≤ 4096) },
+    ghost bare: { table.shared.table_id.slots ≡ 0 },
 }

@@ -1,0 +1,21 @@
+use Rattle.std.proofs.Common.{rules, ◌∙◌, sym, subst}
+use Rattle.ring_words.specs.Terms.{terms_of}
+use Rattle.ring_words.specs.Ending.{Ended}
+use Rattle.ring_words.proofs.Logs.{read_same}
+use Rattle.ring_words.proofs.Endings.{ends, own_is}
+use Rattle.ring_words.proofs.rings.Rings.close.Goals as goal
+
+pub returns-clause-commands : goal.returns-clause-commands
+returns-clause-commands g c = let final = c.close_with-closed.ensures.values.2 in let all = c.gather-all.result in let seats = c.args.seats in
+    read_same _ _ 0 c.word.result final.2 c.word.ensures
+    ∙ own_is (Unit {0}) (terms_of c.args.self.table.shared.key) final.0 final.1.0 all.id all.me.0 final.1.1
+    seats.gateways.items seats.process c.gather-all.ensures.all c.args.self.table.shared.table_id c.requires.gateways (search rules)
+
+pub returns-clause-outputs : goal.returns-clause-outputs
+returns-clause-outputs g c = let final = c.close_with-closed.ensures.values.2 in read_same _ _ 104 c.word-2.result final.2 c.word-2.ensures ∙ final.1.0.order.silent
+
+pub returns-clause-log : goal.returns-clause-log
+returns-clause-log g c = let final = c.close_with-closed.ensures.values.2 in let all = c.gather-all.result in let seats = c.args.seats in
+    subst (Ended c.args.self.table.shared.key.base.value.items seats.gateways.items seats.process) (sym (read_same _ _ 0 c.word.result final.2 c.word.ensures))
+    (ends (Unit {0}) (terms_of c.args.self.table.shared.key) final.0 final.1.0 all.id all.me.0 final.1.1
+    seats.gateways.items seats.process c.gather-all.ensures.all c.args.self.table.shared.table_id c.requires.gateways (search rules))

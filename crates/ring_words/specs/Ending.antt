@@ -1,0 +1,47 @@
+-- What the rings leave when all seats have come back.
+use Rattle.std.specs.Prelude.{◌≡◌, ℕ, ◌+◌, ◌≤◌, List, [], ◌∷◌, ◌==◌, cond, length, if◌then◌else◌, nat_lt}
+use mathlib.Core.Option.{Option, none, some}
+use lib.ListN.{get_elem?}
+use Rattle.atomic_table.specs.Seated.{TableId}
+use Rattle.venue_model.specs.History.{Message}
+use Rattle.ring_words.specs.declared.seats.GatewaySeat.{GatewaySeat}
+use Rattle.ring_words.specs.declared.seats.ProcessSeat.{ProcessSeat}
+use Rattle.ring_words.specs.Log.{sent_at}
+use Rattle.ring_words.specs.Rule.{IsGateway}
+use Rattle.ring_words.specs.Seats.{person}
+
+-- each entry of the history stands in the log at its place
+abbrev pub IsBeginning : List Message → List Message → Type 0
+IsBeginning h log = (s : ℕ) (e : Message) → get_elem? h s ≡ some e → get_elem? log s ≡ some e
+
+-- the message that stands there, if it is of this gateway
+abbrev pub of_gateway : ℕ → Option Message → List Message
+of_gateway k none = []
+of_gateway k (some e) = cond (e.gateway == k) (e ∷ []) []
+
+-- what this gateway published at s, by a log that begins with so many entries of the history at the start
+abbrev pub published_at : ℕ → ℕ → List Message → ℕ → List Message
+published_at start k log s = if nat_lt s start then [] else of_gateway k (get_elem? log s)
+
+module _ {L : Type 0} where
+  -- the seat of gateway k, which has no claim left
+  pub record IsSpent (table : TableId) (k : ℕ) (s : GatewaySeat L) : Type 0 where
+    pub at : s.seat.table_id ≡ table
+    pub number : s.number ≡ k
+    pub claims : (person s.seat.me.0).claims ≡ []
+
+  -- such seats, in the order of the numbers
+  abbrev pub AreSpent : TableId → List (GatewaySeat L) → Type 0
+  AreSpent table seats = (i : ℕ) (s : GatewaySeat L) → get_elem? seats i ≡ some s → IsSpent table (i + 1) s
+
+  -- one log tells of all: it begins with the history at the start; each later entry was published there by one gateway, and all that
+  -- a gateway published stands there; what anyone knew is a beginning of it, and so is what is processed
+  pub record Ended (base : List Message) (gateways : List (GatewaySeat L)) (process : ProcessSeat L) (commands : ℕ) : Type 0 where
+    pub log : List Message
+    pub begins : IsBeginning base log
+    pub later : (s : ℕ) (e : Message) → length base ≤ s → get_elem? log s ≡ some e → IsGateway (length gateways) e.gateway
+    pub mine : (i : ℕ) (g : GatewaySeat L) → get_elem? gateways i ≡ some g
+        → (s : ℕ) → sent_at s (person g.seat.me.0).mine ≡ published_at (length base) g.number log s
+    pub seen : (i : ℕ) (g : GatewaySeat L) → get_elem? gateways i ≡ some g → IsBeginning (person g.seat.me.0).seen log
+    pub known : IsBeginning (person process.seat.me.0).seen log
+    pub done : commands ≤ length log

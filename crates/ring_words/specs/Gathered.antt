@@ -1,0 +1,14 @@
+-- The seat that took in all others.
+use Rattle.std.specs.Prelude.{◌≡◌, ℕ, List}
+use mathlib.Core.Option.{some}
+use lib.ListN.{get_elem?}
+use Rattle.ring_words.specs.declared.view.View.{View}
+use Rattle.ring_words.specs.declared.seats.GatewaySeat.{GatewaySeat}
+use Rattle.ring_words.specs.declared.seats.ProcessSeat.{ProcessSeat}
+use Rattle.ring_words.specs.Seats.{person}
+
+module _ {L : Type 0} where
+  -- the view has the processor first, and the persons of all these gateways
+  pub record Gathers (gateways : List (GatewaySeat L)) (process : ProcessSeat L) (v : View L) : Type 0 where
+    pub processor : get_elem? v.people 0 ≡ some (person process.seat.me.0)
+    pub all : (i : ℕ) (g : GatewaySeat L) → get_elem? gateways i ≡ some g → (j : ℕ) × (get_elem? v.people j ≡ some (person g.seat.me.0))

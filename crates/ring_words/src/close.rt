@@ -1,0 +1,67 @@
+//! How the rings end: all seats come back, and the last words are read.
+ghost use Rattle.std.specs.Prelude.{◌≡◌, ◌+◌, ◌≤◌, ℕ, vec_len, length};
+ghost use mathlib.Core.Option.{some};
+ghost use lib.ListN.{get_elem?};
+ghost use Rattle.ring_words.specs.Seats.{person};
+ghost use Rattle.ring_words.specs.Ending.{AreSpent, Ended};
+ghost use Rattle.ring_words.specs.Gathered.{Gathers};
+
+use crate::places::{PROCESSED, PUBLISHED};
+use crate::plays::Together;
+use crate::rings::Rings;
+use crate::seats::{GatewaySeat, ProcessSeat, Seats};
+use crate::view::View;
+use atomic_table::Seat;
+use venue_model::Logic;
+
+/// What had been done when the rings were closed.
+#[derive(Clone, Copy, Debug, PartialEq, Eq)]
+pub struct Summary {
+    /// How many sequences were processed, with those of the history at the start.
+    pub commands: u64,
+    /// How many outputs were published, with those of the history at the start.
+    pub outputs: u64,
+}
+
+impl<L: Logic + Drop, const N: usize, const M: usize, const G: usize> Rings<L, N, M, G> {
+    /// The processor's seat takes in those of all gateways.
+    fn gather(
+        &self,
+        mut gateways: Vec<GatewaySeat<L>>,
+        process: ProcessSeat<L>,
+    ) -> Seat<(), View<L>>
+        requires process { process.seat.table_id ≡ self.now.table.shared.table_id }
+        requires gateways { AreSpent self.now.table.shared.table_id gateways.items }
+        ensures table { result.table_id ≡ self.now.table.shared.table_id }
+        ensures all { Gathers gateways.items process result.me.0 }
+    {
+        let ProcessSeat { seat: mut all, .. } = process;
+        while let Some(gateway) = gateways.pop() {
+            let GatewaySeat { seat, .. } = gateway;
+            self.table.shared.join_seat::<Together>(&mut all, seat);
+        }
+        all
+    }
+
+    /// Ends the rings, when all seats have come back and each claim is published. It loads the processed word once with
+    /// each gateway's seat.
+    pub fn close(self, seats: Seats<L>) -> Summary
+        requires process { seats.process.seat.table_id ≡ self.table.shared.table_id }
+        requires gateways { AreSpent self.table.shared.table_id seats.gateways.items }
+        requires count { vec_len seats.gateways ≡ G }
+        ensures commands { result.commands ≡ (person seats.process.seat.me.0).own }
+        ensures outputs { result.outputs ≡ self.table.shared.key.given }
+        ensures log { Ended self.table.shared.key.base.value.items seats.gateways.items seats.process result.commands }
+    {
+        let Seats { gateways, process } = seats;
+        let all = self.gather(gateways, process);
+        let Rings { table } = self;
+        let closed = table.close_with(all);
+        let summary = Summary {
+            commands: closed.word(PROCESSED),
+            outputs: closed.word(PUBLISHED),
+        };
+        closed.free();
+        summary
+    }
+}
