@@ -35,7 +35,7 @@ at_eight bs q (suc (suc (suc (suc (suc (suc (suc zero))))))) h = refl
 at_eight bs q (suc (suc (suc (suc (suc (suc (suc (suc j)))))))) h = absurd (omega arith)
 
 -- byte i of a message, in the word that has it
-byte_at : (bs : List ℕ) (i : ℕ) → get_or (eight bs (i / 8)) (i % 8) 0 ≡ get_or bs i 0
+pub byte_at : (bs : List ℕ) (i : ℕ) → get_or (eight bs (i / 8)) (i % 8) 0 ≡ get_or bs i 0
 byte_at bs i = at_eight bs (i / 8) (i % 8) (mod-lt i (let g : 0 < 8 = omega arith in g)) ∙ ap (λ (j : ℕ). get_or bs j 0) (let d = div-add-mod' i 8 in let q : ℕ = i / 8 in let r : ℕ = i % 8 in let d' : q * 8 + r ≡ i = d in let g : 8 * q + r ≡ i = omega arith in g)
 
 same_eight : (a b : List ℕ) (q : ℕ) → ((i : ℕ) → get_or a i 0 < 256) → ((i : ℕ) → get_or b i 0 < 256) → from_be_bytes w64 (eight a q) ≡ from_be_bytes w64 (eight b q) → eight a q ≡ eight b q

@@ -1,0 +1,129 @@
+-- The words of one message, and its bytes in the buffer.
+use Rattle.std.proofs.Common.{◌≡◌, ℕ, suc, ◌+◌, ◌-◌, ◌*◌, ◌/◌, ◌%◌, ◌<◌, ◌≤◌, List, [], ◌∷◌, ◌++◌, length, take, get_or, sym, ap, subst, ◌∙◌, arith, append_assoc, length-append, length-drop, drop}
+use Rattle.std.proofs.lemmas.List.{ext_get_or, get_or-take, get_or_append_left, get_or-append_right, length-take-le}
+use Rattle.std.proofs.lemmas.Slice.{take-put_mid}
+use Rattle.std.specs.Int.{div_ceil, to_be_bytes}
+use native.Mathlib.Decide.{dec_lt}
+use mathlib.Core.Option.{some, some-injective}
+use mir.Syntax.{w64}
+use lib.ListN.{get_elem?}
+use borrow.Rule.Slice.PartMut.{put_mid, post_of}
+use Rattle.venue_model.specs.History.{Message}
+use Rattle.ring_words.specs.declared.view.View.{View}
+use Rattle.ring_words.specs.declared.view.Load.{Load}
+use Rattle.ring_words.specs.Places.{in_row}
+use Rattle.ring_words.specs.Log.{IsEntry}
+use Rattle.ring_words.specs.Raw.{eight, raw_word, raw_count}
+use Rattle.ring_words.specs.Seats.{person, alone, load_of, looked}
+use Rattle.ring_words.proofs.Logs.{stands}
+use Rattle.ring_words.proofs.Raws.{word_bytes, byte_at}
+use Rattle.barrier.specs.declared.reading.Raw.{Raw}
+use Rattle.barrier.specs.Reading.{IsHead, Reads, word_loads, after_loads}
+
+-- gateway and length in word 0
+quotient : (x g l : ℕ) → x ≡ g * 65536 + l → l < 65536 → x / 65536 ≡ g
+quotient x g l is small = omega arith
+
+remainder : (x g l : ℕ) → x ≡ g * 65536 + l → l < 65536 → x % 65536 ≡ l
+remainder x g l is small = omega arith
+
+pub head_gateway : (e : Message) (x : ℕ) → (x ≡ raw_word e 0) × IsEntry e → x / 65536 ≡ e.gateway
+head_gateway e x h = let most = h.1.message.most in quotient x e.gateway (length e.bytes) h.0 (omega arith)
+
+pub head_len : (e : Message) (x : ℕ) → (x ≡ raw_word e 0) × IsEntry e → x % 65536 ≡ length e.bytes
+head_len e x h = let most = h.1.message.most in remainder x e.gateway (length e.bytes) h.0 (omega arith)
+
+-- each message has word 0
+pub has_head : (e : Message) → 0 < raw_count e
+has_head e = let k : ℕ = (length e.bytes + 7) / 8 in let g : 0 < suc k = omega arith in g
+
+-- the gateway that word 0 of a known sequence names is a byte
+pub head_fits : (seen : List Message) (s x : ℕ) → s < length seen
+    → ((e : Message) → get_elem? seen s ≡ some e → 0 < raw_count e → (x ≡ raw_word e 0) × IsEntry e) → x / 65536 < 256
+head_fits seen s x low h = let e = stands seen s low in let at = h e.0 e.1 (has_head e.0) in
+    let is = head_gateway e.0 x at in let most = at.1.message.to in omega arith
+
+-- one word more is loaded
+pub loads_more : {L : Type 0} (n : ℕ) (v u w : View L) (s : ℕ) (e : Message) (k m p x : ℕ)
+    → u ≡ alone v (after_loads n (person v) s e k) → w ≡ alone u (looked (person u) (in_row n s p) x)
+    → m ≡ suc k → p ≡ suc k → x ≡ raw_word e k → w ≡ alone v (after_loads n (person v) s e m)
+loads_more n v u w s e k m p x before after m_is p_is x_is =
+    subst (λ (y : View _). w ≡ alone y (looked (person y) (in_row n s p) x)) before after
+    ∙ ap (λ (l : List Load). alone v (record (person v) { loads = l })) (append_assoc (person v).loads (word_loads n s e k) _
+    ∙ ap (λ (l : Load). (person v).loads ++ (word_loads n s e k ++ l ∷ [])) (λ i. load_of (in_row n s (p_is i)) (x_is i))
+    ∙ ap (λ (j : ℕ). (person v).loads ++ word_loads n s e j) (sym m_is))
+
+-- loads leave what is seen
+pub still : {L : Type 0} (n : ℕ) (v u : View L) (s k : ℕ) (e : Message) → u ≡ alone v (after_loads n (person v) s e k)
+    → get_elem? (person v).seen s ≡ some e → get_elem? (person u).seen s ≡ some e
+still n v u s k e after at = subst (λ (y : View _). get_elem? (person y).seen s ≡ some e) (sym after) at
+
+-- what the message has of words that the loop reads
+pub in_message : (e : Message) (r : Raw) (i last : ℕ) → IsHead e r → last ≡ div_ceil r.len 8 → i < last → (i + 1 < raw_count e) × (8 * i + 8 ≤ 320)
+in_message e r i last h ends lt = let len = h.len in let most = h.entry.message.most in (omega arith, omega arith)
+
+-- eight bytes more are in the buffer
+pub bytes_more : (buf ys bs : List ℕ) (i k : ℕ) → length buf ≡ 320 → 8 * i + 8 ≤ 320
+    → ((j : ℕ) → j < 8 * i → get_or buf j 0 ≡ get_or bs j 0) → ys ≡ eight bs i
+    → (j : ℕ) → j < 8 * (i + 1) → get_or (put_mid (8 * i) k buf ys) j 0 ≡ get_or bs j 0
+bytes_more buf ys bs i k long fits before is j low =
+    sym (get_or-take (8 * (i + 1)) (put_mid (8 * i) k buf ys) j 0 low) ∙ ap (λ (l : List ℕ). get_or l j 0) front ∙ by_place (dec_lt j (8 * i)) where
+      eight_long : length ys ≡ 8
+      eight_long = ap (λ (l : List ℕ). length l) is
+
+      front : take (8 * (i + 1)) (put_mid (8 * i) k buf ys) ≡ take (8 * i) buf ++ ys
+      front = let eight_is = eight_long in take-put_mid (8 * i) k buf ys (8 * (i + 1)) (omega arith) (omega arith)
+
+      length_before : length (take (8 * i) buf) ≡ 8 * i
+      length_before = length-take-le (8 * i) buf (omega arith)
+
+      same_word : 8 * i ≤ j → eight bs i ≡ eight bs (j / 8)
+      same_word from = ap (eight bs) (let g : i ≡ j / 8 = omega arith in g)
+
+      same_place : 8 * i ≤ j → j - 8 * i ≡ j % 8
+      same_place from = omega arith
+
+      by_place : Dec (j < 8 * i) → get_or (take (8 * i) buf ++ ys) j 0 ≡ get_or bs j 0
+      by_place (yes lt) = let before_is = length_before in get_or_append_left (take (8 * i) buf) ys 0 j (omega arith) ∙ get_or-take (8 * i) buf j 0 lt ∙ before j lt
+      by_place (no ge) = let from : 8 * i ≤ j = omega arith in
+          get_or-append_right (take (8 * i) buf) ys (8 * i) j 0 length_before from
+          ∙ (λ h. get_or ((is ∙ same_word from) h) (same_place from h) 0) ∙ byte_at bs j
+
+-- the buffer keeps its length
+pub length_kept : (buf ys bs : List ℕ) (i k : ℕ) → length buf ≡ 320 → 8 * i + 8 ≤ 320 → ys ≡ eight bs i → k ≡ 8 → length (put_mid (8 * i) k buf ys) ≡ 320
+length_kept buf ys bs i k long fits is k_is =
+    let eight_long : length ys ≡ 8 = ap (λ (l : List ℕ). length l) is in
+    let before : length (take (8 * i) buf) ≡ 8 * i = length-take-le (8 * i) buf (omega arith) in
+    let behind : length (post_of (8 * i) k buf) ≡ length (drop (8 * i) buf) - k = length-drop k (drop (8 * i) buf) in
+    let from : length (drop (8 * i) buf) ≡ length buf - 8 * i = length-drop (8 * i) buf in
+    let both : length (ys ++ post_of (8 * i) k buf) ≡ length ys + length (post_of (8 * i) k buf) = length-append ys (post_of (8 * i) k buf) in
+    let whole : length (put_mid (8 * i) k buf ys) ≡ length (take (8 * i) buf) + length (ys ++ post_of (8 * i) k buf) = length-append (take (8 * i) buf) (ys ++ post_of (8 * i) k buf) in
+    omega arith
+
+-- the bytes of the word that was loaded
+pub loaded_bytes : (e : Message) (i x : ℕ) (ys zs : List ℕ) → (x ≡ raw_word e (i + 1)) × IsEntry e → zs ≡ to_be_bytes w64 x → ys ≡ zs → ys ≡ eight e.bytes i
+loaded_bytes e i x ys zs h z_is y_is = y_is ∙ z_is ∙ word_bytes e.bytes i x h.1.bytes (h.0 ∙ ap (raw_word e) (let g : i + 1 ≡ suc i = omega arith in g))
+
+-- the buffer has the whole message
+pub reads_whole : (e : Message) (r : Raw) (buf : List ℕ) (i last : ℕ) → IsHead e r → length buf ≡ 320 → last ≡ div_ceil r.len 8 → last ≤ i
+    → ((j : ℕ) → j < 8 * i → get_or buf j 0 ≡ get_or e.bytes j 0) → Reads e r buf
+reads_whole e r buf i last h long ends past same = record {
+  head = h;
+  bytes = ext_get_or 0 (take r.len buf) e.bytes (taken ∙ h.len) (λ j lt.
+      get_or-take r.len buf j 0 (subst (λ (k : ℕ). j < k) taken lt) ∙ same j (let below = subst (λ (k : ℕ). j < k) taken lt in omega arith));
+} where
+  taken : length (take r.len buf) ≡ r.len
+  taken = let len = h.len in let most = h.entry.message.most in length-take-le r.len buf (omega arith)
+
+-- all words of the message are loaded
+pub counted : (e : Message) (r : Raw) (i last : ℕ) → IsHead e r → last ≡ div_ceil r.len 8 → i ≤ last → last ≤ i → i + 1 ≡ raw_count e
+counted e r i last h ends le ge = let len = h.len in omega arith
+
+pub all_loaded : {L : Type 0} (n : ℕ) (v w : View L) (s k : ℕ) (d e : Message) → w ≡ alone v (after_loads n (person v) s d k)
+    → k ≡ raw_count d → d ≡ e → w ≡ alone v (after_loads n (person v) s e (raw_count e))
+all_loaded n v w s k d e after all same = after ∙ ap (λ (j : ℕ). alone v (after_loads n (person v) s d j)) all
+    ∙ ap (λ (m : Message). alone v (after_loads n (person v) s m (raw_count m))) same
+
+-- one entry stands at a sequence
+pub one_entry : (seen : List Message) (s : ℕ) (d e : Message) → get_elem? seen s ≡ some d → get_elem? seen s ≡ some e → d ≡ e
+one_entry seen s d e a b = some-injective d e (sym a ∙ b)

@@ -1,0 +1,30 @@
+-- What a look for new entries may find: which availability words it loads, with which values, and what the person knows behind it.
+use Rattle.std.specs.Prelude.{◌≡◌, ◌≢◌, ◌⊎◌, ℕ, zero, suc, ◌+◌, ◌<◌, ◌≤◌, List, [], ◌∷◌, ◌++◌, length}
+use mathlib.Core.Option.{some}
+use lib.ListN.{get_elem?}
+use Rattle.venue_model.specs.History.{Message}
+use Rattle.ring_words.specs.declared.view.Load.{Load}
+use Rattle.ring_words.specs.declared.view.Person.{Person}
+use Rattle.ring_words.specs.Places.{in_row}
+use Rattle.ring_words.specs.Log.{IsEntry}
+use Rattle.ring_words.specs.Seats.{load_of, looked}
+
+-- one load for each of the k sequences s, s + 1, .. in a ring of n rows: its availability word showed the sequence, as the sequence plus 1
+abbrev pub fresh : ℕ → ℕ → ℕ → List Load
+fresh n s zero = []
+fresh n s (suc k) = fresh n s k ++ load_of (in_row n (s + k) 0) (suc (s + k)) ∷ []
+
+-- each of these messages may stand in the log
+abbrev pub AreEntries : List Message → Type 0
+AreEntries h = (i : ℕ) (e : Message) → get_elem? h i ≡ some e → IsEntry e
+
+-- the person knows these entries more, for one load each that showed it
+abbrev pub grown : ℕ → Person → List Message → Person
+grown n v rest = record v { seen = v.seen ++ rest; loads = v.loads ++ fresh n (length v.seen) (length rest) }
+
+-- Some entries more are known, and the look ended there: a whole ring behind the own word is known, so that no row behind it can be published;
+-- or it isn't, and the next availability word was loaded too and didn't show its sequence.
+abbrev pub Ended : ℕ → Person → Person → Type 0
+Ended n v w = (rest : List Message) × AreEntries rest
+    × (((v.own + n ≤ length w.seen) × (w ≡ grown n v rest))
+    ⊎ ((length w.seen < v.own + n) × ((x : ℕ) × (x ≢ suc (length w.seen)) × (w ≡ looked (grown n v rest) (in_row n (length w.seen) 0) x))))

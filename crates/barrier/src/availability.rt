@@ -1,0 +1,27 @@
+//! How far a stage may read. What stands below is published, and stays in its row until the stage releases it.
+ghost use Rattle.std.specs.Prelude.{◌≡◌, length};
+ghost use Rattle.ring_words.specs.Seats.{person, alone};
+ghost use Rattle.barrier.specs.Availability.{Ended};
+
+use ring_words::{ProcessSeat, Rings};
+use venue_model::Logic;
+
+/// How many entries may be read: all sequences below it. Loads the availability words of the next sequences, up to the
+/// first that isn't published yet or until a whole ring is known (Disruptor paper, "Sequencing" and "Batching Effect").
+pub fn available<L: Logic, const N: usize, const M: usize, const G: usize>(
+    rings: &Rings<L, N, M, G>,
+    seat: &mut ProcessSeat<L>,
+) -> u64
+    requires table { seat.old.seat.table_id ≡ rings.now.table.shared.table_id }
+    ensures table { seat.new.seat.table_id ≡ seat.old.seat.table_id }
+    ensures known { result ≡ length (person seat.new.seat.me.0).seen }
+    ensures view { seat.new.seat.me.0 ≡ alone seat.old.seat.me.0 (person seat.new.seat.me.0) }
+    ensures shown { Ended N (person seat.old.seat.me.0) (person seat.new.seat.me.0) }
+{
+    for _ in seat.known()..seat.own() + N as u64 {
+        if !rings.load_availability(seat) {
+            return seat.known();
+        }
+    }
+    seat.known()
+}

@@ -1,0 +1,11 @@
+//! The barriers of the input ring: how a stage reads entries behind its gate and releases their rows.
+//! A message goes through here from the ring to its stage, after its gateway has published it.
+#![tactic(auto)]
+
+mod availability;
+mod reading;
+mod releasing;
+
+pub use availability::available;
+pub use reading::{Raw, read_raw};
+pub use releasing::release;

@@ -1,0 +1,67 @@
+//! How a stage reads the message of an entry that it knows, out of the entry's row.
+ghost use Rattle.std.specs.Prelude.{◌≡◌, ◌<◌, ◌≤◌, length};
+ghost use mathlib.Core.Option.{some};
+ghost use lib.ListN.{get_elem?};
+ghost use Rattle.venue_model.specs.History.{Message};
+ghost use Rattle.ring_words.specs.Raw.{raw_count};
+ghost use Rattle.ring_words.specs.Seats.{person, alone};
+ghost use Rattle.barrier.specs.Reading.{IsHead, Reads, after_loads};
+
+use ring_words::{ProcessSeat, Rings};
+use venue_model::Logic;
+
+/// Word 0 of a row is the gateway times this, plus the length of the message.
+const GATEWAY_UNIT: u64 = 65_536;
+
+/// Whose message was read, and its length in bytes: they stand at the front of the buffer.
+#[derive(Clone, Copy, Debug, PartialEq, Eq)]
+pub struct Raw {
+    /// 1 to 8.
+    pub gateway: u8,
+    /// 1 to 320.
+    pub len: usize,
+}
+
+/// Loads word 0 of the row.
+fn read_head<L: Logic, const N: usize, const M: usize, const G: usize>(
+    rings: &Rings<L, N, M, G>,
+    seat: &mut ProcessSeat<L>,
+    sequence: u64,
+) -> Raw
+    requires table { seat.old.seat.table_id ≡ rings.now.table.shared.table_id }
+    requires from { (person seat.old.seat.me.0).own ≤ sequence }
+    requires to { sequence < length (person seat.old.seat.me.0).seen }
+    ensures table { seat.new.seat.table_id ≡ seat.old.seat.table_id }
+    ensures view { (e : Message) → get_elem? (person seat.old.seat.me.0).seen sequence ≡ some e → seat.new.seat.me.0 ≡ alone seat.old.seat.me.0 (after_loads N (person seat.old.seat.me.0) sequence e 1) }
+    ensures head { (e : Message) → get_elem? (person seat.old.seat.me.0).seen sequence ≡ some e → IsHead e result }
+{
+    let word = rings.load_raw(seat, sequence, 0);
+    Raw {
+        gateway: (word / GATEWAY_UNIT) as u8,
+        len: (word % GATEWAY_UNIT) as usize,
+    }
+}
+
+/// Reads the message of a sequence that the seat knows and hasn't released into the front of the buffer. What stands
+/// behind the message is nobody's business.
+pub fn read_raw<L: Logic, const N: usize, const M: usize, const G: usize>(
+    rings: &Rings<L, N, M, G>,
+    seat: &mut ProcessSeat<L>,
+    sequence: u64,
+    buf: &mut [u8; 320],
+) -> Raw
+    requires table { seat.old.seat.table_id ≡ rings.now.table.shared.table_id }
+    requires from { (person seat.old.seat.me.0).own ≤ sequence }
+    requires to { sequence < length (person seat.old.seat.me.0).seen }
+    ensures table { seat.new.seat.table_id ≡ seat.old.seat.table_id }
+    ensures range { (1 ≤ result.gateway) × (result.gateway ≤ 8) × (1 ≤ result.len) × (result.len ≤ 320) }
+    ensures entry { (e : Message) → get_elem? (person seat.old.seat.me.0).seen sequence ≡ some e → Reads e result buf.new }
+    ensures view { (e : Message) → get_elem? (person seat.old.seat.me.0).seen sequence ≡ some e → seat.new.seat.me.0 ≡ alone seat.old.seat.me.0 (after_loads N (person seat.old.seat.me.0) sequence e (raw_count e)) }
+{
+    let raw = read_head(rings, seat, sequence);
+    for index in 0..raw.len.div_ceil(8) {
+        let word = rings.load_raw(seat, sequence, index + 1);
+        buf[8 * index..8 * index + 8].copy_from_slice(&word.to_be_bytes());
+    }
+    raw
+}
