@@ -1,0 +1,79 @@
+//! Claims of sequences: the first thing that a gateway does with a message for the venue.
+ghost use Rattle.std.specs.Prelude.{◌≡◌, ◌↔◌, ◌+◌, ◌^◌, ◌<◌, IfOk, IfErr, IsTrue};
+ghost use Rattle.ring_words.specs.Log.{times};
+ghost use Rattle.ring_words.specs.Seats.{person};
+ghost use Rattle.sequencer.specs.Claims.{Claimed, Refused};
+
+use ring_words::{GatewaySeat, Rings};
+use thiserror::Error;
+use venue_model::Logic;
+
+/// How many sequences there are.
+const SEQUENCES: u64 = 1 << 48;
+
+/// Why no sequence could be claimed. After each the seat's claims are as before.
+#[derive(Clone, Copy, Debug, PartialEq, Eq, Error)]
+pub enum ClaimRefusal {
+    /// 31: in this call the claim word, less the processed word, was the number of rows.
+    #[error("ring full")]
+    Full,
+    /// 32: the claim word had moved past the value that was loaded.
+    #[error("claim contended")]
+    Contended,
+    /// 33: the claim word was 2^48. This is tested first.
+    #[error("sequences exhausted")]
+    Exhausted,
+}
+
+/// A claimed sequence, below 2^48. It must be spent, by `publish`: the stages wait for its message, and only its gateway may
+/// put it there.
+pub struct Claim {
+    pub(crate) sequence: u64,
+    ghost small: { sequence < 2 ^ 48 },
+}
+
+impl Claim {
+    /// The sequence: the message's place in the history, from 0.
+    pub fn sequence(&self) -> u64
+        ensures value { result ≡ self.now.sequence }
+        ensures small { result < 2 ^ 48 }
+    {
+        self.sequence
+    }
+}
+
+/// Whether the sequence `at` has a free row in a ring of so many. The processed word was loaded after the claim word, so it may
+/// have passed `at`.
+fn has_room(at: u64, processed: u64, rows: u64) -> bool
+    ensures { IsTrue result ↔ (at < processed + rows) }
+{
+    at < processed || at - processed < rows
+}
+
+/// Tries once to claim the next sequence of the input ring for this gateway: the claim word is loaded, then the processed word,
+/// then the claim word is compared and exchanged (docs/RINGS.md, "The twenty kinds of step", 1 to 3).
+pub fn try_claim<L: Logic, const N: usize, const M: usize, const G: usize>(
+    rings: &Rings<L, N, M, G>,
+    seat: &mut GatewaySeat<L>,
+) -> Result<Claim, ClaimRefusal>
+    requires table { seat.old.seat.table_id ≡ rings.now.table.shared.table_id }
+    ensures table { seat.new.seat.table_id ≡ seat.old.seat.table_id }
+    ensures number { seat.new.number ≡ seat.old.number }
+    ensures claimed { IfOk result (λ claim. Claimed N seat.old.seat.me.0 claim.sequence seat.new.seat.me.0) }
+    ensures held { IfOk result (λ claim. 0 < times claim.sequence (person seat.new.seat.me.0).claims) }
+    ensures refused { IfErr result (λ refusal. Refused N seat.old.seat.me.0 refusal seat.new.seat.me.0) }
+{
+    let at = rings.load_claim(seat);
+    if at == SEQUENCES {
+        return Err(ClaimRefusal::Exhausted);
+    }
+    let processed = rings.load_processed(seat);
+    if !has_room(at, processed, N as u64) {
+        return Err(ClaimRefusal::Full);
+    }
+    let found = rings.exchange_claim(seat, at);
+    if found != at {
+        return Err(ClaimRefusal::Contended);
+    }
+    Ok(Claim { sequence: at })
+}

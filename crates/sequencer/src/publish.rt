@@ -1,0 +1,82 @@
+//! Publications: a gateway writes its message into the row that it claimed, and makes it available to the stages.
+ghost use Rattle.std.specs.Prelude.{◌≡◌, ◌*◌, ◌<◌, ◌≤◌, length};
+ghost use Rattle.std.specs.Int.{from_be_bytes};
+ghost use mir.Syntax.{w64};
+ghost use Rattle.ring_words.specs.Log.{times};
+ghost use Rattle.ring_words.specs.Raw.{eight};
+ghost use Rattle.ring_words.specs.Seats.{person, alone, marked};
+ghost use Rattle.sequencer.specs.Words.{wrote, words_of};
+
+use crate::claim::Claim;
+use ring_words::{GatewaySeat, Rings};
+use venue_model::Logic;
+
+/// The first word of a message is the gateway's number times this, plus the length in bytes.
+const GATEWAY: u64 = 65_536;
+
+/// The last word of a message, where fewer than eight bytes are left: they are filled up with zeros.
+fn padded(rest: &[u8]) -> u64
+    requires { length rest.now < 8 }
+    ensures { result ≡ from_be_bytes w64 (eight rest.now 0) }
+{
+    let mut word = [0; 8];
+    word[..rest.len()].copy_from_slice(rest);
+    u64::from_be_bytes(word)
+}
+
+/// The word `index` of these bytes, eight a word, big-endian.
+fn word_at(bytes: &[u8], index: usize) -> u64
+    requires { 8 * index < length bytes.now }
+    ensures { result ≡ from_be_bytes w64 (eight bytes.now index) }
+{
+    let rest = &bytes[8 * index..];
+    match rest.first_chunk() {
+        Some(whole) => u64::from_be_bytes(*whole),
+        None => padded(rest),
+    }
+}
+
+/// Stores all words of the message in the row of a sequence that the gateway claimed.
+fn store_words<L: Logic, const N: usize, const M: usize, const G: usize>(
+    rings: &Rings<L, N, M, G>,
+    seat: &mut GatewaySeat<L>,
+    sequence: u64,
+    bytes: &[u8],
+)
+    requires table { seat.old.seat.table_id ≡ rings.now.table.shared.table_id }
+    requires claimed { 0 < times sequence (person seat.old.seat.me.0).claims }
+    requires most { length bytes.now ≤ 320 }
+    ensures table { seat.new.seat.table_id ≡ seat.old.seat.table_id }
+    ensures number { seat.new.number ≡ seat.old.number }
+    ensures view { seat.new.seat.me.0 ≡ alone seat.old.seat.me.0 (wrote (person seat.old.seat.me.0) sequence (words_of (record { gateway = seat.old.number; bytes = bytes.now }))) }
+{
+    let head = seat.number() * GATEWAY + bytes.len() as u64;
+    rings.store_raw(seat, sequence, 0, head);
+    for index in 0..bytes.len().div_ceil(8) {
+        rings.store_raw(seat, sequence, index + 1, word_at(bytes, index));
+    }
+}
+
+impl Claim {
+    /// Publishes these bytes as the gateway's message at the claimed sequence, which it answers: first the words of the message,
+    /// then the availability word (docs/RINGS.md, "The twenty kinds of step", 4 and 5).
+    pub fn publish<L: Logic, const N: usize, const M: usize, const G: usize>(
+        self,
+        rings: &Rings<L, N, M, G>,
+        seat: &mut GatewaySeat<L>,
+        bytes: &[u8],
+    ) -> u64
+        requires table { seat.old.seat.table_id ≡ rings.now.table.shared.table_id }
+        requires claimed { 0 < times self.sequence (person seat.old.seat.me.0).claims }
+        requires bytes { (1 ≤ length bytes.now) × (length bytes.now ≤ 320) }
+        ensures sequence { result ≡ self.sequence }
+        ensures table { seat.new.seat.table_id ≡ seat.old.seat.table_id }
+        ensures number { seat.new.number ≡ seat.old.number }
+        ensures view { seat.new.seat.me.0 ≡ alone seat.old.seat.me.0 (marked (person seat.old.seat.me.0) self.sequence (record { gateway = seat.old.number; bytes = bytes.now })) }
+    {
+        let Claim { sequence } = self;
+        store_words(rings, seat, sequence, bytes);
+        rings.store_availability(seat, sequence);
+        sequence
+    }
+}
