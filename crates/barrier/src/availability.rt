@@ -6,7 +6,7 @@ ghost use Rattle.barrier.specs.Availability.{Ended};
 use ring_words::{ProcessSeat, Rings};
 use venue_model::Logic;
 
-/// How many entries may be read: all sequences below it. Loads the availability words of the next sequences, up to the
+/// How many entries the seat knows: it may read those from its own word on. Loads the availability words of the next sequences, up to the
 /// first that isn't published yet or until a whole ring is known (Disruptor paper, "Sequencing" and "Batching Effect").
 pub fn available<L: Logic, const N: usize, const M: usize, const G: usize>(
     rings: &Rings<L, N, M, G>,

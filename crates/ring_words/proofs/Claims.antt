@@ -100,7 +100,7 @@ module _ {L : Type 0} (S : Type 0) (terms : Terms L) where
       let log' : Log = record r.log { status = put status a (claimed k) } in
       let gateway : IsGateway terms.gateways k = subst (IsRole terms.gateways) role knows.role in let lo : 1 ≤ k = gateway.0 in
       after S terms s r ws' id me.0 p (with_claim (looked p claim a) a) at one refl (length-set ws 8 (a + 1)) log'
-      record { behind = omega arith; room = omega arith; most = omega arith; silent = word_else ws 8 104 (a + 1) (λ (e : 104 ≡ 8). omega arith) ∙ r.order.silent }
+      record { behind = omega arith; room = omega arith; most = omega arith; waiting = (word_else ws 8 16 (a + 1) (λ (e : 16 ≡ 8). omega arith) ∙ r.order.waiting.0, word_else ws 8 24 (a + 1) (λ (e : 24 ≡ 8). omega arith) ∙ r.order.waiting.1); silent = (word_else ws 8 32 (a + 1) (λ (e : 32 ≡ 8). omega arith) ∙ r.order.silent.0, word_else ws 8 104 (a + 1) (λ (e : 104 ≡ 8). omega arith) ∙ r.order.silent.1) }
       record {
         start = omega arith;
         based = λ t e there. (let early = within terms.base t e there in put_else status a t (claimed k) (λ (is : t ≡ a). omega arith) ∙ r.logged.based t e there);

@@ -18,6 +18,7 @@ use Rattle.ring_words.specs.Log.{Status, unclaimed, old, claimed, sent, Log, ent
 use Rattle.ring_words.specs.Terms.{Terms}
 use Rattle.ring_words.specs.Rule.{IsGateway, Knows, words_of, Lawful}
 use Rattle.ring_words.specs.Seats.{person, together}
+use Rattle.ring_words.specs.Crew.{AreFresh}
 use Rattle.ring_words.specs.Gathered.{Gathers}
 use Rattle.ring_words.specs.Ending.{of_gateway, published_at, AreSpent, Ended}
 use Rattle.ring_words.proofs.Logs.{stands, within, published_late}
@@ -135,7 +136,7 @@ module _ {L : Type 0} (S : Type 0) (terms : Terms L) (s : State S (View L)) (r :
   ends = record {
     log = whole;
     begins = λ t e there. same t ∙ ap entry_of (r.logged.based t e there);
-    later = λ t e late there. subst (λ (k : ℕ). IsGateway k e.gateway) (sym count) (r.logged.sender t e (published_late terms (words_of s) r.log t e r.logged (sym (same t) ∙ there) late)).1;
+    later = λ t e late there. (let sound = r.logged.sender t e (published_late terms (words_of s) r.log t e r.logged (sym (same t) ∙ there) late) in (sound.0, subst (λ (k : ℕ). IsGateway k e.gateway) (sym count) sound.1));
     mine = λ i g there t. (knows_of i g there).mine t ∙ ap (λ (k : ℕ). sends_of k (r.log.status t)) (number_is g) ∙ sends_are t g.number;
     seen = λ i g there t e at_t. same t ∙ (knows_of i g there).front t e at_t;
     known = λ t e at_t. same t ∙ knows_process.front t e at_t;
@@ -174,3 +175,7 @@ module _ {L : Type 0} (gs : List (GatewaySeat L)) (process : ProcessSeat L) wher
 
   pub gathers_all : (v : View L) → Gathering [] v → Gathers gs process v
   gathers_all v r = record { processor = r.processor; all = λ i g there. r.taken i g there (omega arith) }
+
+-- seats as they were opened have no claim
+pub fresh_spent : {L : Type 0} (table : TableId) (logic : L) (base : List Message) (given : ℕ) (seats : List (GatewaySeat L)) → AreFresh table logic base given seats → AreSpent table seats
+fresh_spent table logic base given seats fresh = λ i s there. (let new = fresh i s there in record { at = new.at; number = new.number; claims = ap (λ (v : View _). (person v).claims) new.view })

@@ -82,7 +82,7 @@ module _ {L : Type 0} (S : Type 0) (terms : Terms L) where
       let h = subst (λ (z : Role). PartOf terms.rows w r.log z p.part) role knows.part j there.0 there.1 in
       ap (λ (t : ℕ). w (in_row terms.rows t (j + 1))) (sym on_row) ∙ h.2 ∙ read_at p.part.words j there.0 there.1 ∙ spelled.each j few) in
       after S terms s r ws' id me.0 p (marked p a e) at one refl (length-set ws here (suc a)) log'
-      record { behind = omega arith; room = omega arith; most = omega arith; silent = control 104 (omega arith) ∙ r.order.silent }
+      record { behind = omega arith; room = omega arith; most = omega arith; waiting = (control 16 (omega arith) ∙ r.order.waiting.0, control 24 (omega arith) ∙ r.order.waiting.1); silent = (control 32 (omega arith) ∙ r.order.silent.0, control 104 (omega arith) ∙ r.order.silent.1) }
       record {
         start = omega arith;
         based = λ t d there. put_else status a t (sent e) (λ here_is. claimed_not_old k d (sym is ∙ ap status (sym here_is) ∙ r.logged.based t d there)) ∙ r.logged.based t d there;

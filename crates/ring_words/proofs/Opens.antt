@@ -121,7 +121,7 @@ module _ {L : Type 0} (S : Type 0) (terms : Terms L) where
         some_row = pos;
         few = few_gates;
         wide = wide;
-        order = record { behind = omega arith; room = omega arith; most = omega arith; silent = is 104 (omega arith) };
+        order = record { behind = omega arith; room = omega arith; most = omega arith; waiting = (is 16 (omega arith), is 24 (omega arith)); silent = (is 32 (omega arith), is 104 (omega arith)) };
         logged = record {
           start = omega arith;
           based = λ s e at. ap as_status at;

@@ -39,7 +39,7 @@ module _ {L : Type 0} (S : Type 0) (terms : Terms L) where
         keeps,
         tt,
         after S terms s r ws' id me.0 p (moved p x) at one refl (length-set ws 0 x) r.log
-            record { behind = omega arith; room = omega arith; most = omega arith; silent = word_else ws 0 104 x (λ (e : 104 ≡ 0). omega arith) ∙ r.order.silent }
+            record { behind = omega arith; room = omega arith; most = omega arith; waiting = (word_else ws 0 16 x (λ (e : 16 ≡ 0). omega arith) ∙ r.order.waiting.0, word_else ws 0 24 x (λ (e : 24 ≡ 0). omega arith) ∙ r.order.waiting.1); silent = (word_else ws 0 32 x (λ (e : 32 ≡ 0). omega arith) ∙ r.order.silent.0, word_else ws 0 104 x (λ (e : 104 ≡ 0). omega arith) ∙ r.order.silent.1) }
             record {
               start = omega arith;
               based = r.logged.based;

@@ -121,7 +121,7 @@ module _ {L : Type 0} (S : Type 0) (terms : Terms L) where
       let claim_is' : w' claim ≡ w claim = control claim (omega arith) in let zero_is : w' processed ≡ w processed = control processed (omega arith) in
       let order = r.order in let behind = order.behind in let room = order.room in let most = order.most in let start = r.logged.start in
       after S terms s r ws' id me.0 p (stored p a i x) at one refl (length-set ws here x) r.log
-      record { behind = omega arith; room = omega arith; most = omega arith; silent = control 104 (omega arith) ∙ r.order.silent }
+      record { behind = omega arith; room = omega arith; most = omega arith; waiting = (control 16 (omega arith) ∙ r.order.waiting.0, control 24 (omega arith) ∙ r.order.waiting.1); silent = (control 32 (omega arith) ∙ r.order.silent.0, control 104 (omega arith) ∙ r.order.silent.1) }
       record {
         start = omega arith;
         based = r.logged.based;

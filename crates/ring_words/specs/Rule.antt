@@ -11,7 +11,7 @@ use Rattle.ring_words.specs.declared.view.Load.{Load}
 use Rattle.ring_words.specs.declared.view.Part.{Part}
 use Rattle.ring_words.specs.declared.view.Person.{Person}
 use Rattle.ring_words.specs.declared.view.View.{View}
-use Rattle.ring_words.specs.Places.{processed, claim, published, first_row, in_row, table_words, place_of, number_of}
+use Rattle.ring_words.specs.Places.{processed, claim, unmarshalled, journalled, marshalled, published, first_row, in_row, table_words, place_of, number_of}
 use Rattle.ring_words.specs.Log.{IsEntry, unclaimed, old, claimed, sent, Log, entry_of, sends_of, claims_of, sent_at, times, IsFront}
 use Rattle.ring_words.specs.Raw.{raw_word, raw_count}
 use Rattle.ring_words.specs.Terms.{Terms}
@@ -20,6 +20,7 @@ use Rattle.ring_words.specs.Terms.{Terms}
 abbrev pub IsGateway : ℕ → ℕ → Type 0
 IsGateway g k = (1 ≤ k) × (k ≤ g)
 
+-- the role is one that there is among g gateways
 abbrev pub IsRole : ℕ → Role → Type 0
 IsRole g Process = Unit {0}
 IsRole g Unmarshal = Unit {0}
@@ -44,14 +45,16 @@ abbrev pub owners : ℕ → List Person → ℕ
 owners k [] = 0
 owners k (p ∷ ps) = cond (place_of p.role == k) (suc (owners k ps)) (owners k ps)
 
--- the persons at the start: the processor, and g gateways from number k on, whose counts of outputs are those given
+-- a person at the start: it knows this history and its own word
 abbrev pub newcomer : Role → List Message → ℕ → Person
 newcomer r base own = record { role = r; seen = base; own = own; mine = []; claims = []; loads = []; part = record { sequence = 0; words = [] } }
 
+-- g gateways from number k on, whose counts of outputs are those given
 abbrev pub gateways : ℕ → ℕ → List Message → ℕ → List Person
 gateways k zero base given = []
 gateways k (suc g) base given = newcomer (Gateway k) base given ∷ gateways (suc k) g base given
 
+-- all persons at the start: the processor and g gateways
 abbrev pub crew : ℕ → List Message → ℕ → List Person
 crew g base given = newcomer Process base (length base) ∷ gateways 1 g base given
 
@@ -60,12 +63,13 @@ abbrev pub opening_word : ℕ → ℕ → ℕ → ℕ
 opening_word start given i = if nat_lt i 32 then start else (if nat_lt i 112 then given else 0)
 
 module _ {L : Type 0} where
-  -- the order of the control words. No outputs are put so far
+  -- the order of the control words. So far unmarshaller and journaller wait, and no outputs are put
   pub record Ordered (terms : Terms L) (w : ℕ → ℕ) : Type 0 where
     pub behind : w processed ≤ w claim
     pub room : w claim ≤ w processed + terms.rows
     pub most : w claim ≤ 2 ^ 48
-    pub silent : w published ≡ terms.given
+    pub waiting : (w unmarshalled ≡ length terms.base) × (w journalled ≡ length terms.base)
+    pub silent : (w marshalled ≡ terms.given) × (w published ≡ terms.given)
 
   -- the log: what was there at the start, what is claimed and published, each by a gateway that there is, and that all below processed stands
   pub record Logged (terms : Terms L) (w : ℕ → ℕ) (log : Log) : Type 0 where
@@ -94,6 +98,7 @@ module _ {L : Type 0} where
     pub shown : (s : ℕ) (e : Message) → log.status s ≡ sent e → w claim ≤ s + terms.rows → w (in_row terms.rows s 0) ≡ suc s
     pub raw : (s : ℕ) (e : Message) → log.status s ≡ sent e → w claim ≤ s + terms.rows → (i : ℕ) → i < raw_count e → w (in_row terms.rows s (i + 1)) ≡ raw_word e i
 
+  -- how many persons of all views store the word at k
   abbrev pub all_owners : ℕ → List (View L) → ℕ
   all_owners k [] = 0
   all_owners k (v ∷ vs) = owners k v.people + all_owners k vs

@@ -139,7 +139,8 @@ impl<L: Logic + Drop, const N: usize, const M: usize, const G: usize> Rings<L, N
         requires given { given ≡ length (L.outputs logic base.now.items) }
         ensures sizes { IsOk result → IsTrue (ring_size N && ring_size M) }
         ensures bad { IsErrOf result OpenError.NotPowerOfTwo → IsFalse (ring_size N && ring_size M) }
-        ensures opened { IfOk result (λ r. (r.0.table.shared.key.logic ≡ logic) × (r.0.table.shared.key.base.value.items ≡ base.now.items)) }
+        ensures memory { IsErrOf result OpenError.Memory → IsTrue (ring_size N && ring_size M) }
+        ensures opened { IfOk result (λ r. (r.0.table.shared.key.logic ≡ logic) × (r.0.table.shared.key.base.value.items ≡ base.now.items) × (r.0.table.shared.key.given ≡ given)) }
         ensures count { IfOk result (λ r. vec_len r.1.gateways ≡ G) }
         ensures gateways { IfOk result (λ r. AreFresh r.0.table.shared.table_id logic base.now.items given r.1.gateways.items) }
         ensures process { IfOk result (λ r. IsFreshProcess r.0.table.shared.table_id logic base.now.items r.1.process) }

@@ -1,4 +1,4 @@
-//! The table under its rule.
+//! The table under its rule: each message goes through its words from a gateway to the processor.
 ghost use Rattle.std.specs.Prelude.{◌≡◌, ◌<◌, ◌≤◌};
 ghost use Rattle.ring_words.specs.Places.{table_words};
 
@@ -23,7 +23,7 @@ impl<L: Logic> TableRule<(), View<L>, Setup<L>> for Ring<L> {
     ghost first = { λ k. first_view (terms_of k) };
 }
 
-/// Both rings: `N` input rows and `M` output rows for `G` gateways.
+/// Both rings: `N` input rows and `M` output rows, powers of two from 2 to 4,096, for `G` gateways, 1 to 8.
 #[derive(Drop)]
 pub struct Rings<L: Logic, const N: usize, const M: usize, const G: usize> {
     pub(crate) table: Table<(), View<L>, Setup<L>, Ring<L>, Global>,

@@ -41,7 +41,7 @@ impl<L> GatewaySeat<L> {
 }
 
 impl<L> ProcessSeat<L> {
-    /// How many entries the processor knows: all sequences below may be read.
+    /// How many entries the processor knows: it may read those from its own word on.
     pub fn known(&self) -> u64
         ensures value { result ≡ length (person self.now.seat.me.0).seen }
         ensures most { result ≤ 2 ^ 48 }

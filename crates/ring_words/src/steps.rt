@@ -1,4 +1,4 @@
-//! The single steps, each a load, a store or a compare-exchange of one word.
+//! The single steps, each a load, a store or a compare-exchange of one word: `sequencer` and `barrier` make calls of them.
 ghost use Rattle.std.specs.Prelude.{◌≡◌, ◌≢◌, ℕ, suc, ◌<◌, ◌≤◌, ◌^◌, ◌+◌, length, IsTrue, IsFalse};
 ghost use mathlib.Core.Option.{some};
 ghost use lib.ListN.{get_elem?};

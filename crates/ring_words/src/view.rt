@@ -4,10 +4,15 @@ use venue_model::Entry;
 
 /// What a person is for. A gateway has its number, 1 to 8.
 pub enum Role {
+    /// The business processor.
     Process,
+    /// The unmarshaller.
     Unmarshal,
+    /// The journaller.
     Journal,
+    /// The marshaller.
     Marshal,
+    /// The gateway of this number.
     Gateway(u64),
 }
 

@@ -26,7 +26,7 @@ pub enum ClaimRefusal {
 }
 
 /// A claimed sequence, below 2^48. It must be spent, by `publish`: the stages wait for its message, and only its gateway may
-/// put it there.
+/// put it there. It can't be dropped, so a program that forgets one isn't accepted.
 pub struct Claim {
     pub(crate) sequence: u64,
     ghost small: { sequence < 2 ^ 48 },

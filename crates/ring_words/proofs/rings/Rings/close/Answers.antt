@@ -12,7 +12,7 @@ returns-clause-commands g c = let final = c.close_with-closed.ensures.values.2 i
     seats.gateways.items seats.process c.gather-all.ensures.all c.args.self.table.shared.table_id c.requires.gateways (search rules)
 
 pub returns-clause-outputs : goal.returns-clause-outputs
-returns-clause-outputs g c = let final = c.close_with-closed.ensures.values.2 in read_same _ _ 104 c.word-2.result final.2 c.word-2.ensures ∙ final.1.0.order.silent
+returns-clause-outputs g c = let final = c.close_with-closed.ensures.values.2 in read_same _ _ 104 c.word-2.result final.2 c.word-2.ensures ∙ final.1.0.order.silent.1
 
 pub returns-clause-log : goal.returns-clause-log
 returns-clause-log g c = let final = c.close_with-closed.ensures.values.2 in let all = c.gather-all.result in let seats = c.args.seats in
