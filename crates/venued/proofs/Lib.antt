@@ -17,3 +17,4 @@ pub mod FrameBytes
 pub mod HeaderLemmas
 pub mod HearingLemmas
 pub mod OneOrder
+pub mod OneDesks

@@ -19,5 +19,6 @@ pub mod Hears
 pub mod Messages
 pub mod Logons
 pub mod Headings
+pub mod InputRings
 pub mod OneOrder
 pub mod OrderDesks

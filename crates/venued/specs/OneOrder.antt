@@ -1,28 +1,23 @@
 -- What the fields of the desk of one order stand for, and what holds of them.
-use Rattle.std.specs.Prelude.{◌≡◌, ℕ, Bool, false, if◌then◌else◌, List, [], ◌∷◌, Option, None, Some}
-use Rattle.venue_model.specs.Requests.{Symbols}
+use Rattle.std.specs.Prelude.{◌≡◌, if◌then◌else◌}
+use Rattle.ring_words.specs.Seats.{person}
 use Rattle.venued.specs.declared.order_desk.OrderDesk.TheInside.{Inside}
-use Rattle.venued.specs.declared.order_desk.Published.{Published}
-use Rattle.venued.specs.OrderDesks.{OneDesk, IsOnlyOutput}
-
--- the messages published
-abbrev pub messages_of : Option Published → List (List ℕ)
-messages_of None = []
-messages_of (Some p) = p.entry.bytes ∷ []
+use Rattle.venued.specs.OrderDesks.{OneDesk, any_sent}
 
 abbrev pub one_desk : Inside → OneDesk
 one_desk d = record {
   symbols = d.limits.now;
-  published = messages_of d.published;
+  gateway = person d.gateway.seat.me.0;
+  processor = person d.process.seat.me.0;
   count = if d.taken then 1 else 0;
   refusals = d.refusals;
   nothings = d.nothings;
 }
 
--- nothing is taken before an order; the output that is kept is the only one of its history
-abbrev pub KeepsOutput : Symbols → Bool → Option Published → Type 0
-KeepsOutput symbols is_taken None = is_taken ≡ false
-KeepsOutput symbols is_taken (Some p) = IsOnlyOutput symbols p.entry.bytes p.output
-
-abbrev pub KeepsOrder : Inside → Type 0
-KeepsOrder d = KeepsOutput d.limits.now d.taken d.published
+-- both seats are at this table, and the gateway is the first; it is kept whether it published; what is processed is what was taken
+pub record KeepsOrder (d : Inside) : Type 0 where
+  pub gateway : d.gateway.seat.table_id ≡ d.rings.table.shared.table_id
+  pub process : d.process.seat.table_id ≡ d.rings.table.shared.table_id
+  pub number : d.gateway.number ≡ 1
+  pub published : d.published ≡ any_sent (person d.gateway.seat.me.0).mine
+  pub own : (person d.process.seat.me.0).own ≡ (if d.taken then 1 else 0)

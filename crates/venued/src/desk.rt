@@ -1,5 +1,5 @@
-//! The desk: where a session publishes what its client sent and takes what the venue has for it. The rings will
-//! stand behind this trait.
+//! The desk: where a session publishes what its client sent and takes what the venue has for it. The input ring
+//! stands behind this trait, and the output ring will.
 ghost use Rattle.std.specs.Prelude.{◌≡◌, ◌≤◌, length};
 ghost use Rattle.venued.specs.Desks.{Ledger, PublishTells, TakeTells};
 

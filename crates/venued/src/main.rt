@@ -10,12 +10,16 @@ mod flushing;
 mod gateway;
 mod hearing;
 mod input;
+mod input_ring;
 mod message;
 mod names;
 mod order_desk;
 mod refusal;
+#[cfg(test)]
+mod ring_tests;
 mod serve;
 mod session;
+mod silent;
 #[cfg(test)]
 mod tests;
 mod wire;

@@ -1,35 +1,37 @@
-//! The desk of this release, for the one client of gateway 1: it stands where the rings will, between a session that
-//! publishes an order and the same session that takes the report of it.
-ghost use Rattle.std.specs.Prelude.{◌≡◌, ◌≤◌, length, MatchOption, is_some, ⊤};
+//! The desk of this release, for the one client of gateway 1: a session's order goes into the input ring, and the desk reads it
+//! back, releases its row, and has the report of it for the same session.
+ghost use Rattle.std.specs.Prelude.{◌≡◌, ◌≤◌, length, IfOk, MatchOption, is_some, ⊤};
 ghost use Rattle.venue_model.specs.Step.{IsCommand};
+ghost use Rattle.ring_words.specs.Seats.{person};
 ghost use Rattle.fix_orders.specs.Reading.{reads};
 ghost use Rattle.fix_orders.specs.Text.{kind_of, text};
 ghost use Rattle.venued.specs.Desks.{type_text, Carries};
-ghost use Rattle.venued.specs.OrderDesks.{IsOnlyOutput, is_order, acknowledgement};
+ghost use Rattle.venued.specs.InputRings.{from_first};
+ghost use Rattle.venued.specs.OrderDesks.{IsOnlyOutput, Acknowledges, Finds, is_order, acknowledgement};
 
 use crate::desk::{Desk, Head, OutputType, Take, TryPublish};
+use crate::input_ring::{InputRings, open, publish, read_next};
+use crate::silent::Silent;
+use barrier::release;
 use fix_orders::{body_of, decode};
+use ring_words::{GatewaySeat, ProcessSeat};
+use std::alloc::{AllocError, Global};
 use std::marker::Model;
 use venue_model::{
-    Command, Entry, ExecType, ExecutionReport, Limits, NewOrderSingle, Order, Output, Report,
-    TimeInForce,
+    Command, ExecType, ExecutionReport, Limits, NewOrderSingle, Order, Output, Report, TimeInForce,
 };
 
 /// A desk for one order. Contracts see a `OneDesk`.
 #[derive(Drop)]
 pub struct OrderDesk<'a> {
     limits: &'a Limits,
-    published: Option<Published>,
+    rings: InputRings,
+    gateway: GatewaySeat<Silent>,
+    process: ProcessSeat<Silent>,
+    published: bool,
     taken: bool,
     refusals: u64,
     nothings: u64,
-}
-
-/// The entry that was published, and its one output.
-#[derive(Drop)]
-pub struct Published {
-    entry: Entry,
-    output: Output,
 }
 
 impl<'a> Model for OrderDesk<'a> {
@@ -47,23 +49,27 @@ impl<'a> Model for OrderDesk<'a> {
 impl<'a> OrderDesk<'a> {
     ghost use Rattle.venued.specs.OrderDesks.{unused};
 
-    /// A desk of a venue with these symbols. It takes no memory.
-    pub fn new(limits: &'a Limits) -> OrderDesk<'a>
-        ensures { result ≡ unused limits.now }
+    /// A desk of a venue with these symbols. All its room is made here.
+    pub fn new(alloc: Global, limits: &'a Limits) -> Result<OrderDesk<'a>, AllocError>
+        ensures { IfOk result (λ desk. desk ≡ unused limits.now) }
     {
-        OrderDesk {
+        let (rings, gateway, process) = open(alloc)?;
+        Ok(OrderDesk {
             limits,
-            published: None,
+            rings,
+            gateway,
+            process,
+            published: false,
             taken: false,
             refusals: 0,
             nothings: 0,
-        }
+        })
     }
 }
 
 impl<'a> Desk for OrderDesk<'a> {
     ghost use Rattle.venued.specs.Desks.{PublishTells, TakeTells};
-    ghost use Rattle.venued.specs.OrderDesks.{ledger_of, publish_answer, Acknowledges, HandsOn};
+    ghost use Rattle.venued.specs.OrderDesks.{ledger_of, Publishes, HandsOn};
 
     ghost ledger = { ledger_of };
 
@@ -72,40 +78,43 @@ impl<'a> Desk for OrderDesk<'a> {
         requires some { 1 ≤ length message.now }
         requires most { length message.now ≤ 320 }
         ensures tells { PublishTells (ledger_of self.old) (ledger_of self.new) message.now result }
-        ensures answer { result ≡ publish_answer self.old.symbols self.old.published message.now }
-        ensures due { Acknowledges self.new message.now result }
+        ensures answer { Publishes self.old self.new message.now result }
         ensures symbols { self.new.symbols ≡ self.old.symbols }
     {
-        let output = match &self.published {
-            None => first_output(self.limits, message),
-            Some(_) => None,
+        let wanted = !self.published && first_output(self.limits, message).is_some();
+        let answer = if wanted {
+            publish(&self.rings, &mut self.gateway, message)
+        } else {
+            TryPublish::Refused
         };
-        match output {
-            Some(output) => {
-                let entry = Entry::new(1, message);
-                self.published = Some(Published { entry, output });
-                TryPublish::Done
-            }
-            None => {
-                self.refusals = self.refusals.saturating_add(1);
-                TryPublish::Refused
-            }
+        if answer == TryPublish::Done {
+            self.published = true;
+        } else {
+            self.refusals = self.refusals.saturating_add(1);
         }
+        answer
     }
 
     /// Takes the output, once.
     fn take(&mut self, body: &mut [u8; 320]) -> Take
         ensures tells { TakeTells (ledger_of self.old) (ledger_of self.new) body.new result }
         ensures next { HandsOn self.old self.new body.new result }
+        ensures gateway { self.new.gateway ≡ self.old.gateway }
         ensures symbols { self.new.symbols ≡ self.old.symbols }
     {
-        match &self.published {
-            Some(published) if !self.taken => {
-                let head = write_body(&published.output, body);
+        let output = if self.taken {
+            None
+        } else {
+            next_output(&self.rings, &mut self.process, self.limits)
+        };
+        match output {
+            Some(output) => {
+                let next = self.process.own() + 1;
+                release(&self.rings, &mut self.process, next);
                 self.taken = true;
-                Take::Mine(head)
+                Take::Mine(write_body(&output, body))
             }
-            _ => {
+            None => {
                 self.nothings = self.nothings.saturating_add(1);
                 Take::Nothing
             }
@@ -113,12 +122,31 @@ impl<'a> Desk for OrderDesk<'a> {
     }
 }
 
+/// The one output of the entry at the processor's own word, where that is published and is a plain order through gateway 1.
+fn next_output(
+    rings: &InputRings,
+    seat: &mut ProcessSeat<Silent>,
+    limits: &Limits,
+) -> Option<Output>
+    requires table { seat.old.seat.table_id ≡ rings.now.table.shared.table_id }
+    ensures table { seat.new.seat.table_id ≡ seat.old.seat.table_id }
+    ensures found { Finds limits.now (person seat.old.seat.me.0) (person seat.new.seat.me.0) result }
+{
+    let mut message = [0; 320];
+    let raw = read_next(rings, seat, &mut message)?;
+    if raw.gateway == 1 {
+        first_output(limits, &message[..raw.len])
+    } else {
+        None
+    }
+}
+
 /// The one output of the history of this message alone, where it is a plain order.
 #[tactic(auto, using(crate::proofs::OneOrder::one_output))]
 fn first_output(limits: &Limits, message: &[u8]) -> Option<Output>
     ensures found { is_some result ≡ is_order limits.now message.now }
-    ensures meant { MatchOption result ⊤ (IsOnlyOutput limits.now message.now) }
-    ensures range { IsCommand (reads message.now) }
+    ensures meant { MatchOption result ⊤ (IsOnlyOutput limits.now (from_first message.now)) }
+    ensures acknowledges { MatchOption result ⊤ (Acknowledges message.now) }
 {
     let Command::New {
         sending_time,

@@ -36,7 +36,7 @@ fn take_turns<W: Wire>(
 ) -> Result<Option<Reason>, AllocError>
     ensures { IfErr result (λ _. W.tells wire.new ≡ W.tells wire.old) }
 {
-    let mut desk = OrderDesk::new(&words.limits);
+    let mut desk = OrderDesk::new(alloc, &words.limits)?;
     let mut gateway = Gateway::new(alloc, &words.limits, 1)?;
     gateway.begin();
     'turns: for _ in 0..u64::MAX {

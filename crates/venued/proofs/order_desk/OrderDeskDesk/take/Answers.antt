@@ -1,44 +1,29 @@
--- The output that is kept is the first that is due, and nothing is due behind it.
-use Rattle.std.proofs.Common.{subst, lit≤}
+-- What is taken is what the one output of the first entry says.
+use Rattle.std.proofs.Common.{◌≡◌, ◌+◌, refl, ap, subst, sym, ◌∙◌, lit≤}
 use Rattle.fix_orders.specs.Text.{text}
-use Rattle.venued.specs.OneOrder.{KeepsOutput}
-use Rattle.venued.proofs.OneOrder.{taken-after, due-before, due-after, none_due}
-use Rattle.venued.proofs.order_desk.OrderDeskDesk.take.Goals.{in_default-via-in-Some+else-not-self, in_default-via-in_default}
+use Rattle.ring_words.specs.Seats.{person, moved}
+use Rattle.venued.specs.OrderDesks.{Finds}
+use Rattle.venued.proofs.OneDesks.{taken_once}
+use Rattle.venued.proofs.order_desk.OrderDeskDesk.take.Goals.{then-self, else-self}
 use Rattle.venued.proofs.order_desk.OrderDeskDesk.take.Goals as goal
 
 pub returns-in-Some-clause-tells : goal.returns-in-Some-clause-tells
 returns-in-Some-clause-tells c =
-    let d = c.self.inside in
-    let p = c.in-Some.published in
-    let kept = subst (KeepsOutput d.limits.now d.taken) c.in-Some.is c.self.invariant in
-    rw (← c.self.view_is, c.in-Some.is, c.if-not-self.true) (
-      text p.output 0,
-      c.write_body-head.ensures,
-      lit≤ tt,
-      taken-after d.limits.now p.entry.bytes p.output kept d.refusals d.nothings,
-    )
-
-pub returns-in-Some-clause-next : goal.returns-in-Some-clause-next
-returns-in-Some-clause-next c =
-    let d = c.self.inside in
-    let p = c.in-Some.published in
-    let kept = subst (KeepsOutput d.limits.now d.taken) c.in-Some.is c.self.invariant in
-    rw (← c.self.view_is, c.in-Some.is, c.if-not-self.true) (
-      text p.output 0,
-      due-before d.limits.now p.entry.bytes p.output kept d.refusals d.nothings,
-      c.write_body-head.ensures,
-    )
-
-pub returns-in_default-clause-next : goal.returns-in_default-clause-next
-returns-in_default-clause-next c =
-    let d = c.self.inside in
-    elim c.in_default.branch [
-      | in_default-via-in-Some+else-not-self w ↦
-          let p = w.in-Some.published in
-          let kept = subst (KeepsOutput d.limits.now d.taken) w.in-Some.is c.self.invariant in
-          rw (← c.self.view_is, w.in-Some.is, w.if-not-self.false) (
-          due-after d.limits.now p.entry.bytes p.output kept d.refusals d.nothings)
-      | in_default-via-in_default w ↦
-          let untaken = subst (KeepsOutput d.limits.now d.taken) w.in_default.is c.self.invariant in
-          rw (← c.self.view_is, w.in_default.is, untaken) (none_due d.limits.now)
+    elim c.if-self.branch [
+      | then-self w ↦ let no = w.output-is in let yes = c.in-Some.is in cc
+      | else-self w ↦
+          let d = c.self.inside in
+          let symbols = d.limits.now in
+          let gateway = person d.gateway.seat.me.0 in
+          let before = person d.process.seat.me.0 in
+          let after = person c.release.new.seat.seat.me.0 in
+          let reader = person w.next_output-output.new.seat.seat.me.0 in
+          let output = c.in-Some.output in
+          let found = subst (Finds symbols before reader) (sym w.output-is ∙ c.in-Some.is) w.next_output-output.ensures.found in
+          let first : before.own ≡ 0 = rw w.if-self.false at c.self.invariant.own in
+          let own = rw w.self-inside-is at c.own-next.ensures.value in
+          let stored = rw w.self-inside-is at c.release.ensures.view in
+          let released : after ≡ moved reader (reader.own + 1) = ap person stored ∙ rw own refl in
+          let told = taken_once symbols gateway before after reader output d.refusals d.nothings first found released in
+          rw (← c.self.view_is, w.if-self.false, w.self-inside-is) (text output 0, c.write_body.ensures, lit≤ tt, told)
     ]
