@@ -18,3 +18,4 @@ pub mod HeaderLemmas
 pub mod HearingLemmas
 pub mod OneOrder
 pub mod OneDesks
+pub mod RingTests

@@ -5,15 +5,15 @@ ghost use mathlib.Core.Option.{some};
 ghost use lib.ListN.{get_elem?};
 ghost use Rattle.ring_words.specs.declared.seats.GatewaySeat.{GatewaySeat};
 ghost use Rattle.venued.specs.declared.silent.Silent.{Silent};
+ghost use Rattle.std.specs.Thread.{IsSync};
 
 use crate::silent::Silent;
 use barrier::{available, read_raw, release};
 use ring_words::{GatewaySeat, OpenError, ProcessSeat, Rings, Seats, Summary};
 use sequencer::{ClaimRefusal, try_claim};
-use std::alloc::{AllocError, Global};
 use std::test::Fail;
 use std::thread;
-use std::thread::Threads;
+use std::thread::{Threads, join};
 
 type Small = Rings<Silent, 4, 2, 4>;
 
@@ -126,28 +126,29 @@ impl<'a> Reader<'a> {
     }
 }
 
-/// What a thread does.
-#[derive(Drop)]
-enum Job<'a> {
-    Write(Writer<'a>),
-    Read(Reader<'a>),
+/// The next gateway's thread.
+fn next_writer<'a>(rings: &'a Small, gateways: &mut Vec<GatewaySeat<Silent>>) -> Option<Writer<'a>>
+    requires { (i : ℕ) (s : GatewaySeat Silent) → get_elem? gateways.old.items i ≡ some s → s.seat.table_id ≡ rings.now.table.shared.table_id }
+    ensures { (i : ℕ) (s : GatewaySeat Silent) → get_elem? gateways.new.items i ≡ some s → s.seat.table_id ≡ rings.now.table.shared.table_id }
+{
+    let seat = gateways.pop()?;
+    Some(Writer { rings, seat })
 }
 
-impl<'a> Job<'a> {
-    fn run(self) -> bool {
-        match self {
-            Job::Write(mut writer) => writer.run(),
-            Job::Read(mut reader) => reader.run(),
-        }
-    }
+/// Runs two gateways, each on a thread of its own, and says whether all went well.
+fn run_two<R: Threads>(rt: &R, mut one: Writer<'_>, mut other: Writer<'_>) -> bool {
+    let (one_well, other_well) = join(rt, move || one.run(), move || other.run());
+    one_well && other_well
 }
 
-/// The jobs of all seats.
-fn jobs<'a>(
-    alloc: Global,
-    rings: &'a Small,
-    seats: Seats<Silent>,
-) -> Result<Vec<Job<'a>>, AllocError>
+/// Runs a gateway and the reader, each on a thread of its own, and says whether all went well.
+fn run_with_reader<R: Threads>(rt: &R, mut writer: Writer<'_>, mut reader: Reader<'_>) -> bool {
+    let (wrote, read) = join(rt, move || writer.run(), move || reader.run());
+    wrote && read
+}
+
+/// Runs four gateways and the reader, each on a thread of its own, and says whether all went well.
+fn run_all<R: Threads + Sync>(rt: &R, rings: &Small, seats: Seats<Silent>) -> Option<bool>
     requires process { seats.process.seat.table_id ≡ rings.now.table.shared.table_id }
     requires gateways { (i : ℕ) (s : GatewaySeat Silent) → get_elem? seats.gateways.items i ≡ some s → s.seat.table_id ≡ rings.now.table.shared.table_id }
 {
@@ -155,31 +156,38 @@ fn jobs<'a>(
         mut gateways,
         process,
     } = seats;
-    let mut jobs = Vec::with_capacity(alloc, 5)?;
-    jobs.push(Job::Read(Reader {
+    let first = next_writer(rings, &mut gateways)?;
+    let second = next_writer(rings, &mut gateways)?;
+    let third = next_writer(rings, &mut gateways)?;
+    let mut fourth = next_writer(rings, &mut gateways)?;
+    let reader = Reader {
         rings,
         seat: process,
         counts: [0; 9],
-    }))?;
-    while let Some(seat) = gateways.pop() {
-        jobs.push(Job::Write(Writer { rings, seat }))?;
-    }
-    Ok(jobs)
-}
-
-/// Runs all jobs, each on a thread of its own, and says whether all went well.
-fn run_all<R: Threads + Sync>(rt: &R, jobs: Vec<Job<'_>>) -> Result<bool, AllocError> {
-    let went: Vec<bool> = thread::map_vec(rt, jobs, &|job: Job<'_>| job.run())?;
-    Ok(went.iter().all(|well| *well))
+    };
+    let (two_well, (one_well, rest_well)) = join(
+        rt,
+        move || -> bool
+            requires { IsSync R.row }
+        { run_two(rt, first, second) },
+        move || -> (bool, bool)
+            requires { IsSync R.row }
+        {
+            join(
+                rt,
+                move || fourth.run(),
+                move || run_with_reader(rt, third, reader),
+            )
+        },
+    );
+    Some(two_well && one_well && rest_well)
 }
 
 #[test]
 fn each_entry_once_and_whole(rt: HostRuntime) -> Result<(), Fail> {
     let base = Vec::new(rt.alloc());
     let (rings, seats) = Small::open(rt.alloc(), Silent, &base, 0)?;
-    let jobs = jobs(rt.alloc(), &rings, seats)?;
-    let went = run_all(&rt, jobs)?;
-    assert!(rt; went);
+    assert_eq!(rt; run_all(&rt, &rings, seats), Some(true));
     Ok(())
 }
 
