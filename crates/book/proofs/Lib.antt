@@ -23,6 +23,7 @@ mod LawCrossed
 mod LawOrderly
 mod LawTotals
 mod LawTraded
+pub mod LawStamps
 mod NextLemmas
 mod ListingLemmas
 mod ListedLemmas

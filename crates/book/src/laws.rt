@@ -13,7 +13,7 @@ ghost use Rattle.venue_model.specs.Orders.{leaves, is_live, crosses, ahead};
 ghost use Rattle.venue_model.specs.Match.{crossing, fill, settled, done, filled_orders, trades, can_fill, canceled_rest, matched, match_outputs};
 ghost use Rattle.venue_model.specs.Requests.{Symbols, State};
 ghost use Rattle.venue_model.specs.Step.{Request, step, state, outputs_from, outputs, requests};
-ghost use Rattle.book.specs.Standing.{Rising};
+ghost use Rattle.book.specs.Standing.{Rising, Below};
 ghost use Rattle.book.specs.Laws.{KeepsLimit, KeepsPrice, KeepsTotal, IsFromGateway, Pairwise, IsOrderly, IsUncrossed, quantity_traded, money_traded};
 
 /// What was told stays told: a history's outputs begin with the outputs of each of its beginnings, and each command
@@ -128,4 +128,12 @@ pub fn the_book_is_never_crossed()
 pub fn no_order_is_overfilled()
     ensures { (symbols : Symbols) (rs : List Request) → AllByRecursion IsFromGateway rs
         → AllByRecursion KeepsTotal (outputs symbols rs) }
+{}
+
+/// The stamp of a resting order is the sequence of a command of the history: after so many commands, or after a history of so
+/// many messages, all stamps are below their number. So the next command's sequence is behind them all.
+pub fn stamps_are_sequences()
+    ensures commands { (symbols : Symbols) (rs : List Request) → Below (length rs) (state symbols rs).orders }
+    ensures history { (symbols : Symbols) (h : History) →
+        Below (length h) (state symbols (requests (λ sequence m. reads m.bytes) h)).orders }
 {}
