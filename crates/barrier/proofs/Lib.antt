@@ -1,2 +1,4 @@
 pub mod Looks
+pub mod Gates
 pub mod Words
+pub mod CommandWords

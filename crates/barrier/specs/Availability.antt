@@ -5,9 +5,10 @@ use lib.ListN.{get_elem?}
 use Rattle.venue_model.specs.History.{Message}
 use Rattle.ring_words.specs.declared.view.Load.{Load}
 use Rattle.ring_words.specs.declared.view.Person.{Person}
-use Rattle.ring_words.specs.Places.{in_row}
+use Rattle.ring_words.specs.Places.{unmarshalled, journalled, in_row}
 use Rattle.ring_words.specs.Log.{IsEntry}
-use Rattle.ring_words.specs.Seats.{load_of, looked}
+use Rattle.ring_words.specs.Seats.{load_of, looked, knowing}
+use Rattle.ring_words.specs.Steps.{lesser}
 
 -- one load for each of the k sequences s, s + 1, .. in a ring of n rows: its availability word showed the sequence, as the sequence plus 1
 abbrev pub fresh : ℕ → ℕ → ℕ → List Load
@@ -28,3 +29,7 @@ abbrev pub Ended : ℕ → Person → Person → Type 0
 Ended n v w = (rest : List Message) × AreEntries rest
     × (((v.own + n ≤ length w.seen) × (w ≡ grown n v rest))
     ⊎ ((length w.seen < v.own + n) × ((x : ℕ) × (x ≢ suc (length w.seen)) × (w ≡ looked (grown n v rest) (in_row n (length w.seen) 0) x))))
+
+-- unmarshalled was loaded, then journalled, and as many entries are known as the lesser of both says
+abbrev pub Gated : Person → Person → Type 0
+Gated v w = (u j : ℕ) × ((rest : List Message) × (w ≡ knowing (looked (looked v unmarshalled u) journalled j) rest) × (length w.seen ≡ lesser u j))

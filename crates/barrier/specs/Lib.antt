@@ -1,2 +1,3 @@
 pub mod Availability
+pub mod Commands
 pub mod Reading

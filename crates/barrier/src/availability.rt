@@ -1,16 +1,16 @@
 //! How far a stage may read. What stands below is published, and stays in its row until the stage releases it.
 ghost use Rattle.std.specs.Prelude.{◌≡◌, length};
 ghost use Rattle.ring_words.specs.Seats.{person, alone};
-ghost use Rattle.barrier.specs.Availability.{Ended};
+ghost use Rattle.barrier.specs.Availability.{Ended, Gated};
 
-use ring_words::{ProcessSeat, Rings};
+use ring_words::{ProcessSeat, Reader, ReaderSeat, Rings};
 use venue_model::Logic;
 
-/// How many entries the seat knows: it may read those from its own word on. Loads the availability words of the next sequences, up to the
+/// How many entries the seat of unmarshaller or journaller knows: it may read those from its own word on. Loads the availability words of the next sequences, up to the
 /// first that isn't published yet or until a whole ring is known (Disruptor paper, "Sequencing" and "Batching Effect").
-pub fn available<L: Logic, const N: usize, const M: usize, const G: usize>(
+pub fn available<L: Logic, R: Reader, const N: usize, const M: usize, const G: usize>(
     rings: &Rings<L, N, M, G>,
-    seat: &mut ProcessSeat<L>,
+    seat: &mut ReaderSeat<L, R>,
 ) -> u64
     requires table { seat.old.seat.table_id ≡ rings.now.table.shared.table_id }
     ensures table { seat.new.seat.table_id ≡ seat.old.seat.table_id }
@@ -23,5 +23,22 @@ pub fn available<L: Logic, const N: usize, const M: usize, const G: usize>(
             return seat.known();
         }
     }
+    seat.known()
+}
+
+/// How many entries the processor knows: it may read the commands of those from its own word on. Loads the unmarshaller's word, then the journaller's, and answers
+/// the lesser.
+pub fn commands_available<L: Logic, const N: usize, const M: usize, const G: usize>(
+    rings: &Rings<L, N, M, G>,
+    seat: &mut ProcessSeat<L>,
+) -> u64
+    requires table { seat.old.seat.table_id ≡ rings.now.table.shared.table_id }
+    ensures table { seat.new.seat.table_id ≡ seat.old.seat.table_id }
+    ensures known { result ≡ length (person seat.new.seat.me.0).seen }
+    ensures view { seat.new.seat.me.0 ≡ alone seat.old.seat.me.0 (person seat.new.seat.me.0) }
+    ensures gated { Gated (person seat.old.seat.me.0) (person seat.new.seat.me.0) }
+{
+    rings.load_unmarshalled(seat);
+    rings.load_journalled(seat);
     seat.known()
 }

@@ -3,9 +3,11 @@
 #![tactic(auto)]
 
 mod availability;
+mod commands;
 mod reading;
 mod releasing;
 
-pub use availability::available;
+pub use availability::{available, commands_available};
+pub use commands::{read_command, write_command};
 pub use reading::{Raw, read_raw};
-pub use releasing::release;
+pub use releasing::{release, release_read, release_written};

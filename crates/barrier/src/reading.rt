@@ -7,7 +7,7 @@ ghost use Rattle.ring_words.specs.Raw.{raw_count};
 ghost use Rattle.ring_words.specs.Seats.{person, alone};
 ghost use Rattle.barrier.specs.Reading.{IsHead, Reads, after_loads};
 
-use ring_words::{ProcessSeat, Rings};
+use ring_words::{Reader, ReaderSeat, Rings};
 use venue_model::Logic;
 
 /// Word 0 of a row is the gateway times this, plus the length of the message.
@@ -23,9 +23,9 @@ pub struct Raw {
 }
 
 /// Loads word 0 of the row.
-fn read_head<L: Logic, const N: usize, const M: usize, const G: usize>(
+fn read_head<L: Logic, R: Reader, const N: usize, const M: usize, const G: usize>(
     rings: &Rings<L, N, M, G>,
-    seat: &mut ProcessSeat<L>,
+    seat: &mut ReaderSeat<L, R>,
     sequence: u64,
 ) -> Raw
     requires table { seat.old.seat.table_id ≡ rings.now.table.shared.table_id }
@@ -44,9 +44,9 @@ fn read_head<L: Logic, const N: usize, const M: usize, const G: usize>(
 
 /// Reads the message of a sequence that the seat knows and hasn't released into the front of the buffer. What stands
 /// behind the message is nobody's business.
-pub fn read_raw<L: Logic, const N: usize, const M: usize, const G: usize>(
+pub fn read_raw<L: Logic, R: Reader, const N: usize, const M: usize, const G: usize>(
     rings: &Rings<L, N, M, G>,
-    seat: &mut ProcessSeat<L>,
+    seat: &mut ReaderSeat<L, R>,
     sequence: u64,
     buf: &mut [u8; 320],
 ) -> Raw

@@ -11,16 +11,17 @@ use Rattle.ring_words.specs.declared.view.Role.{Role}
 use Rattle.ring_words.specs.declared.view.Role.TheVariants.{Process, Unmarshal, Journal, Marshal, Gateway}
 use Rattle.ring_words.specs.declared.view.Person.{Person}
 use Rattle.ring_words.specs.declared.view.View.{View}
-use Rattle.ring_words.specs.Places.{processed, claim, taken, first_row, in_row, place_of, number_of}
+use Rattle.ring_words.specs.Places.{processed, claim, unmarshalled, journalled, taken, first_row, in_row, place_of, number_of}
 use Rattle.ring_words.specs.Log.{IsEntry, Status, unclaimed, old, claimed, sent, Log, entry_of, sends_of, claims_of, sent_at, times}
 use Rattle.ring_words.specs.Raw.{raw_count, raw_word}
-use Rattle.ring_words.specs.Terms.{Terms}
+use Rattle.ring_words.specs.Packing.{IsPackable}
+use Rattle.ring_words.specs.Terms.{Terms, commands_of, command_of}
 use Rattle.ring_words.specs.Rule.{IsGateway, IsRole, PartOf, Knows, words_of, Lawful}
 use Rattle.ring_words.specs.Seats.{person, IsAlone, alone, looked, with_claim}
 use Rattle.ring_words.specs.Steps.{Seated, ClaimsUpTo, HasRoom, claims_next}
 use Rattle.ring_words.proofs.Windows.{no_control}
 use Rattle.ring_words.proofs.Puts.{put, put_else, by_put, word_here, word_else}
-use Rattle.ring_words.proofs.Logs.{within, knows_looked}
+use Rattle.ring_words.proofs.Logs.{within, depth_risen, knows_looked}
 use Rattle.ring_words.proofs.Keeps.{mine, after}
 use Rattle.ring_words.proofs.Stores.{risen}
 use Rattle.ring_words.proofs.Loads.{Goes, looks}
@@ -68,6 +69,7 @@ knows_claimed : {L : Type 0} (terms : Terms L) (w w' : ℕ → ℕ) (log : Log) 
 knows_claimed terms w w' log a k p free risen same is claims' counted r = record {
   role = r.role;
   front = λ s e at. by_put log.status a s (claimed k) (λ (x : Status). entry_of x ≡ some e) (λ here. absurd (nothing_there (log.status s) e (ap log.status here ∙ free) (r.front s e at))) (λ _. r.front s e at);
+  depth = depth_risen w w' risen p.role (length p.seen) r.depth;
   own = is ∙ r.own;
   mine = λ s. by_put log.status a s (claimed k) (λ (x : Status). sent_at s p.mine ≡ sends_of (number_of p.role) x) (λ here. r.mine s ∙ ap (sends_of (number_of p.role)) (ap log.status here ∙ free)) (λ _. r.mine s);
   claims = counted;
@@ -76,7 +78,7 @@ knows_claimed terms w w' log a k p free risen same is claims' counted r = record
 } where
   part_stays : (role : Role) → PartOf terms.rows w log role p.part → PartOf terms.rows w' (record log { status = put log.status a (claimed k) }) role p.part
   part_stays Process h = tt
-  part_stays Unmarshal h = tt
+  part_stays Unmarshal h = λ i x at. let t = h i x at in (t.0, same p.part.sequence (i + 48) ∙ t.1)
   part_stays Journal h = tt
   part_stays Marshal h = tt
   part_stays (Gateway j) h = λ i x at. let t = h i x at in (t.0, by_put log.status a p.part.sequence (claimed k) (λ (y : Status). y ≡ claimed j) (λ here. absurd (not_claimed j (sym t.1 ∙ ap log.status here ∙ free))) (λ _. t.1), same p.part.sequence (i + 1) ∙ t.2)
@@ -92,15 +94,16 @@ module _ {L : Type 0} (S : Type 0) (terms : Terms L) where
       let known = knows_looked terms w r.log p claim a (λ _. le_refl a) knows in
       let inside : 8 < length ws = (let v = r.wide in omega arith) in
       let here : w' claim ≡ a + 1 = word_here ws 8 (a + 1) inside in let zero_is : w' processed ≡ w processed = word_else ws 8 0 (a + 1) (λ (e : 0 ≡ 8). omega arith) in
+      let unmarshalled_is : w' unmarshalled ≡ w unmarshalled = word_else ws 8 16 (a + 1) (λ (e : 16 ≡ 8). omega arith) in let journalled_is : w' journalled ≡ w journalled = word_else ws 8 24 (a + 1) (λ (e : 24 ≡ 8). omega arith) in
       let same : (t i : ℕ) → w' (in_row terms.rows t i) ≡ w (in_row terms.rows t i) = λ t i. word_else ws 8 (in_row terms.rows t i) (a + 1) (no_control terms.rows t i 8 (omega arith)) in
       let rises : (i : ℕ) → i < first_row → w i ≤ w' i = λ i _. risen ws 8 (a + 1) i inside (let g : a ≤ a + 1 = omega arith in g) in
-      let order = r.order in let behind = order.behind in let start = r.logged.start in
+      let order = r.order in let first = order.processed_unmarshalled in let second = order.processed_journalled in let third = order.unmarshalled_claimed in let fourth = order.journalled_claimed in let start = r.logged.start in
       let seen_room : a + 1 ≤ w processed + terms.rows = (let l = room.1.0 in let low : l.value ≤ w processed = subst (λ (i : ℕ). l.value ≤ w i) room.1.2 (knows.loads room.0 l room.1.1 (let i : ℕ = l.place in let i_is : i ≡ 0 = room.1.2 in omega arith)) in let lt = room.1.3 in omega arith) in
       let status : ℕ → Status = r.log.status in let free : status a ≡ unclaimed = r.logged.ahead a (le_refl a) in
       let log' : Log = record r.log { status = put status a (claimed k) } in
       let gateway : IsGateway terms.gateways k = subst (IsRole terms.gateways) role knows.role in let lo : 1 ≤ k = gateway.0 in
       after S terms s r ws' id me.0 p (with_claim (looked p claim a) a) at one refl (length-set ws 8 (a + 1)) log'
-      record { behind = omega arith; room = omega arith; most = omega arith; waiting = (word_else ws 8 16 (a + 1) (λ (e : 16 ≡ 8). omega arith) ∙ r.order.waiting.0, word_else ws 8 24 (a + 1) (λ (e : 24 ≡ 8). omega arith) ∙ r.order.waiting.1); silent = (word_else ws 8 32 (a + 1) (λ (e : 32 ≡ 8). omega arith) ∙ r.order.silent.0, word_else ws 8 104 (a + 1) (λ (e : 104 ≡ 8). omega arith) ∙ r.order.silent.1) }
+      record { processed_unmarshalled = omega arith; processed_journalled = omega arith; unmarshalled_claimed = omega arith; journalled_claimed = omega arith; room = omega arith; most = omega arith; silent = (word_else ws 8 32 (a + 1) (λ (e : 32 ≡ 8). omega arith) ∙ r.order.silent.0, word_else ws 8 104 (a + 1) (λ (e : 104 ≡ 8). omega arith) ∙ r.order.silent.1) }
       record {
         start = omega arith;
         based = λ t e there. (let early = within terms.base t e there in put_else status a t (claimed k) (λ (is : t ≡ a). omega arith) ∙ r.logged.based t e there);
@@ -109,7 +112,9 @@ module _ {L : Type 0} (S : Type 0) (terms : Terms L) where
         sender = λ t e. by_put status a t (claimed k) (λ (x : Status). x ≡ sent e → IsEntry e × IsGateway terms.gateways e.gateway) (λ _ is. absurd (claimed_not_sent k e is)) (λ _ is. r.logged.sender t e is);
         ahead = λ t le. (let later : a + 1 ≤ t = subst (λ (y : ℕ). y ≤ t) here le in put_else status a t (claimed k) (λ (is : t ≡ a). omega arith) ∙ r.logged.ahead t (let g : a ≤ t = omega arith in g));
         somebodys = λ t lt. by_put status a t (claimed k) (λ (x : Status). x ≢ unclaimed) (λ _. not_claimed k) (λ (ne : t ≢ a). r.logged.somebodys t (let below : t < a + 1 = subst (λ (y : ℕ). t < y) here lt in let g : t < a = omega arith in g));
-        done = λ t lt. (let below : t < w processed = subst (λ (y : ℕ). t < y) zero_is lt in let e = r.logged.done t below in
+        kept = λ t lt. (let below : t < w journalled = subst (λ (y : ℕ). t < y) journalled_is lt in let e = r.logged.kept t below in
+            (e.0, ap entry_of (put_else status a t (claimed k) (λ (is : t ≡ a). omega arith)) ∙ e.1));
+        done = λ t lt. (let below : t < w unmarshalled = subst (λ (y : ℕ). t < y) unmarshalled_is lt in let e = r.logged.done t below in
             (e.0, ap entry_of (put_else status a t (claimed k) (λ (is : t ≡ a). omega arith)) ∙ e.1));
       }
       record {
@@ -121,6 +126,12 @@ module _ {L : Type 0} (S : Type 0) (terms : Terms L) where
         raw = λ t e. by_put status a t (claimed k) (λ (x : Status). x ≡ sent e → w' claim ≤ t + terms.rows → (i : ℕ) → i < raw_count e → w' (in_row terms.rows t (i + 1)) ≡ raw_word e i)
             (λ _ is. absurd (claimed_not_sent k e is))
             (λ _ is le i few. same t (i + 1) ∙ r.rows.raw t e is (let reach : a + 1 ≤ t + terms.rows = subst (λ (y : ℕ). y ≤ t + terms.rows) here le in let g : a ≤ t + terms.rows = omega arith in g) i few);
+        packable = λ t e. by_put status a t (claimed k) (λ (x : Status). x ≡ sent e → t < w' unmarshalled → IsPackable e.gateway (command_of terms t e)) (λ _ is. absurd (claimed_not_sent k e is))
+            (λ _ is below. r.rows.packable t e is (subst (λ (y : ℕ). t < y) unmarshalled_is below));
+        commands = λ t e. by_put status a t (claimed k) (λ (x : Status). x ≡ sent e → t < w' unmarshalled → w' claim ≤ t + terms.rows → (i x : ℕ) → get_elem? (commands_of terms t e) i ≡ some x → w' (in_row terms.rows t (i + 48)) ≡ x)
+            (λ _ is. absurd (claimed_not_sent k e is))
+            (λ _ is below le i x there. same t (i + 48) ∙ r.rows.commands t e is (subst (λ (y : ℕ). t < y) unmarshalled_is below)
+            (let reach : a + 1 ≤ t + terms.rows = subst (λ (y : ℕ). y ≤ t + terms.rows) here le in let g : a ≤ t + terms.rows = omega arith in g) i x there);
       }
       (knows_claimed terms w w' r.log a k (looked p claim a) free rises same (ap (λ (z : Role). w' (place_of z)) role ∙ word_else ws 8 (taken k) (a + 1) (λ (e : 32 + 8 * k ≡ 8). omega arith) ∙ sym (ap (λ (z : Role). w (place_of z)) role))
       (a ∷ p.claims)

@@ -9,10 +9,10 @@ use Rattle.atomic_table.specs.Seated.{TableId}
 use Rattle.atomic_table.proofs.Lists.{at_longer, at_last}
 use Rattle.venue_model.specs.History.{Message}
 use Rattle.ring_words.specs.declared.view.Role.{Role}
+use Rattle.ring_words.specs.declared.view.Role.TheVariants.{Process}
 use Rattle.ring_words.specs.declared.view.Person.{Person}
 use Rattle.ring_words.specs.declared.view.View.{View}
 use Rattle.ring_words.specs.declared.seats.GatewaySeat.{GatewaySeat}
-use Rattle.ring_words.specs.declared.seats.ProcessSeat.{ProcessSeat}
 use Rattle.ring_words.specs.Places.{processed, claim, place_of, number_of}
 use Rattle.ring_words.specs.Log.{Status, unclaimed, old, claimed, sent, Log, entry_of, sends_of, claims_of, times}
 use Rattle.ring_words.specs.Terms.{Terms}
@@ -67,12 +67,12 @@ begins_with [] p at = absurd (some-ne-none p (sym at))
 begins_with (q ∷ ps) p at = ap (λ (x : Person). x ∷ ps) (some-injective q p at)
 
 module _ {L : Type 0} (S : Type 0) (terms : Terms L) (s : State S (View L)) (r : Lawful S terms s) (id : ℕ) (v : View L) (at : get_elem? s.views id ≡ some v)
-    (gs : List (GatewaySeat L)) (process : ProcessSeat L) (all : Gathers gs process v) (table : TableId) (spent : AreSpent table gs) (count : length gs ≡ terms.gateways) where
+    (gs : List (GatewaySeat L)) (stages : List Person) (all : Gathers gs stages v) (table : TableId) (spent : AreSpent table gs) (count : length gs ≡ terms.gateways) where
   knows_of : (i : ℕ) (g : GatewaySeat L) → get_elem? gs i ≡ some g → Knows terms (words_of s) r.log (person g.seat.me.0)
   knows_of i g there = let found = all.all i g there in (r.people id found.0 v (person g.seat.me.0) at found.1).2
 
-  knows_process : Knows terms (words_of s) r.log (person process.seat.me.0)
-  knows_process = (r.people id 0 v (person process.seat.me.0) at all.processor).2
+  knows_stage : (j : ℕ) (p : Person) → get_elem? stages j ≡ some p → Knows terms (words_of s) r.log p
+  knows_stage j p there = (r.people id j v p at (all.stage j p there)).2
 
   number_is : (g : GatewaySeat L) → number_of (person g.seat.me.0).role ≡ g.number
   number_is g = ap number_of g.role
@@ -132,38 +132,38 @@ module _ {L : Type 0} (S : Type 0) (terms : Terms L) (s : State S (View L)) (r :
     by_place (no gt) = let early : t < length terms.base = omega arith in
         sends_early t k early ∙ sym (cond-true (ltb t (length terms.base)) [] (of_gateway k (get_elem? whole t)) (lt-ltb t (length terms.base) early))
 
-  pub ends : Ended terms.base gs process (words_of s processed)
+  pub ends : Ended terms.base gs stages (words_of s processed)
   ends = record {
     log = whole;
     begins = λ t e there. same t ∙ ap entry_of (r.logged.based t e there);
     later = λ t e late there. (let sound = r.logged.sender t e (published_late terms (words_of s) r.log t e r.logged (sym (same t) ∙ there) late) in (sound.0, subst (λ (k : ℕ). IsGateway k e.gateway) (sym count) sound.1));
     mine = λ i g there t. (knows_of i g there).mine t ∙ ap (λ (k : ℕ). sends_of k (r.log.status t)) (number_is g) ∙ sends_are t g.number;
     seen = λ i g there t e at_t. same t ∙ (knows_of i g there).front t e at_t;
-    known = λ t e at_t. same t ∙ knows_process.front t e at_t;
-    done = (let l : length whole ≡ words_of s claim = long in let behind = r.order.behind in omega arith);
+    known = λ j p there t e at_t. same t ∙ (knows_stage j p there).front t e at_t;
+    done = (let l : length whole ≡ words_of s claim = long in let first = r.order.processed_unmarshalled in let second = r.order.unmarshalled_claimed in omega arith);
   }
 
-  pub own_is : words_of s processed ≡ (person process.seat.me.0).own
-  own_is = ap (λ (z : Role). words_of s (place_of z)) (sym process.role) ∙ knows_process.own
+  pub own_is : (p : Person) → get_elem? stages 0 ≡ some p → p.role ≡ Process → words_of s processed ≡ p.own
+  own_is p there role = ap (λ (z : Role). words_of s (place_of z)) (sym role) ∙ (knows_stage 0 p there).own
 
-module _ {L : Type 0} (gs : List (GatewaySeat L)) (process : ProcessSeat L) where
+module _ {L : Type 0} (gs : List (GatewaySeat L)) (stages : List Person) where
   -- those behind the first `left` have been taken in
   pub record Gathering (left : List (GatewaySeat L)) (v : View L) : Type 0 where
     pub others : (i : ℕ) (g : GatewaySeat L) → get_elem? left i ≡ some g → get_elem? gs i ≡ some g
-    pub processor : get_elem? v.people 0 ≡ some (person process.seat.me.0)
+    pub stage : (j : ℕ) (p : Person) → get_elem? stages j ≡ some p → get_elem? v.people j ≡ some p
     pub taken : (i : ℕ) (g : GatewaySeat L) → get_elem? gs i ≡ some g → length left ≤ i → (j : ℕ) × (get_elem? v.people j ≡ some (person g.seat.me.0))
 
-  pub gathers_none : (v : View L) → get_elem? v.people 0 ≡ some (person process.seat.me.0) → Gathering gs v
-  gathers_none v at = record {
+  pub gathers_none : (v : View L) → v.people ≡ stages → Gathering gs v
+  gathers_none v is = record {
     others = λ i g there. there;
-    processor = at;
+    stage = λ j p there. ap (λ (ps : List Person). get_elem? ps j) is ∙ there;
     taken = λ i g there late. (let below = within gs i g there in absurd (omega arith));
   }
 
   pub gathers_one : (left : List (GatewaySeat L)) (x : GatewaySeat L) (v : View L) → Gathering (left ++ x ∷ []) v → Gathering left (together v x.seat.me.0)
   gathers_one left x v r = record {
     others = λ i g there. r.others i g (at_longer left (x ∷ []) i g there);
-    processor = at_longer v.people x.seat.me.0.people 0 (person process.seat.me.0) r.processor;
+    stage = λ j p there. at_longer v.people x.seat.me.0.people j p (r.stage j p there);
     taken = λ i g there late. by_place i g there (ℕ_discrete i (length left)) late;
   } where
     by_place : (i : ℕ) (g : GatewaySeat L) → get_elem? gs i ≡ some g → Dec (i ≡ length left) → length left ≤ i → (j : ℕ) × (get_elem? (v.people ++ x.seat.me.0.people) j ≡ some (person g.seat.me.0))
@@ -173,8 +173,8 @@ module _ {L : Type 0} (gs : List (GatewaySeat L)) (process : ProcessSeat L) wher
     by_place i g there (no ne) late = let more = length-append left (x ∷ []) in let found = r.taken i g there (omega arith) in
         (found.0, at_longer v.people x.seat.me.0.people found.0 (person g.seat.me.0) found.1)
 
-  pub gathers_all : (v : View L) → Gathering [] v → Gathers gs process v
-  gathers_all v r = record { processor = r.processor; all = λ i g there. r.taken i g there (omega arith) }
+  pub gathers_all : (v : View L) → Gathering [] v → Gathers gs stages v
+  gathers_all v r = record { stage = r.stage; all = λ i g there. r.taken i g there (omega arith) }
 
 -- seats as they were opened have no claim
 pub fresh_spent : {L : Type 0} (table : TableId) (logic : L) (base : List Message) (given : ℕ) (seats : List (GatewaySeat L)) → AreFresh table logic base given seats → AreSpent table seats

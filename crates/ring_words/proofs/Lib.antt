@@ -10,8 +10,10 @@ pub mod Writes
 pub mod Becomes
 pub mod Raws
 pub mod Marks
+pub mod Commands
 pub mod Joins
 pub mod Views
 pub mod Opens
 pub mod Crews
 pub mod Endings
+pub mod Packings

@@ -5,15 +5,18 @@ use native.Mathlib.Decide.{dec_le}
 use lib.ListN.{get_elem?}
 use Rattle.atomic_table.proofs.Lists.{at_snoc}
 use Rattle.venue_model.specs.History.{Message}
+use Rattle.venue_model.specs.declared.commands.Command.{Command}
+use Rattle.venue_model.specs.declared.commands.Command.TheVariants.{New, Cancel, Replace, Malformed, Void}
 use Rattle.ring_words.specs.declared.view.Load.{Load}
 use Rattle.ring_words.specs.declared.view.Role.{Role}
 use Rattle.ring_words.specs.declared.view.Role.TheVariants.{Process, Unmarshal, Journal, Marshal, Gateway}
 use Rattle.ring_words.specs.declared.view.Person.{Person}
-use Rattle.ring_words.specs.Places.{claim, first_row, in_row, place_of}
+use Rattle.ring_words.specs.Places.{claim, unmarshalled, journalled, first_row, in_row, place_of}
 use Rattle.ring_words.specs.Log.{Status, unclaimed, old, claimed, sent, Log, entry_of, IsFront}
+use Rattle.ring_words.specs.Packing.{command_words}
 use Rattle.ring_words.specs.Terms.{Terms}
-use Rattle.ring_words.specs.Rule.{Logged, Knows, PartOf}
-use Rattle.ring_words.specs.Seats.{load_of, looked, saw, moved}
+use Rattle.ring_words.specs.Rule.{Depth, Logged, Knows, PartOf}
+use Rattle.ring_words.specs.Seats.{load_of, looked, saw, knowing, moved}
 
 -- something stands at each place of a list
 pub stands : {A : Type 0} (l : List A) (i : ℕ) → i < length l → (a : A) × (get_elem? l i ≡ some a)
@@ -49,6 +52,26 @@ old_or_sent (old d) e is = inl (ap old (some-injective d e is))
 old_or_sent (claimed k) e is = absurd (some-ne-none e (sym is))
 old_or_sent (sent d) e is = inr (ap sent (some-injective d e is))
 
+-- a command has few words
+pub short_words : (g : ℕ) (c : Command) → length (command_words g c) ≤ 16
+short_words g (New time order) = omega arith
+short_words g (Cancel time request) = omega arith
+short_words g (Replace time request) = omega arith
+short_words g (Malformed time fault) = omega arith
+short_words g Void = omega arith
+
+-- what stands at a sequence is one entry
+pub one_entry : (x : Status) (e d : Message) → entry_of x ≡ some e → x ≡ sent d → e ≡ d
+one_entry x e d there is = some-injective e d (sym there ∙ ap entry_of is)
+
+-- what a role may know it may know when no control word fell
+pub depth_risen : (w w' : ℕ → ℕ) → ((k : ℕ) → k < first_row → w k ≤ w' k) → (role : Role) (k : ℕ) → Depth w role k → Depth w' role k
+depth_risen w w' up Process k d = let a : w 16 ≤ w' 16 = up 16 (omega arith) in let b : w 24 ≤ w' 24 = up 24 (omega arith) in let c : k ≤ w 16 = d.0 in let e : k ≤ w 24 = d.1 in (omega arith, omega arith)
+depth_risen w w' up Unmarshal k d = tt
+depth_risen w w' up Journal k d = tt
+depth_risen w w' up Marshal k d = tt
+depth_risen w w' up (Gateway j) k d = let b : w 24 ≤ w' 24 = up 24 (omega arith) in let c : k ≤ w 24 = d in omega arith
+
 module _ {L : Type 0} (terms : Terms L) (w : ℕ → ℕ) (log : Log) where
   -- a beginning of the log ends at claim or before
   pub reaches : (h : List Message) → Logged terms w log → IsFront log.status h → length h ≤ w claim
@@ -69,6 +92,7 @@ module _ {L : Type 0} (terms : Terms L) (w : ℕ → ℕ) (log : Log) where
   knows_looked p k x le r = record {
     role = r.role;
     front = r.front;
+    depth = r.depth;
     own = r.own;
     mine = r.mine;
     claims = r.claims;
@@ -77,9 +101,10 @@ module _ {L : Type 0} (terms : Terms L) (w : ℕ → ℕ) (log : Log) where
   }
 
   -- after an entry of the log is seen
-  pub knows_saw : (p : Person) (e : Message) → entry_of (log.status (length p.seen)) ≡ some e → Knows terms w log p → Knows terms w log (saw p e)
-  knows_saw p e next r = record {
+  pub knows_saw : (p : Person) (e : Message) → entry_of (log.status (length p.seen)) ≡ some e → Depth w p.role (length (p.seen ++ e ∷ [])) → Knows terms w log p → Knows terms w log (saw p e)
+  knows_saw p e next deeper r = record {
     role = r.role;
+    depth = deeper;
     own = r.own;
     mine = r.mine;
     claims = r.claims;
@@ -89,12 +114,26 @@ module _ {L : Type 0} (terms : Terms L) (w : ℕ → ℕ) (log : Log) where
         (λ (t : (s ≡ length p.seen) × (e ≡ d)). ap (λ (i : ℕ). entry_of (log.status i)) t.0 ∙ next ∙ ap some t.1) (at_end p.seen e d s at);
   }
 
+  -- after more of the log is known
+  pub knows_knowing : (p : Person) (rest : List Message) → IsFront log.status (p.seen ++ rest) → Depth w p.role (length (p.seen ++ rest)) → Knows terms w log p → Knows terms w log (knowing p rest)
+  knows_knowing p rest front deeper r = record {
+    role = r.role;
+    depth = deeper;
+    own = r.own;
+    mine = r.mine;
+    claims = r.claims;
+    part = r.part;
+    loads = r.loads;
+    front = front;
+  }
+
   -- what is known stays where no control word falls, no row word changes, and the own word is as it says
   pub knows_risen : (w' : ℕ → ℕ) (p : Person) (own : ℕ) → ((k : ℕ) → k < first_row → w k ≤ w' k) → ((s i : ℕ) → w' (in_row terms.rows s i) ≡ w (in_row terms.rows s i))
       → w' (place_of p.role) ≡ own → Knows terms w log p → Knows terms w' log (moved p own)
   knows_risen w' p own risen same is r = record {
     role = r.role;
     front = r.front;
+    depth = depth_risen w w' risen p.role (length p.seen) r.depth;
     own = is;
     mine = r.mine;
     claims = r.claims;
@@ -103,7 +142,7 @@ module _ {L : Type 0} (terms : Terms L) (w : ℕ → ℕ) (log : Log) where
   } where
     part_stays : (role : Role) → PartOf terms.rows w log role p.part → PartOf terms.rows w' log role p.part
     part_stays Process h = tt
-    part_stays Unmarshal h = tt
+    part_stays Unmarshal h = λ i x at. let t = h i x at in (t.0, same p.part.sequence (i + 48) ∙ t.1)
     part_stays Journal h = tt
     part_stays Marshal h = tt
     part_stays (Gateway k) h = λ i x at. let t = h i x at in (t.0, t.1, same p.part.sequence (i + 1) ∙ t.2)

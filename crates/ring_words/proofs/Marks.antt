@@ -1,5 +1,5 @@
 -- A store of availability keeps the rule: the sequence is published, whole.
-use Rattle.std.proofs.Common.{◌≡◌, ◌≢◌, ℕ, zero, suc, ◌+◌, ◌*◌, ◌%◌, ◌<◌, ◌≤◌, Bool, true, false, List, [], ◌∷◌, ◌++◌, cond, eqb, length, length-set, get_or, set, refl, ap, sym, subst, ◌∙◌, arith}
+use Rattle.std.proofs.Common.{◌≡◌, ◌≢◌, ℕ, zero, suc, ◌+◌, ◌*◌, ◌%◌, ◌<◌, ◌≤◌, Bool, true, false, List, [], ◌∷◌, ◌++◌, cond, eqb, length, length-set, get_or, set, refl, ap, sym, subst, ◌∙◌, arith, le_refl}
 use Rattle.std.proofs.lemmas.Bool.{eq-eqb, ne_eqb, cond-true, cond-false}
 use Rattle.std.proofs.lemmas.List.{append-nil}
 use mathlib.Core.Option.{none, some, some-ne-none}
@@ -12,19 +12,20 @@ use Rattle.ring_words.specs.declared.view.Role.{Role}
 use Rattle.ring_words.specs.declared.view.Role.TheVariants.{Gateway}
 use Rattle.ring_words.specs.declared.view.Sent.{Sent}
 use Rattle.ring_words.specs.declared.view.View.{View}
-use Rattle.ring_words.specs.Places.{processed, claim, taken, first_row, in_row, place_of, number_of}
+use Rattle.ring_words.specs.Places.{processed, claim, unmarshalled, journalled, taken, first_row, in_row, place_of, number_of}
 use Rattle.ring_words.specs.Log.{IsEntry, Status, unclaimed, old, claimed, sent, Log, entry_of, sends_of, claims_of, sent_at, times, without}
 use Rattle.ring_words.specs.Raw.{raw_count, raw_word, Spells}
-use Rattle.ring_words.specs.Terms.{Terms}
+use Rattle.ring_words.specs.Packing.{IsPackable}
+use Rattle.ring_words.specs.Terms.{Terms, commands_of, command_of}
 use Rattle.ring_words.specs.Rule.{IsGateway, IsRole, PartOf, words_of, Lawful}
 use Rattle.ring_words.specs.Seats.{person, IsAlone, alone, sent_of, marked}
 use Rattle.ring_words.specs.Steps.{Seated, marks_sent}
 use Rattle.ring_words.proofs.Windows.{same_row, row_inside, no_control}
 use Rattle.ring_words.proofs.Puts.{put, put_here, put_else, by_put, word_here, word_else}
-use Rattle.ring_words.proofs.Logs.{stands, read_at}
+use Rattle.ring_words.proofs.Logs.{short_words, stands, within, read_at, depth_risen}
 use Rattle.ring_words.proofs.Keeps.{mine, after}
 use Rattle.ring_words.proofs.Claims.{other_number, claimed_not_old, claimed_not_sent, sent_not_unclaimed, claimed_by, not_claimed}
-use Rattle.ring_words.proofs.Writes.{claim_is, one_row, place_low, few_words, others_know}
+use Rattle.ring_words.proofs.Writes.{claim_is, in_use, one_row, place_low, few_words, others_know}
 use Rattle.ring_words.proofs.Raws.{spelled_once}
 
 sent_not_old : (e d : Message) → sent e ≢ old d
@@ -72,9 +73,12 @@ module _ {L : Type 0} (S : Type 0) (terms : Terms L) where
       λ t j low differs. word_else ws here (in_row terms.rows t j) (suc a) (λ z. let both = same_row terms.rows t a j 0 low (let g : 0 < 64 = omega arith in g) z in differs both.0 both.1) in
       let beyond : (t j : ℕ) → j < 41 → w' (in_row terms.rows t (j + 1)) ≡ w (in_row terms.rows t (j + 1)) = λ t j low. stays t (j + 1) (omega arith) (λ _. (λ (z : j + 1 ≡ 0). omega arith)) in
       let claim_is' : w' claim ≡ w claim = control claim (omega arith) in let zero_is : w' processed ≡ w processed = control processed (omega arith) in
-      let order = r.order in let behind = order.behind in let room = order.room in let most = order.most in let start = r.logged.start in
+      let unmarshalled_is : w' unmarshalled ≡ w unmarshalled = control unmarshalled (omega arith) in let journalled_is : w' journalled ≡ w journalled = control journalled (omega arith) in
+      let order = r.order in let first = order.processed_unmarshalled in let second = order.processed_journalled in let third = order.unmarshalled_claimed in let fourth = order.journalled_claimed in let room = order.room in let most = order.most in let start = r.logged.start in
       let entries : (t : ℕ) (d : Message) → entry_of (status t) ≡ some d → entry_of (status' t) ≡ some d = λ t d. by_put status a t (sent e) (λ (x : Status). entry_of (status t) ≡ some d → entry_of x ≡ some d)
       (λ here_is there. absurd (some-ne-none d (sym (subst (λ (x : Status). entry_of x ≡ some d) (ap status here_is ∙ is) there)))) (λ _ there. there) in
+      let not_done : (t : ℕ) → t ≡ a → t < w unmarshalled → ⊥ = λ t here_is below. let there = r.logged.done t below in
+      some-ne-none there.0 (sym (subst (λ (x : Status). entry_of x ≡ some there.0) (ap status here_is ∙ is) there.1)) in
       let stays_sent : (t : ℕ) (d : Message) → status t ≡ sent d → status' t ≡ sent d = λ t d there. put_else status a t (sent e) (λ here_is. sent_not_claimed d k (sym there ∙ ap status here_is ∙ is)) ∙ there in
       let num : number_of p.role ≡ k = ap number_of role in
       let word_is : (j : ℕ) → j < raw_count e → w (in_row terms.rows a (j + 1)) ≡ raw_word e j = λ j few. (
@@ -82,7 +86,7 @@ module _ {L : Type 0} (S : Type 0) (terms : Terms L) where
       let h = subst (λ (z : Role). PartOf terms.rows w r.log z p.part) role knows.part j there.0 there.1 in
       ap (λ (t : ℕ). w (in_row terms.rows t (j + 1))) (sym on_row) ∙ h.2 ∙ read_at p.part.words j there.0 there.1 ∙ spelled.each j few) in
       after S terms s r ws' id me.0 p (marked p a e) at one refl (length-set ws here (suc a)) log'
-      record { behind = omega arith; room = omega arith; most = omega arith; waiting = (control 16 (omega arith) ∙ r.order.waiting.0, control 24 (omega arith) ∙ r.order.waiting.1); silent = (control 32 (omega arith) ∙ r.order.silent.0, control 104 (omega arith) ∙ r.order.silent.1) }
+      record { processed_unmarshalled = omega arith; processed_journalled = omega arith; unmarshalled_claimed = omega arith; journalled_claimed = omega arith; room = omega arith; most = omega arith; silent = (control 32 (omega arith) ∙ r.order.silent.0, control 104 (omega arith) ∙ r.order.silent.1) }
       record {
         start = omega arith;
         based = λ t d there. put_else status a t (sent e) (λ here_is. claimed_not_old k d (sym is ∙ ap status (sym here_is) ∙ r.logged.based t d there)) ∙ r.logged.based t d there;
@@ -92,7 +96,8 @@ module _ {L : Type 0} (S : Type 0) (terms : Terms L) where
         holder = λ t j. by_put status a t (sent e) (λ (x : Status). x ≡ claimed j → IsGateway terms.gateways j) (λ _ z. absurd (sent_not_claimed e j z)) (λ _ z. r.logged.holder t j z);
         sender = λ t d. by_put status a t (sent e) (λ (x : Status). x ≡ sent d → IsEntry d × IsGateway terms.gateways d.gateway)
             (λ _ z. subst (λ (y : Message). IsEntry y × IsGateway terms.gateways y.gateway) (sent_is e d z) (valid, subst (IsGateway terms.gateways) (sym own_gateway) gateway)) (λ _ z. r.logged.sender t d z);
-        done = λ t lt. (let d = r.logged.done t (subst (λ (y : ℕ). t < y) zero_is lt) in (d.0, entries t d.0 d.1));
+        done = λ t lt. (let d = r.logged.done t (subst (λ (y : ℕ). t < y) unmarshalled_is lt) in (d.0, entries t d.0 d.1));
+        kept = λ t lt. (let d = r.logged.kept t (subst (λ (y : ℕ). t < y) journalled_is lt) in (d.0, entries t d.0 d.1));
       }
       record {
         marks = λ t y eq. dite (ℕ_discrete (t % terms.rows) (a % terms.rows))
@@ -107,10 +112,18 @@ module _ {L : Type 0} (S : Type 0) (terms : Terms L) where
             (λ here_is z le j few. (let same_entry : e ≡ d = sent_is e d z in let few_e : j < raw_count e = subst (λ (x : Message). j < raw_count x) (sym same_entry) few in let bound = few_words e valid in
             beyond t j (omega arith) ∙ ap (λ (x : ℕ). w (in_row terms.rows x (j + 1))) here_is ∙ word_is j few_e ∙ ap (λ (x : Message). raw_word x j) same_entry))
             (λ _ z le j few. (let bound = few_words d (r.logged.sender t d z).0 in beyond t j (omega arith) ∙ r.rows.raw t d z (subst (λ (y : ℕ). y ≤ t + terms.rows) claim_is' le) j few));
+        packable = λ t d. by_put status a t (sent e) (λ (x : Status). x ≡ sent d → t < w' unmarshalled → IsPackable d.gateway (command_of terms t d))
+            (λ here_is _ below. absurd (not_done t here_is (subst (λ (z : ℕ). t < z) unmarshalled_is below)))
+            (λ _ z below. r.rows.packable t d z (subst (λ (q : ℕ). t < q) unmarshalled_is below));
+        commands = λ t d. by_put status a t (sent e) (λ (x : Status). x ≡ sent d → t < w' unmarshalled → w' claim ≤ t + terms.rows → (i y : ℕ) → get_elem? (commands_of terms t d) i ≡ some y → w' (in_row terms.rows t (i + 48)) ≡ y)
+            (λ here_is _ below. absurd (not_done t here_is (subst (λ (z : ℕ). t < z) unmarshalled_is below)))
+            (λ _ z below le i y there. (let size = short_words d.gateway (command_of terms t d) in let few = within (commands_of terms t d) i y there in
+            stays t (i + 48) (omega arith) (λ _. (λ (q : i + 48 ≡ 0). omega arith)) ∙ r.rows.commands t d z (subst (λ (q : ℕ). t < q) unmarshalled_is below) (subst (λ (q : ℕ). q ≤ t + terms.rows) claim_is' le) i y there));
       }
       record {
         role = knows.role;
         front = λ t d there. entries t d (knows.front t d there);
+        depth = depth_risen w w' (λ c low. subst (λ (y : ℕ). w c ≤ y) (sym (control c low)) (le_refl (w c))) p.role (length p.seen) knows.depth;
         own = control (place_of p.role) (place_low terms.gateways p.role r.few knows.role) ∙ knows.own;
         mine = λ t. sent_at_end t p.mine (sent_of a e) ∙ by_put status a t (sent e) (λ (x : Status). sent_at t p.mine ++ cond (eqb a t) (e ∷ []) [] ≡ sends_of (number_of p.role) x)
             (λ here_is. ap (λ (l : List Message). l ++ cond (eqb a t) (e ∷ []) []) (knows.mine t ∙ ap (sends_of (number_of p.role)) (ap status here_is ∙ is))
@@ -129,7 +142,8 @@ module _ {L : Type 0} (S : Type 0) (terms : Terms L) where
       (λ t. by_put status a t (sent e) (λ (x : Status). claims_of (number_of o.role) (status t) ≡ claims_of (number_of o.role) x)
       (λ here_is. ap (claims_of (number_of o.role)) (ap status here_is ∙ is) ∙ cond-false (eqb k (number_of o.role)) 1 0 (ne_eqb k (number_of o.role) (λ z. differs (sym z)))) (λ _. refl))
       control
-      (λ t j q o_is low t_is. (put_else status a t (sent e) (λ here_is. apart_from (ap place_of o_is ∙ ap taken (claimed_by q k (sym t_is ∙ ap status here_is ∙ is)) ∙ sym (ap place_of role))) ∙ t_is, beyond t j low)) kn)
+      (λ t j q o_is low t_is. (put_else status a t (sent e) (λ here_is. apart_from (ap place_of o_is ∙ ap taken (claimed_by q k (sym t_is ∙ ap status here_is ∙ is)) ∙ sym (ap place_of role))) ∙ t_is, beyond t j low))
+      (λ t j _ low. stays t (j + 48) (omega arith) (λ _. (λ (z : j + 48 ≡ 0). omega arith))) kn)
 
   -- a gateway publishes what it stored in a row that it claimed
   pub marks_row : (slots id k a : ℕ) (e : Message) (me : Seated S L) → IsAlone me.0 → (person me.0).role ≡ Gateway k → 0 < times a (person me.0).claims → (person me.0).part.sequence ≡ a → Spells (person me.0).part.words e → IsEntry e → e.gateway ≡ k

@@ -6,13 +6,14 @@ use lib.ListN.{get_elem?}
 use Rattle.atomic_table.specs.Table.{opening, Splits}
 use Rattle.atomic_table.proofs.Lists.{at_set, at_snoc}
 use Rattle.venue_model.specs.History.{Message}
-use Rattle.ring_words.specs.declared.view.Role.TheVariants.{Process, Gateway}
+use Rattle.ring_words.specs.declared.view.Role.{Role}
+use Rattle.ring_words.specs.declared.view.Role.TheVariants.{Process, Unmarshal, Journal, Marshal, Gateway}
 use Rattle.ring_words.specs.declared.view.Person.{Person}
 use Rattle.ring_words.specs.declared.view.View.{View}
-use Rattle.ring_words.specs.Places.{in_row, table_words, taken, place_of}
+use Rattle.ring_words.specs.Places.{processed, unmarshalled, journalled, in_row, table_words, taken, place_of, number_of}
 use Rattle.ring_words.specs.Log.{Status, unclaimed, old, claimed, sent, Log, entry_of, sends_of, claims_of}
 use Rattle.ring_words.specs.Terms.{Terms}
-use Rattle.ring_words.specs.Rule.{Knows, newcomer, gateways, crew, opening_word, owners, all_owners, words_of, Lawful, view_of, first_view}
+use Rattle.ring_words.specs.Rule.{IsRole, Depth, PartOf, Knows, newcomer, gateways, crew, opening_word, owners, all_owners, words_of, Lawful, view_of, first_view}
 use Rattle.ring_words.specs.Seats.{first_of, person, others, apart}
 use Rattle.ring_words.proofs.Windows.{row_inside}
 use Rattle.ring_words.proofs.Logs.{stands, within}
@@ -88,40 +89,64 @@ module _ {L : Type 0} where
   only_view v (suc i) u at = absurd (some-ne-none u (sym at))
 
 module _ {L : Type 0} (S : Type 0) (terms : Terms L) where
+  -- what someone who knows the history at the start knows, and nothing more
+  new_knows : (w : ℕ → ℕ) (role : Role) (own : ℕ) → IsRole terms.gateways role → w (place_of role) ≡ own → length terms.base ≤ w unmarshalled → length terms.base ≤ w journalled
+      → Knows terms w (start_log terms.base) (newcomer role terms.base own)
+  new_knows w role own there is u j = record {
+    role = there;
+    front = λ s e at. ap (λ (o : Option Message). entry_of (as_status o)) at;
+    depth = deep role;
+    own = is;
+    mine = λ s. no_sends (number_of role) (get_elem? terms.base s);
+    claims = λ s. no_claims (number_of role) (get_elem? terms.base s);
+    loads = λ i l at. absurd (some-ne-none l (sym at));
+    part = nothing_stored role;
+  } where
+    deep : (role : Role) → Depth w role (length terms.base)
+    deep Process = (u, j)
+    deep Unmarshal = tt
+    deep Journal = tt
+    deep Marshal = tt
+    deep (Gateway k) = j
+
+    nothing_stored : (role : Role) → PartOf terms.rows w (start_log terms.base) role record { sequence = 0; words = [] }
+    nothing_stored Process = tt
+    nothing_stored Unmarshal = λ i x at. absurd (some-ne-none x (sym at))
+    nothing_stored Journal = tt
+    nothing_stored Marshal = tt
+    nothing_stored (Gateway k) = λ i x at. absurd (some-ne-none x (sym at))
+
   -- what a person of the first crew knows
-  of_crew : (w : ℕ → ℕ) → terms.gateways ≤ 8 → w 0 ≡ length terms.base → ((k : ℕ) → 1 ≤ k → k ≤ 8 → w (taken k) ≡ terms.given)
+  of_crew : (w : ℕ → ℕ) → terms.gateways ≤ 8 → w processed ≡ length terms.base → w unmarshalled ≡ length terms.base → w journalled ≡ length terms.base → ((k : ℕ) → 1 ≤ k → k ≤ 8 → w (taken k) ≡ terms.given)
       → (j : ℕ) (p : Person) → get_elem? (crew terms.gateways terms.base terms.given) j ≡ some p → Knows terms w (start_log terms.base) p
-  of_crew w few_gates first each zero p at = subst (Knows terms w (start_log terms.base)) (some-injective (newcomer Process terms.base (length terms.base)) p at) record {
-    role = tt;
-    front = λ s e there. ap (λ (o : Option Message). entry_of (as_status o)) there;
-    own = first;
-    mine = λ s. no_sends 0 (get_elem? terms.base s);
-    claims = λ s. no_claims 0 (get_elem? terms.base s);
-    loads = λ i l there. absurd (some-ne-none l (sym there));
-    part = tt;
-  }
-  of_crew w few_gates first each (suc j) p at = let g : ℕ = terms.gateways in let t = each_of 1 g terms.base terms.given j p at in let k : ℕ = t.0 in let lo : 1 ≤ k = t.1 in let hi : k < 1 + g = t.2 in
-      let few_g : g ≤ 8 = few_gates in let le : k ≤ 8 = omega arith in let inside : k ≤ g = omega arith in
-      subst (Knows terms w (start_log terms.base)) t.3 record {
-        role = (lo, inside);
-        front = λ s e there. ap (λ (o : Option Message). entry_of (as_status o)) there;
-        own = each k lo le;
-        mine = λ s. no_sends k (get_elem? terms.base s);
-        claims = λ s. no_claims k (get_elem? terms.base s);
-        loads = λ i l there. absurd (some-ne-none l (sym there));
-        part = λ i x there. absurd (some-ne-none x (sym there));
-      }
+  of_crew w few_gates first second third each j p at = by_place j at where
+    n : ℕ
+    n = length terms.base
+
+    u : length terms.base ≤ w unmarshalled
+    u = omega arith
+
+    v : length terms.base ≤ w journalled
+    v = omega arith
+
+    by_place : (j : ℕ) → get_elem? (crew terms.gateways terms.base terms.given) j ≡ some p → Knows terms w (start_log terms.base) p
+    by_place zero at = subst (Knows terms w (start_log terms.base)) (some-injective (newcomer Process terms.base (length terms.base)) p at) (new_knows w Process (length terms.base) tt first u v)
+    by_place (suc zero) at = subst (Knows terms w (start_log terms.base)) (some-injective (newcomer Unmarshal terms.base (length terms.base)) p at) (new_knows w Unmarshal (length terms.base) tt second u v)
+    by_place (suc (suc zero)) at = subst (Knows terms w (start_log terms.base)) (some-injective (newcomer Journal terms.base (length terms.base)) p at) (new_knows w Journal (length terms.base) tt third u v)
+    by_place (suc (suc (suc j))) at = let g : ℕ = terms.gateways in let t = each_of 1 g terms.base terms.given j p at in let k : ℕ = t.0 in let lo : 1 ≤ k = t.1 in let hi : k < 1 + g = t.2 in
+        let few_g : g ≤ 8 = few_gates in let le : k ≤ 8 = omega arith in let inside : k ≤ g = omega arith in
+        subst (Knows terms w (start_log terms.base)) t.3 (new_knows w (Gateway k) terms.given (lo, inside) (each k lo le) u v)
 
   pub starts : (ws : List ℕ) → 0 < terms.rows → terms.gateways ≤ 8 → length terms.base ≤ 2 ^ 48 → length ws ≡ table_words terms.rows terms.output_rows
       → ((k : ℕ) → k < length ws → get_or ws k 0 ≡ opening_word (length terms.base) terms.given k) → Lawful S terms (opening {S = S} ws [] (first_view terms))
-  starts ws pos few_gates small wide is = let base = terms.base in let b : ℕ = length terms.base in let w : ℕ → ℕ = λ (k : ℕ). get_or ws k 0 in
-      let done_is : w 0 ≡ b = is 0 (omega arith) in let claim_is : w 8 ≡ b = is 8 (omega arith) in
+  starts ws pos few_gates small wide is = let b : ℕ = length terms.base in let w : ℕ → ℕ = λ (k : ℕ). get_or ws k 0 in
+      let done_is : w 0 ≡ b = is 0 (omega arith) in let claim_is : w 8 ≡ b = is 8 (omega arith) in let unmarshalled_is : w 16 ≡ b = is 16 (omega arith) in let journalled_is : w 24 ≡ b = is 24 (omega arith) in
       record {
         log = start_log terms.base;
         some_row = pos;
         few = few_gates;
         wide = wide;
-        order = record { behind = omega arith; room = omega arith; most = omega arith; waiting = (is 16 (omega arith), is 24 (omega arith)); silent = (is 32 (omega arith), is 104 (omega arith)) };
+        order = record { processed_unmarshalled = omega arith; processed_journalled = omega arith; unmarshalled_claimed = omega arith; journalled_claimed = omega arith; room = omega arith; most = omega arith; silent = (is 32 (omega arith), is 104 (omega arith)) };
         logged = record {
           start = omega arith;
           based = λ s e at. ap as_status at;
@@ -130,18 +155,21 @@ module _ {L : Type 0} (S : Type 0) (terms : Terms L) where
           somebodys = λ s lt u. (let at = stands terms.base s (let l : s < b = omega arith in l) in let z : old at.0 ≡ unclaimed = sym (ap as_status at.1) ∙ u in let y : zero ≡ suc zero = cc in omega arith);
           holder = λ s k at. absurd (not_claimed_there (get_elem? terms.base s) k at);
           sender = λ s e at. absurd (not_old (get_elem? terms.base s) e at);
+          kept = λ s lt. (let at = stands terms.base s (let l : s < b = omega arith in l) in (at.0, ap (λ (o : Option Message). entry_of (as_status o)) at.1));
           done = λ s lt. (let at = stands terms.base s (let l : s < b = omega arith in l) in (at.0, ap (λ (o : Option Message). entry_of (as_status o)) at.1));
         };
         rows = record {
           marks = λ s x e. (let k : ℕ = in_row terms.rows s 0 in let zero_there : w k ≡ 0 = is k (subst (λ (y : ℕ). k < y) (sym wide) (row_inside terms.rows terms.output_rows s 0 pos (omega arith))) ∙ row_empty b terms.given k (omega arith) in absurd (omega arith));
           shown = λ s e at. absurd (not_old (get_elem? terms.base s) e at);
           raw = λ s e at. absurd (not_old (get_elem? terms.base s) e at);
+          commands = λ s e at. absurd (not_old (get_elem? terms.base s) e at);
+          packable = λ s e at. absurd (not_old (get_elem? terms.base s) e at);
         };
         people = λ id j v p there in_it. (let first : View L = first_view terms in let is_first : first ≡ v = only_view first id v there in
             let at : get_elem? (crew terms.gateways terms.base terms.given) j ≡ some p = subst (λ (u : View L). get_elem? u.people j ≡ some p) (sym is_first) in_it in (
               ap (λ (u : View L). u.logic) (sym is_first),
               ap (λ (u : View L). u.base) (sym is_first),
-              of_crew w few_gates done_is
+              of_crew w few_gates done_is unmarshalled_is journalled_is
                   (λ k lo hi. is (taken k) (let x : 32 + 8 * k < length ws = omega arith in x) ∙ taken_given b terms.given k lo hi) j p at,
             ));
         once = λ k. (let x : ℕ = owners k (crew terms.gateways terms.base terms.given) in let g : x + 0 ≡ x = omega arith in g);

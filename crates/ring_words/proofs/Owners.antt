@@ -1,14 +1,15 @@
 -- Whose word a control word is: counts of persons by the word that they store, in a list, in all views, and at the start.
-use Rattle.std.proofs.Common.{◌≡◌, ◌≢◌, ℕ, zero, suc, ◌+◌, ◌*◌, ◌<◌, ◌≤◌, Bool, true, false, List, [], ◌∷◌, ◌++◌, cond, eqb, set, refl, ap, sym, subst, ◌∙◌, arith, eq-eqb}
+use Rattle.std.proofs.Common.{◌≡◌, ◌≢◌, ℕ, zero, suc, ◌+◌, ◌*◌, ◌<◌, ◌≤◌, Bool, true, false, List, [], ◌∷◌, ◌++◌, cond, eqb, length, set, refl, ap, sym, subst, ◌∙◌, arith, eq-eqb}
 use Rattle.std.proofs.lemmas.Bool.{ne_eqb, cond-true, cond-false}
 use mathlib.Core.Option.{some, some-injective, some-ne-none}
 use native.Mathlib.Decide.{ℕ_discrete}
 use lib.ListN.{get_elem?}
 use Rattle.venue_model.specs.History.{Message}
+use Rattle.ring_words.specs.declared.view.Role.TheVariants.{Process, Unmarshal, Journal, Gateway}
 use Rattle.ring_words.specs.declared.view.Person.{Person}
 use Rattle.ring_words.specs.declared.view.View.{View}
 use Rattle.ring_words.specs.Places.{taken, place_of}
-use Rattle.ring_words.specs.Rule.{owners, all_owners, gateways, crew}
+use Rattle.ring_words.specs.Rule.{owners, all_owners, newcomer, gateways, crew}
 
 at_least : (b : Bool) (x : ℕ) → 1 ≤ x → 1 ≤ cond b (suc x) x
 at_least true x h = omega arith
@@ -41,13 +42,22 @@ few k (suc g) base given x = let rest : ℕ = owners x (gateways (suc k) g base 
       let is : owners x (gateways k (suc g) base given) ≡ rest = cond-false (eqb (taken k) x) (suc rest) rest (ne_eqb (taken k) x ne) in
       ((let a : rest ≤ 1 = t.0 in omega arith), λ (lt : x < 32 + 8 * k). is ∙ t.1 (let g : x < 32 + 8 * suc k = omega arith in g))
 
+-- a person with the word b before others: what holds of words up to b holds of those below
+one_before : (p : Person) (ps : List Person) (x b : ℕ) → place_of p.role ≡ b → (owners x ps ≤ 1) × (x ≤ b → owners x ps ≡ 0) → (owners x (p ∷ ps) ≤ 1) × (x < b → owners x (p ∷ ps) ≡ 0)
+one_before p ps x b is rest = by_case (ℕ_discrete (place_of p.role) x) rest where
+  by_case : Dec (place_of p.role ≡ x) → (owners x ps ≤ 1) × (x ≤ b → owners x ps ≡ 0) → (owners x (p ∷ ps) ≤ 1) × (x < b → owners x (p ∷ ps) ≡ 0)
+  by_case (yes e) rest = let here : x ≡ b = sym e ∙ is in let none_left : owners x ps ≡ 0 = rest.1 (omega arith) in
+      let all : owners x (p ∷ ps) ≡ suc (owners x ps) = cond-true (eqb (place_of p.role) x) (suc (owners x ps)) (owners x ps) (eq-eqb (place_of p.role) x e) in ((omega arith), λ lt. absurd (omega arith))
+  by_case (no ne) rest = let all : owners x (p ∷ ps) ≡ owners x ps = cond-false (eqb (place_of p.role) x) (suc (owners x ps)) (owners x ps) (ne_eqb (place_of p.role) x ne) in
+      let few : owners x ps ≤ 1 = rest.0 in ((omega arith), λ lt. all ∙ rest.1 (omega arith))
+
 -- no two persons of the crew have one word
 pub few_in_crew : (g : ℕ) (base : List Message) (given x : ℕ) → owners x (crew g base given) ≤ 1
-few_in_crew g base given x = let rest : ℕ = owners x (gateways 1 g base given) in let t = few 1 g base given x in by_case (ℕ_discrete 0 x) t where
-  by_case : Dec (0 ≡ x) → (owners x (gateways 1 g base given) ≤ 1) × (x < taken 1 → owners x (gateways 1 g base given) ≡ 0) → owners x (crew g base given) ≤ 1
-  by_case (yes e) t = let rest : ℕ = owners x (gateways 1 g base given) in let none_left : rest ≡ 0 = t.1 (let l : x < 32 + 8 * 1 = omega arith in l) in
-      let is : owners x (crew g base given) ≡ suc rest = cond-true (eqb 0 x) (suc rest) rest (eq-eqb 0 x e) in omega arith
-  by_case (no ne) t = let rest : ℕ = owners x (gateways 1 g base given) in let is : owners x (crew g base given) ≡ rest = cond-false (eqb 0 x) (suc rest) rest (ne_eqb 0 x ne) in let a : rest ≤ 1 = t.0 in omega arith
+few_in_crew g base given x = let n : ℕ = length base in
+    let rest = few 1 g base given x in
+    let third = one_before (newcomer Journal base n) (gateways 1 g base given) x 24 refl (rest.0, λ le. rest.1 (omega arith)) in
+    let second = one_before (newcomer Unmarshal base n) (newcomer Journal base n ∷ gateways 1 g base given) x 16 refl (third.0, λ le. third.1 (omega arith)) in
+    (one_before (newcomer Process base n) (newcomer Unmarshal base n ∷ newcomer Journal base n ∷ gateways 1 g base given) x 0 refl (second.0, λ le. second.1 (omega arith))).0
 
 module _ {L : Type 0} where
   one_of : (k : ℕ) (vs : List (View L)) (i : ℕ) (v : View L) → get_elem? vs i ≡ some v → owners k v.people ≤ all_owners k vs

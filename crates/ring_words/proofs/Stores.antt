@@ -1,20 +1,27 @@
--- The stores of a person's own control word keep the rule.
-use Rattle.std.proofs.Common.{◌≡◌, ℕ, ◌+◌, ◌<◌, ◌≤◌, List, length, length-set, get_or, set, refl, ap, sym, subst, ◌∙◌, arith, le_refl}
-use mathlib.Core.Option.{none}
+-- The stores of a stage's own control word keep the rule.
+use Rattle.std.proofs.Common.{◌≡◌, ◌≢◌, ℕ, suc, ◌+◌, ◌<◌, ◌≤◌, List, length, length-set, get_or, set, refl, ap, sym, subst, ◌∙◌, arith, le_refl}
+use mathlib.Core.Option.{none, some}
 use mathlib.Core.Logic.{dite}
-use native.Mathlib.Decide.{ℕ_discrete}
-use Rattle.atomic_table.specs.Table.{step, keeps, Allows}
+use native.Mathlib.Decide.{ℕ_discrete, dec_le}
+use lib.ListN.{get_elem?}
+use Rattle.std.specs.Prelude.{Some}
+use Rattle.atomic_table.specs.Table.{State, step, keeps, Allows}
+use Rattle.venue_model.specs.History.{Message}
 use Rattle.ring_words.specs.declared.view.Role.{Role}
-use Rattle.ring_words.specs.declared.view.Role.TheVariants.{Process}
-use Rattle.ring_words.specs.Places.{processed, claim, first_row, in_row, place_of}
-use Rattle.ring_words.specs.Terms.{Terms}
-use Rattle.ring_words.specs.Rule.{words_of, Lawful}
+use Rattle.ring_words.specs.declared.view.Role.TheVariants.{Process, Unmarshal, Journal}
+use Rattle.ring_words.specs.declared.view.View.{View}
+use Rattle.ring_words.specs.Places.{processed, claim, unmarshalled, journalled, published, first_row, in_row, place_of}
+use Rattle.ring_words.specs.Log.{sent, entry_of}
+use Rattle.ring_words.specs.Packing.{command_words, IsPackable}
+use Rattle.ring_words.specs.Terms.{Terms, commands_of, command_of}
+use Rattle.ring_words.specs.Rule.{Depth, Ordered, PartOf, words_of, Lawful}
 use Rattle.ring_words.specs.Seats.{person, IsAlone, alone, moved}
 use Rattle.ring_words.specs.Steps.{Seated, moves_own}
 use Rattle.ring_words.proofs.Windows.{no_control}
 use Rattle.ring_words.proofs.Puts.{word_here, word_else}
-use Rattle.ring_words.proofs.Logs.{stands, reaches, knows_risen}
+use Rattle.ring_words.proofs.Logs.{stands, within, one_entry, reaches, knows_risen}
 use Rattle.ring_words.proofs.Keeps.{mine, after}
+use Rattle.ring_words.proofs.Loads.{some_is}
 
 -- a word that didn't fall: no word did
 pub risen : (ws : List ℕ) (i x k : ℕ) → i < length ws → get_or ws i 0 ≤ x → get_or ws k 0 ≤ get_or (set ws i x) k 0
@@ -23,40 +30,149 @@ risen ws i x k inside up = dite (ℕ_discrete k i)
     (λ ne. subst (λ (y : ℕ). get_or ws k 0 ≤ y) (sym (word_else ws i k x ne)) (le_refl (get_or ws k 0)))
 
 module _ {L : Type 0} (S : Type 0) (terms : Terms L) where
+  -- a stage moves its word, at k, to x: what is left to show is the order of the control words, and what lies below unmarshalled and journalled
+  own_now : (s : State S (View L)) (r : Lawful S terms s) (id : ℕ) (me : Seated S L) (k x : ℕ) → get_elem? s.views id ≡ some me.0 → IsAlone me.0 → place_of (person me.0).role ≡ k
+      → k < first_row → k ≢ claim → (person me.0).own ≤ x → Ordered terms (λ j. get_or (set s.words k x) j 0)
+      → ((t : ℕ) → t < get_or (set s.words k x) unmarshalled 0 → (e : Message) × (entry_of (r.log.status t) ≡ some e))
+      → ((t : ℕ) → t < get_or (set s.words k x) journalled 0 → (e : Message) × (entry_of (r.log.status t) ≡ some e))
+      → ((t : ℕ) (e : Message) → r.log.status t ≡ sent e → t < get_or (set s.words k x) unmarshalled 0 → words_of s claim ≤ t + terms.rows → (i y : ℕ) → get_elem? (commands_of terms t e) i ≡ some y → words_of s (in_row terms.rows t (i + 48)) ≡ y)
+      → ((t : ℕ) (e : Message) → r.log.status t ≡ sent e → t < get_or (set s.words k x) unmarshalled 0 → IsPackable e.gateway (command_of terms t e))
+      → Lawful S terms record { words = set s.words k x; homes = s.homes; views = set s.views id (alone me.0 (moved (person me.0) x)) }
+  own_now s r id me k x at one place low no_claim up order done kept commands packable =
+      let p = person me.0 in let ws = s.words in let w = words_of s in let ws' = set ws k x in let w' : ℕ → ℕ = λ (j : ℕ). get_or ws' j 0 in
+      let knows = (mine S terms s r id me.0 p at one).2 in
+      let own_is : w k ≡ p.own = subst (λ (j : ℕ). w j ≡ p.own) place knows.own in
+      let inside : k < length ws = (let v = r.wide in let lt : k < 128 = low in omega arith) in
+      let here : w' k ≡ x = word_here ws k x inside in let claim_is : w' claim ≡ w claim = word_else ws k claim x (λ e. no_claim (sym e)) in
+      let same : (t i : ℕ) → w' (in_row terms.rows t i) ≡ w (in_row terms.rows t i) = λ t i. word_else ws k (in_row terms.rows t i) x (no_control terms.rows t i k low) in
+      let rises : (j : ℕ) → j < first_row → w j ≤ w' j = λ j _. risen ws k x j inside (let g : w k ≤ x = omega arith in g) in
+      let start = r.logged.start in let zero_up : w processed ≤ w' processed = rises processed (omega arith) in
+      after S terms s r ws' id me.0 p (moved p x) at one refl (length-set ws k x) r.log order
+      record {
+        start = omega arith;
+        based = r.logged.based;
+        older = r.logged.older;
+        holder = r.logged.holder;
+        sender = r.logged.sender;
+        ahead = λ t le. r.logged.ahead t (subst (λ (y : ℕ). y ≤ t) claim_is le);
+        somebodys = λ t lt. r.logged.somebodys t (subst (λ (y : ℕ). t < y) claim_is lt);
+        done = done;
+        kept = kept;
+      }
+      record {
+        marks = λ t y is. r.rows.marks t y (sym (same t 0) ∙ is);
+        shown = λ t e is le. same t 0 ∙ r.rows.shown t e is (subst (λ (y : ℕ). y ≤ t + terms.rows) claim_is le);
+        raw = λ t e is le i few. same t (i + 1) ∙ r.rows.raw t e is (subst (λ (y : ℕ). y ≤ t + terms.rows) claim_is le) i few;
+        packable = packable;
+        commands = λ t e is below le i y there. same t (i + 48) ∙ commands t e is below (subst (λ (z : ℕ). z ≤ t + terms.rows) claim_is le) i y there;
+      }
+      (knows_risen terms w r.log w' p x rises same (ap w' place ∙ here) knows)
+      (λ o apart_from known. knows_risen terms w r.log w' o o.own rises same (word_else ws k (place_of o.role) x (λ e. apart_from (e ∙ sym place)) ∙ known.own) known)
+
   -- the processor moves its word to what it knows at most
   pub stores_processed : (slots id : ℕ) (me : Seated S L) (x : ℕ) → IsAlone me.0 → (person me.0).role ≡ Process → (person me.0).own ≤ x → x ≤ length (person me.0).seen
       → Allows (Lawful S terms) slots id me processed (λ _. x) (λ _. moves_own (step slots processed x 0 none) me x)
   stores_processed slots id me x one role low high s r wide at _ =
-      let p = person me.0 in let ws = s.words in let w = words_of s in let ws' = set ws 0 x in let w' : ℕ → ℕ = λ (k : ℕ). get_or ws' k 0 in
-      let knows = (mine S terms s r id me.0 p at one).2 in
-      let own_is : w 0 ≡ p.own = subst (λ (z : Role). w (place_of z) ≡ p.own) role knows.own in
+      let p = person me.0 in let ws = s.words in let w = words_of s in let w' : ℕ → ℕ = λ (j : ℕ). get_or (set ws 0 x) j 0 in
+      let knows = (mine S terms s r id me.0 p at one).2 in let own_is : w 0 ≡ p.own = subst (λ (z : Role). w (place_of z) ≡ p.own) role knows.own in
+      let deep = subst (λ (z : Role). Depth w z (length p.seen)) role knows.depth in let deep_0 : length p.seen ≤ w 16 = deep.0 in let deep_1 : length p.seen ≤ w 24 = deep.1 in
       let inside : 0 < length ws = (let v = r.wide in omega arith) in
-      let here : w' 0 ≡ x = word_here ws 0 x inside in let claim_is : w' claim ≡ w claim = word_else ws 0 claim x (λ (e : 8 ≡ 0). omega arith) in
-      let same : (t i : ℕ) → w' (in_row terms.rows t i) ≡ w (in_row terms.rows t i) = λ t i. word_else ws 0 (in_row terms.rows t i) x (no_control terms.rows t i 0 (omega arith)) in
-      let up : w 0 ≤ x = omega arith in let rises : (k : ℕ) → k < first_row → w k ≤ w' k = λ k _. risen ws 0 x k inside up in
-      let reach = reaches terms w r.log p.seen r.logged knows.front in let order = r.order in let start = r.logged.start in let room = order.room in let most = order.most in (
+      let here : w' 0 ≡ x = word_here ws 0 x inside in let claim_is : w' 8 ≡ w 8 = word_else ws 0 8 x (λ (e : 8 ≡ 0). omega arith) in
+      let unmarshalled_is : w' 16 ≡ w 16 = word_else ws 0 16 x (λ (e : 16 ≡ 0). omega arith) in let journalled_is : w' 24 ≡ w 24 = word_else ws 0 24 x (λ (e : 24 ≡ 0). omega arith) in
+      let order = r.order in let third = order.unmarshalled_claimed in let fourth = order.journalled_claimed in let room = order.room in let most = order.most in (
         alone me.0 (moved p x),
         keeps,
         tt,
-        after S terms s r ws' id me.0 p (moved p x) at one refl (length-set ws 0 x) r.log
-            record { behind = omega arith; room = omega arith; most = omega arith; waiting = (word_else ws 0 16 x (λ (e : 16 ≡ 0). omega arith) ∙ r.order.waiting.0, word_else ws 0 24 x (λ (e : 24 ≡ 0). omega arith) ∙ r.order.waiting.1); silent = (word_else ws 0 32 x (λ (e : 32 ≡ 0). omega arith) ∙ r.order.silent.0, word_else ws 0 104 x (λ (e : 104 ≡ 0). omega arith) ∙ r.order.silent.1) }
+        own_now s r id me 0 x at one (ap place_of role) (omega arith) (λ (e : 0 ≡ 8). omega arith) low
             record {
-              start = omega arith;
-              based = r.logged.based;
-              older = r.logged.older;
-              holder = r.logged.holder;
-              sender = r.logged.sender;
-              ahead = λ t le. r.logged.ahead t (subst (λ (y : ℕ). y ≤ t) claim_is le);
-              somebodys = λ t lt. r.logged.somebodys t (subst (λ (y : ℕ). t < y) claim_is lt);
-              done = λ t lt. (let e = stands p.seen t (let l : t < length p.seen = omega arith in l) in (e.0, knows.front t e.0 e.1));
+              processed_unmarshalled = omega arith;
+              processed_journalled = omega arith;
+              unmarshalled_claimed = omega arith;
+              journalled_claimed = omega arith;
+              room = omega arith;
+              most = omega arith;
+              silent = (word_else ws 0 32 x (λ (e : 32 ≡ 0). omega arith) ∙ order.silent.0, word_else ws 0 104 x (λ (e : 104 ≡ 0). omega arith) ∙ order.silent.1);
             }
+            (λ t lt. r.logged.done t (subst (λ (y : ℕ). t < y) unmarshalled_is lt))
+            (λ t lt. r.logged.kept t (subst (λ (y : ℕ). t < y) journalled_is lt))
+            (λ t e is below. r.rows.commands t e is (subst (λ (y : ℕ). t < y) unmarshalled_is below))
+            (λ t e is below. r.rows.packable t e is (subst (λ (y : ℕ). t < y) unmarshalled_is below)),
+        refl,
+      )
+
+  -- the journaller moves its word to what it knows at most
+  pub stores_journalled : (slots id : ℕ) (me : Seated S L) (x : ℕ) → IsAlone me.0 → (person me.0).role ≡ Journal → (person me.0).own ≤ x → x ≤ length (person me.0).seen
+      → Allows (Lawful S terms) slots id me journalled (λ _. x) (λ _. moves_own (step slots journalled x 0 none) me x)
+  stores_journalled slots id me x one role low high s r wide at _ =
+      let p = person me.0 in let ws = s.words in let w = words_of s in let w' : ℕ → ℕ = λ (j : ℕ). get_or (set ws 24 x) j 0 in
+      let knows = (mine S terms s r id me.0 p at one).2 in let own_is : w 24 ≡ p.own = subst (λ (z : Role). w (place_of z) ≡ p.own) role knows.own in
+      let reach = reaches terms w r.log p.seen r.logged knows.front in
+      let inside : 24 < length ws = (let v = r.wide in omega arith) in
+      let here : w' 24 ≡ x = word_here ws 24 x inside in let zero_is : w' 0 ≡ w 0 = word_else ws 24 0 x (λ (e : 0 ≡ 24). omega arith) in let claim_is : w' 8 ≡ w 8 = word_else ws 24 8 x (λ (e : 8 ≡ 24). omega arith) in
+      let unmarshalled_is : w' 16 ≡ w 16 = word_else ws 24 16 x (λ (e : 16 ≡ 24). omega arith) in
+      let order = r.order in let first = order.processed_unmarshalled in let second = order.processed_journalled in let third = order.unmarshalled_claimed in let fourth = order.journalled_claimed in let room = order.room in let most = order.most in (
+        alone me.0 (moved p x),
+        keeps,
+        tt,
+        own_now s r id me 24 x at one (ap place_of role) (omega arith) (λ (e : 24 ≡ 8). omega arith) low
             record {
-              marks = λ t y is. r.rows.marks t y (sym (same t 0) ∙ is);
-              shown = λ t e is le. same t 0 ∙ r.rows.shown t e is (subst (λ (y : ℕ). y ≤ t + terms.rows) claim_is le);
-              raw = λ t e is le i few. same t (i + 1) ∙ r.rows.raw t e is (subst (λ (y : ℕ). y ≤ t + terms.rows) claim_is le) i few;
+              processed_unmarshalled = omega arith;
+              processed_journalled = omega arith;
+              unmarshalled_claimed = omega arith;
+              journalled_claimed = omega arith;
+              room = omega arith;
+              most = omega arith;
+              silent = (word_else ws 24 32 x (λ (e : 32 ≡ 24). omega arith) ∙ order.silent.0, word_else ws 24 104 x (λ (e : 104 ≡ 24). omega arith) ∙ order.silent.1);
             }
-            (knows_risen terms w r.log w' p x rises same (ap (λ (z : Role). w' (place_of z)) role ∙ here) knows)
-            (λ o apart_from k. knows_risen terms w r.log w' o o.own rises same
-            (word_else ws 0 (place_of o.role) x (λ e. apart_from (e ∙ sym (ap place_of role))) ∙ k.own) k),
+            (λ t lt. r.logged.done t (subst (λ (y : ℕ). t < y) unmarshalled_is lt))
+            (λ t lt. (let below : t < x = subst (λ (y : ℕ). t < y) here lt in let e = stands p.seen t (let l : t < length p.seen = omega arith in l) in (e.0, knows.front t e.0 e.1)))
+            (λ t e is below. r.rows.commands t e is (subst (λ (y : ℕ). t < y) unmarshalled_is below))
+            (λ t e is below. r.rows.packable t e is (subst (λ (y : ℕ). t < y) unmarshalled_is below)),
+        refl,
+      )
+
+  -- the unmarshaller moves its word behind the next sequence, whose command it wrote whole
+  pub stores_unmarshalled : (slots id : ℕ) (me : Seated S L) (x : ℕ) (lg : L) (e : Message) → me.0.logic ≡ Some lg → IsAlone me.0 → (person me.0).role ≡ Unmarshal → x ≡ suc (person me.0).own
+      → get_elem? (person me.0).seen (person me.0).own ≡ some e → (person me.0).part.sequence ≡ (person me.0).own → (person me.0).part.words ≡ command_words e.gateway (terms.reads lg (person me.0).own e)
+      → IsPackable e.gateway (terms.reads lg (person me.0).own e)
+      → Allows (Lawful S terms) slots id me unmarshalled (λ _. x) (λ _. moves_own (step slots unmarshalled x 0 none) me x)
+  stores_unmarshalled slots id me x lg e view_is one role next held on_row whole_by packed_by s r wide at _ =
+      let p = person me.0 in let ws = s.words in let w = words_of s in let w' : ℕ → ℕ = λ (j : ℕ). get_or (set ws 16 x) j 0 in
+      let knows = (mine S terms s r id me.0 p at one).2 in let own_is : w 16 ≡ p.own = subst (λ (z : Role). w (place_of z) ≡ p.own) role knows.own in
+      let reach = reaches terms w r.log p.seen r.logged knows.front in let longer : p.own < length p.seen = within p.seen p.own e held in
+      let inside : 16 < length ws = (let v = r.wide in omega arith) in
+      let here : w' 16 ≡ x = word_here ws 16 x inside in let zero_is : w' 0 ≡ w 0 = word_else ws 16 0 x (λ (z : 0 ≡ 16). omega arith) in let claim_is : w' 8 ≡ w 8 = word_else ws 16 8 x (λ (z : 8 ≡ 16). omega arith) in
+      let journalled_is : w' 24 ≡ w 24 = word_else ws 16 24 x (λ (z : 24 ≡ 16). omega arith) in
+      let order = r.order in let first = order.processed_unmarshalled in let second = order.processed_journalled in let third = order.unmarshalled_claimed in let fourth = order.journalled_claimed in let room = order.room in let most = order.most in
+      let part = subst (λ (z : Role). PartOf terms.rows w r.log z p.part) role knows.part in
+      let logic_is : lg ≡ terms.logic = some_is lg terms.logic (sym view_is ∙ (mine S terms s r id me.0 p at one).0) in
+      let whole : p.part.words ≡ commands_of terms p.own e = subst (λ (l : L). p.part.words ≡ command_words e.gateway (terms.reads l p.own e)) logic_is whole_by in
+      let packed : IsPackable e.gateway (command_of terms p.own e) = subst (λ (l : L). IsPackable e.gateway (terms.reads l p.own e)) logic_is packed_by in (
+        alone me.0 (moved p x),
+        keeps,
+        tt,
+        own_now s r id me 16 x at one (ap place_of role) (omega arith) (λ (z : 16 ≡ 8). omega arith) (omega arith)
+            record {
+              processed_unmarshalled = omega arith;
+              processed_journalled = omega arith;
+              unmarshalled_claimed = omega arith;
+              journalled_claimed = omega arith;
+              room = omega arith;
+              most = omega arith;
+              silent = (word_else ws 16 32 x (λ (z : 32 ≡ 16). omega arith) ∙ order.silent.0, word_else ws 16 104 x (λ (z : 104 ≡ 16). omega arith) ∙ order.silent.1);
+            }
+            (λ t lt. (let below : t < x = subst (λ (y : ℕ). t < y) here lt in let d = stands p.seen t (let l : t < length p.seen = omega arith in l) in (d.0, knows.front t d.0 d.1)))
+            (λ t lt. r.logged.kept t (subst (λ (y : ℕ). t < y) journalled_is lt))
+            (λ t d is below late i y there. dite (ℕ_discrete t p.own)
+            (λ here_is. (let stood : entry_of (r.log.status p.own) ≡ some e = knows.front p.own e held in
+            let same : e ≡ d = one_entry (r.log.status p.own) e d stood (ap r.log.status (sym here_is) ∙ is) in
+            let there' : get_elem? p.part.words i ≡ some y = ap (λ (l : List ℕ). get_elem? l i) whole ∙ ap (λ (m : Message). get_elem? (commands_of terms p.own m) i) same ∙ ap (λ (j : ℕ). get_elem? (commands_of terms j d) i) (sym here_is) ∙ there in
+            let stand = part i y there' in ap (λ (j : ℕ). w (in_row terms.rows j (i + 48))) (here_is ∙ sym on_row) ∙ stand.1))
+            (λ ne. r.rows.commands t d is (let below' : t < x = subst (λ (z : ℕ). t < z) here below in let g : t < w 16 = omega arith in g) late i y there))
+            (λ t d is below. dite (ℕ_discrete t p.own)
+            (λ here_is. (let stood : entry_of (r.log.status p.own) ≡ some e = knows.front p.own e held in
+            let same : e ≡ d = one_entry (r.log.status p.own) e d stood (ap r.log.status (sym here_is) ∙ is) in
+            subst (λ (j : ℕ). IsPackable d.gateway (command_of terms j d)) (sym here_is) (subst (λ (m : Message). IsPackable m.gateway (command_of terms p.own m)) same packed)))
+            (λ ne. r.rows.packable t d is (let below' : t < x = subst (λ (z : ℕ). t < z) here below in let g : t < w 16 = omega arith in g))),
         refl,
       )

@@ -1,5 +1,5 @@
 -- A store in a row that is claimed keeps the rule: no other row in use has the word, and no published one that may be read.
-use Rattle.std.proofs.Common.{◌≡◌, ◌≢◌, ℕ, zero, suc, ◌+◌, ◌-◌, ◌%◌, ◌<◌, ◌≤◌, List, [], ◌∷◌, ◌++◌, ⊎_elim, eqb, length, length-set, take, get_or, set, refl, ap, sym, subst, ◌∙◌, arith}
+use Rattle.std.proofs.Common.{◌≡◌, ◌≢◌, ℕ, zero, suc, ◌+◌, ◌-◌, ◌%◌, ◌<◌, ◌≤◌, List, [], ◌∷◌, ◌++◌, ⊎_elim, eqb, length, length-set, take, get_or, set, refl, ap, sym, subst, ◌∙◌, arith, le_refl}
 use Rattle.std.proofs.lemmas.Bool.{ne_eqb, cond-false}
 use mathlib.Core.Option.{none, some, some-ne-none}
 use mathlib.Core.Logic.{dite}
@@ -11,16 +11,16 @@ use Rattle.ring_words.specs.declared.view.Role.{Role}
 use Rattle.ring_words.specs.declared.view.Role.TheVariants.{Process, Unmarshal, Journal, Marshal, Gateway}
 use Rattle.ring_words.specs.declared.view.Person.{Person}
 use Rattle.ring_words.specs.declared.view.View.{View}
-use Rattle.ring_words.specs.Places.{processed, claim, taken, first_row, in_row, place_of, number_of}
+use Rattle.ring_words.specs.Places.{processed, claim, unmarshalled, journalled, taken, first_row, in_row, place_of, number_of}
 use Rattle.ring_words.specs.Log.{IsEntry, Status, unclaimed, old, claimed, sent, Log, entry_of, sends_of, claims_of, times}
 use Rattle.ring_words.specs.Raw.{raw_count}
-use Rattle.ring_words.specs.Terms.{Terms}
+use Rattle.ring_words.specs.Terms.{Terms, commands_of, command_of}
 use Rattle.ring_words.specs.Rule.{IsRole, Ordered, Logged, PartOf, Knows, words_of, Lawful}
 use Rattle.ring_words.specs.Seats.{person, IsAlone, alone, stored}
 use Rattle.ring_words.specs.Steps.{Seated, GoesOn, stores_raw}
 use Rattle.ring_words.proofs.Windows.{same_row, one_window, row_inside, no_control}
 use Rattle.ring_words.proofs.Puts.{word_here, word_else}
-use Rattle.ring_words.proofs.Logs.{at_end}
+use Rattle.ring_words.proofs.Logs.{short_words, at_end, within, depth_risen}
 use Rattle.ring_words.proofs.Keeps.{mine, after}
 use Rattle.ring_words.proofs.Claims.{claimed_not_sent, sent_not_unclaimed, claimed_by, not_claimed}
 
@@ -53,7 +53,7 @@ module _ {L : Type 0} (terms : Terms L) (w : ℕ → ℕ) (log : Log) (order : O
   in_use s k is = (not_done (dec_le (w processed) s), not_ahead (dec_le (w claim) s)) where
     not_done : Dec (w processed ≤ s) → w processed ≤ s
     not_done (yes le) = le
-    not_done (no gt) = let e = logged.done s (omega arith) in absurd (some-ne-none e.0 (sym (subst (λ (x : Status). entry_of x ≡ some e.0) is e.1)))
+    not_done (no gt) = let before = order.processed_unmarshalled in let e = logged.done s (omega arith) in absurd (some-ne-none e.0 (sym (subst (λ (x : Status). entry_of x ≡ some e.0) is e.1)))
 
     not_ahead : Dec (w claim ≤ s) → s < w claim
     not_ahead (yes le) = absurd (not_claimed k (sym is ∙ logged.ahead s le))
@@ -77,10 +77,12 @@ pub others_know : {L : Type 0} (terms : Terms L) (w w' : ℕ → ℕ) (log log' 
     → ((s : ℕ) → claims_of (number_of o.role) (log.status s) ≡ claims_of (number_of o.role) (log'.status s))
     → ((c : ℕ) → c < first_row → w' c ≡ w c)
     → ((t i j : ℕ) → o.role ≡ Gateway j → i < 41 → log.status t ≡ claimed j → (log'.status t ≡ claimed j) × (w' (in_row terms.rows t (i + 1)) ≡ w (in_row terms.rows t (i + 1))))
+    → ((t i : ℕ) → o.role ≡ Unmarshal → i < 16 → w' (in_row terms.rows t (i + 48)) ≡ w (in_row terms.rows t (i + 48)))
     → Knows terms w log o → Knows terms w' log' o
-others_know terms w w' log log' o few entries sends claims control rows r = record {
+others_know terms w w' log log' o few entries sends claims control rows behind r = record {
   role = r.role;
   front = λ s e at. entries s e (r.front s e at);
+  depth = depth_risen w w' (λ c low. subst (λ (y : ℕ). w c ≤ y) (sym (control c low)) (le_refl (w c))) o.role (length o.seen) r.depth;
   own = control (place_of o.role) (place_low terms.gateways o.role few r.role) ∙ r.own;
   mine = λ s. r.mine s ∙ sends s;
   claims = λ s. r.claims s ∙ claims s;
@@ -89,19 +91,19 @@ others_know terms w w' log log' o few entries sends claims control rows r = reco
 } where
   part_stays : (role : Role) → o.role ≡ role → PartOf terms.rows w log role o.part → PartOf terms.rows w' log' role o.part
   part_stays Process is h = tt
-  part_stays Unmarshal is h = tt
+  part_stays Unmarshal is h = λ i x at. let t = h i x at in (t.0, behind o.part.sequence i is t.0 ∙ t.1)
   part_stays Journal is h = tt
   part_stays Marshal is h = tt
   part_stays (Gateway j) is h = λ i x at. let t = h i x at in let u = rows o.part.sequence i j is t.0 t.1 in (t.0, u.0, u.1 ∙ t.2)
 
-in_take : (l : List ℕ) (i j a : ℕ) → get_elem? (take i l) j ≡ some a → (j < i) × (get_elem? l j ≡ some a)
+pub in_take : (l : List ℕ) (i j a : ℕ) → get_elem? (take i l) j ≡ some a → (j < i) × (get_elem? l j ≡ some a)
 in_take [] zero j a e = absurd (some-ne-none a (sym e))
 in_take [] (suc i) j a e = absurd (some-ne-none a (sym e))
 in_take (x ∷ xs) zero j a e = absurd (some-ne-none a (sym e))
 in_take (x ∷ xs) (suc i) zero a e = ((omega arith), e)
 in_take (x ∷ xs) (suc i) (suc j) a e = let t = in_take xs i j a e in ((let g = t.0 in omega arith), t.1)
 
-long_take : (l : List ℕ) (i : ℕ) → i ≤ length l → length (take i l) ≡ i
+pub long_take : (l : List ℕ) (i : ℕ) → i ≤ length l → length (take i l) ≡ i
 long_take [] zero h = refl
 long_take [] (suc i) h = absurd (omega arith)
 long_take (x ∷ xs) zero h = refl
@@ -119,9 +121,10 @@ module _ {L : Type 0} (S : Type 0) (terms : Terms L) where
       let stays : (t j : ℕ) → j < 64 → (t % terms.rows ≡ a % terms.rows → j ≢ i + 1) → w' (in_row terms.rows t j) ≡ w (in_row terms.rows t j) =
       λ t j low differs. word_else ws here (in_row terms.rows t j) x (λ e. let both = same_row terms.rows t a j (i + 1) low (let g : i + 1 < 64 = omega arith in g) e in differs both.0 both.1) in
       let claim_is' : w' claim ≡ w claim = control claim (omega arith) in let zero_is : w' processed ≡ w processed = control processed (omega arith) in
-      let order = r.order in let behind = order.behind in let room = order.room in let most = order.most in let start = r.logged.start in
+      let unmarshalled_is : w' unmarshalled ≡ w unmarshalled = control unmarshalled (omega arith) in let journalled_is : w' journalled ≡ w journalled = control journalled (omega arith) in
+      let order = r.order in let first = order.processed_unmarshalled in let second = order.processed_journalled in let third = order.unmarshalled_claimed in let fourth = order.journalled_claimed in let room = order.room in let most = order.most in let start = r.logged.start in
       after S terms s r ws' id me.0 p (stored p a i x) at one refl (length-set ws here x) r.log
-      record { behind = omega arith; room = omega arith; most = omega arith; waiting = (control 16 (omega arith) ∙ r.order.waiting.0, control 24 (omega arith) ∙ r.order.waiting.1); silent = (control 32 (omega arith) ∙ r.order.silent.0, control 104 (omega arith) ∙ r.order.silent.1) }
+      record { processed_unmarshalled = omega arith; processed_journalled = omega arith; unmarshalled_claimed = omega arith; journalled_claimed = omega arith; room = omega arith; most = omega arith; silent = (control 32 (omega arith) ∙ r.order.silent.0, control 104 (omega arith) ∙ r.order.silent.1) }
       record {
         start = omega arith;
         based = r.logged.based;
@@ -130,7 +133,8 @@ module _ {L : Type 0} (S : Type 0) (terms : Terms L) where
         sender = r.logged.sender;
         ahead = λ t le. r.logged.ahead t (subst (λ (y : ℕ). y ≤ t) claim_is' le);
         somebodys = λ t lt. r.logged.somebodys t (subst (λ (y : ℕ). t < y) claim_is' lt);
-        done = λ t lt. r.logged.done t (subst (λ (y : ℕ). t < y) zero_is lt);
+        done = λ t lt. r.logged.done t (subst (λ (y : ℕ). t < y) unmarshalled_is lt);
+        kept = λ t lt. r.logged.kept t (subst (λ (y : ℕ). t < y) journalled_is lt);
       }
       record {
         marks = λ t y eq. r.rows.marks t y (sym (stays t 0 (omega arith) (λ _. (λ (e : 0 ≡ i + 1). omega arith))) ∙ eq);
@@ -139,10 +143,14 @@ module _ {L : Type 0} (S : Type 0) (terms : Terms L) where
             let bound = few_words e (r.logged.sender t e sent_is).0 in
             stays t (j + 1) (omega arith) (λ same. absurd (claimed_not_sent k e (sym is ∙ ap r.log.status (sym (one_row terms w r.log order r.logged a t k is (λ (z : r.log.status t ≡ unclaimed). sent_not_unclaimed e (sym sent_is ∙ z)) late same)) ∙ sent_is)))
             ∙ r.rows.raw t e sent_is late j few);
+        packable = λ t e sent_is below. r.rows.packable t e sent_is (subst (λ (z : ℕ). t < z) unmarshalled_is below);
+        commands = λ t e sent_is below le j y there. (let size = short_words e.gateway (command_of terms t e) in let few = within (commands_of terms t e) j y there in
+            stays t (j + 48) (omega arith) (λ _. (λ (z : j + 48 ≡ i + 1). omega arith)) ∙ r.rows.commands t e sent_is (subst (λ (z : ℕ). t < z) unmarshalled_is below) (subst (λ (z : ℕ). z ≤ t + terms.rows) claim_is' le) j y there);
       }
       record {
         role = knows.role;
         front = knows.front;
+        depth = depth_risen w w' (λ c low. subst (λ (y : ℕ). w c ≤ y) (sym (control c low)) (le_refl (w c))) p.role (length p.seen) knows.depth;
         mine = knows.mine;
         claims = knows.claims;
         own = control (place_of p.role) (place_low terms.gateways p.role r.few knows.role) ∙ knows.own;
@@ -166,7 +174,8 @@ module _ {L : Type 0} (S : Type 0) (terms : Terms L) where
             let use_t = in_use terms w r.log order r.logged t q t_is in let t_late = use_t.0 in
             let eq : t ≡ a = one_row terms w r.log order r.logged a t k is (λ (z : r.log.status t ≡ unclaimed). not_claimed q (sym t_is ∙ z)) (omega arith) same in
             apart_from (ap place_of o_is ∙ ap taken (claimed_by q k (sym t_is ∙ ap r.log.status eq ∙ is)) ∙ sym (ap place_of role)))),
-      )) kn)
+      ))
+      (λ t j _ low. stays t (j + 48) (omega arith) (λ _. (λ (z : j + 48 ≡ i + 1). omega arith))) kn)
 
   -- a gateway stores the next raw word of a row that it claimed
   pub writes_raw : (slots id k a i x : ℕ) (me : Seated S L) → IsAlone me.0 → (person me.0).role ≡ Gateway k → 0 < times a (person me.0).claims → i < 41 → GoesOn (person me.0).part a i

@@ -4,9 +4,10 @@ use mathlib.Core.Option.{some}
 use lib.ListN.{get_elem?}
 use Rattle.atomic_table.specs.Seated.{TableId}
 use Rattle.venue_model.specs.History.{Message}
-use Rattle.ring_words.specs.declared.view.Role.TheVariants.{Process, Gateway}
+use Rattle.ring_words.specs.declared.view.Role.{Role}
+use Rattle.ring_words.specs.declared.view.Role.TheVariants.{Gateway}
 use Rattle.ring_words.specs.declared.seats.GatewaySeat.{GatewaySeat}
-use Rattle.ring_words.specs.declared.seats.ProcessSeat.{ProcessSeat}
+use Rattle.ring_words.specs.declared.view.View.{View}
 use Rattle.ring_words.specs.Rule.{newcomer, view_of}
 
 module _ {L : Type 0} (table : TableId) (logic : L) (base : List Message) where
@@ -20,7 +21,6 @@ module _ {L : Type 0} (table : TableId) (logic : L) (base : List Message) where
   abbrev pub AreFresh : ℕ → List (GatewaySeat L) → Type 0
   AreFresh given seats = (i : ℕ) (s : GatewaySeat L) → get_elem? seats i ≡ some s → IsFresh given (i + 1) s
 
-  -- the processor's seat, which has processed the history at the start
-  pub record IsFreshProcess (s : ProcessSeat L) : Type 0 where
-    pub at : s.seat.table_id ≡ table
-    pub view : s.seat.me.0 ≡ view_of logic base (newcomer Process base (length base) ∷ [])
+-- the view of a stage that has done the history at the start
+abbrev pub stage_view : {L : Type 0} → L → List Message → Role → View L
+stage_view logic base role = view_of logic base (newcomer role base (length base) ∷ [])

@@ -5,7 +5,7 @@ use lib.ListN.{get_elem?}
 use Rattle.atomic_table.specs.Seated.{TableId}
 use Rattle.venue_model.specs.History.{Message}
 use Rattle.ring_words.specs.declared.seats.GatewaySeat.{GatewaySeat}
-use Rattle.ring_words.specs.declared.seats.ProcessSeat.{ProcessSeat}
+use Rattle.ring_words.specs.declared.view.Person.{Person}
 use Rattle.ring_words.specs.Log.{IsEntry, sent_at}
 use Rattle.ring_words.specs.Rule.{IsGateway}
 use Rattle.ring_words.specs.Seats.{person}
@@ -36,12 +36,12 @@ module _ {L : Type 0} where
 
   -- one log tells of all: it begins with the history at the start; each later entry is a message and was published there by one gateway, and all that
   -- a gateway published stands there; what anyone knew is a beginning of it, and so is what is processed
-  pub record Ended (base : List Message) (gateways : List (GatewaySeat L)) (process : ProcessSeat L) (commands : ℕ) : Type 0 where
+  pub record Ended (base : List Message) (gateways : List (GatewaySeat L)) (stages : List Person) (commands : ℕ) : Type 0 where
     pub log : List Message
     pub begins : IsBeginning base log
     pub later : (s : ℕ) (e : Message) → length base ≤ s → get_elem? log s ≡ some e → IsEntry e × IsGateway (length gateways) e.gateway
     pub mine : (i : ℕ) (g : GatewaySeat L) → get_elem? gateways i ≡ some g
         → (s : ℕ) → sent_at s (person g.seat.me.0).mine ≡ published_at (length base) g.number log s
     pub seen : (i : ℕ) (g : GatewaySeat L) → get_elem? gateways i ≡ some g → IsBeginning (person g.seat.me.0).seen log
-    pub known : IsBeginning (person process.seat.me.0).seen log
+    pub known : (j : ℕ) (p : Person) → get_elem? stages j ≡ some p → IsBeginning p.seen log
     pub done : commands ≤ length log

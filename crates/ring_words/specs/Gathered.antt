@@ -4,11 +4,11 @@ use mathlib.Core.Option.{some}
 use lib.ListN.{get_elem?}
 use Rattle.ring_words.specs.declared.view.View.{View}
 use Rattle.ring_words.specs.declared.seats.GatewaySeat.{GatewaySeat}
-use Rattle.ring_words.specs.declared.seats.ProcessSeat.{ProcessSeat}
+use Rattle.ring_words.specs.declared.view.Person.{Person}
 use Rattle.ring_words.specs.Seats.{person}
 
 module _ {L : Type 0} where
-  -- the view has the processor first, and the persons of all these gateways
-  pub record Gathers (gateways : List (GatewaySeat L)) (process : ProcessSeat L) (v : View L) : Type 0 where
-    pub processor : get_elem? v.people 0 ≡ some (person process.seat.me.0)
+  -- the view has these stages first, and the persons of all these gateways
+  pub record Gathers (gateways : List (GatewaySeat L)) (stages : List Person) (v : View L) : Type 0 where
+    pub stage : (j : ℕ) (p : Person) → get_elem? stages j ≡ some p → get_elem? v.people j ≡ some p
     pub all : (i : ℕ) (g : GatewaySeat L) → get_elem? gateways i ≡ some g → (j : ℕ) × (get_elem? v.people j ≡ some (person g.seat.me.0))

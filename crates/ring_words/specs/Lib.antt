@@ -1,6 +1,7 @@
 pub mod Places
 pub mod Log
 pub mod Raw
+pub mod Packing
 pub mod Terms
 pub mod Rule
 pub mod Seats

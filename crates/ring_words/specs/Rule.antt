@@ -14,7 +14,8 @@ use Rattle.ring_words.specs.declared.view.View.{View}
 use Rattle.ring_words.specs.Places.{processed, claim, unmarshalled, journalled, marshalled, published, first_row, in_row, table_words, place_of, number_of}
 use Rattle.ring_words.specs.Log.{IsEntry, unclaimed, old, claimed, sent, Log, entry_of, sends_of, claims_of, sent_at, times, IsFront}
 use Rattle.ring_words.specs.Raw.{raw_word, raw_count}
-use Rattle.ring_words.specs.Terms.{Terms}
+use Rattle.ring_words.specs.Packing.{IsPackable}
+use Rattle.ring_words.specs.Terms.{Terms, commands_of, command_of}
 
 -- the number of one of g gateways
 abbrev pub IsGateway : ℕ → ℕ → Type 0
@@ -28,14 +29,26 @@ IsRole g Journal = Unit {0}
 IsRole g Marshal = Unit {0}
 IsRole g (Gateway k) = IsGateway g k
 
+-- how long the history is at most that the role may know, besides that it is the log's beginning
+abbrev pub Depth : (ℕ → ℕ) → Role → ℕ → Type 0
+Depth w Process k = (k ≤ w unmarshalled) × (k ≤ w journalled)
+Depth w Unmarshal k = Unit {0}
+Depth w Journal k = Unit {0}
+Depth w Marshal k = Unit {0}
+Depth w (Gateway j) k = k ≤ w journalled
+
 -- the words that a gateway has stored stand in the row that it claimed, in a ring of n rows
 abbrev pub Stands : ℕ → (ℕ → ℕ) → Log → ℕ → Part → Type 0
 Stands n w log k t = (i x : ℕ) → get_elem? t.words i ≡ some x → (i < 41) × (log.status t.sequence ≡ claimed k) × (w (in_row n t.sequence (i + 1)) ≡ x)
 
+-- the words of a command that were stored stand in their row
+abbrev pub StandsBehind : ℕ → (ℕ → ℕ) → Part → Type 0
+StandsBehind n w t = (i x : ℕ) → get_elem? t.words i ≡ some x → (i < 16) × (w (in_row n t.sequence (i + 48)) ≡ x)
+
 -- the row under way, by role
 abbrev pub PartOf : ℕ → (ℕ → ℕ) → Log → Role → Part → Type 0
 PartOf n w log Process t = Unit {0}
-PartOf n w log Unmarshal t = Unit {0}
+PartOf n w log Unmarshal t = StandsBehind n w t
 PartOf n w log Journal t = Unit {0}
 PartOf n w log Marshal t = Unit {0}
 PartOf n w log (Gateway k) t = Stands n w log k t
@@ -54,24 +67,27 @@ abbrev pub gateways : ℕ → ℕ → List Message → ℕ → List Person
 gateways k zero base given = []
 gateways k (suc g) base given = newcomer (Gateway k) base given ∷ gateways (suc k) g base given
 
--- all persons at the start: the processor and g gateways
+-- all persons at the start: three stages and g gateways
 abbrev pub crew : ℕ → List Message → ℕ → List Person
-crew g base given = newcomer Process base (length base) ∷ gateways 1 g base given
+crew g base given = newcomer Process base (length base) ∷ newcomer Unmarshal base (length base) ∷ newcomer Journal base (length base) ∷ gateways 1 g base given
 
 -- the words at the start: what sequences count begins at the length of the history, what outputs count at those given, and all rows are empty
 abbrev pub opening_word : ℕ → ℕ → ℕ → ℕ
 opening_word start given i = if nat_lt i 32 then start else (if nat_lt i 112 then given else 0)
 
 module _ {L : Type 0} where
-  -- the order of the control words. So far unmarshaller and journaller wait, and no outputs are put
+  -- the order of the control words. So far no outputs are put
   pub record Ordered (terms : Terms L) (w : ℕ → ℕ) : Type 0 where
-    pub behind : w processed ≤ w claim
+    pub processed_unmarshalled : w processed ≤ w unmarshalled
+    pub processed_journalled : w processed ≤ w journalled
+    pub unmarshalled_claimed : w unmarshalled ≤ w claim
+    pub journalled_claimed : w journalled ≤ w claim
     pub room : w claim ≤ w processed + terms.rows
     pub most : w claim ≤ 2 ^ 48
-    pub waiting : (w unmarshalled ≡ length terms.base) × (w journalled ≡ length terms.base)
     pub silent : (w marshalled ≡ terms.given) × (w published ≡ terms.given)
 
-  -- the log: what was there at the start, what is claimed and published, each by a gateway that there is, and that all below processed stands
+  -- the log: what was there at the start, what is claimed and published, each by a gateway that there is, and that all below
+  -- unmarshalled and all below journalled stands
   pub record Logged (terms : Terms L) (w : ℕ → ℕ) (log : Log) : Type 0 where
     pub start : length terms.base ≤ w processed
     pub based : (s : ℕ) (e : Message) → get_elem? terms.base s ≡ some e → log.status s ≡ old e
@@ -80,23 +96,29 @@ module _ {L : Type 0} where
     pub somebodys : (s : ℕ) → s < w claim → log.status s ≢ unclaimed
     pub holder : (s k : ℕ) → log.status s ≡ claimed k → IsGateway terms.gateways k
     pub sender : (s : ℕ) (e : Message) → log.status s ≡ sent e → IsEntry e × IsGateway terms.gateways e.gateway
-    pub done : (s : ℕ) → s < w processed → (e : Message) × (entry_of (log.status s) ≡ some e)
+    pub done : (s : ℕ) → s < w unmarshalled → (e : Message) × (entry_of (log.status s) ≡ some e)
+    pub kept : (s : ℕ) → s < w journalled → (e : Message) × (entry_of (log.status s) ≡ some e)
 
-  -- what a person knows: a beginning of the log, its own word, exactly its publications and claims, what it loaded, its row under way
+  -- what a person knows: a beginning of the log, no longer than its role may know, its own word, exactly its publications and claims, what it loaded, its row under way
   pub record Knows (terms : Terms L) (w : ℕ → ℕ) (log : Log) (p : Person) : Type 0 where
     pub role : IsRole terms.gateways p.role
     pub front : IsFront log.status p.seen
+    pub depth : Depth w p.role (length p.seen)
     pub own : w (place_of p.role) ≡ p.own
     pub mine : (s : ℕ) → sent_at s p.mine ≡ sends_of (number_of p.role) (log.status s)
     pub claims : (s : ℕ) → times s p.claims ≡ claims_of (number_of p.role) (log.status s)
     pub loads : (i : ℕ) (l : Load) → get_elem? p.loads i ≡ some l → l.place < first_row → l.value ≤ w l.place
     pub part : PartOf terms.rows w log p.role p.part
 
-  -- the rows: an availability word names a published sequence of its row, and a row that may still be read has its own and its message
+  -- the rows: an availability word names a published sequence of its row, and a row that may still be read has its own, its message, and below
+  -- unmarshalled its command
   pub record Rows (terms : Terms L) (w : ℕ → ℕ) (log : Log) : Type 0 where
     pub marks : (s x : ℕ) → w (in_row terms.rows s 0) ≡ suc x → (x % terms.rows ≡ s % terms.rows) × ((e : Message) × (log.status x ≡ sent e))
     pub shown : (s : ℕ) (e : Message) → log.status s ≡ sent e → w claim ≤ s + terms.rows → w (in_row terms.rows s 0) ≡ suc s
     pub raw : (s : ℕ) (e : Message) → log.status s ≡ sent e → w claim ≤ s + terms.rows → (i : ℕ) → i < raw_count e → w (in_row terms.rows s (i + 1)) ≡ raw_word e i
+    pub commands : (s : ℕ) (e : Message) → log.status s ≡ sent e → s < w unmarshalled → w claim ≤ s + terms.rows
+        → (i x : ℕ) → get_elem? (commands_of terms s e) i ≡ some x → w (in_row terms.rows s (i + 48)) ≡ x
+    pub packable : (s : ℕ) (e : Message) → log.status s ≡ sent e → s < w unmarshalled → IsPackable e.gateway (command_of terms s e)
 
   -- how many persons of all views store the word at k
   abbrev pub all_owners : ℕ → List (View L) → ℕ

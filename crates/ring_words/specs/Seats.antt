@@ -1,7 +1,8 @@
 -- The person of a seat in use, and what its own steps make of it.
-use Rattle.std.specs.Prelude.{None, ◌≡◌, ℕ, List, [], ◌∷◌, ◌++◌, take, drop}
+use Rattle.std.specs.Prelude.{None, ◌≡◌, ◌⊎◌, ℕ, List, [], ◌∷◌, ◌++◌, ◌==◌, cond, take, drop}
 use Rattle.venue_model.specs.History.{Message}
-use Rattle.ring_words.specs.declared.view.Role.TheVariants.{Process}
+use Rattle.ring_words.specs.declared.view.Role.{Role}
+use Rattle.ring_words.specs.declared.view.Role.TheVariants.{Process, Unmarshal, Journal}
 use Rattle.ring_words.specs.declared.view.Sent.{Sent}
 use Rattle.ring_words.specs.declared.view.Load.{Load}
 use Rattle.ring_words.specs.declared.view.Person.{Person}
@@ -32,6 +33,10 @@ with_claim p s = record p { claims = s ∷ p.claims }
 abbrev pub stored : Person → ℕ → ℕ → ℕ → Person
 stored p s i x = record p { part = record { sequence = s; words = take i p.part.words ++ x ∷ [] } }
 
+-- the words that it stored so far in the row of s are these
+abbrev pub wrote : Person → ℕ → List ℕ → Person
+wrote p s ws = record p { part = record { sequence = s; words = ws } }
+
 -- it published e at s
 abbrev pub marked : Person → ℕ → Message → Person
 marked p s e = record p { mine = p.mine ++ sent_of s e ∷ []; claims = without s p.claims; part = record { sequence = s; words = [] } }
@@ -39,6 +44,19 @@ marked p s e = record p { mine = p.mine ++ sent_of s e ∷ []; claims = without 
 -- it knows one entry more
 abbrev pub saw : Person → Message → Person
 saw p e = record p { seen = p.seen ++ e ∷ [] }
+
+-- it knows these entries more
+abbrev pub knowing : Person → List Message → Person
+knowing p rest = record p { seen = p.seen ++ rest }
+
+-- the value that was loaded last of the word at k; d if none was
+abbrev pub last_from : ℕ → ℕ → List Load → ℕ
+last_from k d [] = d
+last_from k d (l ∷ ls) = last_from k (cond (l.place == k) l.value d) ls
+
+-- a stage that reads what gateways published
+abbrev pub IsReader : Role → Type 0
+IsReader r = (r ≡ Unmarshal) ⊎ (r ≡ Journal)
 
 -- its own word became x
 abbrev pub moved : Person → ℕ → Person

@@ -1,17 +1,19 @@
 -- What each kind of step tells the one who makes it: of the step, the seat before, the number found (at a store, the number stored), and the seat after.
-use Rattle.std.specs.Prelude.{◌≡◌, ◌≢◌, ◌⊎◌, ℕ, suc, ◌+◌, ◌^◌, ◌<◌, ◌≤◌, length}
+use Rattle.std.specs.Prelude.{Some, ◌≡◌, ◌≢◌, ◌⊎◌, ℕ, suc, ◌+◌, ◌^◌, ◌<◌, ◌≤◌, List, [], ◌++◌, length, if◌then◌else◌, nat_le}
 use mathlib.Core.Option.{some}
 use lib.ListN.{get_elem?}
 use Rattle.atomic_table.specs.Table.{Me, Step}
 use Rattle.venue_model.specs.History.{Message}
+use Rattle.venue_model.specs.declared.commands.Command.{Command}
 use Rattle.ring_words.specs.declared.view.Load.{Load}
 use Rattle.ring_words.specs.declared.view.Part.{Part}
 use Rattle.ring_words.specs.declared.view.Person.{Person}
 use Rattle.ring_words.specs.declared.view.View.{View}
-use Rattle.ring_words.specs.Places.{processed, claim, in_row}
+use Rattle.ring_words.specs.Places.{processed, claim, unmarshalled, journalled, in_row}
 use Rattle.ring_words.specs.Log.{IsEntry, times}
 use Rattle.ring_words.specs.Raw.{raw_word, raw_count, Spells}
-use Rattle.ring_words.specs.Seats.{person, alone, looked, with_claim, stored, marked, saw, moved}
+use Rattle.ring_words.specs.Packing.{command_words, IsPackable}
+use Rattle.ring_words.specs.Seats.{person, alone, looked, with_claim, stored, marked, saw, knowing, last_from, moved}
 
 -- no claim value that the person loaded is above x
 abbrev pub ClaimsUpTo : Person → ℕ → Type 0
@@ -25,8 +27,23 @@ HasRoom n p s = (i : ℕ) × ((l : Load) × (get_elem? p.loads i ≡ some l) × 
 abbrev pub GoesOn : Part → ℕ → ℕ → Type 0
 GoesOn t s i = (i ≡ 0) ⊎ ((t.sequence ≡ s) × (i ≤ length t.words))
 
+abbrev pub lesser : ℕ → ℕ → ℕ
+lesser a b = if nat_le a b then a else b
+
+-- with these entries more as many as x are known; no more are added than that takes
+abbrev pub Reaches : ℕ → List Message → List Message → Type 0
+Reaches x seen rest = ((x ≤ length seen) × (rest ≡ [])) ⊎ ((length seen < x) × (length (seen ++ rest) ≡ x))
+
 abbrev pub Seated : Type 0 → Type 0 → Type 0
 Seated S L = Me S (View L)
+
+-- the unmarshaller wrote the whole command of the next sequence, which is that of the entry e, as the logic reads it
+pub record WroteCommand {L : Type 0} (reads : L → ℕ → Message → Command) (v : View L) (logic : L) (e : Message) : Type 0 where
+  pub by : v.logic ≡ Some logic
+  pub entry : get_elem? (person v).seen (person v).own ≡ some e
+  pub row : (person v).part.sequence ≡ (person v).own
+  pub words : (person v).part.words ≡ command_words e.gateway (reads logic (person v).own e)
+  pub packable : IsPackable e.gateway (reads logic (person v).own e)
 
 module _ {S L : Type 0} where
   -- the seat is as before, but for its one person, who is now q
@@ -49,6 +66,10 @@ module _ {S L : Type 0} where
   abbrev pub stores_raw : ℕ → Step S → Seated S L → ℕ → Seated S L → Type 0
   stores_raw n st m r m' = (s i : ℕ) → 0 < times s (person m.0).claims → i < 41 → st.word ≡ in_row n s (i + 1) → Became m (stored (person m.0) s i r) m'
 
+  -- a store of a command word in the row of a sequence that is known and not released
+  abbrev pub stores_command : ℕ → Step S → Seated S L → ℕ → Seated S L → Type 0
+  stores_command n st m r m' = (s i : ℕ) → (person m.0).own ≤ s → s < length (person m.0).seen → i < 16 → st.word ≡ in_row n s (i + 48) → Became m (stored (person m.0) s i r) m'
+
   -- a store of availability, when the words stored spell the message
   abbrev pub marks_sent : Step S → Seated S L → ℕ → Seated S L → Type 0
   marks_sent st m r m' = (s : ℕ) (e : Message) → r ≡ suc s → Spells (person m.0).part.words e → IsEntry e → Became m (marked (person m.0) s e) m'
@@ -62,6 +83,22 @@ module _ {S L : Type 0} where
   abbrev pub sees_raw : ℕ → Step S → Seated S L → ℕ → Seated S L → Type 0
   sees_raw n st m r m' = Became m (looked (person m.0) st.word r) m'
       × ((s i : ℕ) (e : Message) → get_elem? (person m.0).seen s ≡ some e → (person m.0).own ≤ s → i < raw_count e → st.word ≡ in_row n s (i + 1) → (r ≡ raw_word e i) × IsEntry e)
+
+  -- a load of unmarshalled
+  abbrev pub sees_unmarshalled : Step S → Seated S L → ℕ → Seated S L → Type 0
+  sees_unmarshalled st m r m' = Became m (looked (person m.0) unmarshalled r) m' × (length (person m.0).seen ≤ r)
+
+  -- a load of journalled by the processor: it knows what lies below that and below the unmarshalled value that it loaded last
+  abbrev pub sees_journalled : Step S → Seated S L → ℕ → Seated S L → Type 0
+  sees_journalled st m r m' = (length (person m.0).seen ≤ r) × (r ≤ 2 ^ 48)
+      × ((rest : List Message) × Reaches (lesser (last_from unmarshalled 0 (person m.0).loads) r) (person m.0).seen rest
+      × Became m (knowing (looked (person m.0) journalled r) rest) m')
+
+  -- a load of a command word of an entry that the processor knows and hasn't released
+  abbrev pub sees_command : ℕ → (L → ℕ → Message → Command) → Step S → Seated S L → ℕ → Seated S L → Type 0
+  sees_command n reads st m r m' = Became m (looked (person m.0) st.word r) m'
+      × ((logic : L) (s i x : ℕ) (e : Message) → m.0.logic ≡ Some logic → get_elem? (person m.0).seen s ≡ some e → (person m.0).own ≤ s
+      → get_elem? (command_words e.gateway (reads logic s e)) i ≡ some x → st.word ≡ in_row n s (i + 48) → (r ≡ x) × IsPackable e.gateway (reads logic s e) × IsEntry e)
 
   -- a store of the own word
   abbrev pub moves_own : Step S → Seated S L → ℕ → Seated S L → Type 0

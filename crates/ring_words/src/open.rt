@@ -1,17 +1,22 @@
 //! How the rings begin: their words, the first seat, and the seats that it is split into.
 ghost use Rattle.std.specs.Prelude.{◌≡◌, ◌≢◌, ℕ, suc, ◌+◌, ◌-◌, ◌*◌, ◌^◌, ◌<◌, ◌≤◌, [], ◌∷◌, length, slice_index_or, vec_len, IfOk, IsErrOf, IsTrue, IsFalse, IsOk, ◌&&◌};
-ghost use Rattle.ring_words.specs.Rule.{gateways, crew, opening_word, view_of};
+ghost use Rattle.ring_words.specs.Rule.{gateways, newcomer, opening_word, view_of};
+ghost use Rattle.ring_words.specs.declared.view.Role.TheVariants.{Process, Unmarshal, Journal};
+ghost use Rattle.ring_words.specs.Seats.{person, others, apart};
 ghost use Rattle.ring_words.specs.Sizes.{ring_size};
-ghost use Rattle.ring_words.specs.Crew.{IsFresh, AreFresh, IsFreshProcess};
+ghost use Rattle.ring_words.specs.Crew.{IsFresh, AreFresh, stage_view};
 
 use crate::places::{FIRST_OUTPUT_WORD, FIRST_ROW, OUTPUT_ROW_WORDS, OUTPUT_WORDS_END, ROW_WORDS};
 use crate::plays::Apart;
+use crate::process_seat::ProcessSeat;
+use crate::reader_seat::{Reader, ReaderSeat};
 use crate::rings::Rings;
-use crate::seats::{GatewaySeat, ProcessSeat, Seats};
+use crate::seats::{GatewaySeat, Seats};
 use crate::setup::Setup;
 use crate::view::View;
 use atomic_table::{Seat, Table};
 use std::alloc::{AllocError, Global};
+use std::marker::PhantomData;
 use std::snapshot::Snapshot;
 use thiserror::Error;
 use venue_model::{Entry, Logic};
@@ -65,22 +70,52 @@ fn words_at_start(
 }
 
 impl<L: Logic, const N: usize, const M: usize, const G: usize> Rings<L, N, M, G> {
+    /// Splits the seat of the first person off the first seat.
+    fn split(&self, first: &mut Seat<(), View<L>>) -> Seat<(), View<L>>
+        requires table { first.old.table_id ≡ self.now.table.shared.table_id }
+        requires bare { first.old.me.1 ≡ [] }
+        requires some { 0 < length first.old.me.0.people }
+        ensures first { (first.new.table_id ≡ first.old.table_id) × (first.new.me ≡ (others first.old.me.0, [])) }
+        ensures seat { (result.table_id ≡ first.old.table_id) × (result.me ≡ (apart first.old.me.0, [])) }
+    {
+        self.table.shared.split_seat::<Apart>(first)
+    }
+
     /// Splits the processor's seat off the first one.
     fn process_seat(&self, first: &mut Seat<(), View<L>>, count: u64) -> ProcessSeat<L>
         requires table { first.old.table_id ≡ self.now.table.shared.table_id }
         requires bare { first.old.me.1 ≡ [] }
-        requires people { first.old.me.0 ≡ view_of self.now.table.shared.key.logic self.now.table.shared.key.base.value.items (crew G self.now.table.shared.key.base.value.items self.now.table.shared.key.given) }
+        requires some { 0 < length first.old.me.0.people }
+        requires head { person first.old.me.0 ≡ newcomer Process self.now.table.shared.key.base.value.items count }
         requires count { count ≡ length self.now.table.shared.key.base.value.items }
         requires small { count ≤ 2 ^ 48 }
-        ensures first { (first.new.table_id ≡ first.old.table_id) × (first.new.me.1 ≡ []) }
-        ensures people { first.new.me.0 ≡ view_of self.now.table.shared.key.logic self.now.table.shared.key.base.value.items (gateways 1 G self.now.table.shared.key.base.value.items self.now.table.shared.key.given) }
-        ensures seat { IsFreshProcess self.now.table.shared.table_id self.now.table.shared.key.logic self.now.table.shared.key.base.value.items result }
+        ensures first { (first.new.table_id ≡ first.old.table_id) × (first.new.me ≡ (others first.old.me.0, [])) }
+        ensures seat { (result.seat.table_id ≡ first.old.table_id) × (result.seat.me.0 ≡ apart first.old.me.0) }
     {
-        let seat = self.table.shared.split_seat::<Apart>(first);
         ProcessSeat {
-            seat,
+            seat: self.split(first),
             known: count,
             own: count,
+            gate: 0,
+        }
+    }
+
+    /// Splits the seat of a stage that reads what gateways publish off the first one.
+    fn reader_seat<R: Reader>(&self, first: &mut Seat<(), View<L>>, count: u64) -> ReaderSeat<L, R>
+        requires table { first.old.table_id ≡ self.now.table.shared.table_id }
+        requires bare { first.old.me.1 ≡ [] }
+        requires some { 0 < length first.old.me.0.people }
+        requires head { person first.old.me.0 ≡ newcomer R.role self.now.table.shared.key.base.value.items count }
+        requires count { count ≡ length self.now.table.shared.key.base.value.items }
+        requires small { count ≤ 2 ^ 48 }
+        ensures first { (first.new.table_id ≡ first.old.table_id) × (first.new.me ≡ (others first.old.me.0, [])) }
+        ensures seat { (result.seat.table_id ≡ first.old.table_id) × (result.seat.me.0 ≡ apart first.old.me.0) }
+    {
+        ReaderSeat {
+            seat: self.split(first),
+            known: count,
+            own: count,
+            marker: PhantomData,
         }
     }
 
@@ -95,8 +130,10 @@ impl<L: Logic, const N: usize, const M: usize, const G: usize> Rings<L, N, M, G>
         ensures people { first.new.me.0 ≡ view_of self.now.table.shared.key.logic self.now.table.shared.key.base.value.items (gateways (number + 1) (left - 1) self.now.table.shared.key.base.value.items self.now.table.shared.key.given) }
         ensures seat { IsFresh self.now.table.shared.table_id self.now.table.shared.key.logic self.now.table.shared.key.base.value.items self.now.table.shared.key.given number result }
     {
-        let seat = self.table.shared.split_seat::<Apart>(first);
-        GatewaySeat { seat, number }
+        GatewaySeat {
+            seat: self.split(first),
+            number,
+        }
     }
 
     /// Splits the first seat into those of all gateways.
@@ -143,7 +180,9 @@ impl<L: Logic + Drop, const N: usize, const M: usize, const G: usize> Rings<L, N
         ensures opened { IfOk result (λ r. (r.0.table.shared.key.logic ≡ logic) × (r.0.table.shared.key.base.value.items ≡ base.now.items) × (r.0.table.shared.key.given ≡ given)) }
         ensures count { IfOk result (λ r. vec_len r.1.gateways ≡ G) }
         ensures gateways { IfOk result (λ r. AreFresh r.0.table.shared.table_id logic base.now.items given r.1.gateways.items) }
-        ensures process { IfOk result (λ r. IsFreshProcess r.0.table.shared.table_id logic base.now.items r.1.process) }
+        ensures process { IfOk result (λ r. (r.1.process.seat.table_id ≡ r.0.table.shared.table_id) × (r.1.process.seat.me.0 ≡ stage_view logic base.now.items Process)) }
+        ensures unmarshal { IfOk result (λ r. (r.1.unmarshal.seat.table_id ≡ r.0.table.shared.table_id) × (r.1.unmarshal.seat.me.0 ≡ stage_view logic base.now.items Unmarshal)) }
+        ensures journal { IfOk result (λ r. (r.1.journal.seat.table_id ≡ r.0.table.shared.table_id) × (r.1.journal.seat.me.0 ≡ stage_view logic base.now.items Journal)) }
     {
         if !is_ring_size(N) || !is_ring_size(M) {
             return Err(OpenError::NotPowerOfTwo);
@@ -166,9 +205,19 @@ impl<L: Logic + Drop, const N: usize, const M: usize, const G: usize> Rings<L, N
         };
         let rings = Rings { table };
         let process = rings.process_seat(&mut first, count);
+        let unmarshal = rings.reader_seat(&mut first, count);
+        let journal = rings.reader_seat(&mut first, count);
         let Ok(gateways) = rings.gateway_seats(alloc, first) else {
             return Err(OpenError::Memory);
         };
-        Ok((rings, Seats { gateways, process }))
+        Ok((
+            rings,
+            Seats {
+                gateways,
+                unmarshal,
+                journal,
+                process,
+            },
+        ))
     }
 }

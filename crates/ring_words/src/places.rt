@@ -4,6 +4,10 @@
 pub(crate) const PROCESSED: usize = 0;
 /// The claim word.
 pub(crate) const CLAIM: usize = 8;
+/// The unmarshaller's word.
+pub(crate) const UNMARSHALLED: usize = 16;
+/// The journaller's word.
+pub(crate) const JOURNALLED: usize = 24;
 /// The first of the words that begin at the number of outputs given: marshalled, then taken and published.
 pub(crate) const FIRST_OUTPUT_WORD: usize = 32;
 /// Behind the last of them.
@@ -14,5 +18,7 @@ pub(crate) const PUBLISHED: usize = 104;
 pub(crate) const FIRST_ROW: usize = 128;
 /// How many words an input row has.
 pub(crate) const ROW_WORDS: usize = 64;
+/// Where the command's words lie in an input row.
+pub(crate) const COMMAND: usize = 48;
 /// How many words an output row has.
 pub(crate) const OUTPUT_ROW_WORDS: usize = 128;

@@ -1,8 +1,9 @@
 //! What each kind of step tells. These types are for the proofs alone.
-ghost use Rattle.ring_words.specs.Steps.{sees_claim, sees_processed, claims_next, stores_raw, marks_sent, sees_mark, sees_raw, moves_own};
+ghost use Rattle.ring_words.specs.Steps.{sees_claim, sees_processed, claims_next, stores_raw, marks_sent, sees_mark, sees_raw, stores_command, sees_unmarshalled, sees_journalled, sees_command, moves_own};
 
 use crate::view::View;
 use atomic_table::{Join, Play, Split};
+use venue_model::Logic;
 
 pub(crate) struct SeeClaim;
 
@@ -44,6 +45,30 @@ pub(crate) struct SeeRaw<const N: usize>;
 
 impl<L, const N: usize> Play<(), View<L>> for SeeRaw<N> {
     ghost then = { sees_raw N };
+}
+
+pub(crate) struct StoreCommand<const N: usize>;
+
+impl<L, const N: usize> Play<(), View<L>> for StoreCommand<N> {
+    ghost then = { stores_command N };
+}
+
+pub(crate) struct SeeUnmarshalled;
+
+impl<L> Play<(), View<L>> for SeeUnmarshalled {
+    ghost then = { sees_unmarshalled };
+}
+
+pub(crate) struct SeeJournalled;
+
+impl<L> Play<(), View<L>> for SeeJournalled {
+    ghost then = { sees_journalled };
+}
+
+pub(crate) struct SeeCommand<const N: usize>;
+
+impl<L: Logic, const N: usize> Play<(), View<L>> for SeeCommand<N> {
+    ghost then = { sees_command N L.reads };
 }
 
 pub(crate) struct MoveOwn;

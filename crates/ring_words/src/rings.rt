@@ -18,9 +18,9 @@ impl<L: Logic> TableRule<(), View<L>, Setup<L>> for Ring<L> {
     ghost use Rattle.ring_words.specs.Terms.{terms_of};
     ghost use Rattle.ring_words.specs.Rule.{Lawful, first_view};
 
-    ghost holds = { λ k. Lawful (Unit {0}) (terms_of k) };
+    ghost holds = { λ k. Lawful (Unit {0}) (terms_of L.reads k) };
 
-    ghost first = { λ k. first_view (terms_of k) };
+    ghost first = { λ k. first_view (terms_of L.reads k) };
 }
 
 /// Both rings: `N` input rows and `M` output rows, powers of two from 2 to 4,096, for `G` gateways, 1 to 8.

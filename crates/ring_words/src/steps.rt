@@ -1,21 +1,16 @@
-//! The single steps, each a load, a store or a compare-exchange of one word: `sequencer` and `barrier` make calls of them.
-ghost use Rattle.std.specs.Prelude.{◌≡◌, ◌≢◌, ℕ, suc, ◌<◌, ◌≤◌, ◌^◌, ◌+◌, length, IsTrue, IsFalse};
-ghost use mathlib.Core.Option.{some};
-ghost use lib.ListN.{get_elem?};
+//! The single steps of gateways, each a load, a store or a compare-exchange of one word: `sequencer` makes calls of them.
+ghost use Rattle.std.specs.Prelude.{◌≡◌, ◌≢◌, ◌<◌, ◌≤◌, ◌^◌, ◌+◌, length};
 ghost use Rattle.venue_model.specs.History.{Message};
 ghost use Rattle.ring_words.specs.Places.{claim, processed, in_row};
 ghost use Rattle.ring_words.specs.Log.{IsEntry, times};
-ghost use Rattle.ring_words.specs.Raw.{raw_word, raw_count, Spells};
-ghost use Rattle.ring_words.specs.Seats.{person, alone, looked, with_claim, stored, marked, saw, moved};
+ghost use Rattle.ring_words.specs.Raw.{Spells};
+ghost use Rattle.ring_words.specs.Seats.{person, alone, looked, with_claim, stored, marked};
 ghost use Rattle.ring_words.specs.Steps.{ClaimsUpTo, HasRoom, GoesOn};
 
 use crate::places::{CLAIM, FIRST_ROW, PROCESSED, ROW_WORDS};
-use crate::plays::{
-    ClaimNext, MoveOwn, SeeAvailability, SeeClaim, SeeProcessed, SeeRaw, StoreAvailability,
-    StoreRaw,
-};
+use crate::plays::{ClaimNext, SeeClaim, SeeProcessed, StoreAvailability, StoreRaw};
 use crate::rings::Rings;
-use crate::seats::{GatewaySeat, ProcessSeat};
+use crate::seats::GatewaySeat;
 use venue_model::Logic;
 
 impl<L: Logic, const N: usize, const M: usize, const G: usize> Rings<L, N, M, G> {
@@ -58,7 +53,7 @@ impl<L: Logic, const N: usize, const M: usize, const G: usize> Rings<L, N, M, G>
     }
 
     /// The place of this word in the row of a sequence.
-    fn row_word(&self, sequence: u64, word: usize) -> usize
+    pub(crate) fn row_word(&self, sequence: u64, word: usize) -> usize
         requires { word < 64 }
         ensures place { result ≡ in_row N sequence word }
         ensures inside { result < self.now.table.shared.table_id.words }
@@ -96,52 +91,5 @@ impl<L: Logic, const N: usize, const M: usize, const G: usize> Rings<L, N, M, G>
         self.table
             .shared
             .store::<StoreAvailability>(&mut seat.seat, place, sequence + 1);
-    }
-
-    /// Loads the availability word of the next sequence that the seat doesn't know. True where it was published: then the
-    /// seat knows its entry.
-    pub fn load_availability(&self, seat: &mut ProcessSeat<L>) -> bool
-        requires table { seat.old.seat.table_id ≡ self.now.table.shared.table_id }
-        ensures table { seat.new.seat.table_id ≡ seat.old.seat.table_id }
-        ensures fresh { IsTrue result → (e : Message) × IsEntry e × (seat.new.seat.me.0 ≡ alone seat.old.seat.me.0 (saw (looked (person seat.old.seat.me.0) (in_row N (length (person seat.old.seat.me.0).seen) 0) (suc (length (person seat.old.seat.me.0).seen))) e)) }
-        ensures other { IsFalse result → (x : ℕ) × (x ≢ suc (length (person seat.old.seat.me.0).seen)) × (seat.new.seat.me.0 ≡ alone seat.old.seat.me.0 (looked (person seat.old.seat.me.0) (in_row N (length (person seat.old.seat.me.0).seen) 0) x)) }
-    {
-        let place = self.row_word(seat.known, 0);
-        let found = self
-            .table
-            .shared
-            .load::<SeeAvailability>(&mut seat.seat, place);
-        let fresh = found == seat.known + 1;
-        if fresh {
-            seat.known += 1;
-        }
-        fresh
-    }
-
-    /// Loads a raw word of an entry that the processor knows and hasn't released: word 0 has gateway and length, the bytes follow.
-    pub fn load_raw(&self, seat: &mut ProcessSeat<L>, sequence: u64, word: usize) -> u64
-        requires table { seat.old.seat.table_id ≡ self.now.table.shared.table_id }
-        requires from { (person seat.old.seat.me.0).own ≤ sequence }
-        requires word { word < 41 }
-        ensures table { seat.new.seat.table_id ≡ seat.old.seat.table_id }
-        ensures view { seat.new.seat.me.0 ≡ alone seat.old.seat.me.0 (looked (person seat.old.seat.me.0) (in_row N sequence (word + 1)) result) }
-        ensures raw { (e : Message) → get_elem? (person seat.old.seat.me.0).seen sequence ≡ some e → word < raw_count e → (result ≡ raw_word e word) × IsEntry e }
-    {
-        let place = self.row_word(sequence, word + 1);
-        self.table.shared.load::<SeeRaw<N>>(&mut seat.seat, place)
-    }
-
-    /// Stores the processor's word: all sequences below it are done, and their rows may be claimed again.
-    pub fn store_processed(&self, seat: &mut ProcessSeat<L>, upto: u64)
-        requires table { seat.old.seat.table_id ≡ self.now.table.shared.table_id }
-        requires from { (person seat.old.seat.me.0).own ≤ upto }
-        requires to { upto ≤ length (person seat.old.seat.me.0).seen }
-        ensures table { seat.new.seat.table_id ≡ seat.old.seat.table_id }
-        ensures view { seat.new.seat.me.0 ≡ alone seat.old.seat.me.0 (moved (person seat.old.seat.me.0) upto) }
-    {
-        self.table
-            .shared
-            .store::<MoveOwn>(&mut seat.seat, PROCESSED, upto);
-        seat.own = upto;
     }
 }

@@ -11,9 +11,9 @@ use Rattle.ring_words.specs.declared.view.Person.{Person}
 use Rattle.ring_words.specs.declared.view.View.{View}
 use Rattle.ring_words.specs.Log.{IsEntry}
 use Rattle.ring_words.specs.Raw.{eight, raw_word, raw_count, Spells}
-use Rattle.ring_words.specs.Seats.{person, alone, stored, marked}
+use Rattle.ring_words.specs.Seats.{person, alone, stored, marked, wrote}
 use Rattle.ring_words.specs.Steps.{GoesOn}
-use Rattle.sequencer.specs.Words.{first_words, words_of, wrote}
+use Rattle.sequencer.specs.Words.{first_words, words_of}
 
 length-first_words : (e : Message) (n : ℕ) → length (first_words e n) ≡ n
 length-first_words e zero = refl

@@ -1,7 +1,6 @@
 -- A message on its way into its row.
 use Rattle.std.specs.Prelude.{ℕ, zero, suc, List, [], ◌∷◌, ◌++◌}
 use Rattle.venue_model.specs.History.{Message}
-use Rattle.ring_words.specs.declared.view.Person.{Person}
 use Rattle.ring_words.specs.Raw.{raw_word, raw_count}
 
 -- the first n words of the message
@@ -12,7 +11,3 @@ first_words e (suc n) = first_words e n ++ raw_word e n ∷ []
 -- all its words
 abbrev pub words_of : Message → List ℕ
 words_of e = first_words e (raw_count e)
-
--- the row under way is that of s, and has these words
-abbrev pub wrote : Person → ℕ → List ℕ → Person
-wrote p s ws = record p { part = record { sequence = s; words = ws } }

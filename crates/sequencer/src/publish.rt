@@ -4,8 +4,8 @@ ghost use Rattle.std.specs.Int.{from_be_bytes};
 ghost use mir.Syntax.{w64};
 ghost use Rattle.ring_words.specs.Log.{times};
 ghost use Rattle.ring_words.specs.Raw.{eight};
-ghost use Rattle.ring_words.specs.Seats.{person, alone, marked};
-ghost use Rattle.sequencer.specs.Words.{wrote, words_of};
+ghost use Rattle.ring_words.specs.Seats.{person, alone, marked, wrote};
+ghost use Rattle.sequencer.specs.Words.{words_of};
 
 use crate::claim::Claim;
 use ring_words::{GatewaySeat, Rings};

@@ -4,3 +4,4 @@ mod WorkedSessions
 mod WorkedBooks
 pub mod Replaced
 pub mod Bounds
+pub mod Growth

@@ -5,7 +5,6 @@ use Rattle.fix_frame.specs.Grammar.{Field, IsBody, frame_text, most_in}
 use Rattle.fix_frame.specs.Framing.{Framing, HasFault}
 use Rattle.fix_frame.specs.Stream.{BeginsNoFrame, Faults}
 use Rattle.fix_frame.specs.declared.FrameFault.{FrameFault}
-use Rattle.venue_model.specs.Requests.{Symbols}
 use Rattle.venued.specs.declared.ending.Reason.TheVariants.{Refused}
 use Rattle.venued.specs.declared.refusal.Refusal.{Refusal}
 use Rattle.venued.specs.declared.refusal.Refusal.TheVariants as refusal
@@ -31,12 +30,12 @@ under_way_gone time message Pass s rest = refl
 under_way_gone time message Leave s rest = refl
 under_way_gone time message (Refuse r) s rest = refl
 
-pub listens-frame : (symbols : Symbols) (old new : Standing) (piece : List ℕ) (n : ℕ) (frame : List Field) (rest time : List ℕ) (v : Verdict) →
+pub listens-frame : (old new : Standing) (piece : List ℕ) (n : ℕ) (frame : List Field) (rest time : List ℕ) (v : Verdict) →
     BeginsNoFrame old.under_way → n ≤ length piece → IsBody most_in frame → old.under_way ++ take n piece ≡ frame_text frame →
-    time ≡ time_after old.time frame → v ≡ verdict symbols old.gateway old.accepted frame →
+    time ≡ time_after old.time frame → v ≡ verdict old.gateway old.accepted frame →
     new ≡ heard time (frame_text frame) v (record old { under_way = rest }) →
-    Listens symbols old new piece n
-listens-frame symbols old new piece n frame rest time v partial within body whole time_is v_is new_is = record {
+    Listens old new piece n
+listens-frame old new piece n frame rest time v partial within body whole time_is v_is new_is = record {
   some = some_fed old.under_way piece n frame partial body whole;
   within = within;
   hears = inl (inr (record {
@@ -49,11 +48,11 @@ listens-frame symbols old new piece n frame rest time v partial within body whol
   }));
 }
 
-pub listens-fault : (symbols : Symbols) (old new : Standing) (piece left : List ℕ) (at : ℕ) (fault : FrameFault) →
+pub listens-fault : (old new : Standing) (piece left : List ℕ) (at : ℕ) (fault : FrameFault) →
     1 ≤ length piece → Faults (old.under_way ++ piece) at fault →
     new ≡ refusing old.time (refusal.Frame fault) (record old { under_way = left }) →
-    Listens symbols old new piece (length piece)
-listens-fault symbols old new piece left at fault some faults new_is = record {
+    Listens old new piece (length piece)
+listens-fault old new piece left at fault some faults new_is = record {
   some = some;
   within = omega arith;
   hears = inr (record {

@@ -11,12 +11,12 @@ use Rattle.venued.proofs.StepLemmas.{at-same, moves-nothing}
 
 -- an output is said
 said-moves : (old : Front) (new : Standing) (said : Said) → old.session.logged_on ≡ true → old.session.closing ≡ None →
-    new ≡ saying said old.session → Moves old.symbols old.session new (record nothing_moved { handed = said ∷ [] })
+    new ≡ saying said old.session → Moves old.session new (record nothing_moved { handed = said ∷ [] })
 said-moves old new said on is_open new_is input messages outs written at =
-    at-same old.symbols new input (input ++ []) messages (messages ++ []) (outs ++ said ∷ []) (outs ++ said ∷ []) written (written ++ [])
+    at-same new input (input ++ []) messages (messages ++ []) (outs ++ said ∷ []) (outs ++ said ∷ []) written (written ++ [])
     (sym (append-nil input)) (sym (append-nil messages)) refl (sym (append-nil written))
-    (subst (λ (s : Standing). At old.symbols s input messages (outs ++ said ∷ []) written) (sym new_is)
-    (at-handed old.symbols old.session input messages outs written said on is_open at))
+    (subst (λ (s : Standing). At s input messages (outs ++ said ∷ []) written) (sym new_is)
+    (at-handed old.session input messages outs written said on is_open at))
 
 -- the output goes to a client that is logged on
 pub hands-said : (old new : Front) (desk desk' : Ledger) (said : Said) → old.session.logged_on ≡ true → old.session.closing ≡ None →
@@ -59,7 +59,7 @@ module _ (old new : Front) (desk desk' : Ledger) (these : List Said) (stays : ne
   pub hands-over : HandsOn old new desk desk' true
   hands-over = record {
     handed = [];
-    moves = subst (λ (s : Standing). Moves old.symbols old.session s nothing_moved) (sym stays) (moves-nothing old.symbols old.session);
+    moves = subst (λ (s : Standing). Moves old.session s nothing_moved) (sym stays) (moves-nothing old.session);
     others = others ∙ ap (λ (s : Standing). record old { session = s; passed = new.passed }) (sym stays);
     gateway = ap (λ (s : Standing). s.gateway) stays;
     closing = ap (λ (s : Standing). s.closing) stays;

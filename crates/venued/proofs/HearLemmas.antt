@@ -1,7 +1,6 @@
 -- What the parts that hear come to.
 use Rattle.std.proofs.Common.{◌≡◌, ◌≢◌, ◌⊎◌, inl, inr, ℕ, zero, suc, ◌+◌, ◌≤◌, false, List, [], ◌∷◌, ◌++◌, length, take, drop, refl, ap, sym, subst, ◌∙◌, arith, append-nil, take-append-drop, Option, Some, None, is_some}
 use Rattle.fix_orders.specs.Text.{Said}
-use Rattle.venue_model.specs.Requests.{Symbols}
 use Rattle.venued.specs.declared.desk.TryPublish.{TryPublish}
 use Rattle.venued.specs.declared.desk.TryPublish.TheVariants.{Done, Refused, Exhausted}
 use Rattle.venued.specs.declared.gateway.Heard.{Heard}
@@ -44,10 +43,10 @@ module _ (old new : Front) (desk desk' : Ledger) (is_open : old.session.closing 
     moved = record nothing_moved { messages = tries.message ∷ [] };
     step = record {
       moves = λ input messages outs written at.
-          at-same old.symbols new.session input (input ++ []) (messages ++ tries.message ∷ []) (messages ++ tries.message ∷ []) outs (outs ++ []) written (written ++ [])
+          at-same new.session input (input ++ []) (messages ++ tries.message ∷ []) (messages ++ tries.message ∷ []) outs (outs ++ []) written (written ++ [])
           (sym (append-nil input)) refl (sym (append-nil outs)) (sym (append-nil written))
-          (subst (λ (s : Standing). At old.symbols s input (messages ++ tries.message ∷ []) outs written) (sym tries.publishes)
-          (at-published old.symbols old.session input messages outs written tries.message tries.holds is_open at));
+          (subst (λ (s : Standing). At s input (messages ++ tries.message ∷ []) outs written) (sym tries.publishes)
+          (at-published old.session input messages outs written tries.message tries.holds is_open at));
       input = waiting_stays ∙ sym (append-nil old.waiting);
       gave = sym (grown-nil wire.gave);
       took = sym (grown-nil wire.took);
@@ -67,7 +66,7 @@ module _ (old new : Front) (desk desk' : Ledger) (is_open : old.session.closing 
   publish-hears Refused tries wire = record {
     moved = nothing_moved;
     step = record {
-      moves = subst (λ (s : Standing). Moves old.symbols old.session s nothing_moved) (sym tries.publishes) (moves-nothing old.symbols old.session);
+      moves = subst (λ (s : Standing). Moves old.session s nothing_moved) (sym tries.publishes) (moves-nothing old.session);
       input = waiting_stays ∙ sym (append-nil old.waiting);
       gave = sym (grown-nil wire.gave);
       took = sym (grown-nil wire.took);
@@ -87,10 +86,10 @@ module _ (old new : Front) (desk desk' : Ledger) (is_open : old.session.closing 
     moved = nothing_moved;
     step = record {
       moves = λ input messages outs written at.
-          at-same old.symbols new.session input (input ++ []) messages (messages ++ []) outs (outs ++ []) written (written ++ [])
+          at-same new.session input (input ++ []) messages (messages ++ []) outs (outs ++ []) written (written ++ [])
           (sym (append-nil input)) (sym (append-nil messages)) (sym (append-nil outs)) (sym (append-nil written))
-          (subst (λ (s : Standing). At old.symbols s input messages outs written) (sym tries.publishes)
-          (at-exhausted old.symbols old.session input messages outs written tries.message tries.holds is_open at));
+          (subst (λ (s : Standing). At s input messages outs written) (sym tries.publishes)
+          (at-exhausted old.session input messages outs written tries.message tries.holds is_open at));
       input = waiting_stays ∙ sym (append-nil old.waiting);
       gave = sym (grown-nil wire.gave);
       took = sym (grown-nil wire.took);
@@ -134,44 +133,44 @@ heard-gateway time message Leave s = refl
 heard-gateway time message (Refuse r) s = refl
 
 -- what a feed does to a session that is open and holds nothing
-record Fed (symbols : Symbols) (old new : Standing) (fed : List ℕ) : Type 0 where
+record Fed (old new : Standing) (fed : List ℕ) : Type 0 where
   moves : (input : List ℕ) (messages : List (List ℕ)) (outs : List Said) (written : List ℕ) →
-      At symbols old input messages outs written → At symbols new (input ++ fed) messages outs written
+      At old input messages outs written → At new (input ++ fed) messages outs written
   counts : (count : ℕ) → Counts old count → Counts new count
   next : new.number ≤ old.number + 1
   gateway : new.gateway ≡ old.gateway
 
-module _ (symbols : Symbols) (old new : Standing) (fed : List ℕ) (is_open : old.closing ≡ None) (free : old.held ≡ None) where
-  fed-unheard : Unheard old new fed → Fed symbols old new fed
-  fed-unheard u = subst (λ (s : Standing). Fed symbols old s fed) (sym u.new_is) (record {
-    moves = λ input messages outs written at. at-fed symbols old input messages outs written fed is_open u.partial at;
+module _ (old new : Standing) (fed : List ℕ) (is_open : old.closing ≡ None) (free : old.held ≡ None) where
+  fed-unheard : Unheard old new fed → Fed old new fed
+  fed-unheard u = subst (λ (s : Standing). Fed old s fed) (sym u.new_is) (record {
+    moves = λ input messages outs written at. at-fed old input messages outs written fed is_open u.partial at;
     counts = λ count counts. counts;
     next = omega arith;
     gateway = refl;
   })
 
-  fed-frame : HeardFrame symbols old new fed → Fed symbols old new fed
+  fed-frame : HeardFrame old new fed → Fed old new fed
   fed-frame h =
-      let v = verdict symbols old.gateway old.accepted h.frame in
-      subst (λ (s : Standing). Fed symbols old s fed) (sym h.new_is) (record {
+      let v = verdict old.gateway old.accepted h.frame in
+      subst (λ (s : Standing). Fed old s fed) (sym h.new_is) (record {
         moves = λ input messages outs written at.
-            at-heard symbols old input messages outs written (opened symbols old input messages outs written is_open at) free
+            at-heard old input messages outs written (opened old input messages outs written is_open at) free
             h.frame fed h.body h.whole v refl is_open;
         counts = heard-counts _ _ v old is_open;
         next = heard-next _ _ v old;
         gateway = heard-gateway _ _ v old;
       })
 
-  fed-fault : HeardFault old new fed → Fed symbols old new fed
-  fed-fault h = subst (λ (s : Standing). Fed symbols old s fed) (sym h.new_is) (record {
+  fed-fault : HeardFault old new fed → Fed old new fed
+  fed-fault h = subst (λ (s : Standing). Fed old s fed) (sym h.new_is) (record {
     moves = λ input messages outs written at.
-        at-faulted symbols old input messages outs written (opened symbols old input messages outs written is_open at) free fed h.left h.at h.fault h.faults;
+        at-faulted old input messages outs written (opened old input messages outs written is_open at) free fed h.left h.at h.fault h.faults;
     counts = λ count counts. let none : farewell old.closing ≡ 0 = ap farewell is_open in omega arith;
     next = omega arith;
     gateway = refl;
   })
 
-  fed-so : (Unheard old new fed ⊎ HeardFrame symbols old new fed) ⊎ HeardFault old new fed → Fed symbols old new fed
+  fed-so : (Unheard old new fed ⊎ HeardFrame old new fed) ⊎ HeardFault old new fed → Fed old new fed
   fed-so (inl (inl u)) = fed-unheard u
   fed-so (inl (inr h)) = fed-frame h
   fed-so (inr h) = fed-fault h
@@ -204,7 +203,7 @@ module _ (old mid : Front) (wire wire' : Told) (desk : Ledger) (is_open : old.se
   read-hears why = record {
     moved = record nothing_moved { got = reads.got };
     step = record {
-      moves = subst (λ (s : Standing). Moves old.symbols old.session s nothing_moved) (sym session_stays) (moves-nothing old.symbols old.session);
+      moves = subst (λ (s : Standing). Moves old.session s nothing_moved) (sym session_stays) (moves-nothing old.session);
       input = reads.waiting;
       gave = reads.gave;
       took = reads.took ∙ sym (grown-nil wire.took);
@@ -222,18 +221,18 @@ module _ (old mid : Front) (wire wire' : Told) (desk : Ledger) (is_open : old.se
   }
 
   -- what was read is fed
-  pub feed-hears : (new : Front) (n : ℕ) → Listens old.symbols mid.session new.session mid.waiting n →
+  pub feed-hears : (new : Front) (n : ℕ) → Listens mid.session new.session mid.waiting n →
       new ≡ record mid { session = new.session; waiting = new.waiting } → new.waiting ≡ drop n mid.waiting →
       length new.session.outgoing ≤ length mid.session.outgoing + 412 →
       Hears old new wire wire' desk desk Something
   feed-hears new n listens others rest room =
-      let fed = fed-so old.symbols old.session new.session (take n mid.waiting) is_open free
-      (subst (λ (s : Standing). (Unheard s new.session (take n mid.waiting) ⊎ HeardFrame old.symbols s new.session (take n mid.waiting)) ⊎ HeardFault s new.session (take n mid.waiting)) session_stays listens.hears) in
+      let fed = fed-so old.session new.session (take n mid.waiting) is_open free
+      (subst (λ (s : Standing). (Unheard s new.session (take n mid.waiting) ⊎ HeardFrame s new.session (take n mid.waiting)) ⊎ HeardFault s new.session (take n mid.waiting)) session_stays listens.hears) in
       record {
         moved = record nothing_moved { fed = take n mid.waiting; got = reads.got };
         step = record {
           moves = λ input messages outs written at.
-              at-same old.symbols new.session (input ++ take n mid.waiting) (input ++ take n mid.waiting) messages (messages ++ []) outs (outs ++ []) written (written ++ [])
+              at-same new.session (input ++ take n mid.waiting) (input ++ take n mid.waiting) messages (messages ++ []) outs (outs ++ []) written (written ++ [])
               refl (sym (append-nil messages)) (sym (append-nil outs)) (sym (append-nil written)) (fed.moves input messages outs written at);
           input = ap (λ r. take n mid.waiting ++ r) rest ∙ take-append-drop n mid.waiting ∙ reads.waiting;
           gave = reads.gave;
@@ -253,15 +252,13 @@ module _ (old mid : Front) (wire wire' : Told) (desk : Ledger) (is_open : old.se
       }
 
   -- the same, as the code hands on what was read
-  pub fed-hears : (symbols : Symbols) (piece : List ℕ) (new : Front) (n : ℕ) → symbols ≡ mid.symbols → piece ≡ mid.waiting →
-      Listens symbols mid.session new.session piece n →
+  pub fed-hears : (piece : List ℕ) (new : Front) (n : ℕ) → piece ≡ mid.waiting →
+      Listens mid.session new.session piece n →
       new ≡ record mid { session = new.session; waiting = new.waiting } → new.waiting ≡ drop n mid.waiting →
       length new.session.outgoing ≤ length mid.session.outgoing + 412 →
       Hears old new wire wire' desk desk Something
-  fed-hears symbols piece new n symbols_are piece_is listens =
-      feed-hears new n
-      (subst (λ (s : Symbols). Listens s mid.session new.session mid.waiting n) (symbols_are ∙ ap (λ (f : Front). f.symbols) reads.others)
-      (subst (λ p. Listens symbols mid.session new.session p n) piece_is listens))
+  fed-hears piece new n piece_is listens =
+      feed-hears new n (subst (λ p. Listens mid.session new.session p n) piece_is listens)
 
 -- what is not there is nothing
 pub is_free : {A : Type 0} (held : Option A) → is_some held ≡ false → held ≡ None

@@ -16,6 +16,8 @@ pub mod NameLemmas
 pub mod FrameBytes
 pub mod HeaderLemmas
 pub mod HearingLemmas
-pub mod OneOrder
-pub mod OneDesks
+pub mod OpenedLemmas
+pub mod VenueLemmas
+pub mod ProcessorLemmas
+pub mod Requests
 pub mod RingTests

@@ -1,7 +1,6 @@
 -- Steps of a turn, one after another.
 use Rattle.std.proofs.Common.{◌≡◌, ℕ, List, [], ◌++◌, refl, ap, sym, subst, ◌∙◌, append_assoc, append-nil}
 use Rattle.fix_orders.specs.Text.{Said}
-use Rattle.venue_model.specs.Requests.{Symbols}
 use Rattle.venued.specs.Wires.{Told, grown}
 use Rattle.venued.specs.Desks.{Ledger}
 use Rattle.venued.specs.Session.{Standing, At}
@@ -20,26 +19,26 @@ both a b = record {
 }
 
 -- the same lists, written in another way
-pub at-same : (symbols : Symbols) (s : Standing) (input input' : List ℕ) (messages messages' : List (List ℕ)) (outs outs' : List Said) (written written' : List ℕ) →
+pub at-same : (s : Standing) (input input' : List ℕ) (messages messages' : List (List ℕ)) (outs outs' : List Said) (written written' : List ℕ) →
     input ≡ input' → messages ≡ messages' → outs ≡ outs' → written ≡ written' →
-    At symbols s input messages outs written → At symbols s input' messages' outs' written'
-at-same symbols s input input' messages messages' outs outs' written written' i m o w at =
-    subst (λ w. At symbols s input' messages' outs' w) w
-    (subst (λ o. At symbols s input' messages' o written) o
-    (subst (λ m. At symbols s input' m outs written) m
-    (subst (λ i. At symbols s i messages outs written) i at)))
+    At s input messages outs written → At s input' messages' outs' written'
+at-same s input input' messages messages' outs outs' written written' i m o w at =
+    subst (λ w. At s input' messages' outs' w) w
+    (subst (λ o. At s input' messages' o written) o
+    (subst (λ m. At s input' m outs written) m
+    (subst (λ i. At s i messages outs written) i at)))
 
-pub moves-then : (symbols : Symbols) (a b c : Standing) (m n : Moved) → Moves symbols a b m → Moves symbols b c n → Moves symbols a c (both m n)
-moves-then symbols a b c m n first second input messages outs written at =
-    at-same symbols c ((input ++ m.fed) ++ n.fed) (input ++ (m.fed ++ n.fed)) ((messages ++ m.messages) ++ n.messages) (messages ++ (m.messages ++ n.messages))
+pub moves-then : (a b c : Standing) (m n : Moved) → Moves a b m → Moves b c n → Moves a c (both m n)
+moves-then a b c m n first second input messages outs written at =
+    at-same c ((input ++ m.fed) ++ n.fed) (input ++ (m.fed ++ n.fed)) ((messages ++ m.messages) ++ n.messages) (messages ++ (m.messages ++ n.messages))
     ((outs ++ m.handed) ++ n.handed) (outs ++ (m.handed ++ n.handed)) ((written ++ m.put) ++ n.put) (written ++ (m.put ++ n.put))
     (append_assoc input m.fed n.fed) (append_assoc messages m.messages n.messages) (append_assoc outs m.handed n.handed) (append_assoc written m.put n.put)
     (second (input ++ m.fed) (messages ++ m.messages) (outs ++ m.handed) (written ++ m.put) (first input messages outs written at))
 
-pub step-then : (symbols : Symbols) (a b c : Standing) (u v w : List ℕ) (p q r : Told) (d e f : Ledger) (m n : Moved) →
-    Step symbols a b u v p q d e m → Step symbols b c v w q r e f n → Step symbols a c u w p r d f (both m n)
-step-then symbols a b c u v w p q r d e f m n first second = record {
-  moves = moves-then symbols a b c m n first.moves second.moves;
+pub step-then : (a b c : Standing) (u v w : List ℕ) (p q r : Told) (d e f : Ledger) (m n : Moved) →
+    Step a b u v p q d e m → Step b c v w q r e f n → Step a c u w p r d f (both m n)
+step-then a b c u v w p q r d e f m n first second = record {
+  moves = moves-then a b c m n first.moves second.moves;
   input = append_assoc m.fed n.fed w ∙ ap (λ x. m.fed ++ x) second.input ∙ sym (append_assoc m.fed v n.got)
       ∙ ap (λ x. x ++ n.got) first.input ∙ append_assoc u m.got n.got;
   gave = second.gave ∙ ap (λ t. grown t n.got) first.gave ∙ grown-append p.gave m.got n.got;
@@ -49,22 +48,22 @@ step-then symbols a b c u v w p q r d e f m n first second = record {
 }
 
 -- nothing moves where the session stays
-pub moves-nothing : (symbols : Symbols) (s : Standing) → Moves symbols s s nothing_moved
-moves-nothing symbols s input messages outs written at =
-    at-same symbols s input (input ++ []) messages (messages ++ []) outs (outs ++ []) written (written ++ [])
+pub moves-nothing : (s : Standing) → Moves s s nothing_moved
+moves-nothing s input messages outs written at =
+    at-same s input (input ++ []) messages (messages ++ []) outs (outs ++ []) written (written ++ [])
     (sym (append-nil input)) (sym (append-nil messages)) (sym (append-nil outs)) (sym (append-nil written)) at
 
 -- bytes go out
-pub flush-step : (symbols : Symbols) (old new : Standing) (waiting put : List ℕ) (wire wire' : Told) (desk : Ledger) →
+pub flush-step : (old new : Standing) (waiting put : List ℕ) (wire wire' : Told) (desk : Ledger) →
     old.outgoing ≡ put ++ new.outgoing → new ≡ record old { outgoing = new.outgoing } →
     wire'.gave ≡ wire.gave → wire'.took ≡ grown wire.took put →
-    Step symbols old new waiting waiting wire wire' desk desk (record nothing_moved { put = put })
-flush-step symbols old new waiting put wire wire' desk split new_is gave took = record {
+    Step old new waiting waiting wire wire' desk desk (record nothing_moved { put = put })
+flush-step old new waiting put wire wire' desk split new_is gave took = record {
   moves = λ input messages outs written at.
-      subst (λ (s : Standing). At symbols s (input ++ []) (messages ++ []) (outs ++ []) (written ++ put)) (sym new_is)
-      (at-same symbols (record old { outgoing = new.outgoing }) input (input ++ []) messages (messages ++ []) outs (outs ++ []) (written ++ put) (written ++ put)
+      subst (λ (s : Standing). At s (input ++ []) (messages ++ []) (outs ++ []) (written ++ put)) (sym new_is)
+      (at-same (record old { outgoing = new.outgoing }) input (input ++ []) messages (messages ++ []) outs (outs ++ []) (written ++ put) (written ++ put)
       (sym (append-nil input)) (sym (append-nil messages)) (sym (append-nil outs)) refl
-      (at-flushed symbols old input messages outs written put new.outgoing split at));
+      (at-flushed old input messages outs written put new.outgoing split at));
   input = sym (append-nil waiting);
   gave = gave ∙ sym (grown-nil wire.gave);
   took = took;

@@ -14,7 +14,7 @@ use Rattle.venued.specs.Desks.{Ledger}
 use Rattle.venued.specs.Flushing.{Flushes}
 use Rattle.venued.specs.Session.{Standing}
 use Rattle.venued.specs.Sessions.{ClosesItself}
-use Rattle.venued.specs.Turns.{Front, Moved, nothing_moved, Moves, Step, Takes, IsQuiet, EndedBy, Means, Turn, Counts, GoesWith}
+use Rattle.venued.specs.Turns.{Front, Moved, nothing_moved, Step, Takes, IsQuiet, EndedBy, Means, Turn, Counts, GoesWith}
 use Rattle.venued.specs.Gateways.{Hears, HeardSo, HandsOn, TookSo, Rests, RestsSo, Stuck, StuckSo}
 use Rattle.venued.proofs.StepLemmas.{both, step-then, flush-step}
 use Rattle.venued.proofs.WireLemmas.{grown-nil}
@@ -57,8 +57,7 @@ module _ (old : Front) (session : Standing) (wire wire' : Told) (desk : Ledger) 
       Turn old (record old { session = session; deaf = deaf; live = live }) wire wire' desk desk answer
   flushed-turn answer means = record {
     moved = record nothing_moved { put = put };
-    step = flush-step old.symbols old.session session old.waiting put wire wire' desk split session_is gave took;
-    symbols = refl;
+    step = flush-step old.session session old.waiting put wire wire' desk split session_is gave took;
     takes = no_takes session.logged_on old (record old { session = session; deaf = deaf; live = live }) desk desk refl refl;
     means = means;
   }
@@ -138,14 +137,14 @@ module _ (old h : Front) (session : Standing) (wire wire' wire'' : Told) (desk d
     (session_is : session ≡ record old.session { outgoing = session.outgoing })
     (none : session.outgoing ≡ []) (tells : wire' ≡ record wire { took = grown wire.took put })
     (hears : Hears (record old { session = session; deaf = 0 }) h wire' wire'' desk desk' answer) where
-  flush_step : Step old.symbols old.session session old.waiting old.waiting wire wire' desk desk (record nothing_moved { put = put })
-  flush_step = flush-step old.symbols old.session session old.waiting put wire wire' desk split session_is (ap (λ (t : Told). t.gave) tells) (ap (λ (t : Told). t.took) tells)
+  flush_step : Step old.session session old.waiting old.waiting wire wire' desk desk (record nothing_moved { put = put })
+  flush_step = flush-step old.session session old.waiting put wire wire' desk split session_is (ap (λ (t : Told). t.gave) tells) (ap (λ (t : Told). t.took) tells)
 
   abbrev heard-moved : Moved
   heard-moved = both (record nothing_moved { put = put }) hears.moved
 
-  heard-step : Step old.symbols old.session h.session old.waiting h.waiting wire wire'' desk desk' heard-moved
-  heard-step = step-then old.symbols old.session session h.session old.waiting old.waiting h.waiting wire wire' wire'' desk desk desk'
+  heard-step : Step old.session h.session old.waiting h.waiting wire wire'' desk desk' heard-moved
+  heard-step = step-then old.session session h.session old.waiting old.waiting h.waiting wire wire' wire'' desk desk desk'
       (record nothing_moved { put = put }) hears.moved flush_step hears.step
 
   heard_counts : Counts old.session desk.count → Counts h.session desk'.count
@@ -160,7 +159,6 @@ module _ (old h : Front) (session : Standing) (wire wire' wire'' : Told) (desk d
       record {
         moved = heard-moved;
         step = heard-step;
-        symbols = ap (λ (f : Front). f.symbols) hears.others;
         takes = subst (λ (t : List Said). Takes h.session.logged_on old (record h { live = false }) desk desk' t) (sym hears.unhanded)
             (no_takes h.session.logged_on old (record h { live = false }) desk desk' (ap (λ (l : Ledger). l.taken) hears.ledger) (ap (λ (f : Front). f.passed) hears.others));
         means = (subst (λ n. Rose n wire''.failures) (ap (λ (t : Told). t.failures) tells) rose, refl);
@@ -180,9 +178,9 @@ module _ (old h : Front) (session : Standing) (wire wire' wire'' : Told) (desk d
     abbrev all-moved : Moved
     all-moved = both heard-moved given-moved
 
-    hand-step : Step old.symbols h.session t.session h.waiting t.waiting wire'' wire'' desk' desk'' given-moved
+    hand-step : Step h.session t.session h.waiting t.waiting wire'' wire'' desk' desk'' given-moved
     hand-step = record {
-      moves = subst (λ s. Moves s h.session t.session given-moved) (ap (λ (f : Front). f.symbols) hears.others) hands.moves;
+      moves = hands.moves;
       input = ap (λ (f : Front). f.waiting) hands.others ∙ sym (append-nil h.waiting);
       gave = sym (grown-nil wire''.gave);
       took = sym (grown-nil wire''.took);
@@ -190,8 +188,8 @@ module _ (old h : Front) (session : Standing) (wire wire' wire'' : Told) (desk d
       gateway = hands.gateway;
     }
 
-    all-step : Step old.symbols old.session t.session old.waiting t.waiting wire wire'' desk desk'' all-moved
-    all-step = step-then old.symbols old.session h.session t.session old.waiting h.waiting t.waiting wire wire'' wire'' desk desk' desk''
+    all-step : Step old.session t.session old.waiting t.waiting wire wire'' desk desk'' all-moved
+    all-step = step-then old.session h.session t.session old.waiting h.waiting t.waiting wire wire'' wire'' desk desk' desk''
         heard-moved given-moved heard-step hand-step
 
     all-takes : Takes t.session.logged_on old t desk desk'' all-moved.handed
@@ -288,9 +286,8 @@ module _ (old h : Front) (session : Standing) (wire wire' wire'' : Told) (desk d
         let t_live : t.live ≡ true = ap (λ (f : Front). f.live) hands.others ∙ ap (λ (f : Front). f.live) hears.others ∙ live in
         record {
           moved = all-moved;
-          step = subst (λ (s : Standing). Step old.symbols old.session s old.waiting end.waiting wire wire'' desk desk'' all-moved) (sym session_end)
-              (subst (λ w. Step old.symbols old.session t.session old.waiting w wire wire'' desk desk'' all-moved) (sym (ap (λ (f : Front). f.waiting) rests.others)) all-step);
-          symbols = ap (λ (f : Front). f.symbols) rests.others ∙ ap (λ (f : Front). f.symbols) hands.others ∙ ap (λ (f : Front). f.symbols) hears.others;
+          step = subst (λ (s : Standing). Step old.session s old.waiting end.waiting wire wire'' desk desk'' all-moved) (sym session_end)
+              (subst (λ w. Step old.session t.session old.waiting w wire wire'' desk desk'' all-moved) (sym (ap (λ (f : Front). f.waiting) rests.others)) all-step);
           takes = subst (λ (s : Standing). Takes s.logged_on old end desk desk'' all-moved.handed) (sym session_end) (record {
             these = all-takes.these;
             taken = all-takes.taken;

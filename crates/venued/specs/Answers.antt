@@ -6,7 +6,6 @@ use Rattle.fix_frame.specs.Grammar.{Field, IsBody, frame_text, most_in}
 use Rattle.fix_frame.specs.Stream.{BeginsNoFrame, Faults}
 use Rattle.fix_frame.specs.declared.FrameFault.{FrameFault}
 use Rattle.fix_orders.specs.Header.{Header, header_of}
-use Rattle.venue_model.specs.Requests.{Symbols}
 use Rattle.venued.specs.declared.refusal.Refusal.TheVariants as refusal
 use Rattle.venued.specs.declared.ending.Reason.{Reason}
 use Rattle.venued.specs.declared.ending.Reason.TheVariants.{Closed, WireFailed, LoggedOut, Refused, Stalled, Exhausted}
@@ -31,19 +30,19 @@ abbrev pub no_time : List ℕ
 no_time = codes "00000000-00:00:00"
 
 -- a frame, when so many were accepted before it and the last right header had this time
-abbrev pub judgement : Symbols → ℕ → ℕ → List ℕ → List Field → Judgement
-judgement symbols gateway accepted last frame = record {
-  verdict = verdict symbols gateway accepted frame;
+abbrev pub judgement : ℕ → ℕ → List ℕ → List Field → Judgement
+judgement gateway accepted last frame = record {
+  verdict = verdict gateway accepted frame;
   time = time_after last frame;
   message = frame_text frame;
 }
 
 -- frames one after another, each accepted
-abbrev pub judged : Symbols → ℕ → ℕ → List ℕ → List (List Field) → List Judgement
-judged symbols gateway accepted last [] = []
-judged symbols gateway accepted last (frame ∷ frames) =
-    judgement symbols gateway accepted last frame
-    ∷ judged symbols gateway (accepted + 1) (time_after last frame) frames
+abbrev pub judged : ℕ → ℕ → List ℕ → List (List Field) → List Judgement
+judged gateway accepted last [] = []
+judged gateway accepted last (frame ∷ frames) =
+    judgement gateway accepted last frame
+    ∷ judged gateway (accepted + 1) (time_after last frame) frames
 
 -- the time of the last right header after some frames
 abbrev pub last_time : List ℕ → List (List Field) → List ℕ
@@ -101,10 +100,10 @@ abbrev pub exhausted_judgement : Judgement → Judgement
 exhausted_judgement held = record { verdict = Refuse refusal.Exhausted; time = held.time; message = [] }
 
 -- the rest begins with a frame that is judged so
-abbrev pub EndsAtFrame : Symbols → ℕ → ℕ → List ℕ → List ℕ → Judgement → Type 0
-EndsAtFrame symbols gateway accepted last rest j =
+abbrev pub EndsAtFrame : ℕ → ℕ → List ℕ → List ℕ → Judgement → Type 0
+EndsAtFrame gateway accepted last rest j =
     (frame : List Field) × (more : List ℕ) × IsBody most_in frame × (rest ≡ frame_text frame ++ more)
-    × (j ≡ judgement symbols gateway accepted last frame)
+    × (j ≡ judgement gateway accepted last frame)
 
 -- the rest has a fault, so it begins with no frame
 abbrev pub EndsAtFault : List ℕ → List ℕ → Judgement → Type 0
@@ -112,26 +111,26 @@ EndsAtFault last rest j = (fault : FrameFault) × (at : ℕ) × Faults rest at f
 
 -- How the session ends by itself, if it does, behind so many accepted frames, whose judgements are `before`, and
 -- what its last judgement is. Where it goes on, the rest is the message under way.
-abbrev pub Ending : Symbols → ℕ → ℕ → List ℕ → List Judgement → List ℕ → List ℕ → Option Reason → List Judgement → Type 0
-Ending symbols gateway accepted last before rest under_way None lasts =
+abbrev pub Ending : ℕ → ℕ → List ℕ → List Judgement → List ℕ → List ℕ → Option Reason → List Judgement → Type 0
+Ending gateway accepted last before rest under_way None lasts =
     (lasts ≡ []) × (under_way ≡ rest) × BeginsNoFrame rest
-Ending symbols gateway accepted last before rest under_way (Some LoggedOut) lasts =
-    (j : Judgement) × EndsAtFrame symbols gateway accepted last rest j × (j.verdict ≡ Leave) × (lasts ≡ j ∷ [])
-Ending symbols gateway accepted last before rest under_way (Some Refused) lasts =
-    (j : Judgement) × (EndsAtFrame symbols gateway accepted last rest j ⊎ EndsAtFault last rest j)
+Ending gateway accepted last before rest under_way (Some LoggedOut) lasts =
+    (j : Judgement) × EndsAtFrame gateway accepted last rest j × (j.verdict ≡ Leave) × (lasts ≡ j ∷ [])
+Ending gateway accepted last before rest under_way (Some Refused) lasts =
+    (j : Judgement) × (EndsAtFrame gateway accepted last rest j ⊎ EndsAtFault last rest j)
     × (goes_on j.verdict ≡ false) × (j.verdict ≡ Leave → ⊥) × (lasts ≡ j ∷ [])
-Ending symbols gateway accepted last before rest under_way (Some Exhausted) lasts =
+Ending gateway accepted last before rest under_way (Some Exhausted) lasts =
     (earlier : List Judgement) × (j : Judgement) × (before ≡ earlier ++ j ∷ []) × (j.verdict ≡ Hold)
     × (lasts ≡ exhausted_judgement j ∷ [])
-Ending symbols gateway accepted last before rest under_way (Some Closed) lasts = ⊥
-Ending symbols gateway accepted last before rest under_way (Some WireFailed) lasts = ⊥
-Ending symbols gateway accepted last before rest under_way (Some Stalled) lasts = ⊥
+Ending gateway accepted last before rest under_way (Some Closed) lasts = ⊥
+Ending gateway accepted last before rest under_way (Some WireFailed) lasts = ⊥
+Ending gateway accepted last before rest under_way (Some Stalled) lasts = ⊥
 
 -- The input is these frames, each accepted, and then a rest; the session's last judgement is the one that ends it.
 -- Nothing follows that.
-pub record Answers (symbols : Symbols) (gateway : ℕ) (input under_way : List ℕ) (closing : Option Reason) (frames : List (List Field)) (lasts : List Judgement) : Type 0 where
+pub record Answers (gateway : ℕ) (input under_way : List ℕ) (closing : Option Reason) (frames : List (List Field)) (lasts : List Judgement) : Type 0 where
   pub rest : List ℕ
   pub cut : input ≡ flat_map frame_text frames ++ rest
   pub bodies : AllByRecursion (IsBody most_in) frames
-  pub accepted : list_all (λ j. goes_on j.verdict) (judged symbols gateway 0 no_time frames) ≡ true
-  pub ending : Ending symbols gateway (length frames) (last_time no_time frames) (judged symbols gateway 0 no_time frames) rest under_way closing lasts
+  pub accepted : list_all (λ j. goes_on j.verdict) (judged gateway 0 no_time frames) ≡ true
+  pub ending : Ending gateway (length frames) (last_time no_time frames) (judged gateway 0 no_time frames) rest under_way closing lasts

@@ -1,7 +1,6 @@
 -- What the fields of a gateway stand for, and what its parts tell.
 use Rattle.std.specs.Prelude.{◌≡◌, ◌≢◌, ◌⊎◌, ℕ, ◌+◌, ◌≤◌, ◌<◌, ◌^◌, Bool, true, false, List, [], ◌++◌, length, None}
 use Rattle.fix_orders.specs.Text.{Said}
-use Rattle.venue_model.specs.Requests.{Symbols}
 use Rattle.venued.specs.declared.ending.Reason.TheVariants.{Closed, Stalled}
 use Rattle.venued.specs.declared.ending.Turned.{Turned}
 use Rattle.venued.specs.declared.ending.Turned.TheVariants.{Worked, Quiet, Ended}
@@ -15,7 +14,6 @@ use Rattle.venued.specs.Moves.{fresh}
 
 abbrev pub front : Inside → Front
 front g = record {
-  symbols = g.limits.now;
   session = g.session;
   waiting = g.waiting;
   closed = g.closed;
@@ -31,9 +29,8 @@ pub record KeepsGateway (g : Inside) : Type 0 where
   pub idle : g.live ≡ true → g.idle < 1000
 
 -- a session is begun
-abbrev pub begun : Symbols → ℕ → ℕ → Front
-begun symbols gateway passed = record {
-  symbols = symbols;
+abbrev pub begun : ℕ → ℕ → Front
+begun gateway passed = record {
   session = fresh gateway;
   waiting = [];
   closed = false;
@@ -58,7 +55,7 @@ HeardSo old new wire wire_after desk desk_after m Failed = Rose wire.failures wi
 -- the part of a turn that publishes, or reads and hears
 pub record Hears (old new : Front) (wire wire_after : Told) (desk desk_after : Ledger) (answer : Heard) : Type 0 where
   pub moved : Moved
-  pub step : Step old.symbols old.session new.session old.waiting new.waiting wire wire_after desk desk_after moved
+  pub step : Step old.session new.session old.waiting new.waiting wire wire_after desk desk_after moved
   pub others : new ≡ record old { session = new.session; waiting = new.waiting; closed = new.closed }
   pub ledger : desk_after ≡ record desk { published = desk_after.published; refusals = desk_after.refusals }
   pub unwritten : moved.put ≡ []
@@ -97,7 +94,7 @@ TookSo old new desk desk_after handed false =
 -- the part of a turn that takes an output
 pub record HandsOn (old new : Front) (desk desk_after : Ledger) (took : Bool) : Type 0 where
   pub handed : List Said
-  pub moves : Moves old.symbols old.session new.session (record nothing_moved { handed = handed })
+  pub moves : Moves old.session new.session (record nothing_moved { handed = handed })
   pub others : new ≡ record old { session = new.session; passed = new.passed }
   pub gateway : new.session.gateway ≡ old.session.gateway
   pub closing : new.session.closing ≡ old.session.closing

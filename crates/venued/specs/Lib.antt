@@ -19,6 +19,8 @@ pub mod Hears
 pub mod Messages
 pub mod Logons
 pub mod Headings
-pub mod InputRings
-pub mod OneOrder
-pub mod OrderDesks
+pub mod VenueRings
+pub mod Opened
+pub mod VenueDesks
+pub mod VenueInsides
+pub mod Requests

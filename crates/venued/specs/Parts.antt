@@ -3,7 +3,6 @@ use Rattle.std.specs.Prelude.{◌≡◌, ◌⊎◌, ℕ, ◌≤◌, List, ◌++�
 use Rattle.fix_frame.specs.Grammar.{Field, IsBody, frame_text, most_in}
 use Rattle.fix_frame.specs.Stream.{BeginsNoFrame, Faults}
 use Rattle.fix_frame.specs.declared.FrameFault.{FrameFault}
-use Rattle.venue_model.specs.Requests.{Symbols}
 use Rattle.venued.specs.declared.desk.TryPublish.{TryPublish}
 use Rattle.venued.specs.declared.desk.TryPublish.TheVariants.{Done, Refused, Exhausted}
 use Rattle.venued.specs.declared.ending.Reason.TheVariants as reason
@@ -20,11 +19,11 @@ pub record Unheard (old new : Standing) (fed : List ℕ) : Type 0 where
   pub new_is : new ≡ record old { under_way = old.under_way ++ fed }
 
 -- the bytes fed end a frame, which is judged
-pub record HeardFrame (symbols : Symbols) (old new : Standing) (fed : List ℕ) : Type 0 where
+pub record HeardFrame (old new : Standing) (fed : List ℕ) : Type 0 where
   pub frame : List Field
   pub body : IsBody most_in frame
   pub whole : old.under_way ++ fed ≡ frame_text frame
-  pub new_is : new ≡ heard (time_after old.time frame) (frame_text frame) (verdict symbols old.gateway old.accepted frame) old
+  pub new_is : new ≡ heard (time_after old.time frame) (frame_text frame) (verdict old.gateway old.accepted frame) old
 
 -- what is fed goes wrong; what the framer then holds means nothing
 pub record HeardFault (old new : Standing) (fed : List ℕ) : Type 0 where
@@ -35,10 +34,10 @@ pub record HeardFault (old new : Standing) (fed : List ℕ) : Type 0 where
   pub new_is : new ≡ refusing old.time (refusal.Frame fault) (record old { under_way = left })
 
 -- so many bytes of a piece are fed, one or more
-pub record Listens (symbols : Symbols) (old new : Standing) (piece : List ℕ) (n : ℕ) : Type 0 where
+pub record Listens (old new : Standing) (piece : List ℕ) (n : ℕ) : Type 0 where
   pub some : 1 ≤ n
   pub within : n ≤ length piece
-  pub hears : (Unheard old new (take n piece) ⊎ HeardFrame symbols old new (take n piece)) ⊎ HeardFault old new (take n piece)
+  pub hears : (Unheard old new (take n piece) ⊎ HeardFrame old new (take n piece)) ⊎ HeardFault old new (take n piece)
 
 -- the held message is published, or stays held, or is lost because no sequence is left
 abbrev pub Publishes : Standing → Standing → List ℕ → TryPublish → Type 0

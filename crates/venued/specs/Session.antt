@@ -4,7 +4,6 @@ use Rattle.std.specs.Prelude.{◌≡◌, ◌⊎◌, ℕ, ◌+◌, Bool, true, fa
 use Rattle.std.specs.List.{flat_map, list_any}
 use Rattle.fix_frame.specs.Grammar.{Field, frame_text}
 use Rattle.fix_orders.specs.Text.{Said, field, number}
-use Rattle.venue_model.specs.Requests.{Symbols}
 use Rattle.venued.specs.declared.ending.Reason.{Reason}
 use Rattle.venued.specs.declared.ending.Reason.TheVariants.{Exhausted}
 use Rattle.venued.specs.Verdict.{Hold, client_name, venue_name}
@@ -129,11 +128,11 @@ Held None (Some reason) messages judgements =
 
 -- A session stands where this input leaves it, with these messages published, these outputs handed to it while it was
 -- logged on, and these bytes written.
-pub record At (symbols : Symbols) (s : Standing) (input : List ℕ) (messages : List (List ℕ)) (outs : List Said) (written : List ℕ) : Type 0 where
+pub record At (s : Standing) (input : List ℕ) (messages : List (List ℕ)) (outs : List Said) (written : List ℕ) : Type 0 where
   pub frames : List (List Field)
   pub lasts : List Judgement
-  pub answers : Answers symbols s.gateway input s.under_way s.closing frames lasts
-  pub spoken : Spoken s.gateway s.number s.logged_on (is_some s.closing) (written ++ s.outgoing) (flat_map replies_of (judged symbols s.gateway 0 no_time frames ++ lasts)) outs
-  pub held : Held s.held s.closing messages (judged symbols s.gateway 0 no_time frames)
+  pub answers : Answers s.gateway input s.under_way s.closing frames lasts
+  pub spoken : Spoken s.gateway s.number s.logged_on (is_some s.closing) (written ++ s.outgoing) (flat_map replies_of (judged s.gateway 0 no_time frames ++ lasts)) outs
+  pub held : Held s.held s.closing messages (judged s.gateway 0 no_time frames)
   pub accepted : s.accepted ≡ length frames
   pub time : s.time ≡ last_time no_time frames

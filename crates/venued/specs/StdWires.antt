@@ -1,5 +1,5 @@
 -- A wire over a reader and a writer: what it tells, and what its calls do to the two.
-use Rattle.std.specs.Prelude.{◌≡◌, ℕ, ◌≤◌, ◌⊎◌, List, length, take, Option, None}
+use Rattle.std.specs.Prelude.{◌≡◌, ℕ, ◌≤◌, ◌⊎◌, Bool, true, false, List, length, take, Option, None}
 use Rattle.std.specs.Io.KnownBytes.{Keeps, Appends, Consumes, IsAtEnd}
 use Rattle.std.specs.declared.io.ErrorKind.{ErrorKind}
 use Rattle.std.specs.declared.io.ErrorKind.TheVariants.{Interrupted, WouldBlock}
@@ -30,6 +30,10 @@ reader_of w = w.reader
 abbrev pub writer_of : {R W : Type 0} → StdWire R W → W
 writer_of w = w.writer
 
+-- a read has answered Nothing since bytes were last read or written
+abbrev pub rested_of : {R W : Type 0} → StdWire R W → Bool
+rested_of w = w.rested
+
 -- an error after which the same call may succeed
 abbrev pub IsPassing : ErrorKind → Type 0
 IsPassing kind = (kind ≡ Interrupted) ⊎ (kind ≡ WouldBlock)
@@ -47,3 +51,16 @@ abbrev pub SendsOut : Option (List ℕ) → Option (List ℕ) → List ℕ → T
 SendsOut old new bytes (write.Put n) = Appends old new (take n bytes)
 SendsOut old new bytes write.Nothing = Keeps old new
 SendsOut old new bytes write.Failed = (n : ℕ) × (n ≤ length bytes) × Appends old new (take n bytes)
+
+-- whether the wire has rested before and after a read with this answer: one that hasn't answers Nothing
+abbrev pub Rests : Bool → Bool → TryRead → Type 0
+Rests old new (read.Got n) = (old ≡ true) × (new ≡ false)
+Rests old new read.Nothing = new ≡ true
+Rests old new read.End = (old ≡ true) × (new ≡ true)
+Rests old new read.Failed = (old ≡ true) × (new ≡ true)
+
+-- whether it has before and after a write with this answer
+abbrev pub RestsNot : Bool → Bool → TryWrite → Type 0
+RestsNot old new (write.Put n) = new ≡ false
+RestsNot old new write.Nothing = new ≡ old
+RestsNot old new write.Failed = new ≡ old

@@ -1,7 +1,6 @@
 -- What a turn of a gateway does: the bytes and messages that move in it, and where they leave the session.
 use Rattle.std.specs.Prelude.{◌≡◌, ◌≢◌, ◌⊎◌, ℕ, ◌+◌, ◌^◌, ◌<◌, ◌≤◌, Bool, true, false, if◌then◌else◌, List, [], ◌++◌, length, Option, Some, None}
 use Rattle.fix_orders.specs.Text.{Said}
-use Rattle.venue_model.specs.Requests.{Symbols}
 use Rattle.venued.specs.declared.ending.Reason.{Reason}
 use Rattle.venued.specs.declared.ending.Reason.TheVariants.{Closed, WireFailed, LoggedOut, Refused, Stalled, Exhausted}
 use Rattle.venued.specs.declared.ending.Turned.{Turned}
@@ -10,11 +9,10 @@ use Rattle.venued.specs.Wires.{Told, grown, Rose}
 use Rattle.venued.specs.Desks.{Ledger}
 use Rattle.venued.specs.Session.{Standing, At}
 
--- A gateway: the venue's symbols; its session; the bytes read and not yet fed; whether the client has closed its side; how many turns in a
+-- A gateway: its session; the bytes read and not yet fed; whether the client has closed its side; how many turns in a
 -- row wrote nothing though bytes stood to be written, and, since the client closed, did nothing at all; how many
 -- outputs were passed over; and whether a session is begun and not ended.
 pub record Front : Type 0 where
-  pub symbols : Symbols
   pub session : Standing
   pub waiting : List ℕ
   pub closed : Bool
@@ -36,16 +34,16 @@ abbrev pub nothing_moved : Moved
 nothing_moved = record { fed = []; got = []; put = []; messages = []; handed = [] }
 
 -- Whatever lists stand at the session before, those with what moved stand at it after.
-abbrev pub Moves : Symbols → Standing → Standing → Moved → Type 0
-Moves symbols old new m =
+abbrev pub Moves : Standing → Standing → Moved → Type 0
+Moves old new m =
     (input : List ℕ) (messages : List (List ℕ)) (outs : List Said) (written : List ℕ) →
-    At symbols old input messages outs written →
-    At symbols new (input ++ m.fed) (messages ++ m.messages) (outs ++ m.handed) (written ++ m.put)
+    At old input messages outs written →
+    At new (input ++ m.fed) (messages ++ m.messages) (outs ++ m.handed) (written ++ m.put)
 
 -- the session moves so; what was fed and what is left is what stood in the buffer and what the wire gave; the wire
 -- and the desk tell the rest
-pub record Step (symbols : Symbols) (old new : Standing) (waiting waiting_after : List ℕ) (wire wire_after : Told) (desk desk_after : Ledger) (m : Moved) : Type 0 where
-  pub moves : Moves symbols old new m
+pub record Step (old new : Standing) (waiting waiting_after : List ℕ) (wire wire_after : Told) (desk desk_after : Ledger) (m : Moved) : Type 0 where
+  pub moves : Moves old new m
   pub input : m.fed ++ waiting_after ≡ waiting ++ m.got
   pub gave : wire_after.gave ≡ grown wire.gave m.got
   pub took : wire_after.took ≡ grown wire.took m.put
@@ -91,8 +89,7 @@ Means old new wire wire_after desk desk_after m (Ended reason) = EndedBy new wir
 -- a whole turn
 pub record Turn (old new : Front) (wire wire_after : Told) (desk desk_after : Ledger) (answer : Turned) : Type 0 where
   pub moved : Moved
-  pub step : Step old.symbols old.session new.session old.waiting new.waiting wire wire_after desk desk_after moved
-  pub symbols : new.symbols ≡ old.symbols
+  pub step : Step old.session new.session old.waiting new.waiting wire wire_after desk desk_after moved
   pub takes : Takes new.session.logged_on old new desk desk_after moved.handed
   pub means : Means old new wire wire_after desk desk_after moved answer
 

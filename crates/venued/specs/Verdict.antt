@@ -1,16 +1,11 @@
 -- How a session judges a frame: the first test that fails decides (docs/PROFILE.md, "Session").
 use Rattle.std.specs.Prelude.{ℕ, ◌+◌, Bool, false, not, ◌&&◌, ◌||◌, nat_le, ◌==◌, if◌then◌else◌, List, [], ◌∷◌, length, codes, Option, Some, None}
-use Rattle.std.specs.List.{list_any}
 use Rattle.std.specs.Str.{bytes_eq}
 use Rattle.std.specs.Fmt.{decimal}
 use Rattle.fix_frame.specs.Grammar.{Field}
 use Rattle.fix_frame.specs.declared.FrameFault.{FrameFault}
 use Rattle.fix_frame.specs.declared.FrameFault.TheVariants as fault
 use Rattle.fix_orders.specs.Header.{Header, header_of}
-use Rattle.fix_orders.specs.Reading.{command_of}
-use Rattle.venue_model.specs.Requests.{Symbols, is_day}
-use Rattle.venue_model.specs.declared.Command.{Command}
-use Rattle.venue_model.specs.declared.Command.TheVariants.{New, Cancel, Replace, Malformed, Void}
 use Rattle.venued.specs.declared.refusal.Refusal.{Refusal}
 use Rattle.venued.specs.declared.refusal.Refusal.TheVariants.{Frame, BadHeader, WrongParty, WrongNumber, NoLogon, BadLogon, BadTest, BadType, Exhausted}
 
@@ -70,24 +65,16 @@ typed_verdict h =
     else (if is_order h then Hold
     else Refuse BadType)))
 
--- a day order in a symbol that the venue has
-abbrev pub is_plain_order : Symbols → Command → Bool
-is_plain_order symbols (New time order) = is_day order.time_in_force && list_any (bytes_eq order.symbol) symbols
-is_plain_order symbols (Cancel time request) = false
-is_plain_order symbols (Replace time request) = false
-is_plain_order symbols (Malformed time fault) = false
-is_plain_order symbols Void = false
-
--- What this release serves behind the Logon: one plain order, as the second message. When the venue serves all
--- messages this test goes, and nothing else changes here.
-abbrev pub is_served : Symbols → ℕ → List Field → Bool
-is_served symbols accepted fields = accepted == 1 && is_plain_order symbols (command_of fields)
+-- What this release serves behind the Logon: the order messages. When the venue serves all messages this test goes,
+-- and nothing else changes here.
+abbrev pub is_served : Header → Bool
+is_served h = is_order h
 
 -- a message behind the Logon
-abbrev pub later_verdict : Symbols → ℕ → List Field → Header → Verdict
-later_verdict symbols accepted fields h =
+abbrev pub later_verdict : Header → Verdict
+later_verdict h =
     if is_type h (codes "A") then Refuse BadLogon
-    else (if not (is_served symbols accepted fields) then Refuse BadType
+    else (if not (is_served h) then Refuse BadType
     else typed_verdict h)
 
 -- the first message
@@ -97,20 +84,20 @@ first_verdict h =
     else (if is_logon_body h.rest then Welcome else Refuse BadLogon)
 
 -- a message with a right header, when so many messages were accepted before it
-abbrev pub header_verdict : Symbols → ℕ → ℕ → List Field → Header → Verdict
-header_verdict symbols gateway accepted fields h =
+abbrev pub header_verdict : ℕ → ℕ → Header → Verdict
+header_verdict gateway accepted h =
     if not (is_party gateway h) then Refuse WrongParty
     else (if not (h.number == accepted + 1) then Refuse WrongNumber
-    else (if accepted == 0 then first_verdict h else later_verdict symbols accepted fields h))
+    else (if accepted == 0 then first_verdict h else later_verdict h))
 
-abbrev pub verdict_by : Symbols → ℕ → ℕ → List Field → Option Header → Verdict
-verdict_by symbols gateway accepted fields None = Refuse BadHeader
-verdict_by symbols gateway accepted fields (Some h) = header_verdict symbols gateway accepted fields h
+abbrev pub verdict_by : ℕ → ℕ → Option Header → Verdict
+verdict_by gateway accepted None = Refuse BadHeader
+verdict_by gateway accepted (Some h) = header_verdict gateway accepted h
 
 -- A frame, by its body fields. That a session is logged on is that it accepted a message before, since the first
 -- one that it accepts is the Logon.
-unfoldable pub verdict : Symbols → ℕ → ℕ → List Field → Verdict
-verdict symbols gateway accepted fields = verdict_by symbols gateway accepted fields (header_of fields)
+unfoldable pub verdict : ℕ → ℕ → List Field → Verdict
+verdict gateway accepted fields = verdict_by gateway accepted (header_of fields)
 
 -- Text (58) of the Logout
 abbrev pub fault_text : FrameFault → List ℕ

@@ -11,7 +11,6 @@ use crate::session::Session;
 use crate::wire::{TryRead, Wire};
 use std::alloc::{AllocError, Global};
 use std::marker::Model;
-use venue_model::Limits;
 
 /// After so many turns in a row in which the wire took no byte of those that stood to be written a session is over.
 const MOST_DEAF: u32 = 100_000;
@@ -21,8 +20,7 @@ const MOST_IDLE: u32 = 1_000;
 
 /// A gateway. Contracts see a `Front`.
 #[derive(Drop)]
-pub struct Gateway<'a> {
-    limits: &'a Limits,
+pub struct Gateway {
     session: Session,
     waiting: Input,
     closed: bool,
@@ -32,7 +30,7 @@ pub struct Gateway<'a> {
     live: bool,
 }
 
-impl<'a> Model for Gateway<'a> {
+impl Model for Gateway {
     ghost use Rattle.venued.specs.Turns.{Front};
 
     ghost Value = { Front };
@@ -55,20 +53,19 @@ enum Heard {
     Failed,
 }
 
-impl<'a> Gateway<'a> {
+impl Gateway {
     ghost use Rattle.venued.specs.Turns.{Turn, GoesWith};
     ghost use Rattle.venued.specs.Gateways.{begun, Hears, Publishes, Reads, HandsOn, Rests, Stuck};
     ghost use Rattle.venued.specs.Moves.{fresh};
     ghost use Rattle.venued.specs.Session.{At};
 
     /// A gateway (1 to 8) for a client's sessions. All its room is made here; no session is begun.
-    pub fn new(alloc: Global, limits: &'a Limits, gateway: u8) -> Result<Gateway<'a>, AllocError>
+    pub fn new(alloc: Global, gateway: u8) -> Result<Gateway, AllocError>
         requires from { 1 ≤ gateway }
         requires to { gateway ≤ 8 }
-        ensures { IfOk result (λ g. g ≡ record (begun limits.now gateway 0) { live = false }) }
+        ensures { IfOk result (λ g. g ≡ record (begun gateway 0) { live = false }) }
     {
         Ok(Gateway {
-            limits,
             session: Session::new(alloc, gateway)?,
             waiting: Input::new(),
             closed: false,
@@ -82,8 +79,8 @@ impl<'a> Gateway<'a> {
     /// Begins a new session of the client.
     #[tactic(auto, using(crate::proofs::Opening::at_beginning))]
     pub fn begin(&mut self)
-        ensures new { self.new ≡ begun self.old.symbols self.old.session.gateway self.old.passed }
-        ensures at { At self.new.symbols self.new.session [] [] [] [] }
+        ensures new { self.new ≡ begun self.old.session.gateway self.old.passed }
+        ensures at { At self.new.session [] [] [] [] }
     {
         self.session.begin();
         self.waiting = Input::new();
@@ -140,7 +137,7 @@ impl<'a> Gateway<'a> {
         if read == Heard::Failed || self.waiting.is_empty() {
             return read;
         }
-        let fed = self.session.feed(self.limits, self.waiting.as_slice());
+        let fed = self.session.feed(self.waiting.as_slice());
         self.waiting.skip(fed);
         Heard::Something
     }

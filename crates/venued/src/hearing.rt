@@ -1,10 +1,10 @@
 //! A whole frame, judged: what the session does with it.
-ghost use Rattle.std.specs.Prelude.{◌≡◌, ◌≤◌, ℕ, List, Some, drop};
+ghost use Rattle.std.specs.Prelude.{◌≡◌, ◌≤◌, ℕ, List, drop};
 ghost use Rattle.fix_frame.specs.Borrowed.{body_fields, fields_left};
 ghost use Rattle.fix_frame.specs.Grammar.{frame_text};
 ghost use Rattle.fix_orders.specs.Formats.{time_text};
-ghost use Rattle.fix_orders.specs.Header.{header as as_header, header_of};
-ghost use Rattle.venued.specs.Verdict.{verdict, header_verdict, first_verdict, later_verdict, is_party, is_type, is_logon_body, is_plain_order};
+ghost use Rattle.fix_orders.specs.Header.{header as as_header};
+ghost use Rattle.venued.specs.Verdict.{verdict, header_verdict, first_verdict, later_verdict, is_party, is_type, is_order, is_logon_body};
 ghost use Rattle.venued.specs.Answers.{time_after};
 ghost use Rattle.venued.specs.Hears.{verdict_of, IsOfMessage, CanCount};
 ghost use Rattle.venued.specs.Logons.{begins_with};
@@ -13,8 +13,7 @@ use crate::names::{client_name, venue_name};
 use crate::refusal::Refusal;
 use arrayvec::ArrayVec;
 use fix_frame::{Fields, Frame};
-use fix_orders::{Header, command_of, number_of_time, read_header};
-use venue_model::{Command, Limits, TimeInForce};
+use fix_orders::{Header, number_of_time, read_header};
 
 /// What a session does with a frame.
 #[derive(Drop)]
@@ -35,8 +34,8 @@ pub struct Heard {
 }
 
 /// Judges a frame, when so many messages were accepted before it and the last right header had this time.
-pub fn hear(frame: &Frame, limits: &Limits, gateway: u8, accepted: u32, last: u64) -> Heard
-    ensures verdict { verdict_of result.verdict ≡ verdict limits.now gateway accepted (body_fields frame.now) }
+pub fn hear(frame: &Frame, gateway: u8, accepted: u32, last: u64) -> Heard
+    ensures verdict { verdict_of result.verdict ≡ verdict gateway accepted (body_fields frame.now) }
     ensures time { time_text result.time ≡ time_after (time_text last) (body_fields frame.now) }
     ensures message { IsOfMessage (frame_text (body_fields frame.now)) result.verdict }
     ensures counts { CanCount accepted result.verdict }
@@ -48,18 +47,16 @@ pub fn hear(frame: &Frame, limits: &Limits, gateway: u8, accepted: u32, last: u6
         };
     };
     Heard {
-        verdict: judge(&header, frame, limits, gateway, accepted),
+        verdict: judge(&header, frame, gateway, accepted),
         time: number_of_time(header.time),
     }
 }
 
 /// Judges a frame with a right header.
-fn judge(header: &Header, frame: &Frame, limits: &Limits, gateway: u8, accepted: u32) -> Judged
-    requires header { header_of (body_fields frame.now) ≡ Some (as_header header.now) }
+fn judge(header: &Header, frame: &Frame, gateway: u8, accepted: u32) -> Judged
     requires from { 1 ≤ header.now.number }
     requires upto { header.now.number ≤ 999999999 }
-    ensures verdict { verdict_of result ≡
-        header_verdict limits.now gateway accepted (body_fields frame.now) (as_header header.now) }
+    ensures verdict { verdict_of result ≡ header_verdict gateway accepted (as_header header.now) }
     ensures message { IsOfMessage (frame_text (body_fields frame.now)) result }
     ensures counts { CanCount accepted result }
 {
@@ -70,7 +67,7 @@ fn judge(header: &Header, frame: &Frame, limits: &Limits, gateway: u8, accepted:
     } else if accepted == 0 {
         judge_first(header)
     } else {
-        judge_later(header, frame, limits, accepted)
+        judge_later(header, frame)
     }
 }
 
@@ -88,6 +85,13 @@ fn is_type(header: &Header, msg_type: &[u8]) -> bool
     header.msg_type == msg_type
 }
 
+/// Whether the message is a NewOrderSingle, an OrderCancelRequest or an OrderCancelReplaceRequest.
+fn is_order(header: &Header) -> bool
+    ensures { result ≡ is_order (as_header header.now) }
+{
+    is_type(header, b"D") || is_type(header, b"F") || is_type(header, b"G")
+}
+
 /// Judges the first message, which has to be the Logon.
 fn judge_first(header: &Header) -> Judged
     ensures verdict { verdict_of result ≡ first_verdict (as_header header.now) }
@@ -102,16 +106,14 @@ fn judge_first(header: &Header) -> Judged
     }
 }
 
-/// Judges a message behind the Logon.
-fn judge_later(header: &Header, frame: &Frame, limits: &Limits, accepted: u32) -> Judged
-    requires { header_of (body_fields frame.now) ≡ Some (as_header header.now) }
-    ensures verdict { verdict_of result ≡
-        later_verdict limits.now accepted (body_fields frame.now) (as_header header.now) }
+/// Judges a message behind the Logon. An order message is held, whatever it asks for.
+fn judge_later(header: &Header, frame: &Frame) -> Judged
+    ensures verdict { verdict_of result ≡ later_verdict (as_header header.now) }
     ensures message { IsOfMessage (frame_text (body_fields frame.now)) result }
 {
     if is_type(header, b"A") {
         Judged::Refuse(Refusal::BadLogon)
-    } else if accepted == 1 && is_plain_order(&command_of(frame), limits) {
+    } else if is_order(header) {
         Judged::Hold(message_of(frame))
     } else {
         Judged::Refuse(Refusal::BadType)
@@ -136,18 +138,6 @@ fn is_next(fields: &mut Fields, tag: u32, value: &[u8]) -> bool
     match fields.next() {
         Some(field) => field.tag == tag && field.value == value,
         None => false,
-    }
-}
-
-/// Whether the command is a day order in a symbol that the venue has.
-fn is_plain_order(command: &Command, limits: &Limits) -> bool
-    ensures { result ≡ is_plain_order limits.now command.now }
-{
-    match command {
-        Command::New { order, .. } => {
-            order.time_in_force == TimeInForce::Day && limits.has(&order.symbol)
-        }
-        _ => false,
     }
 }
 

@@ -10,18 +10,17 @@ mod flushing;
 mod gateway;
 mod hearing;
 mod input;
-mod input_ring;
 mod message;
 mod names;
-mod order_desk;
 mod refusal;
 #[cfg(test)]
 mod ring_tests;
+mod rings;
 mod serve;
 mod session;
-mod silent;
 #[cfg(test)]
 mod tests;
+mod venue_desk;
 mod wire;
 mod words;
 

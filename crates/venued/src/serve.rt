@@ -3,7 +3,7 @@ ghost use Rattle.std.specs.Prelude.{◌≡◌, ◌⊎◌, IfErr};
 
 use crate::ending::{Reason, Turned};
 use crate::gateway::Gateway;
-use crate::order_desk::OrderDesk;
+use crate::venue_desk::VenueDesk;
 use crate::wire::Wire;
 use crate::words::{Words, WordsFault};
 use std::alloc::{AllocError, Global};
@@ -36,14 +36,15 @@ fn take_turns<W: Wire>(
 ) -> Result<Option<Reason>, AllocError>
     ensures { IfErr result (λ _. W.tells wire.new ≡ W.tells wire.old) }
 {
-    let mut desk = OrderDesk::new(alloc, &words.limits)?;
-    let mut gateway = Gateway::new(alloc, &words.limits, 1)?;
+    let mut desk = VenueDesk::new(alloc, &words.limits)?;
+    let mut gateway = Gateway::new(alloc, 1)?;
     gateway.begin();
     'turns: for _ in 0..u64::MAX {
         let turned = gateway.turn(&mut desk, wire);
         if let Turned::Ended(reason) = turned {
             return Ok(Some(reason));
         }
+        desk.poll();
     }
     Ok(None)
 }

@@ -1,4 +1,4 @@
-//! The pure session: it hears a client's frames one by one, answers them, holds an order until it is published, and
+//! The pure session: it hears a client's frames one by one, answers them, holds an order message until it is published, and
 //! numbers all that is written. It knows no wire and no ring.
 ghost use Rattle.std.specs.Prelude.{◌≡◌, ◌≢◌, ◌+◌, ◌≤◌, ◌<◌, ◌^◌, [], Some, None, IfOk, IsTrue, ◌↔◌, length, is_some};
 ghost use Rattle.venued.specs.Flushing.{Flushes};
@@ -16,7 +16,6 @@ use fix_frame::Framer;
 use fix_orders::put_field;
 use std::alloc::{AllocError, Global};
 use std::marker::Model;
-use venue_model::Limits;
 
 /// One session of a gateway's client. Contracts see a `Standing`.
 #[derive(Drop)]
@@ -129,13 +128,13 @@ impl Session {
 
     /// Feeds bytes up to the end of the message under way, and does what the session does with a frame that they end
     /// or a fault that they have. Answers how many were fed.
-    pub fn feed(&mut self, limits: &Limits, bytes: &[u8]) -> usize
+    pub fn feed(&mut self, bytes: &[u8]) -> usize
         requires open { self.old.closing ≡ None }
         requires free { self.old.held ≡ None }
         requires some { 0 < length bytes.now }
         requires room { length self.old.outgoing ≤ 512 }
         requires number { self.old.number < 2 ^ 63 }
-        ensures hears { Listens limits.now self.old self.new bytes.now result }
+        ensures hears { Listens self.old self.new bytes.now result }
         ensures room { length self.new.outgoing ≤ length self.old.outgoing + 412 }
     {
         let fed = match self.framer.feed(bytes) {
@@ -148,7 +147,7 @@ impl Session {
             }
         };
         let heard = match self.framer.next() {
-            Some(frame) => hear(&frame, limits, self.gateway, self.accepted, self.time),
+            Some(frame) => hear(&frame, self.gateway, self.accepted, self.time),
             None => return fed,
         };
         self.answer(heard);

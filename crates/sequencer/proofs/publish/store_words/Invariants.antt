@@ -1,6 +1,6 @@
 use Rattle.std.proofs.Common.{◌≡◌, ◌+◌}
-use Rattle.ring_words.specs.Seats.{person, alone}
-use Rattle.sequencer.specs.Words.{first_words, wrote}
+use Rattle.ring_words.specs.Seats.{person, alone, wrote}
+use Rattle.sequencer.specs.Words.{first_words}
 use Rattle.sequencer.proofs.publish.store_words.Given as goal
 
 abbrev pub invariant-loop-index : goal.invariant-loop-index

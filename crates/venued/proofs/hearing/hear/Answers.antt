@@ -7,7 +7,7 @@ use Rattle.venued.proofs.hearing.hear.Goals as goal
 
 pub returns-in_default-clause-verdict : goal.returns-in_default-clause-verdict
 returns-in_default-clause-verdict c =
-    sym (verdict_bad c.args.limits.now c.args.gateway c.args.accepted _ (rw c.fields.ensures.value at c.in_default.ensures.value))
+    sym (verdict_bad c.args.gateway c.args.accepted _ (rw c.fields.ensures.value at c.in_default.ensures.value))
 
 pub returns-in_default-clause-time : goal.returns-in_default-clause-time
 returns-in_default-clause-time c = sym (time_bad (time_text c.args.last) _ (rw c.fields.ensures.value at c.in_default.ensures.value))
@@ -15,7 +15,7 @@ returns-in_default-clause-time c = sym (time_bad (time_text c.args.last) _ (rw c
 pub returns-clause-verdict : goal.returns-clause-verdict
 returns-clause-verdict c =
     c.judge.ensures.verdict
-    ∙ sym (verdict_right c.args.limits.now c.args.gateway c.args.accepted (body_fields c.args.frame.now) (header c.in-Some.header)
+    ∙ sym (verdict_right c.args.gateway c.args.accepted (body_fields c.args.frame.now) (header c.in-Some.header)
     (rw c.fields.ensures.value at c.in-Some.ensures.value))
 
 pub returns-clause-time : goal.returns-clause-time

@@ -1,6 +1,6 @@
 -- The session lives, and the desk is the one that it was begun with.
 use Rattle.std.proofs.Common.{◌≡◌, true}
-use Rattle.venued.specs.OrderDesks.{ledger_of}
+use Rattle.venued.specs.VenueDesks.{ledger_of}
 use Rattle.venued.specs.Turns.{GoesWith}
 use Rattle.venued.proofs.serve.take_turns.Given as goal
 

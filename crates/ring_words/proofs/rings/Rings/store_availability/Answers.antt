@@ -8,7 +8,7 @@ pub store-requires : goal.store-requires
 store-requires g c = let key = c.args.self.now.table.shared.key in let e = c.requires.message in let next : c.args.sequence + 1 ≡ suc c.args.sequence = omega arith in (
   search rules,
   search rules,
-  marks_row_in (Unit {0}) (terms_of key) g.row.N c.args.self.now.rows.0 _ _ _ c.args.sequence _ e.0 _ _
+  marks_row_in (Unit {0}) (terms_of g.L.Logic.reads key) g.row.N c.args.self.now.rows.0 _ _ _ c.args.sequence _ e.0 _ _
       c.args.seat.now.alone c.args.seat.now.role c.requires.claimed c.requires.row e.1 e.2 e.3 c.row_word-place.ensures.place next,
 )
 

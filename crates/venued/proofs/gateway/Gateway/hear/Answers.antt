@@ -30,4 +30,4 @@ returns g c =
     let reads = subst (λ (m : Front). Reads old m (tells c.args.wire.now) (tells c.read-read.new.wire) c.read-read.result) (sym c.self-2.view_is) c.read-read.ensures in
     fed-hears old mid (tells c.args.wire.now) (tells c.read-read.new.wire) (g.D.Desk.ledger c.args.desk.now)
     c.requires.open free c.requires.silent c.read-read.result reads
-    c.self-2.inside.limits.now c.as_slice.result.now new c.feed-fed.result refl c.as_slice.ensures c.feed-fed.ensures.hears refl c.skip.ensures c.feed-fed.ensures.room
+    c.as_slice.result.now new c.feed-fed.result c.as_slice.ensures c.feed-fed.ensures.hears refl c.skip.ensures c.feed-fed.ensures.room

@@ -19,8 +19,8 @@ returns-in-Err-clause-hears c =
     let is_open = ap (λ (s : Standing). s.closing) c.self.view_is ∙ c.requires.open in
     let faults = fault_now c.self.inside.framer c.args.bytes.now c.in-Err.fault (c.self.invariant.unbroken is_open) c.in-Err.ensures.refused.cause in
     let old = standing c.self.inside in
-    subst (λ (s : Standing). Listens c.args.limits.now s c.say_logout.new.self c.args.bytes.now (length c.args.bytes.now)) c.self.view_is
-    (listens-fault c.args.limits.now old c.say_logout.new.self c.args.bytes.now c.feed.new.self.held faults.0 c.in-Err.fault c.requires.some faults.1
+    subst (λ (s : Standing). Listens s c.say_logout.new.self c.args.bytes.now (length c.args.bytes.now)) c.self.view_is
+    (listens-fault old c.say_logout.new.self c.args.bytes.now c.feed.new.self.held faults.0 c.in-Err.fault c.requires.some faults.1
     (refused_is old c.say_logout.new.self c.feed.new.self.held (time_text c.self.inside.time) c.text.result.now (Frame c.in-Err.fault)
     c.text.ensures.value c.say_logout.ensures.new))
 
@@ -43,8 +43,8 @@ pub returns-clause-hears : goal.returns-clause-hears
 returns-clause-hears c =
     let is_open = ap (λ (s : Standing). s.closing) c.self.view_is ∙ c.requires.open in
     let fields = body_fields c.in-Some.frame in
-    subst (λ (s : Standing). Listens c.args.limits.now s c.answer.new.self c.args.bytes.now c.in-Ok.fed) c.self.view_is
-    (listens-frame c.args.limits.now (standing c.self.inside) c.answer.new.self c.args.bytes.now c.in-Ok.fed fields
+    subst (λ (s : Standing). Listens s c.answer.new.self c.args.bytes.now c.in-Ok.fed) c.self.view_is
+    (listens-frame (standing c.self.inside) c.answer.new.self c.args.bytes.now c.in-Ok.fed fields
     c.next.follows.lender-at-none.held (time_text c.hear-heard.result.time) (verdict_of c.hear-heard.result.verdict)
     (c.self.invariant.partial is_open) c.in-Ok.ensures.taken.within c.in-Some.ensures.found.body
     (sym c.in-Ok.ensures.taken.held ∙ c.in-Some.ensures.found.spells)

@@ -1,0 +1,36 @@
+-- What the processor knows behind its two loads: as much as the lesser of the two words says.
+use Rattle.std.proofs.Common.{◌≡◌, ℕ, ◌≤◌, List, ◌++◌, ◌⊎◌, inl, inr, ⊎_elim, Bool, true, false, cond, leb, length, refl, ap, sym, subst, ◌∙◌, arith}
+use Rattle.venue_model.specs.History.{Message}
+use Rattle.ring_words.specs.declared.view.View.{View}
+use Rattle.ring_words.specs.Places.{unmarshalled, journalled}
+use Rattle.ring_words.specs.Seats.{person, alone, looked, knowing, last_from}
+use Rattle.ring_words.specs.Steps.{lesser, Reaches}
+use Rattle.ring_words.proofs.Views.{last_loaded, not_reached}
+use Rattle.barrier.specs.Availability.{Gated}
+
+one_of_two : (a b : ℕ) → (lesser a b ≡ a) ⊎ (lesser a b ≡ b)
+one_of_two a b = by_case (leb a b) where
+  by_case : (c : Bool) → (cond c a b ≡ a) ⊎ (cond c a b ≡ b)
+  by_case true = inl refl
+  by_case false = inr refl
+
+known_behind : (seen rest : List Message) (u j : ℕ) → length seen ≤ u → length seen ≤ j → Reaches (lesser u j) seen rest → length (seen ++ rest) ≡ lesser u j
+known_behind seen rest u j below_u below_j (inr more) = more.1
+known_behind seen rest u j below_u below_j (inl near) = let y : ℕ = lesser u j in let le : y ≤ length seen = near.0 in
+    let same = not_reached y seen rest (inl near) le in
+    let up : length seen ≤ y = ⊎_elim (λ (e : lesser u j ≡ u). let e' : y ≡ u = e in omega arith) (λ (e : lesser u j ≡ j). let e' : y ≡ j = e in omega arith) (one_of_two u j) in omega arith
+
+module _ {L : Type 0} where
+  pub gated : (v m w : View L) (u j : ℕ) (rest : List Message) → m ≡ alone v (looked (person v) unmarshalled u) → length (person v).seen ≤ u → length (person m).seen ≤ j
+      → Reaches (lesser (last_from unmarshalled 0 (person m).loads) j) (person m).seen rest → w ≡ alone m (knowing (looked (person m) journalled j) rest) → Gated (person v) (person w)
+  gated v m w u j rest is below_u = subst (λ (z : View L). length (person z).seen ≤ j → Reaches (lesser (last_from unmarshalled 0 (person z).loads) j) (person z).seen rest
+      → w ≡ alone z (knowing (looked (person z) journalled j) rest) → Gated (person v) (person w)) (sym is)
+      (λ below_j reaches w_is. (
+        u,
+        j,
+        (
+          rest,
+          ap person w_is,
+          ap (λ (z : View L). length (person z).seen) w_is ∙ known_behind (person v).seen rest u j below_u below_j (subst (λ (a : ℕ). Reaches (lesser a j) (person v).seen rest) (last_loaded unmarshalled 0 u (person v).loads) reaches),
+        ),
+      ))

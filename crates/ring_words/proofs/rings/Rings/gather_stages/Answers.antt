@@ -1,0 +1,21 @@
+use Rattle.std.proofs.Common.{rules, ◌∙◌, ◌++◌, List, ap}
+use Rattle.ring_words.specs.declared.view.Person.{Person}
+use Rattle.ring_words.specs.Terms.{terms_of}
+use Rattle.ring_words.specs.Seats.{person}
+use Rattle.ring_words.specs.Steps.{Seated}
+use Rattle.ring_words.proofs.Joins.{joins}
+use Rattle.ring_words.proofs.rings.Rings.gather_stages.Goals as goal
+
+pub join_seat-requires : goal.join_seat-requires
+join_seat-requires g c = let key = c.args.self.now.table.shared.key in
+    (search rules, search rules, c.args.unmarshal.bare, search rules, joins (Unit {0}) (terms_of g.L.Logic.reads key) _ _ _ _ (person c.args.process.seat.me.0) _ c.args.process.alone)
+
+pub join_seat-requires-2 : goal.join_seat-requires-2
+join_seat-requires-2 g c = let key = c.args.self.now.table.shared.key in (
+  search rules,
+  search rules,
+  c.args.journal.bare,
+  search rules,
+  joins (Unit {0}) (terms_of g.L.Logic.reads key) _ _ _ _ (person c.args.process.seat.me.0) _
+      (ap (λ (z : Seated (Unit {0}) g.row.L.Denot). z.0.people) c.join_seat.ensures.2 ∙ ap (λ (ps : List Person). ps ++ c.args.unmarshal.seat.me.0.people) c.args.process.alone),
+)

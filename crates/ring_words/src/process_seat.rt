@@ -1,0 +1,41 @@
+//! The processor's seat, behind those of unmarshaller and journaller.
+ghost use Rattle.std.specs.Prelude.{◌≡◌, ◌≤◌, ◌^◌, [], length};
+ghost use Rattle.ring_words.specs.declared.view.Role.TheVariants.{Process};
+ghost use Rattle.ring_words.specs.Places.{unmarshalled};
+ghost use Rattle.ring_words.specs.Seats.{person, IsAlone, last_from};
+
+use crate::view::View;
+use atomic_table::Seat;
+
+/// The processor's place at the table. It holds the length of the history that it knows, its own word, and the unmarshalled value that
+/// it loaded last.
+#[derive(Drop)]
+pub struct ProcessSeat<L> {
+    pub(crate) seat: Seat<(), View<L>>,
+    pub(crate) known: u64,
+    pub(crate) own: u64,
+    pub(crate) gate: u64,
+    ghost alone: { IsAlone seat.me.0 },
+    ghost bare: { seat.me.1 ≡ [] },
+    ghost role: { (person seat.me.0).role ≡ Process },
+    ghost counts: { (known ≡ length (person seat.me.0).seen) × (own ≡ (person seat.me.0).own) × (own ≤ known) × (known ≤ 2 ^ 48) },
+    ghost gated: { gate ≡ last_from unmarshalled 0 (person seat.me.0).loads },
+}
+
+impl<L> ProcessSeat<L> {
+    /// How many entries the processor knows: all sequences below may be read.
+    pub fn known(&self) -> u64
+        ensures value { result ≡ length (person self.now.seat.me.0).seen }
+        ensures most { result ≤ 2 ^ 48 }
+    {
+        self.known
+    }
+
+    /// The processor's word: all sequences below it are processed.
+    pub fn own(&self) -> u64
+        ensures value { result ≡ (person self.now.seat.me.0).own }
+        ensures known { result ≤ length (person self.now.seat.me.0).seen }
+    {
+        self.own
+    }
+}

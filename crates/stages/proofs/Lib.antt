@@ -1,0 +1,3 @@
+pub mod Polls
+pub mod Unmarshalling
+pub mod Processing

@@ -1,0 +1,61 @@
+-- What a look for new entries leaves to a poll, and views that keep all but their person.
+use Rattle.std.proofs.Common.{◌≡◌, ◌≢◌, ◌⊎◌, inl, inr, ℕ, suc, ◌+◌, ◌<◌, ◌≤◌, List, [], ◌∷◌, length, refl, ap, sym, subst, ◌∙◌, length-append, arith, IsSome, Some, None, Option}
+use Rattle.std.proofs.lemmas.List.{append-nil}
+use Rattle.venue_model.specs.History.{Message}
+use Rattle.ring_words.specs.declared.view.Person.{Person}
+use Rattle.ring_words.specs.declared.view.View.{View}
+use Rattle.ring_words.specs.Places.{in_row}
+use Rattle.ring_words.specs.Seats.{person, alone, looked}
+use Rattle.barrier.specs.Availability.{grown, Ended}
+use Rattle.stages.specs.Turns.{NothingShown}
+
+pub none_more : (rest : List Message) → length rest ≡ 0 → rest ≡ []
+none_more [] is = refl
+none_more (e ∷ rest) is = absurd (omega arith)
+
+nothing_grown : (n : ℕ) (v : Person) → grown n v [] ≡ v
+nothing_grown n v = λ k. record v { seen = append-nil v.seen k; loads = append-nil v.loads k }
+
+-- how a look ends: a whole ring is known, or the last word loaded shows nothing new
+abbrev Stopped : ℕ → Person → Person → List Message → Type 0
+Stopped n v w rest = ((v.own + n ≤ length w.seen) × (w ≡ grown n v rest))
+    ⊎ ((length w.seen < v.own + n) × ((x : ℕ) × (x ≢ suc (length w.seen)) × (w ≡ looked (grown n v rest) (in_row n (length w.seen) 0) x)))
+
+-- the own word stays
+pub own_stays : (n : ℕ) (v w : Person) → Ended n v w → w.own ≡ v.own
+own_stays n v w ended = by_case ended.2 where
+  by_case : Stopped n v w ended.0 → w.own ≡ v.own
+  by_case (inl full) = ap (λ (p : Person). p.own) full.1
+  by_case (inr free) = ap (λ (p : Person). p.own) free.1.2
+
+-- a look that leaves no entry to do showed nothing
+pub nothing_shown : (n : ℕ) (v w : Person) → 0 < n → v.own ≤ length v.seen → length w.seen ≤ v.own → Ended n v w → NothingShown n v w
+nothing_shown n v w some_row known near ended = by_case ended.2 where
+  by_case : Stopped n v w ended.0 → NothingShown n v w
+  by_case (inl full) = let far = full.0 in absurd (omega arith)
+  by_case (inr free) =
+      let rest = ended.0 in let x = free.1.0 in let is = free.1.2 in
+      let long : length w.seen ≡ length v.seen + length rest = ap (λ (p : Person). length p.seen) is ∙ length-append v.seen rest in
+      let none : rest ≡ [] = none_more rest (omega arith) in
+      let at_own : length w.seen ≡ v.own = omega arith in (
+        omega arith,
+        (
+          x,
+          (λ shown. free.1.1 (shown ∙ sym (ap suc at_own))),
+          is ∙ ap (λ (p : Person). looked p (in_row n (length w.seen) 0) x) (ap (grown n v) none ∙ nothing_grown n v)
+              ∙ ap (λ (s : ℕ). looked v (in_row n s 0) x) at_own,
+        ),
+      )
+
+module _ {L : Type 0} where
+  -- a view that was given another person has that person
+  pub has_person : (v w : View L) (q : Person) → w ≡ alone v q → w ≡ alone v (person w)
+  has_person v w q is = is ∙ ap (alone v) (sym (ap person is))
+
+  -- and its logic
+  pub some_logic : (v w : View L) (q : Person) → w ≡ alone v q → IsSome v.logic → IsSome w.logic
+  some_logic v w q is opened = subst (λ (z : View L). IsSome z.logic) (sym is) opened
+
+  pub the_logic : (o : Option L) → IsSome o → (x : L) × (o ≡ Some x)
+  the_logic (Some x) is = (x, refl)
+  the_logic None is = cc

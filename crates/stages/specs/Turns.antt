@@ -1,0 +1,65 @@
+-- What one poll of a stage does, by what it answers: of the stage's person before and after it.
+use Rattle.std.specs.Prelude.{◌≡◌, ◌≢◌, ℕ, suc, ◌<◌, length}
+use mathlib.Core.Option.{some}
+use lib.ListN.{get_elem?}
+use Rattle.venue_model.specs.History.{Message}
+use Rattle.fix_orders.specs.Reading.{reads}
+use Rattle.ring_words.specs.declared.view.Person.{Person}
+use Rattle.ring_words.specs.Places.{unmarshalled, journalled, in_row}
+use Rattle.ring_words.specs.Raw.{raw_count}
+use Rattle.ring_words.specs.Packing.{command_words}
+use Rattle.ring_words.specs.Seats.{looked, wrote, moved}
+use Rattle.ring_words.specs.Steps.{lesser}
+use Rattle.barrier.specs.Availability.{Ended, Gated}
+use Rattle.barrier.specs.Commands.{after_command}
+use Rattle.barrier.specs.Reading.{after_loads}
+use Rattle.stages.specs.declared.turn.Turn.{Turn}
+use Rattle.stages.specs.declared.turn.Turn.TheVariants.{Did, Idle, Memory}
+
+-- the stage knows nothing beyond its own word, and the one word that it loaded, the availability of its next sequence, doesn't show
+-- that sequence
+abbrev pub NothingShown : ℕ → Person → Person → Type 0
+NothingShown n v w = (length v.seen ≡ v.own) × ((x : ℕ) × (x ≢ suc v.own) × (w ≡ looked v (in_row n v.own 0) x))
+
+-- the next sequence is done
+abbrev pub done : Person → Person
+done v = moved v (suc v.own)
+
+-- the message of the next sequence was read, the command that it is read as stored, and the sequence handed on
+abbrev pub after_unmarshalling : ℕ → Person → Message → Person
+after_unmarshalling n v e =
+    done (wrote (after_loads n v v.own e (raw_count e)) v.own (command_words e.gateway (reads e.bytes)))
+
+-- the command of the next sequence was read
+abbrev pub after_reading : ℕ → Person → Message → Person
+after_reading n v e = after_command n v v.own (command_words e.gateway (reads e.bytes))
+
+-- the unmarshaller did one sequence, which the look for new ones left known; or that showed nothing new
+abbrev pub Unmarshals : ℕ → Turn → Person → Person → Type 0
+Unmarshals n (Did k) v w =
+    (k ≡ 1) × ((u : Person) × Ended n v u × ((e : Message) × (get_elem? u.seen u.own ≡ some e) × (w ≡ after_unmarshalling n u e)))
+Unmarshals n Idle v w = NothingShown n v w
+Unmarshals n Memory v w = ⊥
+
+-- the journaller did one sequence, which the look for new ones left known; or that showed nothing new
+abbrev pub Journals : ℕ → Turn → Person → Person → Type 0
+Journals n (Did k) v w = (k ≡ 1) × ((u : Person) × Ended n v u × (u.own < length u.seen) × (w ≡ done u))
+Journals n Idle v w = NothingShown n v w
+Journals n Memory v w = ⊥
+
+-- the lesser of unmarshalled and journalled, loaded in this order, was the stage's own word, and it knows nothing beyond that
+abbrev pub NothingHandedOn : Person → Person → Type 0
+NothingHandedOn v w =
+    (length v.seen ≡ v.own) × ((u j : ℕ) × (lesser u j ≡ v.own) × (w ≡ looked (looked v unmarshalled u) journalled j))
+
+-- the command of the next sequence was read, and done; or there was no memory for it, and it waits
+abbrev pub Obeys : ℕ → Turn → Person → Person → Type 0
+Obeys n (Did k) v w = (k ≡ 1) × ((e : Message) × (get_elem? v.seen v.own ≡ some e) × (w ≡ done (after_reading n v e)))
+Obeys n Idle v w = ⊥
+Obeys n Memory v w = (e : Message) × (get_elem? v.seen v.own ≡ some e) × (w ≡ after_reading n v e)
+
+-- the processor took up the next sequence, which its look for new ones left known; or that showed nothing new
+abbrev pub Processes : ℕ → Turn → Person → Person → Type 0
+Processes n (Did k) v w = (u : Person) × Gated v u × Obeys n (Did k) u w
+Processes n Idle v w = NothingHandedOn v w
+Processes n Memory v w = (u : Person) × Gated v u × Obeys n Memory u w

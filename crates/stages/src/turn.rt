@@ -1,0 +1,12 @@
+//! What one poll of a stage came to.
+
+/// What one poll of a stage came to.
+#[derive(Clone, Copy, Debug, PartialEq, Eq)]
+pub enum Turn {
+    /// So many sequences were finished, at least one.
+    Did(u64),
+    /// The words that were read in this call showed nothing new.
+    Idle,
+    /// 12: memory was refused, of the processor alone. Its command waits, and the next poll tries it again.
+    Memory,
+}

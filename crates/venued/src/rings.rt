@@ -1,0 +1,73 @@
+//! The venue's rings behind an empty history, and the gateway's way into them.
+ghost use Rattle.std.specs.Prelude.{◌≡◌, ◌≤◌, IfOk, length};
+ghost use Rattle.ring_words.specs.Seats.{person, alone};
+ghost use Rattle.venued.specs.VenueRings.{Enters};
+
+use crate::desk::TryPublish;
+use book::BookLogic;
+use ring_words::{GatewaySeat, JournalSeat, OpenError, ProcessSeat, Rings, Seats, UnmarshalSeat};
+use sequencer::{ClaimRefusal, try_claim};
+use std::alloc::{AllocError, Global};
+use venue_model::Limits;
+
+/// Rings of 1,024 rows for one gateway. No output goes through them yet.
+pub type VenueRings = Rings<BookLogic, 1024, 1024, 1>;
+
+/// The rings, and the seats of gateway 1 and of the stages.
+#[derive(Drop)]
+pub struct Opened {
+    pub rings: VenueRings,
+    pub gateway: GatewaySeat<BookLogic>,
+    pub unmarshal: UnmarshalSeat<BookLogic>,
+    pub journal: JournalSeat<BookLogic>,
+    pub process: ProcessSeat<BookLogic>,
+}
+
+ghost use Rattle.venued.specs.Opened.{IsOpened};
+
+/// The rings of the venue of these symbols behind an empty history, with all seats.
+pub fn open(alloc: Global, limits: &Limits) -> Result<Opened, AllocError>
+    ensures { IfOk result (IsOpened limits.now) }
+{
+    let (rings, seats) = match Rings::open(alloc, BookLogic::of(limits), &Vec::new(alloc), 0) {
+        Ok(opened) => opened,
+        Err(OpenError::Memory) => return Err(AllocError),
+        Err(OpenError::NotPowerOfTwo) => unreachable!(),
+    };
+    let Seats {
+        mut gateways,
+        unmarshal,
+        journal,
+        process,
+    } = seats;
+    let Some(gateway) = gateways.pop() else {
+        unreachable!();
+    };
+    Ok(Opened {
+        rings,
+        gateway,
+        unmarshal,
+        journal,
+        process,
+    })
+}
+
+/// Tries once to publish the message through gateway 1.
+pub fn publish(rings: &VenueRings, seat: &mut GatewaySeat<BookLogic>, message: &[u8]) -> TryPublish
+    requires table { seat.old.seat.table_id ≡ rings.now.table.shared.table_id }
+    requires number { seat.old.number ≡ 1 }
+    requires some { 1 ≤ length message.now }
+    requires most { length message.now ≤ 320 }
+    ensures table { seat.new.seat.table_id ≡ seat.old.seat.table_id }
+    ensures number { seat.new.number ≡ 1 }
+    ensures enters { Enters (person seat.old.seat.me.0) (person seat.new.seat.me.0) message.now result }
+{
+    match try_claim(rings, seat) {
+        Ok(claim) => {
+            claim.publish(rings, seat, message);
+            TryPublish::Done
+        }
+        Err(ClaimRefusal::Full | ClaimRefusal::Contended) => TryPublish::Refused,
+        Err(ClaimRefusal::Exhausted) => TryPublish::Exhausted,
+    }
+}
