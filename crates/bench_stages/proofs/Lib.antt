@@ -1,0 +1,3 @@
+pub mod GatewayLemmas
+pub mod MessageLemmas
+pub mod SeatLemmas

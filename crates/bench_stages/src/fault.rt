@@ -1,0 +1,46 @@
+//! Why nothing is measured.
+use std::alloc::AllocError;
+use std::io;
+use std::process::ExitCode;
+use thiserror::Error;
+
+/// Why nothing is measured. The text is the line that the program prints.
+#[derive(Clone, Copy, Debug, PartialEq, Eq, Error)]
+pub enum Fault {
+    /// A word is missing, wrong or too many.
+    #[error("usage: bench_stages COMMANDS GATEWAYS")]
+    Usage,
+    #[error("bench_stages: no memory")]
+    Memory,
+    /// The clock can't be read, or a line can't be printed.
+    #[error("bench_stages: input or output failed")]
+    Device,
+    /// A worker found nothing to do for too long.
+    #[error("bench_stages: gave up")]
+    GaveUp,
+    /// Not all commands were processed, or the outputs aren't theirs.
+    #[error("bench_stages: wrong outputs")]
+    Wrong,
+}
+
+impl Fault {
+    /// The program's status: 2 where the stages didn't do what they were to do, else 1.
+    pub fn status(self) -> ExitCode {
+        match self {
+            Fault::Usage | Fault::Memory | Fault::Device => ExitCode::from(1),
+            Fault::GaveUp | Fault::Wrong => ExitCode::from(2),
+        }
+    }
+}
+
+impl From<AllocError> for Fault {
+    fn from(_refused: AllocError) -> Fault {
+        Fault::Memory
+    }
+}
+
+impl From<io::Error> for Fault {
+    fn from(_failed: io::Error) -> Fault {
+        Fault::Device
+    }
+}

@@ -1,0 +1,101 @@
+//! Measures how many commands a second go from gateways through the input ring and all stages, each on a thread of its own, and how
+//! long a command takes where one thread does all.
+#![tactic(auto)]
+
+mod answers;
+mod fault;
+mod figures;
+mod gateway;
+mod messages;
+mod path;
+mod rings;
+mod runs;
+mod stations;
+mod words;
+mod worker;
+
+ghost use Rattle.std.specs.Prelude.{◌≡◌, IfOk};
+ghost use Rattle.ring_words.specs.Seats.{person};
+
+use crate::answers::Answers;
+use crate::fault::Fault;
+use crate::figures::{Cost, Rate};
+use crate::path::Path;
+use crate::rings::open;
+use crate::runs::{run_on_one_thread, run_on_threads};
+use crate::words::Task;
+use stages::Processor;
+use std::env;
+use std::process::ExitCode;
+use std::rt::{Clock, Env};
+use std::thread::Threads;
+use std::time::{Duration, Instant};
+
+/// How many commands were processed, if they are all, and the outputs those that are due.
+fn processed(processor: &Processor, task: &Task) -> Result<u64, Fault>
+    ensures count { IfOk result (λ n. n ≡ (person processor.now.seat.seat.me.0).own) }
+    ensures whole { IfOk result (λ n. n ≡ task.now.commands) }
+{
+    if processor.next_seq() != task.commands
+        || Answers::of(processor.outputs()) != Answers::due(task)
+    {
+        return Err(Fault::Wrong);
+    }
+    Ok(processor.next_seq())
+}
+
+/// How long the task takes with a thread for each worker, and how many commands were processed.
+fn time_threads<R: Clock + AllocGlobal + Threads + Sync>(
+    rt: &R,
+    task: &Task,
+) -> Result<(u64, Duration), Fault>
+    ensures { IfOk result (λ r. r.0 ≡ task.now.commands) }
+{
+    let (rings, seats, book) = open(rt.alloc())?;
+    let path = Path::new(rt.alloc(), &rings, seats, book, task)?;
+    let begun = Instant::now(rt)?;
+    let Some(processor) = run_on_threads(rt, path, task.commands) else {
+        return Err(Fault::GaveUp);
+    };
+    let took = begun.elapsed(rt)?;
+    Ok((processed(&processor, task)?, took))
+}
+
+/// How long the task takes on one thread, and how many commands were processed.
+fn time_one_thread<R: Clock + AllocGlobal>(rt: &R, task: &Task) -> Result<(u64, Duration), Fault>
+    ensures { IfOk result (λ r. r.0 ≡ task.now.commands) }
+{
+    let (rings, seats, book) = open(rt.alloc())?;
+    let path = Path::new(rt.alloc(), &rings, seats, book, task)?;
+    let begun = Instant::now(rt)?;
+    let Some(processor) = run_on_one_thread(path, task.commands) else {
+        return Err(Fault::GaveUp);
+    };
+    let took = begun.elapsed(rt)?;
+    Ok((processed(&processor, task)?, took))
+}
+
+/// Measures what the words ask for.
+fn measure<R: Env + Clock + Print + AllocGlobal + Threads + Sync>(rt: &R) -> Result<(), Fault> {
+    let words: Vec<String> = env::args(rt)?.skip(1).collect(rt.alloc())?;
+    let task = Task::read(&words)?;
+    let gateways = task.gateways;
+    let (commands, took) = time_threads(rt, &task)?;
+    println!(rt; "stages.threads.g{gateways}: {}", Rate::of(commands, took))?;
+    let (commands, took) = time_one_thread(rt, &task)?;
+    println!(rt;
+        "stages.one_thread.g{gateways}: {}",
+        Cost::of(commands, took)
+    )?;
+    Ok(())
+}
+
+fn main(rt: HostRuntime) -> ExitCode {
+    match measure(&rt) {
+        Ok(()) => ExitCode::SUCCESS,
+        Err(fault) => {
+            let _ = eprintln!(rt; "{fault}");
+            fault.status()
+        }
+    }
+}

@@ -1,0 +1,44 @@
+//! The rings of a run, and the book behind them.
+ghost use Rattle.std.specs.Prelude.{◌≡◌, [], ◌∷◌, codes, IfOk};
+ghost use Rattle.venue_model.specs.Step.{empty};
+ghost use Rattle.ring_words.specs.declared.view.Role.TheVariants.{Process, Unmarshal};
+ghost use Rattle.ring_words.specs.Crew.{AreFresh, stage_view};
+
+use book::{Book, BookLogic};
+use ring_words::{OpenError, Rings, Seats};
+use std::alloc::{AllocError, Global};
+use venue_model::{Limits, LimitsFault};
+
+/// The rings, with seats for eight gateways; those that aren't measured stay idle.
+pub type VenueRings = Rings<BookLogic, 1024, 1024, 8>;
+
+/// The table of the one symbol.
+fn limits(alloc: Global) -> Result<Limits, AllocError>
+    ensures { IfOk result (λ limits. limits ≡ codes "ABC" ∷ []) }
+{
+    let mut names = Vec::new(alloc);
+    names.push(String::from_str(alloc, "ABC")?)?;
+    match Limits::new(alloc, &names) {
+        Ok(limits) => Ok(limits),
+        Err(LimitsFault::Memory) => Err(AllocError),
+        Err(LimitsFault::BadSymbol) => unreachable!(),
+    }
+}
+
+/// New rings with their seats, and an empty book.
+pub fn open(alloc: Global) -> Result<(VenueRings, Seats<BookLogic>, Book), AllocError>
+    ensures gateways { IfOk result (λ r. AreFresh r.0.table.shared.table_id r.0.table.shared.key.logic [] 0 r.1.gateways.items) }
+    ensures unmarshal { IfOk result (λ r. (r.1.unmarshal.seat.table_id ≡ r.0.table.shared.table_id) × (r.1.unmarshal.seat.me.0 ≡ stage_view r.2.symbols [] Unmarshal)) }
+    ensures journal { IfOk result (λ r. r.1.journal.seat.table_id ≡ r.0.table.shared.table_id) }
+    ensures process { IfOk result (λ r. (r.1.process.seat.table_id ≡ r.0.table.shared.table_id) × (r.1.process.seat.me.0 ≡ stage_view r.2.symbols [] Process)) }
+    ensures book { IfOk result (λ r. r.2.state ≡ empty) }
+{
+    let limits = limits(alloc)?;
+    let book = Book::new(alloc, &limits)?;
+    let logic = BookLogic::of(&limits);
+    match Rings::open(alloc, logic, &Vec::new(alloc), 0) {
+        Ok((rings, seats)) => Ok((rings, seats, book)),
+        Err(OpenError::Memory) => Err(AllocError),
+        Err(OpenError::NotPowerOfTwo) => unreachable!(),
+    }
+}

@@ -1,0 +1,65 @@
+//! The three stages at the rings.
+ghost use Rattle.std.specs.Prelude.{◌≡◌};
+ghost use Rattle.ring_words.specs.Seats.{person};
+
+use crate::rings::VenueRings;
+use crate::worker::Worker;
+use stages::{Journaller, Processor, Turn, Unmarshaller};
+
+/// The unmarshaller at the rings.
+#[derive(Drop)]
+pub struct Unmarshalling<'a> {
+    pub rings: &'a VenueRings,
+    pub stage: Unmarshaller,
+    ghost fits: { stage.seat.seat.table_id ≡ rings.now.table.shared.table_id },
+}
+
+impl Worker for Unmarshalling<'_> {
+    ghost done = { λ w. (person w.stage.seat.seat.me.0).own };
+
+    fn turn(&mut self) -> bool {
+        match self.stage.poll(self.rings) {
+            Turn::Did(_) => true,
+            Turn::Idle | Turn::Memory => false,
+        }
+    }
+}
+
+/// The journaller at the rings.
+#[derive(Drop)]
+pub struct Journalling<'a> {
+    pub rings: &'a VenueRings,
+    pub stage: Journaller,
+    ghost fits: { stage.seat.seat.table_id ≡ rings.now.table.shared.table_id },
+}
+
+impl Worker for Journalling<'_> {
+    ghost done = { λ w. (person w.stage.seat.seat.me.0).own };
+
+    fn turn(&mut self) -> bool {
+        match self.stage.poll(self.rings) {
+            Turn::Did(_) => true,
+            Turn::Idle | Turn::Memory => false,
+        }
+    }
+}
+
+/// The processor at the rings.
+#[derive(Drop)]
+pub struct Processing<'a> {
+    pub rings: &'a VenueRings,
+    pub stage: Processor,
+    ghost fits: { stage.seat.seat.table_id ≡ rings.now.table.shared.table_id },
+}
+
+impl Worker for Processing<'_> {
+    ghost done = { λ w. (person w.stage.seat.seat.me.0).own };
+
+    /// Refused memory is nothing done: the next turn tries it again.
+    fn turn(&mut self) -> bool {
+        match self.stage.poll(self.rings) {
+            Turn::Did(_) => true,
+            Turn::Idle | Turn::Memory => false,
+        }
+    }
+}

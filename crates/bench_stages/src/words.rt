@@ -1,0 +1,49 @@
+//! The words of the command line.
+ghost use Rattle.std.specs.Prelude.{◌≡◌, ◌≢◌, ◌+◌, ◌-◌, ◌/◌, ◌^◌, ◌≤◌, ◌<◌, length};
+ghost use Rattle.bench_stages.specs.Answers.{share};
+
+use crate::fault::Fault;
+
+/// How many commands are measured at most: each takes some 500 bytes of memory.
+pub const MOST_COMMANDS: u64 = 10_000_000;
+
+/// What is measured.
+#[derive(Clone, Copy, Debug, PartialEq, Eq)]
+pub struct Task {
+    /// How many commands there are in all, 1 to 10,000,000.
+    pub commands: u64,
+    /// How many gateways publish them, 1 to 8.
+    pub gateways: u64,
+    ghost few: { (1 ≤ commands) × (commands ≤ 10000000) },
+    ghost seats: { (1 ≤ gateways) × (gateways ≤ 8) },
+}
+
+impl Task {
+    /// The task that the words behind the program's name ask for: two words, both numbers.
+    pub fn read(words: &[String]) -> Result<Task, Fault>
+        ensures two_words { length words.now ≢ 2 → result ≡ Err Fault.Usage }
+    {
+        let [commands, gateways] = words else {
+            return Err(Fault::Usage);
+        };
+        let (Ok(commands), Ok(gateways)) = (
+            commands.as_str().parse::<u64>(),
+            gateways.as_str().parse::<u64>(),
+        ) else {
+            return Err(Fault::Usage);
+        };
+        if commands == 0 || commands > MOST_COMMANDS || gateways == 0 || gateways > 8 {
+            return Err(Fault::Usage);
+        }
+        Ok(Task { commands, gateways })
+    }
+
+    /// How many of the commands this gateway publishes. The shares of all gateways differ by one at most, and are all commands together.
+    pub fn share(&self, gateway: u64) -> u64
+        requires { (1 ≤ gateway) × (gateway ≤ 8) }
+        ensures share { result ≡ share self.now.commands self.now.gateways gateway }
+        ensures most { result < 2 ^ 24 }
+    {
+        (self.commands + gateway - 1) / self.gateways
+    }
+}
