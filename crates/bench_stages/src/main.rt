@@ -7,6 +7,7 @@ mod fault;
 mod figures;
 mod gateway;
 mod messages;
+mod null_disk;
 mod path;
 mod rings;
 mod runs;

@@ -2,10 +2,11 @@
 ghost use Rattle.std.specs.Prelude.{◌≡◌, [], IfOk};
 ghost use Rattle.ring_words.specs.Seats.{person};
 ghost use Rattle.venue_model.specs.Step.{empty};
-ghost use Rattle.ring_words.specs.declared.view.Role.TheVariants.{Process, Unmarshal};
+ghost use Rattle.ring_words.specs.declared.view.Role.TheVariants.{Process, Unmarshal, Journal};
 ghost use Rattle.ring_words.specs.Crew.{AreFresh, stage_view};
 
 use crate::gateway::Gateway;
+use crate::null_disk::empty_journal;
 use crate::rings::VenueRings;
 use crate::stations::{Journalling, Processing, Unmarshalling};
 use crate::words::Task;
@@ -70,7 +71,7 @@ impl Path<'_> {
     ) -> Result<Path<'a>, AllocError>
         requires gateways { AreFresh rings.now.table.shared.table_id rings.now.table.shared.key.logic [] 0 seats.gateways.items }
         requires unmarshal { (seats.unmarshal.seat.table_id ≡ rings.now.table.shared.table_id) × (seats.unmarshal.seat.me.0 ≡ stage_view book.symbols [] Unmarshal) }
-        requires journal { seats.journal.seat.table_id ≡ rings.now.table.shared.table_id }
+        requires journal { (seats.journal.seat.table_id ≡ rings.now.table.shared.table_id) × (seats.journal.seat.me.0 ≡ stage_view book.symbols [] Journal) }
         requires process { (seats.process.seat.table_id ≡ rings.now.table.shared.table_id) × (seats.process.seat.me.0 ≡ stage_view book.symbols [] Process) }
         requires book { book.state ≡ empty }
         ensures begins { IfOk result (λ p. (person p.processing.stage.seat.seat.me.0).own ≡ 0) }
@@ -93,7 +94,7 @@ impl Path<'_> {
             },
             journalling: Journalling {
                 rings,
-                stage: Journaller::new(journal),
+                stage: Journaller::new(journal, empty_journal(alloc)?),
             },
             processing: Processing {
                 rings,

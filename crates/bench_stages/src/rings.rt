@@ -1,7 +1,7 @@
 //! The rings of a run, and the book behind them.
 ghost use Rattle.std.specs.Prelude.{◌≡◌, [], ◌∷◌, codes, IfOk};
 ghost use Rattle.venue_model.specs.Step.{empty};
-ghost use Rattle.ring_words.specs.declared.view.Role.TheVariants.{Process, Unmarshal};
+ghost use Rattle.ring_words.specs.declared.view.Role.TheVariants.{Process, Unmarshal, Journal};
 ghost use Rattle.ring_words.specs.Crew.{AreFresh, stage_view};
 
 use book::{Book, BookLogic};
@@ -29,7 +29,7 @@ fn limits(alloc: Global) -> Result<Limits, AllocError>
 pub fn open(alloc: Global) -> Result<(VenueRings, Seats<BookLogic>, Book), AllocError>
     ensures gateways { IfOk result (λ r. AreFresh r.0.table.shared.table_id r.0.table.shared.key.logic [] 0 r.1.gateways.items) }
     ensures unmarshal { IfOk result (λ r. (r.1.unmarshal.seat.table_id ≡ r.0.table.shared.table_id) × (r.1.unmarshal.seat.me.0 ≡ stage_view r.2.symbols [] Unmarshal)) }
-    ensures journal { IfOk result (λ r. r.1.journal.seat.table_id ≡ r.0.table.shared.table_id) }
+    ensures journal { IfOk result (λ r. (r.1.journal.seat.table_id ≡ r.0.table.shared.table_id) × (r.1.journal.seat.me.0 ≡ stage_view r.2.symbols [] Journal)) }
     ensures process { IfOk result (λ r. (r.1.process.seat.table_id ≡ r.0.table.shared.table_id) × (r.1.process.seat.me.0 ≡ stage_view r.2.symbols [] Process)) }
     ensures book { IfOk result (λ r. r.2.state ≡ empty) }
 {

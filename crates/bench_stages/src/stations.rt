@@ -2,6 +2,7 @@
 ghost use Rattle.std.specs.Prelude.{◌≡◌};
 ghost use Rattle.ring_words.specs.Seats.{person};
 
+use crate::null_disk::NullDisk;
 use crate::rings::VenueRings;
 use crate::worker::Worker;
 use stages::{Journaller, Processor, Turn, Unmarshaller};
@@ -20,7 +21,7 @@ impl Worker for Unmarshalling<'_> {
     fn turn(&mut self) -> bool {
         match self.stage.poll(self.rings) {
             Turn::Did(_) => true,
-            Turn::Idle | Turn::Memory => false,
+            Turn::Idle | Turn::Memory | Turn::JournalFailed => false,
         }
     }
 }
@@ -29,7 +30,7 @@ impl Worker for Unmarshalling<'_> {
 #[derive(Drop)]
 pub struct Journalling<'a> {
     pub rings: &'a VenueRings,
-    pub stage: Journaller,
+    pub stage: Journaller<NullDisk>,
     ghost fits: { stage.seat.seat.table_id ≡ rings.now.table.shared.table_id },
 }
 
@@ -39,7 +40,7 @@ impl Worker for Journalling<'_> {
     fn turn(&mut self) -> bool {
         match self.stage.poll(self.rings) {
             Turn::Did(_) => true,
-            Turn::Idle | Turn::Memory => false,
+            Turn::Idle | Turn::Memory | Turn::JournalFailed => false,
         }
     }
 }
@@ -59,7 +60,7 @@ impl Worker for Processing<'_> {
     fn turn(&mut self) -> bool {
         match self.stage.poll(self.rings) {
             Turn::Did(_) => true,
-            Turn::Idle | Turn::Memory => false,
+            Turn::Idle | Turn::Memory | Turn::JournalFailed => false,
         }
     }
 }

@@ -1,3 +1,4 @@
 pub mod Polls
 pub mod Unmarshalling
 pub mod Processing
+pub mod Journalling

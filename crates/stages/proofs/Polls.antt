@@ -17,7 +17,7 @@ nothing_grown : (n : ℕ) (v : Person) → grown n v [] ≡ v
 nothing_grown n v = λ k. record v { seen = append-nil v.seen k; loads = append-nil v.loads k }
 
 -- how a look ends: a whole ring is known, or the last word loaded shows nothing new
-abbrev Stopped : ℕ → Person → Person → List Message → Type 0
+abbrev pub Stopped : ℕ → Person → Person → List Message → Type 0
 Stopped n v w rest = ((v.own + n ≤ length w.seen) × (w ≡ grown n v rest))
     ⊎ ((length w.seen < v.own + n) × ((x : ℕ) × (x ≢ suc (length w.seen)) × (w ≡ looked (grown n v rest) (in_row n (length w.seen) 0) x)))
 

@@ -27,7 +27,7 @@ use Rattle.stages.specs.Processed.{entries_done, state_of, outputs_of}
 -- HISTORIES
 
 -- the first entries, and the next one
-take_next : {A : Type 0} (l : List A) (i : ℕ) (a : A) → get_elem? l i ≡ some a → take (suc i) l ≡ take i l ++ a ∷ []
+pub take_next : {A : Type 0} (l : List A) (i : ℕ) (a : A) → get_elem? l i ≡ some a → take (suc i) l ≡ take i l ++ a ∷ []
 take_next [] i a at = absurd (some-ne-none a (sym at))
 take_next (x ∷ xs) zero a at = ap (λ y. y ∷ []) (some-injective x a at)
 take_next (x ∷ xs) (suc i) a at = ap (λ l. x ∷ l) (take_next xs i a at)

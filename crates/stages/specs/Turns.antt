@@ -1,5 +1,5 @@
 -- What one poll of a stage does, by what it answers: of the stage's person before and after it.
-use Rattle.std.specs.Prelude.{◌≡◌, ◌≢◌, ℕ, suc, ◌<◌, length}
+use Rattle.std.specs.Prelude.{◌≡◌, ◌≢◌, ◌⊎◌, ℕ, suc, length}
 use mathlib.Core.Option.{some}
 use lib.ListN.{get_elem?}
 use Rattle.venue_model.specs.History.{Message}
@@ -14,7 +14,7 @@ use Rattle.barrier.specs.Availability.{Ended, Gated}
 use Rattle.barrier.specs.Commands.{after_command}
 use Rattle.barrier.specs.Reading.{after_loads}
 use Rattle.stages.specs.declared.turn.Turn.{Turn}
-use Rattle.stages.specs.declared.turn.Turn.TheVariants.{Did, Idle, Memory}
+use Rattle.stages.specs.declared.turn.Turn.TheVariants.{Did, Idle, Memory, JournalFailed}
 
 -- the stage knows nothing beyond its own word, and the one word that it loaded, the availability of its next sequence, doesn't show
 -- that sequence
@@ -40,12 +40,31 @@ Unmarshals n (Did k) v w =
     (k ≡ 1) × ((u : Person) × Ended n v u × ((e : Message) × (get_elem? u.seen u.own ≡ some e) × (w ≡ after_unmarshalling n u e)))
 Unmarshals n Idle v w = NothingShown n v w
 Unmarshals n Memory v w = ⊥
+Unmarshals n JournalFailed v w = ⊥
 
--- the journaller did one sequence, which the look for new ones left known; or that showed nothing new
+-- the message of the next sequence was read
+abbrev pub after_message : ℕ → Person → Message → Person
+after_message n v e = after_loads n v v.own e (raw_count e)
+
+-- the message of the next sequence, which the look for new ones left known, was read, and that was all
+abbrev pub OnlyRead : ℕ → Person → Person → Type 0
+OnlyRead n v w = (u : Person) × Ended n v u × ((e : Message) × (get_elem? u.seen u.own ≡ some e) × (w ≡ after_message n u e))
+
+-- the next sequence was read and handed on; or it couldn't be kept, and was only read
+abbrev pub KeepsNext : ℕ → Turn → Person → Person → Type 0
+KeepsNext n (Did k) v w = (k ≡ 1) × ((e : Message) × (get_elem? v.seen v.own ≡ some e) × (w ≡ done (after_message n v e)))
+KeepsNext n Idle v w = ⊥
+KeepsNext n Memory v w = ⊥
+KeepsNext n JournalFailed v w = (e : Message) × (get_elem? v.seen v.own ≡ some e) × (w ≡ after_message n v e)
+
+-- The journaller did one sequence, which the look for new ones left known; or that showed nothing new; or the journal had failed before,
+-- or failed now.
 abbrev pub Journals : ℕ → Turn → Person → Person → Type 0
-Journals n (Did k) v w = (k ≡ 1) × ((u : Person) × Ended n v u × (u.own < length u.seen) × (w ≡ done u))
+Journals n (Did k) v w =
+    (k ≡ 1) × ((u : Person) × Ended n v u × ((e : Message) × (get_elem? u.seen u.own ≡ some e) × (w ≡ done (after_message n u e))))
 Journals n Idle v w = NothingShown n v w
 Journals n Memory v w = ⊥
+Journals n JournalFailed v w = (w ≡ v) ⊎ OnlyRead n v w
 
 -- the lesser of unmarshalled and journalled, loaded in this order, was the stage's own word, and it knows nothing beyond that
 abbrev pub NothingHandedOn : Person → Person → Type 0
@@ -57,9 +76,11 @@ abbrev pub Obeys : ℕ → Turn → Person → Person → Type 0
 Obeys n (Did k) v w = (k ≡ 1) × ((e : Message) × (get_elem? v.seen v.own ≡ some e) × (w ≡ done (after_reading n v e)))
 Obeys n Idle v w = ⊥
 Obeys n Memory v w = (e : Message) × (get_elem? v.seen v.own ≡ some e) × (w ≡ after_reading n v e)
+Obeys n JournalFailed v w = ⊥
 
 -- the processor took up the next sequence, which its look for new ones left known; or that showed nothing new
 abbrev pub Processes : ℕ → Turn → Person → Person → Type 0
 Processes n (Did k) v w = (u : Person) × Gated v u × Obeys n (Did k) u w
 Processes n Idle v w = NothingHandedOn v w
 Processes n Memory v w = (u : Person) × Gated v u × Obeys n Memory u w
+Processes n JournalFailed v w = ⊥

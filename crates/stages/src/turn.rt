@@ -9,4 +9,6 @@ pub enum Turn {
     Idle,
     /// 12: memory was refused, of the processor alone. Its command waits, and the next poll tries it again.
     Memory,
+    /// 41: an append failed, of the journaller alone. From then on it is always this, and nothing more is handed on.
+    JournalFailed,
 }

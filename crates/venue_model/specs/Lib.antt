@@ -1,3 +1,4 @@
+pub mod Counts
 pub mod History
 pub mod Spelling
 pub mod Orders

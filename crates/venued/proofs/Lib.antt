@@ -19,5 +19,7 @@ pub mod HearingLemmas
 pub mod OpenedLemmas
 pub mod VenueLemmas
 pub mod ProcessorLemmas
+pub mod JournallerLemmas
+pub mod ServingLemmas
 pub mod Requests
 pub mod RingTests

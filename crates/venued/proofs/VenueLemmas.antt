@@ -1,7 +1,7 @@
 -- What the venue's desk has for its session: the texts of outputs as their count grows, and the outputs as the history grows.
-use Rattle.std.proofs.Common.{◌≡◌, ◌≢◌, ℕ, zero, suc, ◌+◌, ◌-◌, ◌*◌, ◌^◌, ◌<◌, ◌≤◌, Bool, true, false, List, [], ◌∷◌, ◌++◌, length, take, drop, refl, ap, sym, ◌∙◌, arith, append-nil, length-append, add-zero, Some}
+use Rattle.std.proofs.Common.{◌≡◌, ◌≢◌, ℕ, zero, suc, ◌+◌, ◌-◌, ◌*◌, ◌^◌, ◌<◌, ◌≤◌, Bool, true, false, List, [], ◌∷◌, ◌++◌, length, take, drop, refl, ap, sym, ◌∙◌, arith, append-nil, length-append, length-drop, add-zero, None, Some}
 use Rattle.std.specs.Prelude.{◌==◌, if◌then◌else◌, slice_get}
-use Rattle.std.proofs.lemmas.List.{length-take-le, take-append-le}
+use Rattle.std.proofs.lemmas.List.{length-take-le, take-append-le, drop-append-le}
 use Rattle.std.proofs.Math.Seq.{take-add}
 use Rattle.fix_orders.specs.Reading.{reads}
 use Rattle.fix_orders.specs.Text.{Said, text}
@@ -12,7 +12,7 @@ use Rattle.venue_model.proofs.Growth.{grows-by, few-told-by}
 use Rattle.ring_words.specs.declared.view.Person.{Person}
 use Rattle.barrier.specs.Availability.{Gated}
 use Rattle.stages.specs.declared.turn.Turn.{Turn}
-use Rattle.stages.specs.declared.turn.Turn.TheVariants.{Did, Idle, Memory}
+use Rattle.stages.specs.declared.turn.Turn.TheVariants.{Did, Idle, Memory, JournalFailed}
 use Rattle.stages.specs.Processed.{entries_done, outputs_of}
 use Rattle.stages.specs.Turns.{Processes}
 use Rattle.venued.specs.VenueDesks.{texts_to}
@@ -42,25 +42,43 @@ take_next [] i a at = cc
 take_next (x ∷ xs) zero a at = let same : x ≡ a = cc in ap (λ y. y ∷ []) same
 take_next (x ∷ xs) (suc i) a at = ap (λ l. x ∷ l) (take_next xs i a at)
 
--- what is taken when the count goes over one output more
-pub taken-one_more : (k : ℕ) (all : List Output) (count : ℕ) (o : Output) → slice_get all count ≡ Some o → count ≤ length all →
-    texts_to k 0 (take (count + 1) all) ≡ texts_to k 0 (take count all) ++ one_text k count o
-taken-one_more k all count o at within =
+-- what is taken behind the outputs at the start when the count goes over one output more
+pub taken-one_more : (k given : ℕ) (all : List Output) (count : ℕ) (o : Output) → slice_get all count ≡ Some o → given ≤ count → count ≤ length all →
+    texts_to k given (drop given (take (count + 1) all)) ≡ texts_to k given (drop given (take count all)) ++ one_text k count o
+taken-one_more k given all count o at from within =
     let next : count + 1 ≡ suc count = omega arith in
-    let long : 0 + length (take count all) ≡ count = let l = length-take-le count all within in omega (arith, l) in
-    ap (λ (n : ℕ). texts_to k 0 (take n all)) next ∙ ap (texts_to k 0) (take_next all count o at)
-    ∙ texts-one_more k 0 (take count all) o ∙ ap (λ (n : ℕ). texts_to k 0 (take count all) ++ one_text k n o) long
+    let front = length-take-le count all within in
+    let rest : List Output = drop given (take count all) in
+    let behind = length-drop given (take count all) in
+    let long : given + length rest ≡ count = omega (arith, front, behind) in
+    ap (λ (n : ℕ). texts_to k given (drop given (take n all))) next
+    ∙ ap (λ (l : List Output). texts_to k given (drop given l)) (take_next all count o at)
+    ∙ ap (texts_to k given) (drop-append-le given (take count all) (o ∷ []) (omega (arith, front)))
+    ∙ texts-one_more k given rest o ∙ ap (λ (n : ℕ). texts_to k given rest ++ one_text k n o) long
+
+-- what is found behind the front of a list
+pub found-behind : {A : Type 0} (xs ys : List A) (i : ℕ) → slice_get (xs ++ ys) (length xs + i) ≡ slice_get ys i
+found-behind [] ys i = let same : 0 + i ≡ i = omega arith in ap (slice_get ys) same
+found-behind (x ∷ xs) ys i =
+    let next : suc (length xs) + i ≡ suc (length xs + i) = omega arith in
+    ap (slice_get (x ∷ xs ++ ys)) next ∙ found-behind xs ys i
+
+-- where nothing is found, the list ends before
+pub past_end : {A : Type 0} (l : List A) (i : ℕ) → slice_get l i ≡ None → length l ≤ i
+past_end [] i none = omega arith
+past_end (x ∷ xs) zero none = cc
+past_end (x ∷ xs) (suc i) none = let rest = past_end xs i none in omega (arith, rest)
 
 -- OUTPUTS
 
 -- what was taken stays as the history grows
-pub taken-stays : (symbols : Symbols) (h after rest : List Message) (k count : ℕ) → after ≡ h ++ rest → count ≤ length (outputs_of symbols h) →
-    texts_to k 0 (take count (outputs_of symbols after)) ≡ texts_to k 0 (take count (outputs_of symbols h))
-taken-stays symbols h after rest k count grown within =
+pub taken-stays : (symbols : Symbols) (h after rest : List Message) (k given count : ℕ) → after ≡ h ++ rest → count ≤ length (outputs_of symbols h) →
+    texts_to k given (drop given (take count (outputs_of symbols after))) ≡ texts_to k given (drop given (take count (outputs_of symbols h)))
+taken-stays symbols h after rest k given count grown within =
     let more = grows-by (λ sequence m. reads m.bytes) symbols h rest in
-    ap (λ (l : List Message). texts_to k 0 (take count (outputs_of symbols l))) grown
-    ∙ ap (λ (os : List Output). texts_to k 0 (take count os)) more.1
-    ∙ ap (texts_to k 0) (take-append-le count (outputs_of symbols h) more.0 within)
+    ap (λ (l : List Message). texts_to k given (drop given (take count (outputs_of symbols l)))) grown
+    ∙ ap (λ (os : List Output). texts_to k given (drop given (take count os))) more.1
+    ∙ ap (λ (os : List Output). texts_to k given (drop given os)) (take-append-le count (outputs_of symbols h) more.0 within)
 
 -- and so does how many outputs there are at least
 pub no-fewer : (symbols : Symbols) (h after rest : List Message) → after ≡ h ++ rest → length (outputs_of symbols h) ≤ length (outputs_of symbols after)
@@ -104,3 +122,4 @@ done-more n (Did k) v w known poll =
 done-more n Idle v w known poll = ([], ap entries_done poll.1.3 ∙ sym (append-nil (entries_done v)))
 done-more n Memory v w known poll =
     ([], ap entries_done poll.2.2 ∙ still-done v poll.0 known poll.1 ∙ sym (append-nil (entries_done v)))
+done-more n JournalFailed v w known poll = elim poll [ ]

@@ -22,5 +22,6 @@ pub mod Headings
 pub mod VenueRings
 pub mod Opened
 pub mod VenueDesks
+pub mod Serving
 pub mod VenueInsides
 pub mod Requests

@@ -1,8 +1,9 @@
--- The venue's rings of 1,024 rows: who sits at them behind an empty history, and what a try to publish does to the gateway.
-use Rattle.std.specs.Prelude.{None, ◌≡◌, ◌⊎◌, ℕ, List, [], ◌∷◌}
-use Rattle.venue_model.specs.History.{Message}
+-- The venue's rings of 1,024 rows: who sits at them behind a history, and what a try to publish does to the gateway.
+use Rattle.std.specs.Prelude.{None, ◌≡◌, ◌⊎◌, ℕ, List, [], ◌∷◌, length}
+use Rattle.venue_model.specs.History.{History, Message}
 use Rattle.ring_words.specs.declared.view.Person.{Person}
-use Rattle.ring_words.specs.declared.view.Role.TheVariants.{Process, Unmarshal, Journal, Gateway}
+use Rattle.ring_words.specs.declared.view.Role.{Role}
+use Rattle.ring_words.specs.declared.view.Role.TheVariants.{Gateway}
 use Rattle.ring_words.specs.declared.view.View.{View}
 use Rattle.ring_words.specs.Rule.{newcomer}
 use Rattle.ring_words.specs.Seats.{marked}
@@ -12,18 +13,13 @@ use Rattle.sequencer.specs.declared.claim.ClaimRefusal.TheVariants as refusal
 use Rattle.venued.specs.declared.desk.TryPublish.{TryPublish}
 use Rattle.venued.specs.declared.desk.TryPublish.TheVariants.{Done, Refused, Exhausted}
 
--- gateway 1 and the stages of rings that were opened behind an empty history
-abbrev pub new_gateway : Person
-new_gateway = newcomer (Gateway 1) [] 0
+-- gateway 1 of rings that were opened behind a history with so many outputs
+abbrev pub new_gateway : History → ℕ → Person
+new_gateway base given = newcomer (Gateway 1) base given
 
-abbrev pub new_unmarshaller : Person
-new_unmarshaller = newcomer Unmarshal [] 0
-
-abbrev pub new_journaller : Person
-new_journaller = newcomer Journal [] 0
-
-abbrev pub new_processor : Person
-new_processor = newcomer Process [] 0
+-- and a stage, which has done just that history
+abbrev pub new_stage : Role → History → Person
+new_stage role base = newcomer role base (length base)
 
 -- a message through gateway 1
 abbrev pub from_first : List ℕ → Message

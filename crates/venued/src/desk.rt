@@ -50,15 +50,22 @@ pub trait Desk {
     /// What was published and taken, and how often nothing could be.
     ghost ledger: { Self → Ledger };
 
+    /// What neither call changes: of a type of its own.
+    ghost Fixed: { Type 0 };
+
+    ghost fixed: { Self → Fixed };
+
     /// Publishes a message (1 to 320 bytes).
     fn try_publish(&mut self, message: &[u8]) -> TryPublish
         requires some { 1 ≤ length message.now }
         requires most { length message.now ≤ 320 }
-        ensures { PublishTells (ledger self.old) (ledger self.new) message.now result };
+        ensures tells { PublishTells (ledger self.old) (ledger self.new) message.now result }
+        ensures fixed { fixed self.new ≡ fixed self.old };
 
     /// Takes the next output, or passes it over where it goes to another's client.
     fn take(&mut self, body: &mut [u8; 320]) -> Take
-        ensures { TakeTells (ledger self.old) (ledger self.new) body.new result };
+        ensures tells { TakeTells (ledger self.old) (ledger self.new) body.new result }
+        ensures fixed { fixed self.new ≡ fixed self.old };
 }
 
 impl OutputType {

@@ -103,6 +103,7 @@ impl Gateway {
         requires mate { GoesWith self.old.session self.old.passed (D.ledger desk.old) }
         ensures turn { Turn self.old self.new (W.tells wire.old) (W.tells wire.new) (D.ledger desk.old) (D.ledger desk.new) result }
         ensures mate { GoesWith self.new.session self.new.passed (D.ledger desk.new) }
+        ensures fixed { D.fixed desk.new ≡ D.fixed desk.old }
     {
         let stood = self.session.unsent();
         let flushed = self.session.flush(wire);
@@ -128,7 +129,8 @@ impl Gateway {
         requires open { self.old.session.closing ≡ None }
         requires silent { self.old.session.outgoing ≡ [] }
         requires number { self.old.session.number < 2 ^ 63 }
-        ensures { Hears self.old self.new (W.tells wire.old) (W.tells wire.new) (D.ledger desk.old) (D.ledger desk.new) result }
+        ensures hears { Hears self.old self.new (W.tells wire.old) (W.tells wire.new) (D.ledger desk.old) (D.ledger desk.new) result }
+        ensures fixed { D.fixed desk.new ≡ D.fixed desk.old }
     {
         if self.session.is_holding() {
             return self.publish(desk);
@@ -148,7 +150,8 @@ impl Gateway {
         requires held { self.old.session.held ≢ None }
         requires silent { self.old.session.outgoing ≡ [] }
         requires number { self.old.session.number < 2 ^ 63 }
-        ensures { Publishes self.old self.new (D.ledger desk.old) (D.ledger desk.new) result }
+        ensures publishes { Publishes self.old self.new (D.ledger desk.old) (D.ledger desk.new) result }
+        ensures fixed { D.fixed desk.new ≡ D.fixed desk.old }
     {
         heard_of(self.session.publish(desk))
     }
@@ -178,7 +181,8 @@ impl Gateway {
         requires number { self.old.session.number < 2 ^ 63 }
         requires passed { self.old.passed ≤ (D.ledger desk.old).count }
         requires few { (D.ledger desk.old).count ≤ 2 ^ 62 }
-        ensures { HandsOn self.old self.new (D.ledger desk.old) (D.ledger desk.new) result }
+        ensures hands_on { HandsOn self.old self.new (D.ledger desk.old) (D.ledger desk.new) result }
+        ensures fixed { D.fixed desk.new ≡ D.fixed desk.old }
     {
         if self.session.closing().is_some() {
             return false;

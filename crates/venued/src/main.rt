@@ -1,4 +1,4 @@
-//! The venue's program: it reads its words, then serves one client over a wire, standard input and output.
+//! The venue's program: it reads its words, opens the journal, then serves one client over a wire, standard input and output.
 #![tactic(auto)]
 
 ghost use Rattle.std.specs.Prelude.{◌≡◌, ◌↔◌};
@@ -6,12 +6,16 @@ ghost use Rattle.std.specs.IoError.{error_kind};
 
 mod desk;
 mod ending;
+mod fault;
 mod flushing;
 mod gateway;
 mod hearing;
 mod input;
+mod journal_file;
 mod message;
 mod names;
+mod polled;
+mod recovered;
 mod refusal;
 #[cfg(test)]
 mod ring_tests;
@@ -24,10 +28,11 @@ mod venue_desk;
 mod wire;
 mod words;
 
+use crate::journal_file::open_journal;
 use crate::serve::{refuse, serve};
 use crate::wire::StdWire;
 use crate::words::{Words, WordsFault};
-use std::io::ErrorKind;
+use std::io::{ErrorKind, Stderr};
 use std::process::ExitCode;
 use std::rt::Env;
 use std::{env, io};
@@ -49,15 +54,21 @@ fn unread(error: &io::Error) -> WordsFault
     }
 }
 
+/// Opens the journal, and serves over standard input and output: the program's status.
+fn run(rt: &HostRuntime, words: &Words, err: &mut Stderr) -> u8 {
+    let disk = match open_journal(rt, words.journal.as_str()) {
+        Ok(disk) => disk,
+        Err(fault) => return fault.say(err),
+    };
+    let mut wire = StdWire::new(rt.stdin(), rt.stdout());
+    let (status, _) = serve(rt.alloc(), words, disk, &mut wire, err);
+    status
+}
+
 fn main(rt: HostRuntime) -> ExitCode {
     let mut err = rt.stderr();
     let status = match read_words(&rt) {
-        Ok(words) => serve(
-            rt.alloc(),
-            &words,
-            &mut StdWire::new(rt.stdin(), rt.stdout()),
-            &mut err,
-        ),
+        Ok(words) => run(&rt, &words, &mut err),
         Err(fault) => refuse(fault, &mut err),
     };
     ExitCode::from(status)

@@ -1,5 +1,5 @@
-//! The venue's rings behind an empty history, and the gateway's way into them.
-ghost use Rattle.std.specs.Prelude.{◌≡◌, ◌≤◌, IfOk, length};
+//! The venue's rings behind a history, and the gateway's way into them.
+ghost use Rattle.std.specs.Prelude.{◌≡◌, ◌^◌, ◌≤◌, IfOk, length};
 ghost use Rattle.ring_words.specs.Seats.{person, alone};
 ghost use Rattle.venued.specs.VenueRings.{Enters};
 
@@ -8,7 +8,7 @@ use book::BookLogic;
 use ring_words::{GatewaySeat, JournalSeat, OpenError, ProcessSeat, Rings, Seats, UnmarshalSeat};
 use sequencer::{ClaimRefusal, try_claim};
 use std::alloc::{AllocError, Global};
-use venue_model::Limits;
+use venue_model::{Entry, Limits};
 
 /// Rings of 1,024 rows for one gateway. No output goes through them yet.
 pub type VenueRings = Rings<BookLogic, 1024, 1024, 1>;
@@ -23,13 +23,21 @@ pub struct Opened {
     pub process: ProcessSeat<BookLogic>,
 }
 
+ghost use Rattle.stages.specs.Processed.{outputs_of};
 ghost use Rattle.venued.specs.Opened.{IsOpened};
 
-/// The rings of the venue of these symbols behind an empty history, with all seats.
-pub fn open(alloc: Global, limits: &Limits) -> Result<Opened, AllocError>
-    ensures { IfOk result (IsOpened limits.now) }
+/// The rings of the venue of these symbols behind this history, whose number of outputs is given, with all seats.
+pub fn open(
+    alloc: Global,
+    limits: &Limits,
+    base: &Vec<Entry>,
+    given: u64,
+) -> Result<Opened, AllocError>
+    requires few { length base.now.items ≤ 2 ^ 48 }
+    requires given { given ≡ length (outputs_of limits.now base.now.items) }
+    ensures { IfOk result (IsOpened limits.now base.now.items given) }
 {
-    let (rings, seats) = match Rings::open(alloc, BookLogic::of(limits), &Vec::new(alloc), 0) {
+    let (rings, seats) = match Rings::open(alloc, BookLogic::of(limits), base, given) {
         Ok(opened) => opened,
         Err(OpenError::Memory) => return Err(AllocError),
         Err(OpenError::NotPowerOfTwo) => unreachable!(),

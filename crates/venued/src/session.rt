@@ -232,6 +232,7 @@ impl Session {
         requires room { length self.old.outgoing ≤ 512 }
         requires number { self.old.number < 2 ^ 63 }
         ensures tries { Tries self.old self.new (D.ledger desk.old) (D.ledger desk.new) result }
+        ensures fixed { D.fixed desk.new ≡ D.fixed desk.old }
         ensures room { length self.new.outgoing ≤ length self.old.outgoing + 412 }
     {
         let Some(message) = &self.held else {

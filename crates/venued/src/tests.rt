@@ -1,11 +1,13 @@
 //! Whole sessions over a wire in memory: the bytes in and the bytes out, with lengths and checksums computed outside.
 
+mod journalled;
 mod refused;
 mod served;
 
 use crate::serve::serve;
 use crate::wire::MemWire;
 use crate::words::Words;
+use journal::MemDisk;
 use refused::REFUSED;
 use served::SERVED;
 use std::process::Abort;
@@ -25,6 +27,9 @@ const FIRST_ACKNOWLEDGEMENT: &[u8] = b"8=FIX.4.4\x019=63\x0135=A\x0149=VENUE\x01
     17=1\x01150=0\x0139=0\x0111=1\x0155=ABC\x0154=1\x0138=100\x0144=50\x01\
     151=100\x0114=0\x016=0\x0110=243\x01";
 
+/// The bytes of the journal of an empty history.
+const EMPTY: &[u8; 9] = b"VNJL\x00\x00\x00\x01\x00";
+
 /// The words `- JOURNAL 1 ABC`.
 fn words<R: AllocGlobal>(rt: &R) -> Result<Words, Fail> {
     let mut all = Vec::new(rt.alloc());
@@ -40,7 +45,8 @@ fn first_acknowledgement(rt: HostRuntime) -> Result<(), Fail> {
     for most in [512, 1, 100] {
         let mut wire = MemWire::new(rt.alloc(), FIRST_ORDER)?.in_pieces(most);
         let mut err = Vec::new(rt.alloc());
-        let status = serve(rt.alloc(), &words, &mut wire, &mut err);
+        let disk = MemDisk::new(rt.alloc(), EMPTY)?;
+        let (status, _) = serve(rt.alloc(), &words, disk, &mut wire, &mut err);
         assert_eq!(rt; status, 0);
         assert_eq!(rt; wire.taken(), FIRST_ACKNOWLEDGEMENT, "in pieces of {most}");
         assert!(rt; err.is_empty());
@@ -54,7 +60,8 @@ fn sessions<R: Abort + AllocGlobal>(rt: &R, cases: &[(&str, &[u8], &[u8])]) -> R
     for (name, input, output) in cases {
         let mut wire = MemWire::new(rt.alloc(), input)?;
         let mut err = Vec::new(rt.alloc());
-        let status = serve(rt.alloc(), &words, &mut wire, &mut err);
+        let disk = MemDisk::new(rt.alloc(), EMPTY)?;
+        let (status, _) = serve(rt.alloc(), &words, disk, &mut wire, &mut err);
         assert_eq!(rt; status, 0);
         assert_eq!(rt; wire.taken(), *output, "{name}");
     }
@@ -76,10 +83,13 @@ fn broken_and_deaf_wires_end_the_session(rt: HostRuntime) -> Result<(), Fail> {
     let words = words(&rt)?;
     let mut err = Vec::new(rt.alloc());
     let mut broken = MemWire::new(rt.alloc(), FIRST_ORDER)?.breaking_after(100);
-    assert_eq!(rt; serve(rt.alloc(), &words, &mut broken, &mut err), 0);
+    let disk = MemDisk::new(rt.alloc(), EMPTY)?;
+    let (status, disk) = serve(rt.alloc(), &words, disk, &mut broken, &mut err);
+    assert_eq!(rt; status, 0);
     assert_eq!(rt; broken.taken(), &FIRST_ACKNOWLEDGEMENT[..100]);
     let mut deaf = MemWire::new(rt.alloc(), FIRST_ORDER)?.full_after(0);
-    assert_eq!(rt; serve(rt.alloc(), &words, &mut deaf, &mut err), 0);
+    let (status, _) = serve(rt.alloc(), &words, disk, &mut deaf, &mut err);
+    assert_eq!(rt; status, 0);
     assert!(rt; deaf.taken().is_empty());
     Ok(())
 }

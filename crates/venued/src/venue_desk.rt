@@ -1,92 +1,139 @@
 //! The venue behind the session of gateway 1: a message goes through the rings from stage to stage, and the outputs that the
 //! processor has for this client go back to the session. All polls are taken in turn on the session's thread.
-ghost use Rattle.std.specs.Prelude.{◌≡◌, ◌≤◌, ◌^◌, length, slice_get, IfOk};
+ghost use Rattle.std.specs.Prelude.{◌≡◌, ◌≤◌, ◌<◌, ◌-◌, ◌^◌, ◌⊎◌, true, false, length, slice_get, IfOk, IfErr};
 ghost use Rattle.fix_orders.specs.Text.{kind_of, text};
+ghost use Rattle.venue_model.specs.Counts.{Rose};
+ghost use Rattle.journal.specs.Disk.{Both, Only, LeavesOnly};
+ghost use Rattle.journal.specs.Format.{IsJournal};
+ghost use Rattle.journal.specs.Journals.{Explains};
 ghost use Rattle.venued.specs.Desks.{type_text, Carries};
+ghost use Rattle.venued.specs.VenueDesks.{IsSaid};
 
 use crate::desk::{Desk, Head, OutputType, Take, TryPublish};
-use crate::rings::{Opened, VenueRings, open, publish};
-use book::{Book, BookLogic};
+use crate::polled::Polled;
+use crate::recovered::{Recovered, recover};
+use crate::rings::{VenueRings, publish};
+use book::BookLogic;
 use fix_orders::body_of;
+use journal::{Journal, JournalDisk, JournalFault};
 use ring_words::GatewaySeat;
-use stages::{Journaller, Processor, Unmarshaller};
-use std::alloc::{AllocError, Global};
+use stages::{Journaller, Processor, Turn, Unmarshaller};
+use std::alloc::Global;
 use std::marker::Model;
 use venue_model::{Limits, Output, Report};
 
 /// The venue behind one session. Contracts see a `OneVenue`.
 #[derive(Drop)]
-pub struct VenueDesk {
+pub struct VenueDesk<D: JournalDisk> {
     rings: VenueRings,
     gateway: GatewaySeat<BookLogic>,
     unmarshaller: Unmarshaller,
-    journaller: Journaller,
+    journaller: Journaller<D>,
     processor: Processor,
+    given: u64,
     count: u64,
     refusals: u64,
     nothings: u64,
 }
 
-impl Model for VenueDesk {
+impl<D: JournalDisk> Model for VenueDesk<D> {
     ghost use Rattle.venued.specs.VenueDesks.{OneVenue};
 
-    ghost Value = { OneVenue };
+    ghost Value = { OneVenue D };
 
+    ghost use Rattle.ring_words.specs.Seats.{person};
     ghost use Rattle.venued.specs.VenueInsides.{one_venue, KeepsVenue};
 
-    ghost view = { one_venue };
+    ghost view = { λ d. one_venue d.processor (person d.gateway.seat.me.0) (person d.unmarshaller.seat.seat.me.0)
+        (person d.journaller.seat.seat.me.0) d.journaller.journal.disk d.journaller.journal.failed d.count d.refusals d.nothings };
 
-    ghost invariant = { KeepsVenue };
+    ghost invariant = { λ d. KeepsVenue d.rings.table.shared.table_id d.gateway.seat.table_id d.unmarshaller.seat.seat.table_id
+        d.journaller.seat.seat.table_id d.processor.seat.seat.table_id d.gateway.number (person d.journaller.seat.seat.me.0) d.processor d.given d.count };
 }
 
-impl VenueDesk {
-    ghost use Rattle.venued.specs.VenueDesks.{unused, ledger_of, Polls};
+impl<D: JournalDisk> VenueDesk<D> {
+    ghost use Rattle.venued.specs.VenueDesks.{opened, ledger_of, IsJournalBehind, Polls};
 
-    /// The venue of these symbols behind an empty history. Its room is made here: for all orders that can rest, and for the
-    /// first 8,194 outputs. Outputs stay in a list, so more of them take more memory as they come.
-    pub fn new(alloc: Global, limits: &Limits) -> Result<VenueDesk, AllocError>
-        ensures { IfOk result (λ desk. desk ≡ unused limits.now) }
+    /// The venue of these symbols, behind the history of the journal on this disk, which is replayed. A fault gives the disk back; those
+    /// that there are, are the faults of `Journal::open`, and 44 also where other memory is refused.
+    pub fn open(alloc: Global, limits: &Limits, disk: D) -> Result<VenueDesk<D>, (JournalFault, D)>
+        ensures opened { IfOk result (λ desk. desk ≡ opened limits.now desk.base desk.disk) }
+        ensures few { IfOk result (λ desk. length desk.base ≤ 2 ^ 48) }
+        ensures honest { IfOk result (λ desk. Both (D.honest disk) (D.honest desk.disk)) }
+        ensures history { D.honest disk → IfOk result (λ desk. IsJournal (D.tells disk).file desk.base) }
+        ensures file { D.honest disk → IfOk result (λ desk. (D.tells desk.disk).file ≡ (D.tells disk).file) }
+        ensures durable { D.honest disk → IfOk result (λ desk. Only (D.tells desk.disk).file (D.tells desk.disk).may_leave) }
+        ensures any_moment { D.honest disk → IfOk result (λ desk. LeavesOnly (D.tells disk) (D.tells desk.disk) (D.tells disk).may_leave) }
+        ensures counts { IfOk result (λ desk. D.failed desk.disk ≡ D.failed disk) }
+        ensures honest_refused { IfErr result (λ e. Both (D.honest disk) (D.honest e.1)) }
+        ensures fault { IfErr result (λ e. Explains (D.honest disk) (D.tells disk).file (D.failed disk) (D.failed e.1) e.0) }
+        ensures file_refused { D.honest disk → IfErr result (λ e. (D.tells e.1).file ≡ (D.tells disk).file) }
+        ensures any_moment_refused { D.honest disk → IfErr result (λ e. LeavesOnly (D.tells disk) (D.tells e.1) (D.tells disk).may_leave) }
     {
-        let Opened {
+        let (journal, entries) = Journal::open(alloc, disk)?;
+        let Ok(recovered) = recover(alloc, limits, &entries) else {
+            return Err((JournalFault::Memory, journal.end()));
+        };
+        let Recovered {
             rings,
             gateway,
             unmarshal,
-            journal,
-            process,
-        } = open(alloc, limits)?;
-        let book = Book::new(alloc, limits)?;
-        let Ok(processor) = Processor::new(alloc, process, book) else {
-            return Err(AllocError);
-        };
+            journal: seat,
+            processor,
+            given,
+        } = recovered;
         Ok(VenueDesk {
             rings,
             gateway,
             unmarshaller: Unmarshaller::new(unmarshal),
-            journaller: Journaller::new(journal),
+            journaller: Journaller::new(seat, journal),
             processor,
-            count: 0,
+            given,
+            count: given,
             refusals: 0,
             nothings: 0,
         })
     }
 
     /// Lets each stage poll once, in the order in which a message meets them, so that one message that was published is
-    /// processed. Where memory for its outputs is refused the message waits, and the next poll tries it again.
-    pub fn poll(&mut self)
-        ensures polls { Polls self.old self.new }
+    /// kept and processed. Where memory for its outputs is refused the message waits, and the next poll tries it again. Where the
+    /// journal failed it isn't processed.
+    pub fn poll(&mut self) -> Polled
+        ensures polls { Polls self.old self.new result }
         ensures ledger { ledger_of self.new ≡ ledger_of self.old }
+        ensures honest { Both (D.honest self.old.disk) (D.honest self.new.disk) }
+        ensures any_moment { D.honest self.old.disk →
+            LeavesOnly (D.tells self.old.disk) (D.tells self.new.disk) (IsJournalBehind self.old.base) }
+        ensures cause { result ≡ Polled.JournalFailed → (self.old.failed ≡ true) ⊎ Rose (D.failed self.old.disk) (D.failed self.new.disk) }
+        ensures ready { result ≡ Polled.Went → (self.new.failed ≡ false) × (D.failed self.new.disk ≡ D.failed self.old.disk) }
     {
         self.unmarshaller.poll(&self.rings);
-        self.journaller.poll(&self.rings);
+        let journalled = self.journaller.poll(&self.rings);
         self.processor.poll(&self.rings);
+        polled(journalled)
+    }
+
+    /// Gives the disk back.
+    pub fn end(self) -> D
+        ensures { result ≡ self.disk }
+    {
+        let VenueDesk { journaller, .. } = self;
+        let (_, journal) = journaller.end();
+        journal.end()
     }
 }
 
-impl Desk for VenueDesk {
+impl<D: JournalDisk> Desk for VenueDesk<D> {
     ghost use Rattle.venued.specs.Desks.{PublishTells, TakeTells};
+    ghost use Rattle.std.specs.Prelude.{Bool};
+    ghost use Rattle.venue_model.specs.History.{History};
     ghost use Rattle.venued.specs.VenueDesks.{ledger_of, Publishes, HandsOn};
 
+    ghost Fixed = { History × (D × Bool) };
+
     ghost ledger = { ledger_of };
+
+    ghost fixed = { λ desk. (desk.base, (desk.disk, desk.failed)) };
 
     /// Tries once to publish the message in the input ring.
     fn try_publish(&mut self, message: &[u8]) -> TryPublish
@@ -108,7 +155,7 @@ impl Desk for VenueDesk {
         ensures next { HandsOn self.old self.new body.new result }
     {
         let place = self.count;
-        let Some(output) = output_at(&self.processor, place) else {
+        let Some(output) = output_at(&self.processor, place - self.given) else {
             self.nothings = self.nothings.saturating_add(1);
             return Take::Nothing;
         };
@@ -121,7 +168,17 @@ impl Desk for VenueDesk {
     }
 }
 
-/// The processor's output at this place, if there is one.
+/// What a poll says of the journaller's turn.
+fn polled(journalled: Turn) -> Polled
+    ensures { IsSaid journalled result }
+{
+    match journalled {
+        Turn::JournalFailed => Polled::JournalFailed,
+        _ => Polled::Went,
+    }
+}
+
+/// The processor's output at this place behind those at the start, if there is one.
 fn output_at(processor: &Processor, place: u64) -> Option<Output>
     ensures { result ≡ slice_get processor.now.outputs.items place }
 {

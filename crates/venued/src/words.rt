@@ -44,7 +44,7 @@ impl From<AllocError> for WordsFault {
 /// then `1`. A PORT that is a number (1 to 65,528, for 1 to 8 gateways) is a fault of usage until the venue listens.
 #[derive(Drop)]
 pub struct Words {
-    /// The name of the file that keeps the history, one byte or more. Nothing opens it yet.
+    /// The name of the journal's file, one byte or more.
     pub journal: String,
     /// The symbols that the venue trades, in the order of the command line.
     pub limits: Limits,

@@ -4,10 +4,11 @@ ghost use Rattle.std.specs.Vec.{vec_len};
 ghost use Rattle.ring_words.specs.Crew.{AreFresh, stage_view};
 ghost use Rattle.ring_words.specs.Ending.{AreSpent};
 ghost use Rattle.ring_words.specs.Seats.{person};
-ghost use Rattle.ring_words.specs.declared.view.Role.TheVariants.{Process, Unmarshal};
+ghost use Rattle.ring_words.specs.declared.view.Role.TheVariants.{Process, Unmarshal, Journal};
 
+use super::no_disk::NoDisk;
 use super::requests::{Kind, Request, write_request};
-use super::venue::{TestRings, limits_of, open, processor_of};
+use super::venue::{TestRings, empty_journal, limits_of, open, processor_of};
 use book::BookLogic;
 use ring_words::{GatewaySeat, Seats, Summary};
 use sequencer::try_claim;
@@ -49,7 +50,7 @@ fn close_behind(
     requires gateways { AreFresh rings.table.shared.table_id limits.now [] 0 seats.gateways.items }
     requires count { vec_len seats.gateways ≡ 1 }
     requires unmarshal { (seats.unmarshal.seat.table_id ≡ rings.table.shared.table_id) × (seats.unmarshal.seat.me.0 ≡ stage_view limits.now [] Unmarshal) }
-    requires journal { seats.journal.seat.table_id ≡ rings.table.shared.table_id }
+    requires journal { (seats.journal.seat.table_id ≡ rings.table.shared.table_id) × (seats.journal.seat.me.0 ≡ stage_view limits.now [] Journal) }
     requires process { (seats.process.seat.table_id ≡ rings.table.shared.table_id) × (seats.process.seat.me.0 ≡ stage_view limits.now [] Process) }
 {
     let Seats {
@@ -59,7 +60,7 @@ fn close_behind(
         process,
     } = seats;
     let mut unmarshaller = Unmarshaller::new(unmarshal);
-    let mut journaller = Journaller::new(journal);
+    let mut journaller = Journaller::new(journal, empty_journal(alloc)?);
     let mut processor = processor_of(alloc, process, limits)?;
     let Some(mut gateway) = gateways.pop() else {
         return Ok(None);
@@ -82,7 +83,7 @@ fn close_behind(
 fn close(
     rings: Single,
     gateways: Vec<GatewaySeat<BookLogic>>,
-    stages: (Unmarshaller, Journaller, Processor),
+    stages: (Unmarshaller, Journaller<NoDisk>, Processor),
 ) -> Summary
     requires gateways { AreSpent rings.table.shared.table_id gateways.items }
     requires count { vec_len gateways ≡ 1 }
@@ -92,10 +93,11 @@ fn close(
 {
     let (unmarshaller, journaller, processor) = stages;
     let (process, _, _) = processor.end();
+    let (journal, _) = journaller.end();
     rings.close(Seats {
         gateways,
         unmarshal: unmarshaller.end(),
-        journal: journaller.end(),
+        journal,
         process,
     })
 }

@@ -1,14 +1,17 @@
 //! A venue in small rings: the gateways and the stages at their places, each with the rings that it calls.
-ghost use Rattle.std.specs.Prelude.{◌≡◌, ◌≤◌, ℕ, [], length, IfOk};
+ghost use Rattle.std.specs.Prelude.{◌≡◌, ◌≤◌, ℕ, false, [], length, IfOk};
 ghost use Rattle.std.specs.Vec.{vec_len};
 ghost use mathlib.Core.Option.{some};
 ghost use lib.ListN.{get_elem?};
 ghost use Rattle.ring_words.specs.Crew.{AreFresh, stage_view};
 ghost use Rattle.ring_words.specs.declared.view.Role.TheVariants.{Process, Unmarshal};
+ghost use Rattle.ring_words.specs.declared.view.Role.TheVariants as role;
 ghost use Rattle.ring_words.specs.declared.seats.GatewaySeat.{GatewaySeat};
 
+use super::no_disk::NoDisk;
 use super::requests::{Request, write_request};
 use book::{Book, BookLogic};
+use journal::Journal;
 use ring_words::{GatewaySeat, OpenError, ProcessSeat, Rings, Seats};
 use sequencer::{ClaimRefusal, try_claim};
 use stages::{Journaller, Processor, Turn, Unmarshaller};
@@ -31,7 +34,7 @@ pub fn open<const N: usize, const G: usize>(
     ensures gateways { IfOk result (λ r. AreFresh r.0.table.shared.table_id limits.now [] 0 r.1.gateways.items) }
     ensures count { IfOk result (λ r. vec_len r.1.gateways ≡ G) }
     ensures unmarshal { IfOk result (λ r. (r.1.unmarshal.seat.table_id ≡ r.0.table.shared.table_id) × (r.1.unmarshal.seat.me.0 ≡ stage_view limits.now [] Unmarshal)) }
-    ensures journal { IfOk result (λ r. r.1.journal.seat.table_id ≡ r.0.table.shared.table_id) }
+    ensures journal { IfOk result (λ r. (r.1.journal.seat.table_id ≡ r.0.table.shared.table_id) × (r.1.journal.seat.me.0 ≡ stage_view limits.now [] role.Journal)) }
     ensures process { IfOk result (λ r. (r.1.process.seat.table_id ≡ r.0.table.shared.table_id) × (r.1.process.seat.me.0 ≡ stage_view limits.now [] Process)) }
 {
     TestRings::open(alloc, BookLogic::of(limits), &Vec::new(alloc), 0)
@@ -82,7 +85,7 @@ fn next_member<'a, const N: usize, const G: usize>(
 pub struct Stages<'a, const N: usize, const G: usize> {
     pub rings: &'a TestRings<N, G>,
     pub unmarshaller: Unmarshaller,
-    pub journaller: Journaller,
+    pub journaller: Journaller<NoDisk>,
     pub processor: Processor,
     ghost unmarshals: { unmarshaller.seat.seat.table_id ≡ rings.now.table.shared.table_id },
     ghost journals: { journaller.seat.seat.table_id ≡ rings.now.table.shared.table_id },
@@ -126,6 +129,16 @@ pub fn processor_of(
     }
 }
 
+/// The journal of an empty history, on a disk that keeps nothing.
+pub fn empty_journal(alloc: Global) -> Result<Journal<NoDisk>, Fail>
+    ensures { IfOk result (λ journal. (journal.failed ≡ false) × (journal.count ≡ 0)) }
+{
+    match Journal::open(alloc, NoDisk) {
+        Ok((journal, entries)) if entries.is_empty() => Ok(journal),
+        _ => Err("no empty journal")?,
+    }
+}
+
 /// All gateways, in the order of their numbers, and the stages.
 #[derive(Drop)]
 pub struct Venue<'a, const N: usize, const G: usize> {
@@ -143,7 +156,7 @@ impl<'a, const N: usize, const G: usize> Venue<'a, N, G> {
     ) -> Result<Venue<'a, N, G>, Fail>
         requires gateways { AreFresh rings.now.table.shared.table_id limits.now [] 0 seats.gateways.items }
         requires unmarshal { (seats.unmarshal.seat.table_id ≡ rings.now.table.shared.table_id) × (seats.unmarshal.seat.me.0 ≡ stage_view limits.now [] Unmarshal) }
-        requires journal { seats.journal.seat.table_id ≡ rings.now.table.shared.table_id }
+        requires journal { (seats.journal.seat.table_id ≡ rings.now.table.shared.table_id) × (seats.journal.seat.me.0 ≡ stage_view limits.now [] role.Journal) }
         requires process { (seats.process.seat.table_id ≡ rings.now.table.shared.table_id) × (seats.process.seat.me.0 ≡ stage_view limits.now [] Process) }
     {
         let Seats {
@@ -157,7 +170,7 @@ impl<'a, const N: usize, const G: usize> Venue<'a, N, G> {
             stages: Stages {
                 rings,
                 unmarshaller: Unmarshaller::new(unmarshal),
-                journaller: Journaller::new(journal),
+                journaller: Journaller::new(journal, empty_journal(alloc)?),
                 processor: processor_of(alloc, process, limits)?,
             },
         })

@@ -5,14 +5,23 @@ ghost use Rattle.std.specs.Thread.{IsSync};
 
 use super::venue::{Stages, TestRings, Venue, limits_of, open};
 use super::writers::{EACH, Entries, TRIES, Writers, run_gateways, write_entry};
-use barrier::{available, read_raw, release_read};
+use barrier::{available, read_raw, release_kept};
 use book::BookLogic;
 use ring_words::JournalSeat;
 use stages::{Processor, Unmarshaller};
 use std::test::Fail;
 use std::thread;
 use std::thread::{Threads, join};
-use venue_model::Symbol;
+use venue_model::{Kept, Symbol};
+
+/// What this test keeps of the entries: it promises nothing.
+struct Unkept;
+
+impl Kept for Unkept {
+    ghost use Rattle.std.specs.Prelude.{⊤};
+
+    ghost keeps = { λ kept h. ⊤ };
+}
 
 /// The stages, the journaller of which reads what it hands on, with the count of entries that it read of each gateway.
 #[derive(Drop)]
@@ -36,10 +45,11 @@ fn reader_of<'a>(stages: Stages<'a, 4, 4>, symbols: [Symbol; 2]) -> Reader<'a> {
         journaller,
         processor,
     } = stages;
+    let (seat, _) = journaller.end();
     Reader {
         rings,
         unmarshaller,
-        seat: journaller.end(),
+        seat,
         processor,
         symbols,
         counts: [0; 9],
@@ -58,7 +68,7 @@ impl<'a> Reader<'a> {
         let mut found = [0; 320];
         let raw = read_raw(self.rings, &mut self.seat, own, &mut found);
         let next = (self.seat.own() + 1).min(self.seat.known());
-        release_read(self.rings, &mut self.seat, next);
+        release_kept(self.rings, &mut self.seat, next, &Unkept);
         self.is_next(raw.gateway, &found[..raw.len])
     }
 

@@ -15,14 +15,15 @@ returns c =
     let seats = c.in-Ok.opened.1.gateways in
     let first = only_one seats.items c.pop.new.self.items c.in-Some.gateway c.in-Some.ensures.items (omega (arith, seats.ok.0, opened.count)) in
     let gateway = opened.gateways 0 c.in-Some.gateway first in
-    let begins = stage_begins c.of.result c.args.limits.now c.new.result.items c.of.ensures c.new.ensures.items in
+    let base = c.args.base.now.items in
+    let begins = stage_begins c.of.result c.args.limits.now c.of.ensures base in
     record {
       gateway_at = gateway.at;
       unmarshal_at = opened.unmarshal.0;
       journal_at = opened.journal.0;
       process_at = opened.process.0;
       number = gateway.number;
-      gateway = gateway.view ∙ gateway_begins c.of.result c.args.limits.now c.new.result.items c.of.ensures c.new.ensures.items;
+      gateway = gateway.view ∙ gateway_begins c.of.result c.args.limits.now c.of.ensures base c.args.given;
       unmarshal = opened.unmarshal.1 ∙ begins Unmarshal;
       journal = opened.journal.1 ∙ begins Journal;
       process = opened.process.1 ∙ begins Process;

@@ -7,8 +7,8 @@ use Rattle.venued.proofs.HearLemmas.{read-hears, fed-hears, is_free}
 use Rattle.venued.proofs.gateway.Gateway.hear.Goals as goal
 use Rattle.venued.proofs.gateway.Gateway.hear.Goals.{then-eq-via-then-eq, then-eq-via-else-eq+then-is_empty}
 
-pub returns-then-eq : goal.returns-then-eq
-returns-then-eq g c =
+pub returns-then-eq-clause-hears : goal.returns-then-eq-clause-hears
+returns-then-eq-clause-hears g c =
     let tells = g.W.Wire.tells in
     let free = sym (ap (λ (f : Front). f.session.held) c.self.view_is) ∙ is_free c.self.inside.session.held (sym c.is_holding.ensures ∙ c.if-is_holding.false) in
     let why : (c.read-read.result ≡ Failed) ⊎ (c.read-read.new.self.waiting ≡ []) =
@@ -20,8 +20,8 @@ returns-then-eq g c =
     read-hears c.args.self.now c.read-read.new.self (tells c.args.wire.now) (tells c.read-read.new.wire) (g.D.Desk.ledger c.args.desk.now)
     c.requires.open free c.requires.silent c.read-read.result c.read-read.ensures why
 
-pub returns : goal.returns
-returns g c =
+pub returns-clause-hears : goal.returns-clause-hears
+returns-clause-hears g c =
     let tells = g.W.Wire.tells in
     let old = c.args.self.now in
     let mid = front c.self-2.inside in

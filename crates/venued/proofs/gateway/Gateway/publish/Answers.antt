@@ -6,8 +6,8 @@ use Rattle.venued.specs.Turns.{Front}
 use Rattle.venued.proofs.HearLemmas.{publish-hears}
 use Rattle.venued.proofs.gateway.Gateway.publish.Goals as goal
 
-pub returns : goal.returns
-returns g c =
+pub returns-clause-publishes : goal.returns-clause-publishes
+returns-clause-publishes g c =
     let ledger = g.D.Desk.ledger in
     let old = front c.self.inside in
     let new = front (record c.self.inside { session = c.publish.new.self }) in

@@ -48,7 +48,7 @@ returns-then-eq-clause-turn g c =
     (subst (λ (n : Front). Turn (front c.self.inside) n (tells c.args.wire.now) (tells c.hear-heard.new.wire) (ledger c.args.desk.now) (ledger c.hear-heard.new.desk) c.over-then-eq.result) (sym c.over-then-eq.ensures.gone)
     (subst (λ (a : Turned). Turn (front c.self.inside) new (tells c.args.wire.now) (tells c.hear-heard.new.wire) (ledger c.args.desk.now) (ledger c.hear-heard.new.desk) a) (sym c.over-then-eq.ensures.says)
     (turn-unheard (front c.self.inside) c.hear-heard.new.self c.flush-flushed.new.self (tells c.args.wire.now) (tells c.flush-flushed.new.wire) (tells c.hear-heard.new.wire)
-    (ledger c.args.desk.now) (ledger c.hear-heard.new.desk) bytes.0 c.hear-heard.result bytes.1 c.flush-flushed.ensures.others bytes.2.0 bytes.2.1 c.hear-heard.ensures (search rules))))
+    (ledger c.args.desk.now) (ledger c.hear-heard.new.desk) bytes.0 c.hear-heard.result bytes.1 c.flush-flushed.ensures.others bytes.2.0 bytes.2.1 c.hear-heard.ensures.hears (search rules))))
 
 pub returns-then-eq-clause-mate : goal.returns-then-eq-clause-mate
 returns-then-eq-clause-mate g c =
@@ -58,7 +58,7 @@ returns-then-eq-clause-mate g c =
     let mate = subst (λ (f : Front). GoesWith f.session f.passed (ledger c.args.desk.now)) (sym c.self.view_is) c.requires.mate in
     subst (λ (f : Front). GoesWith f.session f.passed (ledger c.hear-heard.new.desk)) (sym c.over-then-eq.ensures.gone)
     (mate-unheard (front c.self.inside) c.hear-heard.new.self c.flush-flushed.new.self (tells c.args.wire.now) (tells c.flush-flushed.new.wire) (tells c.hear-heard.new.wire)
-    (ledger c.args.desk.now) (ledger c.hear-heard.new.desk) bytes.0 c.hear-heard.result bytes.1 c.flush-flushed.ensures.others bytes.2.0 bytes.2.1 c.hear-heard.ensures mate)
+    (ledger c.args.desk.now) (ledger c.hear-heard.new.desk) bytes.0 c.hear-heard.result bytes.1 c.flush-flushed.ensures.others bytes.2.0 bytes.2.1 c.hear-heard.ensures.hears mate)
 
 pub returns-clause-turn : goal.returns-clause-turn
 returns-clause-turn g c =
@@ -68,8 +68,8 @@ returns-clause-turn g c =
     let live = ap (λ (f : Front). f.live) c.self.view_is ∙ c.requires.live in
     subst (λ (f : Front). Turn f c.rest.new.self (tells c.args.wire.now) (tells c.hear-heard.new.wire) (ledger c.args.desk.now) (ledger c.hand_on-took.new.desk) c.rest.result) c.self.view_is
     (turn-rested (front c.self.inside) c.hear-heard.new.self c.flush-flushed.new.self (tells c.args.wire.now) (tells c.flush-flushed.new.wire) (tells c.hear-heard.new.wire)
-    (ledger c.args.desk.now) (ledger c.hear-heard.new.desk) bytes.0 c.hear-heard.result bytes.1 c.flush-flushed.ensures.others bytes.2.0 bytes.2.1 c.hear-heard.ensures
-    (ledger c.hand_on-took.new.desk) c.hand_on-took.new.self c.hand_on-took.result c.hand_on-took.ensures c.rest.new.self _ c.rest.result
+    (ledger c.args.desk.now) (ledger c.hear-heard.new.desk) bytes.0 c.hear-heard.result bytes.1 c.flush-flushed.ensures.others bytes.2.0 bytes.2.1 c.hear-heard.ensures.hears
+    (ledger c.hand_on-took.new.desk) c.hand_on-took.new.self c.hand_on-took.result c.hand_on-took.ensures.hands_on c.rest.new.self _ c.rest.result
     (ap (λ n. nat_lt n c.unsent-stood.result) c.unsent.ensures ∙ ap (nat_lt (length c.flush-flushed.new.self.outgoing)) c.unsent-stood.ensures)
     (λ is_failed. true≢false (sym (rw is_failed at c.eq.ensures) ∙ c.if-eq.false)) live c.rest.ensures)
 
@@ -80,5 +80,5 @@ returns-clause-mate g c =
     let bytes = c.in-All.ensures.bytes in
     let mate = subst (λ (f : Front). GoesWith f.session f.passed (ledger c.args.desk.now)) (sym c.self.view_is) c.requires.mate in
     mate-rested (front c.self.inside) c.hear-heard.new.self c.flush-flushed.new.self (tells c.args.wire.now) (tells c.flush-flushed.new.wire) (tells c.hear-heard.new.wire)
-    (ledger c.args.desk.now) (ledger c.hear-heard.new.desk) bytes.0 c.hear-heard.result bytes.1 c.flush-flushed.ensures.others bytes.2.0 bytes.2.1 c.hear-heard.ensures
-    (ledger c.hand_on-took.new.desk) c.hand_on-took.new.self c.hand_on-took.result c.hand_on-took.ensures c.rest.new.self c.rest.ensures.others mate
+    (ledger c.args.desk.now) (ledger c.hear-heard.new.desk) bytes.0 c.hear-heard.result bytes.1 c.flush-flushed.ensures.others bytes.2.0 bytes.2.1 c.hear-heard.ensures.hears
+    (ledger c.hand_on-took.new.desk) c.hand_on-took.new.self c.hand_on-took.result c.hand_on-took.ensures.hands_on c.rest.new.self c.rest.ensures.others mate

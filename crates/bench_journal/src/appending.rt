@@ -1,0 +1,64 @@
+//! Blocks of one length, appended to a journal again and again.
+ghost use Rattle.std.specs.Prelude.{◌≡◌, ◌*◌, ◌≤◌, length, replicate, IfOk};
+
+use crate::fault::Fault;
+use journal::{Journal, JournalDisk};
+use std::alloc::{AllocError, Global};
+use std::rt::Clock;
+use std::time::{Duration, Instant};
+use venue_model::Entry;
+
+/// An order, to buy 100 ABC at 50, as it comes in.
+const ORDER: &[u8; 125] =
+    b"8=FIX.4.4\x019=102\x0135=D\x0149=C1\x0156=VENUE\x0134=2\x0152=20250102-09:30:00\x0111=1\x0155=ABC\x0154=1\x0160=20250102-09:30:00\x0138=100\x0140=2\x0144=50\x0110=098\x01";
+
+/// No more blocks are appended than these.
+const MOST_BLOCKS: u32 = 10_000;
+
+/// Nor are more once so many seconds have passed.
+const ENOUGH: u64 = 1;
+
+/// So many copies of the order, of the first gateway.
+pub fn block_of(alloc: Global, count: usize) -> Result<Vec<Entry>, AllocError>
+    ensures { IfOk result (λ block. block.items ≡ replicate count (record { gateway = 1; bytes = ORDER.now })) }
+{
+    let mut block = Vec::new(alloc);
+    for made in 0..count {
+        block.push(Entry::new(1, ORDER))?;
+    }
+    Ok(block)
+}
+
+/// How many blocks were appended, and how long that took.
+#[derive(Clone, Copy, Debug)]
+pub struct Appended {
+    pub blocks: u32,
+    pub took: Duration,
+}
+
+/// Appends the block for about a second, and once at least.
+pub fn append_again<D: JournalDisk, R: Clock>(
+    rt: &R,
+    journal: &mut Journal<D>,
+    block: &[Entry],
+) -> Result<Appended, Fault>
+    requires some { 1 ≤ length block.now }
+    requires most { length block.now ≤ 4096 }
+    requires fresh { journal.old.count ≡ 0 }
+    ensures each { IfOk result (λ done. journal.new.count ≡ done.blocks * length block.now) }
+    ensures once { IfOk result (λ done. 1 ≤ done.blocks) }
+{
+    let begun = Instant::now(rt)?;
+    let mut blocks = 0;
+    while blocks < MOST_BLOCKS {
+        journal.append(block)?;
+        blocks += 1;
+        if begun.elapsed(rt)?.as_secs() >= ENOUGH {
+            break;
+        }
+    }
+    Ok(Appended {
+        blocks,
+        took: begun.elapsed(rt)?,
+    })
+}

@@ -1,0 +1,58 @@
+//! Measures how many blocks of orders a second are appended to a journal in a file, each synced twice.
+#![tactic(auto)]
+
+ghost use Rattle.std.specs.Prelude.{◌≤◌};
+
+mod appending;
+mod fault;
+mod rate;
+mod words;
+
+use crate::appending::{append_again, block_of};
+use crate::fault::Fault;
+use crate::rate::Rate;
+use crate::words::read_folder;
+use journal::{FileDisk, Journal, format};
+use std::process::ExitCode;
+use std::{env, fs};
+
+/// How many entries the blocks have that are measured.
+const COUNTS: [usize; 4] = [1, 8, 64, 512];
+
+/// The rate of blocks of so many entries, in a journal that is made in this file and removed again.
+fn measure(rt: &HostRuntime, path: &str, count: usize) -> Result<Rate, Fault>
+    requires { (1 ≤ count) × (count ≤ 4096) }
+{
+    let block = block_of(rt.alloc(), count)?;
+    let mut disk = FileDisk::make(rt, path)?;
+    format(&mut disk)?;
+    let (mut journal, base) = Journal::open(rt.alloc(), disk).map_err(|(fault, _)| fault)?;
+    if !base.is_empty() {
+        return Err(Fault::Device);
+    }
+    let done = append_again(rt, &mut journal, &block)?;
+    fs::remove_file(rt, path)?;
+    Ok(Rate::of(done.blocks, done.took))
+}
+
+/// Measures in the folder that the words ask for.
+fn measure_all(rt: &HostRuntime) -> Result<(), Fault> {
+    let words: Vec<String> = env::args(rt)?.skip(1).collect(rt.alloc())?;
+    let folder = read_folder(&words)?;
+    for count in COUNTS {
+        let path = format!(in rt.alloc(); "{folder}/bench_journal.b{count}")?;
+        let rate = measure(rt, path.as_str(), count)?;
+        println!(rt; "journal.project.b{count}: {rate}")?;
+    }
+    Ok(())
+}
+
+fn main(rt: HostRuntime) -> ExitCode {
+    match measure_all(&rt) {
+        Ok(()) => ExitCode::SUCCESS,
+        Err(fault) => {
+            let _ = eprintln!(rt; "{fault}");
+            ExitCode::from(1)
+        }
+    }
+}

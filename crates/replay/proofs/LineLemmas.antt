@@ -1,0 +1,100 @@
+-- What is written piece by piece, and the lines of a report.
+use Rattle.std.proofs.Common.{◌≡◌, ℕ, zero, suc, ◌+◌, ◌<◌, Option, Some, None, Result, Ok, Err, OnOk}
+use Rattle.std.proofs.Common.{List, [], ◌∷◌, ◌++◌, length, get_or, take, drop, slice_get, append_assoc, append-nil, take-append-drop}
+use Rattle.std.proofs.Common.{refl, ap, sym, ◌∙◌, subst}
+use Rattle.std.specs.List.{flat_map}
+use Rattle.std.specs.Io.KnownBytes.{Appends}
+use Rattle.std.proofs.lemmas.Grind.{flat_map-append}
+use Rattle.std.proofs.Math.Seq.{drop-cons}
+use Rattle.venue_model.specs.declared.orders.Order.{Order}
+use Rattle.venue_model.specs.declared.outputs.Output.{Output}
+use Rattle.fix_frame.specs.Grammar.{print_fields}
+use Rattle.fix_orders.specs.Text.{Said, field}
+use Rattle.fix_orders.specs.Writing.{Puts, PutsFields}
+use Rattle.fix_orders.proofs.WritingLemmas.{print_fields-append, ◌⨟◌}
+use Rattle.replay.specs.Lines.{said_fields, line_to, client_lines, order_line}
+
+-- a piece and then another one are both together
+pub appends_both : (before between behind : Option (List ℕ)) (xs ys : List ℕ) →
+    Appends before between xs → Appends between behind ys → Appends before behind (xs ++ ys)
+appends_both None between behind xs ys first then = tt
+appends_both (Some before) None behind xs ys first then = absurd first
+appends_both (Some before) (Some between) None xs ys first then = then
+appends_both (Some before) (Some between) (Some behind) xs ys first then =
+    then ∙ ap (λ front. front ++ ys) first ∙ append_assoc before xs ys
+
+-- the last piece may fail
+pub then_written : {T E : Type 0} (before between behind : Option (List ℕ)) (xs ys : List ℕ) (last : Result T E) →
+    Appends before between xs → OnOk last (Appends between behind ys) → OnOk last (Appends before behind (xs ++ ys))
+then_written before between behind xs ys (Ok x) first then = appends_both before between behind xs ys first then
+then_written before between behind xs ys (Err e) first then = tt
+
+-- MsgType and SendingTime in a buffer, and the body behind them, are what is said
+pub said_put : (blank typed timed whole : List ℕ) (at end upto : ℕ) (type time body : List ℕ) (said : Said) →
+    type ≡ said.kind → time ≡ said.time → body ≡ print_fields said.body →
+    PutsFields blank typed 0 at (field 35 type ∷ []) → PutsFields typed timed at end (field 52 time ∷ []) → Puts timed whole end upto body →
+    take upto whole ≡ print_fields (said_fields said)
+said_put blank typed timed whole at end upto type time body said type_is time_is body_is first then last =
+    let both = first ⨟ then in
+    last.written ∙ ap (λ front. front ++ body) both.written
+    ∙ ap (λ t. print_fields (field 35 t ∷ field 52 time ∷ []) ++ body) type_is
+    ∙ ap (λ t. print_fields (field 35 said.kind ∷ field 52 t ∷ []) ++ body) time_is
+    ∙ ap (λ b. print_fields (field 35 said.kind ∷ field 52 said.time ∷ []) ++ b) body_is
+    ∙ sym (print_fields-append (field 35 said.kind ∷ field 52 said.time ∷ []) said.body)
+
+-- a line more, of the outputs that are left
+pub lines_on : (client place i n : ℕ) (os : List Output) (o : Output) (so_far all : List ℕ) →
+    i < length os → o ≡ get_or os i o → suc i ≡ n → so_far ++ client_lines client place (drop i os) ≡ all →
+    (so_far ++ line_to client place o) ++ client_lines client (place + 1) (drop n os) ≡ all
+lines_on client place i n os o so_far all within is more are =
+    let next : drop i os ≡ o ∷ drop n os =
+    drop-cons os i o within ∙ ap (λ (x : Output). x ∷ drop (suc i) os) (sym is) ∙ ap (λ k. o ∷ drop k os) more in
+    append_assoc so_far (line_to client place o) (client_lines client (place + 1) (drop n os))
+    ∙ ap (λ (rest : List Output). so_far ++ client_lines client place rest) (sym next) ∙ are
+
+-- so many of the orders are written, the last of them this one
+abbrev pub IsAt : List Order → ℕ → Option Order → Type 0
+IsAt all i None = i ≡ 0
+IsAt all i (Some o) = (before : List Order) × (all ≡ before ++ o ∷ drop i all)
+
+-- then the next one is the first of those that are left
+pub next_at : (all : List Order) (i : ℕ) (from next : Option Order) → IsAt all i from →
+    (from ≡ None → next ≡ slice_get all 0) →
+    ((before behind : List Order) (o : Order) → from ≡ Some o → all ≡ before ++ o ∷ behind → next ≡ slice_get behind 0) →
+    next ≡ slice_get (drop i all) 0
+next_at all i None next at first then = rw at (first refl)
+next_at all i (Some o) next at first then = then at.0 (drop i all) o refl at.1
+
+-- the first of those that are left stands in front of the others
+first_left : (all : List Order) (i : ℕ) (o : Order) → Some o ≡ slice_get (drop i all) 0 → drop i all ≡ o ∷ drop (suc i) all
+first_left [] zero o is = cc
+first_left [] (suc i) o is = cc
+first_left (x ∷ xs) zero o is = cc
+first_left (x ∷ xs) (suc i) o is = first_left xs i o is
+
+-- and behind those that were written
+take_first : (all : List Order) (i : ℕ) (o : Order) → Some o ≡ slice_get (drop i all) 0 → take (suc i) all ≡ take i all ++ o ∷ []
+take_first [] zero o is = cc
+take_first [] (suc i) o is = cc
+take_first (x ∷ xs) zero o is = cc
+take_first (x ∷ xs) (suc i) o is = ap (λ (l : List Order). x ∷ l) (take_first xs i o is)
+
+-- n are written, the last of them o, and their lines are those of i orders and o's
+abbrev pub OneMore : List Order → ℕ → Order → ℕ → Type 0
+OneMore all i o n = IsAt all n (Some o) × (flat_map order_line (take i all) ++ order_line o ≡ flat_map order_line (take n all))
+
+-- the next one is written too
+pub one_more : (all : List Order) (i n : ℕ) (o : Order) → Some o ≡ slice_get (drop i all) 0 → suc i ≡ n → OneMore all i o n
+one_more all i n o is more =
+    subst (OneMore all i o) more (
+      (take i all, sym (take-append-drop i all) ∙ ap (λ (rest : List Order). take i all ++ rest) (first_left all i o is)),
+      sym (ap (flat_map order_line) (take_first all i o is) ∙ flat_map-append order_line (take i all) (o ∷ [])
+          ∙ ap (λ t. flat_map order_line (take i all) ++ t) (append-nil (order_line o))),
+    )
+
+-- where none is left all are written
+pub none_left : (all : List Order) (i : ℕ) → None ≡ slice_get (drop i all) 0 → take i all ≡ all
+none_left [] zero is = refl
+none_left [] (suc i) is = refl
+none_left (x ∷ xs) zero is = cc
+none_left (x ∷ xs) (suc i) is = ap (λ (l : List Order). x ∷ l) (none_left xs i is)

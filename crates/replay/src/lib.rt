@@ -1,0 +1,16 @@
+//! Replay: the book and all outputs out of a journal, and a report of them in text. It stands on what the journaller has kept, and reads
+//! it as the processor did.
+#![tactic(auto)]
+
+mod fault;
+mod job;
+mod lines;
+mod replayed;
+mod reporting;
+#[cfg(test)]
+mod tests;
+
+pub use fault::{ReplayFault, refuse};
+pub use job::{Job, Subject};
+pub use replayed::{Replayed, replay, replay_entries};
+pub use reporting::report;
