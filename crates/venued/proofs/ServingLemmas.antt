@@ -1,5 +1,5 @@
 -- What a crash leaves while the venue serves: turn by turn, a journal that begins with the history at the start.
-use Rattle.std.proofs.Common.{◌≡◌, ◌⊎◌, inl, inr, ℕ, ◌^◌, ◌≤◌, false, List, length, ap, sym, subst, ◌∙◌, arith}
+use Rattle.std.proofs.Common.{◌≡◌, ◌⊎◌, inl, inr, ℕ, ◌^◌, ◌≤◌, false, List, length, ap, subst, ◌∙◌, arith}
 use Rattle.venue_model.specs.History.{History}
 use Rattle.venue_model.specs.Requests.{Symbols}
 use Rattle.venue_model.proofs.Growth.{few-told-by}
@@ -8,7 +8,7 @@ use Rattle.journal.specs.Disk.{Told, LeavesOnly}
 use Rattle.journal.proofs.Moments.{started, joined, weaker}
 use Rattle.venued.specs.Gateways.{begun}
 use Rattle.venued.specs.Turns.{Front, GoesWith}
-use Rattle.venued.specs.VenueDesks.{OneVenue, IsJournalBehind, given, ledger_of, opened}
+use Rattle.venued.specs.VenueDesks.{OneVenue, IsJournalBehind, ledger_of, opened}
 
 -- a file that a crash might have left at the start, or the journal of a history that begins with this one
 abbrev pub LeftOrBehind : Told → History → List ℕ → Type 0

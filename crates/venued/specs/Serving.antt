@@ -1,5 +1,5 @@
 -- What a run of the mode `-` comes to: its status, by the wire and the disk, and what a crash within it leaves.
-use Rattle.std.specs.Prelude.{◌≡◌, ◌⊎◌, ℕ, List}
+use Rattle.std.specs.Prelude.{◌≡◌, ◌⊎◌, ℕ}
 use Rattle.venue_model.specs.Counts.{Rose}
 use Rattle.venue_model.specs.History.{History}
 use Rattle.journal.specs.Disk as disks

@@ -1,5 +1,4 @@
 -- The session begins with the number 1, whatever the count of outputs at the start.
-use Rattle.std.proofs.Common.{sym, ◌∙◌}
 use Rattle.venued.proofs.ServingLemmas.{goes_with_opened}
 use Rattle.venued.proofs.serve.serve.Goals as goal
 

@@ -1,5 +1,5 @@
 -- The output at the count is the next of all outputs so far, and there are fewer than 2 ^ 62.
-use Rattle.std.proofs.Common.{refl, sym, ◌∙◌, ◌+◌, arith}
+use Rattle.std.proofs.Common.{refl, sym, ◌∙◌, arith}
 use Rattle.fix_orders.specs.Text.{text}
 use Rattle.venued.proofs.ProcessorLemmas.{retold, is_within, is_small, is_next, taken_mine, taken_other}
 use Rattle.venued.proofs.venue_desk.VenueDeskDesk.take.Goals.{then-output-eq1, else-output-eq1}
