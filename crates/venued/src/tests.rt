@@ -1,5 +1,6 @@
 //! Whole sessions over a wire in memory: the bytes in and the bytes out, with lengths and checksums computed outside.
 
+mod failing;
 mod journalled;
 mod refused;
 mod served;
