@@ -7,7 +7,6 @@ mod fault;
 mod figures;
 mod gateway;
 mod messages;
-mod null_disk;
 mod path;
 mod rings;
 mod runs;

@@ -6,9 +6,8 @@ ghost use Rattle.ring_words.specs.declared.view.Role.TheVariants.{Process, Unmar
 ghost use Rattle.ring_words.specs.Crew.{AreFresh, stage_view};
 
 use crate::gateway::Gateway;
-use crate::null_disk::empty_journal;
 use crate::rings::VenueRings;
-use crate::stations::{Journalling, Processing, Unmarshalling};
+use crate::stations::{Journalling, Processing, Unmarshalling, empty_journal};
 use crate::words::Task;
 use book::{Book, BookLogic};
 use ring_words::{GatewaySeat, Seats};

@@ -1,11 +1,12 @@
-//! The three stages at the rings.
-ghost use Rattle.std.specs.Prelude.{◌≡◌};
+//! The three stages at the rings, and the journal of one.
+ghost use Rattle.std.specs.Prelude.{◌≡◌, false, IfOk};
 ghost use Rattle.ring_words.specs.Seats.{person};
 
-use crate::null_disk::NullDisk;
 use crate::rings::VenueRings;
 use crate::worker::Worker;
+use journal::{Journal, NullDisk};
 use stages::{Journaller, Processor, Turn, Unmarshaller};
+use std::alloc::{AllocError, Global};
 
 /// The unmarshaller at the rings.
 #[derive(Drop)]
@@ -62,5 +63,15 @@ impl Worker for Processing<'_> {
             Turn::Did(_) => true,
             Turn::Idle | Turn::Memory | Turn::JournalFailed => false,
         }
+    }
+}
+
+/// An empty journal. Its disk keeps nothing, so that what the calls of a disk cost is left out of the figures.
+pub fn empty_journal(alloc: Global) -> Result<Journal<NullDisk>, AllocError>
+    ensures { IfOk result (λ journal. (journal.failed ≡ false) × (journal.count ≡ 0)) }
+{
+    match Journal::open(alloc, NullDisk) {
+        Ok((journal, entries)) if entries.is_empty() => Ok(journal),
+        _ => Err(AllocError),
     }
 }

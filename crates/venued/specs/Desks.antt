@@ -11,7 +11,7 @@ use Rattle.venued.specs.declared.desk.OutputType.TheVariants.{ExecutionReport, O
 use Rattle.venued.specs.declared.desk.Head.{Head}
 use Rattle.venued.specs.declared.desk.Take.{Take}
 use Rattle.venued.specs.declared.desk.Take.TheVariants.{Mine, Passed, Nothing}
-use Rattle.venued.specs.Wires.{Rose}
+use Rattle.venue_model.specs.Counts.{Rose}
 
 -- the messages published and the outputs taken, in order; how many outputs were taken or passed over; and how often a
 -- message found no place or no sequence, or no output was there

@@ -2,7 +2,8 @@
 use Rattle.std.specs.Prelude.{◌≡◌, ◌≢◌, ℕ, List, [], ◌++◌}
 use Rattle.venued.specs.declared.flushing.Flushed.{Flushed}
 use Rattle.venued.specs.declared.flushing.Flushed.TheVariants.{All, Full, Failed}
-use Rattle.venued.specs.Wires.{Told, grown, Rose}
+use Rattle.venue_model.specs.Counts.{Rose}
+use Rattle.venued.specs.Wires.{Told, grown}
 
 -- the wire took these bytes, and then the flush ended so
 abbrev pub FlushTells : Told → Told → List ℕ → List ℕ → Flushed → Type 0

@@ -7,7 +7,8 @@ use Rattle.venued.specs.declared.ending.Turned.TheVariants.{Worked, Quiet, Ended
 use Rattle.venued.specs.declared.gateway.Heard.{Heard}
 use Rattle.venued.specs.declared.gateway.Heard.TheVariants.{Something, Nothing, Failed}
 use Rattle.venued.specs.declared.gateway.Gateway.TheInside.{Inside}
-use Rattle.venued.specs.Wires.{Told, grown, Rose}
+use Rattle.venue_model.specs.Counts.{Rose}
+use Rattle.venued.specs.Wires.{Told, grown}
 use Rattle.venued.specs.Desks.{Ledger}
 use Rattle.venued.specs.Turns.{Front, Moved, nothing_moved, Moves, Step, Takes, Counts}
 use Rattle.venued.specs.Moves.{fresh}

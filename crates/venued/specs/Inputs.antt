@@ -2,7 +2,8 @@
 use Rattle.std.specs.Prelude.{◌≡◌, ℕ, ◌≤◌, List, [], length}
 use Rattle.venued.specs.declared.wire.TryRead.{TryRead}
 use Rattle.venued.specs.declared.wire.TryRead.TheVariants.{Got, Nothing, End, Failed}
-use Rattle.venued.specs.Wires.{Told, grown, Rose}
+use Rattle.venue_model.specs.Counts.{Rose}
+use Rattle.venued.specs.Wires.{Told, grown}
 
 -- the bytes between two places of 512 are left
 pub record KeepsInput (bytes : List ℕ) (start upto : ℕ) : Type 0 where

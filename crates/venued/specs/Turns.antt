@@ -5,7 +5,8 @@ use Rattle.venued.specs.declared.ending.Reason.{Reason}
 use Rattle.venued.specs.declared.ending.Reason.TheVariants.{Closed, WireFailed, LoggedOut, Refused, Stalled, Exhausted}
 use Rattle.venued.specs.declared.ending.Turned.{Turned}
 use Rattle.venued.specs.declared.ending.Turned.TheVariants.{Worked, Quiet, Ended}
-use Rattle.venued.specs.Wires.{Told, grown, Rose}
+use Rattle.venue_model.specs.Counts.{Rose}
+use Rattle.venued.specs.Wires.{Told, grown}
 use Rattle.venued.specs.Desks.{Ledger}
 use Rattle.venued.specs.Session.{Standing, At}
 

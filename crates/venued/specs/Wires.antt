@@ -1,5 +1,6 @@
 -- What a wire tells of itself, and what each of its calls tells. It may keep its bytes to itself, but not its counts.
-use Rattle.std.specs.Prelude.{◌≡◌, ℕ, ◌-◌, ◌^◌, ◌<◌, ◌≤◌, ◌⊎◌, List, ◌++◌, length, take, Option, Some, None}
+use Rattle.std.specs.Prelude.{◌≡◌, ℕ, ◌≤◌, List, ◌++◌, length, take, Option, Some, None}
+use Rattle.venue_model.specs.Counts.{Rose}
 use Rattle.venued.specs.declared.wire.TryRead.{TryRead}
 use Rattle.venued.specs.declared.wire.TryRead.TheVariants as read
 use Rattle.venued.specs.declared.wire.TryWrite.{TryWrite}
@@ -18,10 +19,6 @@ pub record Told : Type 0 where
 abbrev pub grown : Option (List ℕ) → List ℕ → Option (List ℕ)
 grown None more = None
 grown (Some bytes) more = Some (bytes ++ more)
-
--- a count has risen; one that is full stays, and passes for risen
-abbrev pub Rose : ℕ → ℕ → Type 0
-Rose old new = (old < new) ⊎ ((old ≡ 2 ^ 64 - 1) × (new ≡ 2 ^ 64 - 1))
 
 -- what a read with this answer tells, where the buffer now holds `buf`
 abbrev pub ReadTells : Told → Told → List ℕ → TryRead → Type 0

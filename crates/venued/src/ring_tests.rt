@@ -1,7 +1,6 @@
 //! The rings and the stages with several gateways: on one thread the worked days of trading, and on threads of their own all
 //! of them at once.
 mod acknowledged;
-pub mod no_disk;
 mod one_gateway_ring;
 mod openings;
 mod refused;

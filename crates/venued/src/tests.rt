@@ -2,6 +2,7 @@
 
 mod failing;
 mod journalled;
+mod opened;
 mod refused;
 mod served;
 

@@ -6,10 +6,10 @@ ghost use Rattle.ring_words.specs.Ending.{AreSpent};
 ghost use Rattle.ring_words.specs.Seats.{person};
 ghost use Rattle.ring_words.specs.declared.view.Role.TheVariants.{Process, Unmarshal, Journal};
 
-use super::no_disk::NoDisk;
 use super::requests::{Kind, Request, write_request};
 use super::venue::{TestRings, empty_journal, limits_of, open, processor_of};
 use book::BookLogic;
+use journal::NullDisk;
 use ring_words::{GatewaySeat, Seats, Summary};
 use sequencer::try_claim;
 use stages::Turn::Did;
@@ -83,7 +83,7 @@ fn close_behind(
 fn close(
     rings: Single,
     gateways: Vec<GatewaySeat<BookLogic>>,
-    stages: (Unmarshaller, Journaller<NoDisk>, Processor),
+    stages: (Unmarshaller, Journaller<NullDisk>, Processor),
 ) -> Summary
     requires gateways { AreSpent rings.table.shared.table_id gateways.items }
     requires count { vec_len gateways ≡ 1 }

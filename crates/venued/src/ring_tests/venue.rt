@@ -8,10 +8,9 @@ ghost use Rattle.ring_words.specs.declared.view.Role.TheVariants.{Process, Unmar
 ghost use Rattle.ring_words.specs.declared.view.Role.TheVariants as role;
 ghost use Rattle.ring_words.specs.declared.seats.GatewaySeat.{GatewaySeat};
 
-use super::no_disk::NoDisk;
 use super::requests::{Request, write_request};
 use book::{Book, BookLogic};
-use journal::Journal;
+use journal::{Journal, NullDisk};
 use ring_words::{GatewaySeat, OpenError, ProcessSeat, Rings, Seats};
 use sequencer::{ClaimRefusal, try_claim};
 use stages::{Journaller, Processor, Turn, Unmarshaller};
@@ -85,7 +84,7 @@ fn next_member<'a, const N: usize, const G: usize>(
 pub struct Stages<'a, const N: usize, const G: usize> {
     pub rings: &'a TestRings<N, G>,
     pub unmarshaller: Unmarshaller,
-    pub journaller: Journaller<NoDisk>,
+    pub journaller: Journaller<NullDisk>,
     pub processor: Processor,
     ghost unmarshals: { unmarshaller.seat.seat.table_id ≡ rings.now.table.shared.table_id },
     ghost journals: { journaller.seat.seat.table_id ≡ rings.now.table.shared.table_id },
@@ -130,10 +129,10 @@ pub fn processor_of(
 }
 
 /// The journal of an empty history, on a disk that keeps nothing.
-pub fn empty_journal(alloc: Global) -> Result<Journal<NoDisk>, Fail>
+pub fn empty_journal(alloc: Global) -> Result<Journal<NullDisk>, Fail>
     ensures { IfOk result (λ journal. (journal.failed ≡ false) × (journal.count ≡ 0)) }
 {
-    match Journal::open(alloc, NoDisk) {
+    match Journal::open(alloc, NullDisk) {
         Ok((journal, entries)) if entries.is_empty() => Ok(journal),
         _ => Err("no empty journal")?,
     }

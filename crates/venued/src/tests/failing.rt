@@ -2,10 +2,9 @@
 ghost use Rattle.std.specs.Prelude.{◌≡◌, ◌≤◌, length, IfOk};
 
 use super::{FIRST_ACKNOWLEDGEMENT, FIRST_ORDER, words};
-use crate::ring_tests::no_disk::NoDisk;
 use crate::serve::serve;
 use crate::wire::MemWire;
-use journal::{DiskFailed, JournalDisk};
+use journal::{DiskFailed, JournalDisk, NullDisk};
 use std::test::Fail;
 
 /// How many bytes the Logon's answer has.
@@ -14,7 +13,7 @@ const LOGON_ANSWER: usize = 85;
 /// A disk that is full: it reads as the journal of an empty history, and no write succeeds.
 #[derive(Drop)]
 struct FullDisk {
-    empty: NoDisk,
+    empty: NullDisk,
     failures: u64,
 }
 
@@ -57,7 +56,7 @@ fn a_failed_journal_ends_the_program(rt: HostRuntime) -> Result<(), Fail> {
     let mut wire = MemWire::new(rt.alloc(), FIRST_ORDER)?;
     let mut err = Vec::new(rt.alloc());
     let disk = FullDisk {
-        empty: NoDisk,
+        empty: NullDisk,
         failures: 0,
     };
     let (status, disk) = serve(rt.alloc(), &words, disk, &mut wire, &mut err);

@@ -1,6 +1,6 @@
 //! What every wire counts of its own calls.
 ghost use Rattle.std.specs.Prelude.{◌≡◌};
-ghost use Rattle.venued.specs.Wires.{Rose};
+ghost use Rattle.venue_model.specs.Counts.{Rose};
 
 use super::Nothings;
 
