@@ -17,21 +17,15 @@ use Rattle.ring_words.specs.Raw.{eight, raw_word, raw_count}
 use Rattle.ring_words.specs.Seats.{person, alone, load_of, looked}
 use Rattle.ring_words.proofs.Logs.{stands}
 use Rattle.ring_words.proofs.Raws.{word_bytes, byte_at}
-use Rattle.barrier.specs.declared.reading.Raw.{Raw}
+use Rattle.ring_words.specs.declared.raw.Raw.{Raw}
 use Rattle.barrier.specs.Reading.{IsHead, Reads, word_loads, after_loads}
 
--- gateway and length in word 0
+-- the gateway in word 0
 quotient : (x g l : ℕ) → x ≡ g * 65536 + l → l < 65536 → x / 65536 ≡ g
 quotient x g l is small = omega arith
 
-remainder : (x g l : ℕ) → x ≡ g * 65536 + l → l < 65536 → x % 65536 ≡ l
-remainder x g l is small = omega arith
-
-pub head_gateway : (e : Message) (x : ℕ) → (x ≡ raw_word e 0) × IsEntry e → x / 65536 ≡ e.gateway
+head_gateway : (e : Message) (x : ℕ) → (x ≡ raw_word e 0) × IsEntry e → x / 65536 ≡ e.gateway
 head_gateway e x h = let most = h.1.message.most in quotient x e.gateway (length e.bytes) h.0 (omega arith)
-
-pub head_len : (e : Message) (x : ℕ) → (x ≡ raw_word e 0) × IsEntry e → x % 65536 ≡ length e.bytes
-head_len e x h = let most = h.1.message.most in remainder x e.gateway (length e.bytes) h.0 (omega arith)
 
 -- each message has word 0
 pub has_head : (e : Message) → 0 < raw_count e

@@ -25,8 +25,8 @@ grown n v rest = record v { seen = v.seen ++ rest; loads = v.loads ++ fresh n (l
 
 -- Some entries more are known, and the look ended there: a whole ring behind the own word is known, so that no row behind it can be published;
 -- or it isn't, and the next availability word was loaded too and didn't show its sequence.
-abbrev pub Ended : ℕ → Person → Person → Type 0
-Ended n v w = (rest : List Message) × AreEntries rest
+abbrev pub Shown : ℕ → Person → Person → Type 0
+Shown n v w = (rest : List Message) × AreEntries rest
     × (((v.own + n ≤ length w.seen) × (w ≡ grown n v rest))
     ⊎ ((length w.seen < v.own + n) × ((x : ℕ) × (x ≢ suc (length w.seen)) × (w ≡ looked (grown n v rest) (in_row n (length w.seen) 0) x))))
 

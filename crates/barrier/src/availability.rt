@@ -1,7 +1,7 @@
 //! How far a stage may read. What stands below is published, and stays in its row until the stage releases it.
 ghost use Rattle.std.specs.Prelude.{◌≡◌, length};
 ghost use Rattle.ring_words.specs.Seats.{person, alone};
-ghost use Rattle.barrier.specs.Availability.{Ended, Gated};
+ghost use Rattle.barrier.specs.Availability.{Shown, Gated};
 
 use ring_words::{ProcessSeat, Reader, ReaderSeat, Rings};
 use venue_model::Logic;
@@ -16,7 +16,7 @@ pub fn available<L: Logic, R: Reader, const N: usize, const M: usize, const G: u
     ensures table { seat.new.seat.table_id ≡ seat.old.seat.table_id }
     ensures known { result ≡ length (person seat.new.seat.me.0).seen }
     ensures view { seat.new.seat.me.0 ≡ alone seat.old.seat.me.0 (person seat.new.seat.me.0) }
-    ensures shown { Ended N (person seat.old.seat.me.0) (person seat.new.seat.me.0) }
+    ensures shown { Shown N (person seat.old.seat.me.0) (person seat.new.seat.me.0) }
 {
     for _ in seat.known()..seat.own() + N as u64 {
         if !rings.load_availability(seat) {

@@ -9,5 +9,5 @@ mod releasing;
 
 pub use availability::{available, commands_available};
 pub use commands::{read_command, write_command};
-pub use reading::{Raw, read_raw};
+pub use reading::read_raw;
 pub use releasing::{release, release_kept, release_written};

@@ -7,20 +7,8 @@ ghost use Rattle.ring_words.specs.Raw.{raw_count};
 ghost use Rattle.ring_words.specs.Seats.{person, alone};
 ghost use Rattle.barrier.specs.Reading.{IsHead, Reads, after_loads};
 
-use ring_words::{Reader, ReaderSeat, Rings};
+use ring_words::{Raw, Reader, ReaderSeat, Rings};
 use venue_model::Logic;
-
-/// Word 0 of a row is the gateway times this, plus the length of the message.
-const GATEWAY_UNIT: u64 = 65_536;
-
-/// Whose message was read, and its length in bytes: they stand at the front of the buffer.
-#[derive(Clone, Copy, Debug, PartialEq, Eq)]
-pub struct Raw {
-    /// 1 to 8.
-    pub gateway: u8,
-    /// 1 to 320.
-    pub len: usize,
-}
 
 /// Loads word 0 of the row.
 fn read_head<L: Logic, R: Reader, const N: usize, const M: usize, const G: usize>(
@@ -35,15 +23,11 @@ fn read_head<L: Logic, R: Reader, const N: usize, const M: usize, const G: usize
     ensures view { (e : Message) → get_elem? (person seat.old.seat.me.0).seen sequence ≡ some e → seat.new.seat.me.0 ≡ alone seat.old.seat.me.0 (after_loads N (person seat.old.seat.me.0) sequence e 1) }
     ensures head { (e : Message) → get_elem? (person seat.old.seat.me.0).seen sequence ≡ some e → IsHead e result }
 {
-    let word = rings.load_raw(seat, sequence, 0);
-    Raw {
-        gateway: (word / GATEWAY_UNIT) as u8,
-        len: (word % GATEWAY_UNIT) as usize,
-    }
+    Raw::from_word(rings.load_raw(seat, sequence, 0))
 }
 
-/// Reads the message of a sequence that the seat knows and hasn't released into the front of the buffer. What stands
-/// behind the message is nobody's business.
+/// Reads the message of a sequence that the seat knows and hasn't released into the front of the buffer, and answers whose it is and how
+/// long. What stands behind the message is unspecified.
 pub fn read_raw<L: Logic, R: Reader, const N: usize, const M: usize, const G: usize>(
     rings: &Rings<L, N, M, G>,
     seat: &mut ReaderSeat<L, R>,

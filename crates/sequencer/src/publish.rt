@@ -8,11 +8,8 @@ ghost use Rattle.ring_words.specs.Seats.{person, alone, marked, wrote};
 ghost use Rattle.sequencer.specs.Words.{words_of};
 
 use crate::claim::Claim;
-use ring_words::{GatewaySeat, Rings};
+use ring_words::{GatewaySeat, Raw, Rings};
 use venue_model::Logic;
-
-/// The first word of a message is the gateway's number times this, plus the length in bytes.
-const GATEWAY: u64 = 65_536;
 
 /// The last word of a message, where fewer than eight bytes are left: they are filled up with zeros.
 fn padded(rest: &[u8]) -> u64
@@ -50,8 +47,11 @@ fn store_words<L: Logic, const N: usize, const M: usize, const G: usize>(
     ensures number { seat.new.number ≡ seat.old.number }
     ensures view { seat.new.seat.me.0 ≡ alone seat.old.seat.me.0 (wrote (person seat.old.seat.me.0) sequence (words_of (record { gateway = seat.old.number; bytes = bytes.now }))) }
 {
-    let head = seat.number() * GATEWAY + bytes.len() as u64;
-    rings.store_raw(seat, sequence, 0, head);
+    let head = Raw {
+        gateway: seat.number() as u8,
+        len: bytes.len(),
+    };
+    rings.store_raw(seat, sequence, 0, head.to_word());
     for index in 0..bytes.len().div_ceil(8) {
         rings.store_raw(seat, sequence, index + 1, word_at(bytes, index));
     }

@@ -6,7 +6,7 @@ use Rattle.ring_words.specs.declared.view.Person.{Person}
 use Rattle.ring_words.specs.declared.view.View.{View}
 use Rattle.ring_words.specs.Places.{in_row}
 use Rattle.ring_words.specs.Seats.{person, alone, looked}
-use Rattle.barrier.specs.Availability.{grown, Ended}
+use Rattle.barrier.specs.Availability.{grown, Shown}
 use Rattle.stages.specs.Turns.{NothingShown}
 
 pub none_more : (rest : List Message) → length rest ≡ 0 → rest ≡ []
@@ -22,19 +22,19 @@ Stopped n v w rest = ((v.own + n ≤ length w.seen) × (w ≡ grown n v rest))
     ⊎ ((length w.seen < v.own + n) × ((x : ℕ) × (x ≢ suc (length w.seen)) × (w ≡ looked (grown n v rest) (in_row n (length w.seen) 0) x)))
 
 -- the own word stays
-pub own_stays : (n : ℕ) (v w : Person) → Ended n v w → w.own ≡ v.own
-own_stays n v w ended = by_case ended.2 where
-  by_case : Stopped n v w ended.0 → w.own ≡ v.own
+pub own_stays : (n : ℕ) (v w : Person) → Shown n v w → w.own ≡ v.own
+own_stays n v w shown = by_case shown.2 where
+  by_case : Stopped n v w shown.0 → w.own ≡ v.own
   by_case (inl full) = ap (λ (p : Person). p.own) full.1
   by_case (inr free) = ap (λ (p : Person). p.own) free.1.2
 
 -- a look that leaves no entry to do showed nothing
-pub nothing_shown : (n : ℕ) (v w : Person) → 0 < n → v.own ≤ length v.seen → length w.seen ≤ v.own → Ended n v w → NothingShown n v w
-nothing_shown n v w some_row known near ended = by_case ended.2 where
-  by_case : Stopped n v w ended.0 → NothingShown n v w
+pub nothing_shown : (n : ℕ) (v w : Person) → 0 < n → v.own ≤ length v.seen → length w.seen ≤ v.own → Shown n v w → NothingShown n v w
+nothing_shown n v w some_row known near shown = by_case shown.2 where
+  by_case : Stopped n v w shown.0 → NothingShown n v w
   by_case (inl full) = let far = full.0 in absurd (omega arith)
   by_case (inr free) =
-      let rest = ended.0 in let x = free.1.0 in let is = free.1.2 in
+      let rest = shown.0 in let x = free.1.0 in let is = free.1.2 in
       let long : length w.seen ≡ length v.seen + length rest = ap (λ (p : Person). length p.seen) is ∙ length-append v.seen rest in
       let none : rest ≡ [] = none_more rest (omega arith) in
       let at_own : length w.seen ≡ v.own = omega arith in (

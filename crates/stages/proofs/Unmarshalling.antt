@@ -11,7 +11,7 @@ use Rattle.ring_words.specs.Packing.{command_words, IsPackable}
 use Rattle.ring_words.specs.Seats.{person, alone, wrote, moved}
 use Rattle.ring_words.specs.Steps.{WroteCommand}
 use Rattle.barrier.specs.Reading.{after_loads, Reads}
-use Rattle.barrier.specs.declared.reading.Raw.{Raw}
+use Rattle.ring_words.specs.declared.raw.Raw.{Raw}
 use Rattle.fix_orders.specs.Reading.{reads}
 use Rattle.stages.specs.Turns.{after_unmarshalling}
 

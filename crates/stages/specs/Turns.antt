@@ -10,7 +10,7 @@ use Rattle.ring_words.specs.Raw.{raw_count}
 use Rattle.ring_words.specs.Packing.{command_words}
 use Rattle.ring_words.specs.Seats.{looked, wrote, moved}
 use Rattle.ring_words.specs.Steps.{lesser}
-use Rattle.barrier.specs.Availability.{Ended, Gated}
+use Rattle.barrier.specs.Availability.{Shown, Gated}
 use Rattle.barrier.specs.Commands.{after_command}
 use Rattle.barrier.specs.Reading.{after_loads}
 use Rattle.stages.specs.declared.turn.Turn.{Turn}
@@ -37,7 +37,7 @@ after_reading n v e = after_command n v v.own (command_words e.gateway (reads e.
 -- the unmarshaller did one sequence, which the look for new ones left known; or that showed nothing new
 abbrev pub Unmarshals : ℕ → Turn → Person → Person → Type 0
 Unmarshals n (Did k) v w =
-    (k ≡ 1) × ((u : Person) × Ended n v u × ((e : Message) × (get_elem? u.seen u.own ≡ some e) × (w ≡ after_unmarshalling n u e)))
+    (k ≡ 1) × ((u : Person) × Shown n v u × ((e : Message) × (get_elem? u.seen u.own ≡ some e) × (w ≡ after_unmarshalling n u e)))
 Unmarshals n Idle v w = NothingShown n v w
 Unmarshals n Memory v w = ⊥
 Unmarshals n JournalFailed v w = ⊥
@@ -48,7 +48,7 @@ after_message n v e = after_loads n v v.own e (raw_count e)
 
 -- the message of the next sequence, which the look for new ones left known, was read, and that was all
 abbrev pub OnlyRead : ℕ → Person → Person → Type 0
-OnlyRead n v w = (u : Person) × Ended n v u × ((e : Message) × (get_elem? u.seen u.own ≡ some e) × (w ≡ after_message n u e))
+OnlyRead n v w = (u : Person) × Shown n v u × ((e : Message) × (get_elem? u.seen u.own ≡ some e) × (w ≡ after_message n u e))
 
 -- the next sequence was read and handed on; or it couldn't be kept, and was only read
 abbrev pub KeepsNext : ℕ → Turn → Person → Person → Type 0
@@ -61,7 +61,7 @@ KeepsNext n JournalFailed v w = (e : Message) × (get_elem? v.seen v.own ≡ som
 -- or failed now.
 abbrev pub Journals : ℕ → Turn → Person → Person → Type 0
 Journals n (Did k) v w =
-    (k ≡ 1) × ((u : Person) × Ended n v u × ((e : Message) × (get_elem? u.seen u.own ≡ some e) × (w ≡ done (after_message n u e))))
+    (k ≡ 1) × ((u : Person) × Shown n v u × ((e : Message) × (get_elem? u.seen u.own ≡ some e) × (w ≡ done (after_message n u e))))
 Journals n Idle v w = NothingShown n v w
 Journals n Memory v w = ⊥
 Journals n JournalFailed v w = (w ≡ v) ⊎ OnlyRead n v w
