@@ -66,11 +66,17 @@ impl BookLogic {
 impl Logic for BookLogic {
     ghost use Rattle.fix_orders.specs.Reading.{reads};
     ghost use Rattle.venue_model.specs.Step.{requests, outputs};
+    ghost use Rattle.std.proofs.Common.{refl};
+    ghost use Rattle.fix_orders.specs.Text.{text_bytes};
     ghost use Rattle.venue_model.proofs.Bounds.{grows};
 
     ghost reads = { λ symbols sequence m. reads m.bytes };
 
     ghost outputs = { λ symbols h. outputs symbols (requests (λ sequence m. reads m.bytes) h) };
+
+    ghost text = { λ symbols o place. text_bytes o place };
+
+    ghost nothing = { λ symbols. refl };
 
     ghost grows = { grows (λ sequence m. reads m.bytes) };
 }

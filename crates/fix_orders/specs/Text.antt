@@ -1,8 +1,9 @@
 -- What an output says: MsgType, SendingTime and the body behind the header (docs/PROFILE.md, "Reports").
 use Rattle.std.specs.Prelude.{ℕ, ◌+◌, ◌/◌, ◌==◌, if◌then◌else◌, List, [], ◌∷◌, ◌++◌, codes, Option, Some, None}
 use Rattle.std.specs.Fmt.{decimal}
-use Rattle.fix_frame.specs.Grammar.{Field}
+use Rattle.fix_frame.specs.Grammar.{Field, print_fields}
 use Rattle.venue_model.specs.Orders.{leaves}
+use Rattle.venue_model.specs.Texts.{Text}
 use Rattle.venue_model.specs.declared.commands.Malformed.{Malformed}
 use Rattle.venue_model.specs.declared.commands.SessionRejectReason.{SessionRejectReason}
 use Rattle.venue_model.specs.declared.commands.SessionRejectReason.TheVariants.{RequiredTagMissing, TagNotDefined, ValueIncorrect, IncorrectFormat, TagAppearsMoreThanOnce}
@@ -21,6 +22,8 @@ use Rattle.venue_model.specs.declared.outputs.OrdRejReason.{OrdRejReason}
 use Rattle.venue_model.specs.declared.outputs.OrdRejReason.TheVariants.{BookFull, UnknownSymbol, DuplicateOrder}
 use Rattle.venue_model.specs.declared.outputs.OrderCancelReject.{OrderCancelReject}
 use Rattle.venue_model.specs.declared.outputs.Output.{Output}
+use Rattle.venue_model.specs.declared.outputs.OutputType.{OutputType}
+use Rattle.venue_model.specs.declared.outputs.OutputType.TheVariants as types
 use Rattle.venue_model.specs.declared.outputs.Report.{Report}
 use Rattle.venue_model.specs.declared.outputs.Report.TheVariants.{Exec, CancelReject, SessionReject}
 use Rattle.fix_orders.specs.Formats.{time_text}
@@ -192,4 +195,18 @@ text output place = record {
   kind = kind_of output.report;
   time = time_text output.sending_time;
   body = body_fields output.report (place + 1);
+}
+
+-- MsgType (35) of a report, as a type
+abbrev pub type_of : Report → OutputType
+type_of (Exec r) = types.ExecutionReport
+type_of (CancelReject r) = types.OrderCancelReject
+type_of (SessionReject fault) = types.Reject
+
+-- the same, as it goes through the rings: the body in bytes
+abbrev pub text_bytes : Output → ℕ → Text
+text_bytes output place = record {
+  msg_type = type_of output.report;
+  sending_time = output.sending_time;
+  body = print_fields (body_fields output.report (place + 1));
 }

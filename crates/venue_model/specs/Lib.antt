@@ -5,3 +5,4 @@ pub mod Orders
 pub mod Match
 pub mod Requests
 pub mod Step
+pub mod Texts

@@ -19,7 +19,7 @@ pub use logic::{Kept, Logic};
 pub use orders::{Order, Side};
 pub use outputs::{
     Cause, CxlRejReason, CxlRejResponseTo, ExecType, ExecutionReport, OrdRejReason,
-    OrderCancelReject, Output, Report,
+    OrderCancelReject, Output, OutputType, Report,
 };
 pub use symbol::Symbol;
 pub use symbols::{Limits, LimitsFault};

@@ -6,12 +6,19 @@ pub trait Logic {
     ghost use Rattle.venue_model.specs.History.{Message};
     ghost use Rattle.venue_model.specs.declared.commands.Command.{Command};
     ghost use Rattle.venue_model.specs.declared.outputs.Output.{Output};
+    ghost use Rattle.venue_model.specs.Texts.{Text};
 
     /// The command of the entry at this sequence.
     ghost reads: { Self → ℕ → Message → Command };
 
     /// All outputs of a history, in order.
     ghost outputs: { Self → List Message → List Output };
+
+    /// What the output at this place of the list of all outputs says to its client.
+    ghost text: { Self → Output → ℕ → Text };
+
+    /// Without entries there are no outputs.
+    ghost nothing: { (logic : Self) → outputs logic [] ≡ [] };
 
     /// A longer history's outputs begin with the shorter's, and one more entry adds at most 8,194.
     ghost grows: { (logic : Self) (h : List Message) (e : Message) →

@@ -82,6 +82,17 @@ pub enum Report {
     SessionReject(Malformed),
 }
 
+/// MsgType (35) of an output.
+#[derive(Clone, Copy, Debug, PartialEq, Eq)]
+pub enum OutputType {
+    /// 8.
+    ExecutionReport,
+    /// 9.
+    OrderCancelReject,
+    /// 3.
+    Reject,
+}
+
 /// Where outputs come from: the gateway (1 to 8) of a command, its sequence, and SendingTime (52) of its message
 /// as a number of 14 digits.
 #[derive(Clone, Copy)]
