@@ -2,3 +2,5 @@ pub mod Looks
 pub mod Gates
 pub mod Words
 pub mod CommandWords
+pub mod TextStores
+pub mod OutputReads

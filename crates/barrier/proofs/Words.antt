@@ -1,13 +1,10 @@
 -- The words of one message, and its bytes in the buffer.
-use Rattle.std.proofs.Common.{◌≡◌, ℕ, suc, ◌+◌, ◌-◌, ◌*◌, ◌/◌, ◌%◌, ◌<◌, ◌≤◌, List, [], ◌∷◌, ◌++◌, length, take, get_or, sym, ap, subst, ◌∙◌, arith, append_assoc, length-append, length-drop, drop}
-use Rattle.std.proofs.lemmas.List.{ext_get_or, get_or-take, get_or_append_left, get_or-append_right, length-take-le}
-use Rattle.std.proofs.lemmas.Slice.{take-put_mid}
+use Rattle.std.proofs.Common.{◌≡◌, ℕ, suc, ◌+◌, ◌*◌, ◌/◌, ◌<◌, ◌≤◌, List, [], ◌∷◌, ◌++◌, length, take, get_or, sym, ap, subst, ◌∙◌, arith, append_assoc}
+use Rattle.std.proofs.lemmas.List.{ext_get_or, get_or-take, length-take-le}
 use Rattle.std.specs.Int.{div_ceil, to_be_bytes}
-use native.Mathlib.Decide.{dec_lt}
 use mathlib.Core.Option.{some, some-injective}
 use mir.Syntax.{w64}
 use lib.ListN.{get_elem?}
-use borrow.Rule.Slice.PartMut.{put_mid, post_of}
 use Rattle.venue_model.specs.History.{Message}
 use Rattle.ring_words.specs.declared.view.View.{View}
 use Rattle.ring_words.specs.declared.view.Load.{Load}
@@ -16,7 +13,7 @@ use Rattle.ring_words.specs.Log.{IsEntry}
 use Rattle.ring_words.specs.Raw.{eight, raw_word, raw_count}
 use Rattle.ring_words.specs.Seats.{person, alone, load_of, looked}
 use Rattle.ring_words.proofs.Logs.{stands}
-use Rattle.ring_words.proofs.Raws.{word_bytes, byte_at}
+use Rattle.ring_words.proofs.Raws.{word_bytes}
 use Rattle.ring_words.specs.declared.raw.Raw.{Raw}
 use Rattle.barrier.specs.Reading.{IsHead, Reads, word_loads, after_loads}
 
@@ -55,44 +52,6 @@ still n v u s k e after at = subst (λ (y : View _). get_elem? (person y).seen s
 -- what the message has of words that the loop reads
 pub in_message : (e : Message) (r : Raw) (i last : ℕ) → IsHead e r → last ≡ div_ceil r.len 8 → i < last → (i + 1 < raw_count e) × (8 * i + 8 ≤ 320)
 in_message e r i last h ends lt = let len = h.len in let most = h.entry.message.most in (omega arith, omega arith)
-
--- eight bytes more are in the buffer
-pub bytes_more : (buf ys bs : List ℕ) (i k : ℕ) → length buf ≡ 320 → 8 * i + 8 ≤ 320
-    → ((j : ℕ) → j < 8 * i → get_or buf j 0 ≡ get_or bs j 0) → ys ≡ eight bs i
-    → (j : ℕ) → j < 8 * (i + 1) → get_or (put_mid (8 * i) k buf ys) j 0 ≡ get_or bs j 0
-bytes_more buf ys bs i k long fits before is j low =
-    sym (get_or-take (8 * (i + 1)) (put_mid (8 * i) k buf ys) j 0 low) ∙ ap (λ (l : List ℕ). get_or l j 0) front ∙ by_place (dec_lt j (8 * i)) where
-      eight_long : length ys ≡ 8
-      eight_long = ap (λ (l : List ℕ). length l) is
-
-      front : take (8 * (i + 1)) (put_mid (8 * i) k buf ys) ≡ take (8 * i) buf ++ ys
-      front = let eight_is = eight_long in take-put_mid (8 * i) k buf ys (8 * (i + 1)) (omega arith) (omega arith)
-
-      length_before : length (take (8 * i) buf) ≡ 8 * i
-      length_before = length-take-le (8 * i) buf (omega arith)
-
-      same_word : 8 * i ≤ j → eight bs i ≡ eight bs (j / 8)
-      same_word from = ap (eight bs) (let g : i ≡ j / 8 = omega arith in g)
-
-      same_place : 8 * i ≤ j → j - 8 * i ≡ j % 8
-      same_place from = omega arith
-
-      by_place : Dec (j < 8 * i) → get_or (take (8 * i) buf ++ ys) j 0 ≡ get_or bs j 0
-      by_place (yes lt) = let before_is = length_before in get_or_append_left (take (8 * i) buf) ys 0 j (omega arith) ∙ get_or-take (8 * i) buf j 0 lt ∙ before j lt
-      by_place (no ge) = let from : 8 * i ≤ j = omega arith in
-          get_or-append_right (take (8 * i) buf) ys (8 * i) j 0 length_before from
-          ∙ (λ h. get_or ((is ∙ same_word from) h) (same_place from h) 0) ∙ byte_at bs j
-
--- the buffer keeps its length
-pub length_kept : (buf ys bs : List ℕ) (i k : ℕ) → length buf ≡ 320 → 8 * i + 8 ≤ 320 → ys ≡ eight bs i → k ≡ 8 → length (put_mid (8 * i) k buf ys) ≡ 320
-length_kept buf ys bs i k long fits is k_is =
-    let eight_long : length ys ≡ 8 = ap (λ (l : List ℕ). length l) is in
-    let before : length (take (8 * i) buf) ≡ 8 * i = length-take-le (8 * i) buf (omega arith) in
-    let behind : length (post_of (8 * i) k buf) ≡ length (drop (8 * i) buf) - k = length-drop k (drop (8 * i) buf) in
-    let from : length (drop (8 * i) buf) ≡ length buf - 8 * i = length-drop (8 * i) buf in
-    let both : length (ys ++ post_of (8 * i) k buf) ≡ length ys + length (post_of (8 * i) k buf) = length-append ys (post_of (8 * i) k buf) in
-    let whole : length (put_mid (8 * i) k buf ys) ≡ length (take (8 * i) buf) + length (ys ++ post_of (8 * i) k buf) = length-append (take (8 * i) buf) (ys ++ post_of (8 * i) k buf) in
-    omega arith
 
 -- the bytes of the word that was loaded
 pub loaded_bytes : (e : Message) (i x : ℕ) (ys zs : List ℕ) → (x ≡ raw_word e (i + 1)) × IsEntry e → zs ≡ to_be_bytes w64 x → ys ≡ zs → ys ≡ eight e.bytes i

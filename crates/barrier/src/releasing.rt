@@ -2,13 +2,13 @@
 ghost use Rattle.std.specs.Prelude.{◌≡◌, ◌≤◌, suc, length, take};
 ghost use Rattle.venue_model.specs.History.{Message};
 ghost use Rattle.ring_words.specs.Seats.{person, alone, moved};
-ghost use Rattle.ring_words.specs.Steps.{WroteCommand};
+ghost use Rattle.ring_words.specs.Steps.{WroteCommand, HasPublished};
 
 use ring_words::{JournalSeat, ProcessSeat, Rings, UnmarshalSeat};
 use venue_model::{Kept, Logic};
 
 /// Gives the rows of all sequences below `upto` back to the gateways (Disruptor paper, "Sequencing": the sequence by which
-/// a consumer says how far it is). From then on the seat reads none of them.
+/// a consumer says how far it is), when all their outputs are published. From then on the seat reads none of them.
 pub fn release<L: Logic, const N: usize, const M: usize, const G: usize>(
     rings: &Rings<L, N, M, G>,
     seat: &mut ProcessSeat<L>,
@@ -17,6 +17,7 @@ pub fn release<L: Logic, const N: usize, const M: usize, const G: usize>(
     requires table { seat.old.seat.table_id ≡ rings.now.table.shared.table_id }
     requires from { (person seat.old.seat.me.0).own ≤ upto }
     requires to { upto ≤ length (person seat.old.seat.me.0).seen }
+    requires outputs { (logic : L) × HasPublished L.outputs seat.old.seat.me.0 logic upto }
     ensures table { seat.new.seat.table_id ≡ seat.old.seat.table_id }
     ensures view { seat.new.seat.me.0 ≡ alone seat.old.seat.me.0 (moved (person seat.old.seat.me.0) upto) }
 {

@@ -15,25 +15,14 @@ last_one : {A : Type 0} (l : List A) (a : A) → get_elem? (l ++ a ∷ []) (leng
 last_one [] a = refl
 last_one (x ∷ l) a = last_one l a
 
--- what stands in the first elements stands in all
-taken : {A : Type 0} (n : ℕ) (l : List A) (i : ℕ) (a : A) → get_elem? (take n l) i ≡ some a → get_elem? l i ≡ some a
-taken zero l i a at = absurd (some-ne-none a (sym at))
-taken (suc n) [] i a at = absurd (some-ne-none a (sym at))
-taken (suc n) (x ∷ l) zero a at = at
-taken (suc n) (x ∷ l) (suc i) a at = taken n l i a at
-
 module _ {A : Type 0} (P : ℕ → A → Type 0) where
-  -- a fact of each seat and its place is one of the last seat, of those before it, and of the first ones
+  -- a fact of each seat and its place is one of the last seat, and of those before it
   pub of_last : (all front : List A) (a : A) → all ≡ front ++ a ∷ [] → ((i : ℕ) (x : A) → get_elem? all i ≡ some x → P i x) → P (length front) a
   of_last all front a is each = each (length front) a (subst (λ (l : List A). get_elem? l (length front) ≡ some a) (sym is) (last_one front a))
 
   pub of_front : (all front back : List A) → all ≡ front ++ back → ((i : ℕ) (x : A) → get_elem? all i ≡ some x → P i x)
       → (i : ℕ) (x : A) → get_elem? front i ≡ some x → P i x
   of_front all front back is each i x at = each i x (subst (λ (l : List A). get_elem? l i ≡ some x) (sym is) (stays front back i x at))
-
-  pub of_first : (all first : List A) (n : ℕ) → first ≡ take n all → ((i : ℕ) (x : A) → get_elem? all i ≡ some x → P i x)
-      → (i : ℕ) (x : A) → get_elem? first i ≡ some x → P i x
-  of_first all first n is each i x at = each i x (taken n all i x (subst (λ (l : List A). get_elem? l i ≡ some x) is at))
 
 -- the rings have a right size
 pub right_size : (ring_size 1024 && ring_size 1024) ≡ true

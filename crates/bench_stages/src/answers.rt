@@ -1,79 +1,66 @@
-//! What the processor answered, counted.
-ghost use Rattle.std.specs.Prelude.{◌≡◌, count_by, length};
-ghost use Rattle.bench_stages.specs.Answers.{is_accepted, is_canceled, orders_due, cancels_due};
+//! What the outputs that a gateway took say, counted.
+ghost use Rattle.std.specs.Prelude.{◌≡◌, ℕ, ◌+◌, ◌/◌, ◌^◌, ◌<◌, ◌≤◌, ◌∷◌, ◌==◌, [], Some, count_by, slice_get};
+ghost use Rattle.std.specs.List.{slice_split};
+ghost use Rattle.std.specs.Option.{option_map};
+ghost use Rattle.fix_frame.specs.Ascii.{soh};
+ghost use Rattle.venue_model.specs.declared.outputs.Output.{Output};
+ghost use Rattle.bench_stages.specs.Answers.{is_accepted, is_canceled, reports, due, Tells};
 
 use crate::words::Task;
-use venue_model::{ExecType, Output, Report};
+use sequencer::Head;
+use venue_model::OutputType;
 
-/// How many outputs there are, how many of them say that an order was accepted, and how many that one was canceled.
+/// The byte that ends each field.
+const SOH: u8 = 1;
+
+/// The field at this place of a body, from 0, without its SOH.
+fn field_at(body: &[u8], place: usize) -> Option<&[u8]>
+    ensures { option_map (λ field. field.now) result ≡ slice_get (slice_split (λ b. b == soh) body.now) place }
+{
+    body.split(|byte| *byte == SOH).nth(place)
+}
+
+/// Whether the text is an execution report with this ExecType (150): the third field, behind OrderID (37) and ExecID (17).
+fn is_event(head: &Head, body: &[u8], exec_type: &[u8]) -> bool
+    ensures { (o : Output) (place : ℕ) → Tells head.now body.now o place → result ≡ reports exec_type.now o.report }
+{
+    match head.msg_type {
+        OutputType::ExecutionReport => field_at(body, 2) == Some(exec_type),
+        OutputType::OrderCancelReject | OutputType::Reject => false,
+    }
+}
+
+/// How many outputs say that an order was accepted, and how many that one was canceled.
 #[derive(Clone, Copy, Debug, PartialEq, Eq)]
 pub struct Answers {
-    pub all: u64,
     pub accepted: u64,
     pub canceled: u64,
 }
 
-/// Whether the output says that an order was accepted.
-fn is_accepted(output: &Output) -> bool
-    ensures { result ≡ is_accepted output.now }
-{
-    match &output.report {
-        Report::Exec(report) => matches!(&report.exec_type, ExecType::New),
-        Report::CancelReject(_) | Report::SessionReject(_) => false,
-    }
-}
-
-/// Whether the output says that an order was canceled.
-fn is_canceled(output: &Output) -> bool
-    ensures { result ≡ is_canceled output.now }
-{
-    match &output.report {
-        Report::Exec(report) => matches!(&report.exec_type, ExecType::Canceled { .. }),
-        Report::CancelReject(_) | Report::SessionReject(_) => false,
-    }
-}
-
 impl Answers {
-    /// The counts of these outputs.
-    pub fn of(outputs: &[Output]) -> Answers
-        ensures all { result.all ≡ length outputs.now }
-        ensures accepted { result.accepted ≡ count_by is_accepted outputs.now }
-        ensures canceled { result.canceled ≡ count_by is_canceled outputs.now }
+    /// Counts one output more, by its text.
+    pub fn count(&mut self, head: &Head, body: &[u8])
+        requires few { (self.old.accepted < 2 ^ 63) × (self.old.canceled < 2 ^ 63) }
+        ensures accepted { (o : Output) (place : ℕ) → Tells head.now body.now o place → self.new.accepted ≡ self.old.accepted + count_by is_accepted (o ∷ []) }
+        ensures canceled { (o : Output) (place : ℕ) → Tells head.now body.now o place → self.new.canceled ≡ self.old.canceled + count_by is_canceled (o ∷ []) }
     {
-        let mut accepted = 0;
-        let mut canceled = 0;
-        for output in outputs {
-            if is_accepted(output) {
-                accepted += 1;
-            }
-            if is_canceled(output) {
-                canceled += 1;
-            }
+        if is_event(head, body, b"150=0") {
+            self.accepted += 1;
         }
-        Answers {
-            all: outputs.len() as u64,
-            accepted,
-            canceled,
+        if is_event(head, body, b"150=4") {
+            self.canceled += 1;
         }
     }
 
-    /// The counts that are due: each command has one output, and each gateway buys and cancels by turns.
-    pub fn due(task: &Task) -> Answers
-        ensures all { result.all ≡ task.now.commands }
-        ensures accepted { result.accepted ≡ orders_due task.now.commands task.now.gateways task.now.gateways }
-        ensures canceled { result.canceled ≡ cancels_due task.now.commands task.now.gateways task.now.gateways }
+    /// What is due to this gateway, which buys and cancels by turns.
+    pub fn due(task: &Task, gateway: u64) -> Answers
+        requires { (1 ≤ gateway) × (gateway ≤ 8) }
+        ensures { result ≡ due task.now.commands task.now.gateways gateway }
     {
-        let mut accepted = 0;
-        let mut canceled = 0;
-        for gateway in 0..task.gateways {
-            let share = task.share(gateway + 1);
-            accepted += share.div_ceil(2);
-            canceled += share / 2;
-        }
+        let share = task.share(gateway);
         Answers {
-            all: task.commands,
-            accepted,
-            canceled,
+            accepted: share.div_ceil(2),
+            canceled: share / 2,
         }
     }
 }

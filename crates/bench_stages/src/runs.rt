@@ -1,39 +1,54 @@
 //! Runs of the whole path: with a thread for each worker, and with all workers by turns on one thread.
-ghost use Rattle.std.specs.Prelude.{◌≡◌, ◌+◌, IfSome, IsTrue};
+ghost use Rattle.std.specs.Prelude.{◌≡◌, ◌+◌, ◌<◌, vec_len, IfOk, IsTrue};
 ghost use Rattle.std.specs.Thread.{IsSync};
 ghost use Rattle.ring_words.specs.Seats.{person};
 
+use crate::fault::Fault;
 use crate::gateway::Gateway;
-use crate::path::Path;
-use crate::stations::{Journalling, Processing, Unmarshalling};
+use crate::path::{Path, Stages};
+use crate::stations::{Journalling, Marshalling, Processing, Unmarshalling};
+use crate::words::Task;
 use crate::worker::{Worker, work};
 use stages::Processor;
 use std::thread::{Threads, join};
 
-/// Lets each gateway publish all its messages on a thread of its own.
-fn publish<R: Threads + Sync>(rt: &R, mut gateways: Vec<Gateway<'_>>) -> Option<()> {
+/// Lets the gateway publish all its messages and take the outputs of all commands, and looks whether those that it took are due.
+fn trade<const G: usize>(gateway: Gateway<'_, G>, task: Task) -> Result<(), Fault> {
+    let turns = gateway.turns(task.commands);
+    let gateway = work(gateway, turns)?;
+    if !gateway.is_answered(&task) {
+        return Err(Fault::Wrong);
+    }
+    Ok(())
+}
+
+/// Lets each gateway do that on a thread of its own.
+fn serve<R: Threads + Sync, const G: usize>(
+    rt: &R,
+    mut gateways: Vec<Gateway<'_, G>>,
+    task: Task,
+) -> Result<(), Fault> {
     let Some(gateway) = gateways.pop() else {
-        return Some(());
+        return Ok(());
     };
-    let count = gateway.count();
     let (one, others) = join(
         rt,
-        move || work(gateway, count),
-        move || -> Option<()>
+        move || trade(gateway, task),
+        move || -> Result<(), Fault>
             requires { IsSync R.row }
-        { publish(rt, gateways) },
+        { serve(rt, gateways, task) },
     );
     one?;
     others
 }
 
 /// Lets unmarshaller and journaller do so many sequences, each on a thread of its own.
-fn read<'a, R: Threads + Sync>(
+fn read<'a, R: Threads + Sync, const G: usize>(
     rt: &R,
-    unmarshalling: Unmarshalling<'a>,
-    journalling: Journalling<'a>,
+    unmarshalling: Unmarshalling<'a, G>,
+    journalling: Journalling<'a, G>,
     commands: u64,
-) -> Option<()> {
+) -> Result<(), Fault> {
     let (unmarshalled, journalled) = join(
         rt,
         move || work(unmarshalling, commands),
@@ -41,100 +56,126 @@ fn read<'a, R: Threads + Sync>(
     );
     unmarshalled?;
     journalled?;
-    Some(())
-}
-
-/// Lets all workers but the processor do what they are to do, each on a thread of its own.
-fn supply<'a, R: Threads + Sync>(
-    rt: &R,
-    gateways: Vec<Gateway<'a>>,
-    unmarshalling: Unmarshalling<'a>,
-    journalling: Journalling<'a>,
-    commands: u64,
-) -> Option<()> {
-    let (published, read) = join(
-        rt,
-        move || -> Option<()>
-            requires { IsSync R.row }
-        { publish(rt, gateways) },
-        move || -> Option<()>
-            requires { IsSync R.row }
-        { read(rt, unmarshalling, journalling, commands) },
-    );
-    published?;
-    read
+    Ok(())
 }
 
 /// Lets the processor do so many commands, and gives it back.
-fn process(processing: Processing<'_>, commands: u64) -> Option<Processor>
-    ensures { IfSome result (λ p. (person p.seat.seat.me.0).own ≡ (person processing.entry.stage.seat.seat.me.0).own + commands) }
+fn process<const G: usize>(processing: Processing<'_, G>, commands: u64) -> Result<Processor, Fault>
+    ensures { IfOk result (λ p. (person p.seat.seat.me.0).own ≡ (person processing.entry.stage.seat.seat.me.0).own + commands) }
 {
     let Processing { stage, .. } = work(processing, commands)?;
-    Some(stage)
+    Ok(stage)
 }
 
-/// Lets all workers of the path do so many commands, each on a thread of its own, and gives the processor back; none where one
-/// found nothing to do for too long.
-pub fn run_on_threads<R: Threads + Sync>(
+/// Lets the processor do so many commands and the marshaller as many outputs, each on a thread of its own, and gives the processor back.
+fn answer<'a, R: Threads + Sync, const G: usize>(
     rt: &R,
-    path: Path<'_>,
+    processing: Processing<'a, G>,
+    marshalling: Marshalling<'a, G>,
     commands: u64,
-) -> Option<Processor> {
-    let Path {
-        gateways,
-        unmarshalling,
-        journalling,
-        processing,
-    } = path;
-    let (supplied, processed) = join(
+) -> Result<Processor, Fault> {
+    let (marshalled, processed) = join(
         rt,
-        move || -> Option<()>
-            requires { IsSync R.row }
-        { supply(rt, gateways, unmarshalling, journalling, commands) },
+        move || work(marshalling, commands),
         move || process(processing, commands),
     );
-    supplied?;
+    marshalled?;
     processed
 }
 
-/// Brings the next message of the gateway through all stages, and says whether that went well.
-fn pass(
-    gateway: &mut Gateway<'_>,
-    unmarshalling: &mut Unmarshalling<'_>,
-    journalling: &mut Journalling<'_>,
-    processing: &mut Processing<'_>,
-) -> bool
-    ensures { IsTrue result → (person processing.new.stage.seat.seat.me.0).own ≡ (person processing.old.stage.seat.seat.me.0).own + 1 }
-{
-    gateway.turn() && unmarshalling.turn() && journalling.turn() && processing.turn()
+/// Lets all stages do so many commands, each on a thread of its own, and gives the processor back.
+fn run_stages<'a, R: Threads + Sync, const G: usize>(
+    rt: &R,
+    stages: Stages<'a, G>,
+    commands: u64,
+) -> Result<Processor, Fault> {
+    let Stages {
+        unmarshalling,
+        journalling,
+        processing,
+        marshalling,
+    } = stages;
+    let (were_read, answered) = join(
+        rt,
+        move || -> Result<(), Fault>
+            requires { IsSync R.row }
+        { read(rt, unmarshalling, journalling, commands) },
+        move || -> Result<Processor, Fault>
+            requires { IsSync R.row }
+        { answer(rt, processing, marshalling, commands) },
+    );
+    were_read?;
+    answered
 }
 
-/// Lets the workers of the path do so many commands on this thread, one after another, each command of the next gateway, and gives
-/// the processor back; none where one found nothing to do.
-pub fn run_on_one_thread(path: Path<'_>, commands: u64) -> Option<Processor>
-    ensures { IfSome result (λ p. (person p.seat.seat.me.0).own ≡ (person path.entry.processing.stage.seat.seat.me.0).own + commands) }
+/// Lets all workers of the path do the task, each on a thread of its own, and gives the processor back.
+pub fn run_on_threads<R: Threads + Sync, const G: usize>(
+    rt: &R,
+    path: Path<'_, G>,
+    task: &Task,
+) -> Result<Processor, Fault> {
+    let Path { gateways, stages } = path;
+    let task = *task;
+    let (served, processed) = join(
+        rt,
+        move || -> Result<(), Fault>
+            requires { IsSync R.row }
+        { serve(rt, gateways, task) },
+        move || -> Result<Processor, Fault>
+            requires { IsSync R.row }
+        { run_stages(rt, stages, task.commands) },
+    );
+    served?;
+    processed
+}
+
+/// Brings the next message of the gateway at this place through all stages, and what comes of it to all gateways, and says whether that
+/// went well.
+fn pass<const G: usize>(
+    gateways: &mut Vec<Gateway<'_, G>>,
+    stages: &mut Stages<'_, G>,
+    place: usize,
+) -> bool
+    requires { place < vec_len gateways.old }
+    ensures all { vec_len gateways.new ≡ vec_len gateways.old }
+    ensures done { IsTrue result → (person stages.new.processing.stage.seat.seat.me.0).own ≡ (person stages.old.processing.stage.seat.seat.me.0).own + 1 }
+{
+    if !gateways[place].turn() || !stages.turn() {
+        return false;
+    }
+    let mut all = true;
+    for gateway in 0..gateways.len() {
+        all = all && gateways[gateway].turn();
+    }
+    all
+}
+
+/// Lets the workers of the path do the task on this thread, one command after another, each of the next gateway, and gives the processor
+/// back.
+pub fn run_on_one_thread<const G: usize>(path: Path<'_, G>, task: &Task) -> Result<Processor, Fault>
+    ensures { IfOk result (λ p. (person p.seat.seat.me.0).own ≡ (person path.entry.stages.processing.stage.seat.seat.me.0).own + task.now.commands) }
 {
     let Path {
         mut gateways,
-        mut unmarshalling,
-        mut journalling,
-        mut processing,
+        mut stages,
     } = path;
     let count = gateways.len() as u64;
     if count == 0 {
-        return None;
+        return Err(Fault::Usage);
     }
-    for command in 0..commands {
-        let gateway = &mut gateways[(command % count) as usize];
-        if !pass(
-            gateway,
-            &mut unmarshalling,
-            &mut journalling,
-            &mut processing,
-        ) {
-            return None;
+    for command in 0..task.commands {
+        if !pass(&mut gateways, &mut stages, (command % count) as usize) {
+            return Err(Fault::GaveUp);
         }
     }
-    let Processing { stage, .. } = processing;
-    Some(stage)
+    for gateway in &gateways {
+        if !gateway.is_answered(task) {
+            return Err(Fault::Wrong);
+        }
+    }
+    let Stages {
+        processing: Processing { stage, .. },
+        ..
+    } = stages;
+    Ok(stage)
 }

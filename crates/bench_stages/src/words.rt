@@ -4,7 +4,7 @@ ghost use Rattle.bench_stages.specs.Answers.{share};
 
 use crate::fault::Fault;
 
-/// How many commands are measured at most: each takes some 500 bytes of memory.
+/// How many commands are measured at most: the message of each takes some 340 bytes of memory.
 pub const MOST_COMMANDS: u64 = 10_000_000;
 
 /// What is measured.

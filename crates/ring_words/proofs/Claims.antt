@@ -11,7 +11,7 @@ use Rattle.ring_words.specs.declared.view.Role.{Role}
 use Rattle.ring_words.specs.declared.view.Role.TheVariants.{Process, Unmarshal, Journal, Marshal, Gateway}
 use Rattle.ring_words.specs.declared.view.Person.{Person}
 use Rattle.ring_words.specs.declared.view.View.{View}
-use Rattle.ring_words.specs.Places.{processed, claim, unmarshalled, journalled, taken, first_row, in_row, place_of, number_of}
+use Rattle.ring_words.specs.Places.{processed, claim, unmarshalled, journalled, taken, published, first_row, in_row, out_row, place_of, number_of}
 use Rattle.ring_words.specs.Log.{IsEntry, Status, unclaimed, old, claimed, sent, Log, entry_of, sends_of, claims_of, sent_at, times}
 use Rattle.ring_words.specs.Raw.{raw_count, raw_word}
 use Rattle.ring_words.specs.Packing.{IsPackable}
@@ -23,6 +23,7 @@ use Rattle.ring_words.proofs.Windows.{no_control}
 use Rattle.ring_words.proofs.Puts.{put, put_else, by_put, word_here, word_else}
 use Rattle.ring_words.proofs.Logs.{within, depth_risen, knows_looked}
 use Rattle.ring_words.proofs.Keeps.{mine, after}
+use Rattle.ring_words.proofs.Outgoings.{outgoing_stays, no_output}
 use Rattle.ring_words.proofs.Stores.{risen}
 use Rattle.ring_words.proofs.Loads.{Goes, looks}
 
@@ -63,10 +64,11 @@ claimed_by j k e = cc
 
 -- what is known stays where a sequence of nobody's is claimed by another gateway, no control word falls and no row word changes
 knows_claimed : {L : Type 0} (terms : Terms L) (w w' : ℕ → ℕ) (log : Log) (a k : ℕ) (p : Person) → log.status a ≡ unclaimed → ((i : ℕ) → i < first_row → w i ≤ w' i)
-    → ((s i : ℕ) → w' (in_row terms.rows s i) ≡ w (in_row terms.rows s i)) → w' (place_of p.role) ≡ w (place_of p.role) → (claims' : List ℕ)
+    → ((s i : ℕ) → w' (in_row terms.rows s i) ≡ w (in_row terms.rows s i)) → ((q i : ℕ) → w' (out_row terms.rows terms.output_rows q i) ≡ w (out_row terms.rows terms.output_rows q i))
+    → w' published ≡ w published → w' (place_of p.role) ≡ w (place_of p.role) → (claims' : List ℕ)
     → ((s : ℕ) → times s claims' ≡ claims_of (number_of p.role) (put log.status a (claimed k) s))
     → Knows terms w log p → Knows terms w' (record log { status = put log.status a (claimed k) }) (record p { claims = claims' })
-knows_claimed terms w w' log a k p free risen same is claims' counted r = record {
+knows_claimed terms w w' log a k p free risen same outside published_is is claims' counted r = record {
   role = r.role;
   front = λ s e at. by_put log.status a s (claimed k) (λ (x : Status). entry_of x ≡ some e) (λ here. absurd (nothing_there (log.status s) e (ap log.status here ∙ free) (r.front s e at))) (λ _. r.front s e at);
   depth = depth_risen w w' risen p.role (length p.seen) r.depth;
@@ -76,11 +78,11 @@ knows_claimed terms w w' log a k p free risen same is claims' counted r = record
   loads = λ i l at low. (let x = r.loads i l at low in let y = risen l.place low in omega arith);
   part = part_stays p.role r.part;
 } where
-  part_stays : (role : Role) → PartOf terms.rows w log role p.part → PartOf terms.rows w' (record log { status = put log.status a (claimed k) }) role p.part
-  part_stays Process h = tt
+  part_stays : (role : Role) → PartOf terms.rows terms.output_rows w log role p.part → PartOf terms.rows terms.output_rows w' (record log { status = put log.status a (claimed k) }) role p.part
+  part_stays Process h = (h.0 ∙ sym published_is, λ i x at. let t = h.1 i x at in (t.0, outside p.part.sequence i ∙ t.1))
   part_stays Unmarshal h = λ i x at. let t = h i x at in (t.0, same p.part.sequence (i + 48) ∙ t.1)
   part_stays Journal h = tt
-  part_stays Marshal h = tt
+  part_stays Marshal h = λ i x at. let t = h i x at in (t.0, outside p.part.sequence (i + 64) ∙ t.1)
   part_stays (Gateway j) h = λ i x at. let t = h i x at in (t.0, by_put log.status a p.part.sequence (claimed k) (λ (y : Status). y ≡ claimed j) (λ here. absurd (not_claimed j (sym t.1 ∙ ap log.status here ∙ free))) (λ _. t.1), same p.part.sequence (i + 1) ∙ t.2)
 
 module _ {L : Type 0} (S : Type 0) (terms : Terms L) where
@@ -96,6 +98,9 @@ module _ {L : Type 0} (S : Type 0) (terms : Terms L) where
       let here : w' claim ≡ a + 1 = word_here ws 8 (a + 1) inside in let zero_is : w' processed ≡ w processed = word_else ws 8 0 (a + 1) (λ (e : 0 ≡ 8). omega arith) in
       let unmarshalled_is : w' unmarshalled ≡ w unmarshalled = word_else ws 8 16 (a + 1) (λ (e : 16 ≡ 8). omega arith) in let journalled_is : w' journalled ≡ w journalled = word_else ws 8 24 (a + 1) (λ (e : 24 ≡ 8). omega arith) in
       let same : (t i : ℕ) → w' (in_row terms.rows t i) ≡ w (in_row terms.rows t i) = λ t i. word_else ws 8 (in_row terms.rows t i) (a + 1) (no_control terms.rows t i 8 (omega arith)) in
+      let outside : (q i : ℕ) → w' (out_row terms.rows terms.output_rows q i) ≡ w (out_row terms.rows terms.output_rows q i) =
+      λ q i. word_else ws 8 (out_row terms.rows terms.output_rows q i) (a + 1) (no_output terms.rows terms.output_rows q i 8 (let n : ℕ = terms.rows in omega arith)) in
+      let published_is : w' published ≡ w published = word_else ws 8 104 (a + 1) (λ (e : 104 ≡ 8). omega arith) in
       let rises : (i : ℕ) → i < first_row → w i ≤ w' i = λ i _. risen ws 8 (a + 1) i inside (let g : a ≤ a + 1 = omega arith in g) in
       let order = r.order in let first = order.processed_unmarshalled in let second = order.processed_journalled in let third = order.unmarshalled_claimed in let fourth = order.journalled_claimed in let start = r.logged.start in
       let seen_room : a + 1 ≤ w processed + terms.rows = (let l = room.1.0 in let low : l.value ≤ w processed = subst (λ (i : ℕ). l.value ≤ w i) room.1.2 (knows.loads room.0 l room.1.1 (let i : ℕ = l.place in let i_is : i ≡ 0 = room.1.2 in omega arith)) in let lt = room.1.3 in omega arith) in
@@ -103,7 +108,7 @@ module _ {L : Type 0} (S : Type 0) (terms : Terms L) where
       let log' : Log = record r.log { status = put status a (claimed k) } in
       let gateway : IsGateway terms.gateways k = subst (IsRole terms.gateways) role knows.role in let lo : 1 ≤ k = gateway.0 in
       after S terms s r ws' id me.0 p (with_claim (looked p claim a) a) at one refl (length-set ws 8 (a + 1)) log'
-      record { processed_unmarshalled = omega arith; processed_journalled = omega arith; unmarshalled_claimed = omega arith; journalled_claimed = omega arith; room = omega arith; most = omega arith; silent = (word_else ws 8 32 (a + 1) (λ (e : 32 ≡ 8). omega arith) ∙ r.order.silent.0, word_else ws 8 104 (a + 1) (λ (e : 104 ≡ 8). omega arith) ∙ r.order.silent.1) }
+      record { processed_unmarshalled = omega arith; processed_journalled = omega arith; unmarshalled_claimed = omega arith; journalled_claimed = omega arith; room = omega arith; most = omega arith }
       record {
         start = omega arith;
         based = λ t e there. (let early = within terms.base t e there in put_else status a t (claimed k) (λ (is : t ≡ a). omega arith) ∙ r.logged.based t e there);
@@ -133,14 +138,17 @@ module _ {L : Type 0} (S : Type 0) (terms : Terms L) where
             (λ _ is below le i x there. same t (i + 48) ∙ r.rows.commands t e is (subst (λ (y : ℕ). t < y) unmarshalled_is below)
             (let reach : a + 1 ≤ t + terms.rows = subst (λ (y : ℕ). y ≤ t + terms.rows) here le in let g : a ≤ t + terms.rows = omega arith in g) i x there);
       }
-      (knows_claimed terms w w' r.log a k (looked p claim a) free rises same (ap (λ (z : Role). w' (place_of z)) role ∙ word_else ws 8 (taken k) (a + 1) (λ (e : 32 + 8 * k ≡ 8). omega arith) ∙ sym (ap (λ (z : Role). w (place_of z)) role))
+      (outgoing_stays terms w w' r.log log' r.few refl
+      (λ t e at. ap entry_of (put_else status a t (claimed k) (λ (eq : t ≡ a). nothing_there (status t) e (ap status eq ∙ free) (r.outgoing.front t e at))) ∙ r.outgoing.front t e at)
+      zero_is journalled_is (λ c from to. word_else ws 8 c (a + 1) (λ (e : c ≡ 8). omega arith)) outside r.outgoing)
+      (knows_claimed terms w w' r.log a k (looked p claim a) free rises same outside published_is (ap (λ (z : Role). w' (place_of z)) role ∙ word_else ws 8 (taken k) (a + 1) (λ (e : 32 + 8 * k ≡ 8). omega arith) ∙ sym (ap (λ (z : Role). w (place_of z)) role))
       (a ∷ p.claims)
       (λ t. by_put status a t (claimed k) (λ (x : Status). times t (a ∷ p.claims) ≡ claims_of (number_of p.role) x)
       (λ (is : t ≡ a). cond-true (eqb a t) (suc (times t p.claims)) (times t p.claims) (eq-eqb a t (sym is)) ∙ ap suc (knows.claims t ∙ ap (claims_of (number_of p.role)) (ap status is ∙ free))
       ∙ sym (cond-true (eqb k (number_of p.role)) 1 0 (eq-eqb k (number_of p.role) (sym (ap number_of role)))))
       (λ (ne : t ≢ a). cond-false (eqb a t) (suc (times t p.claims)) (times t p.claims) (ne_eqb a t (λ e. ne (sym e))) ∙ knows.claims t))
       known)
-      (λ o apart_from kn. knows_claimed terms w w' r.log a k o free rises same (word_else ws 8 (place_of o.role) (a + 1) (not_claim o.role)) o.claims
+      (λ o apart_from kn. knows_claimed terms w w' r.log a k o free rises same outside published_is (word_else ws 8 (place_of o.role) (a + 1) (not_claim o.role)) o.claims
       (λ t. by_put status a t (claimed k) (λ (x : Status). times t o.claims ≡ claims_of (number_of o.role) x)
       (λ (is : t ≡ a). kn.claims t ∙ ap (claims_of (number_of o.role)) (ap status is ∙ free)
       ∙ sym (cond-false (eqb k (number_of o.role)) 1 0 (ne_eqb k (number_of o.role) (λ e. other_number o.role k lo (λ z. apart_from (z ∙ sym (ap place_of role))) (sym e)))))

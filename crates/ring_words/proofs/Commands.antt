@@ -1,20 +1,21 @@
 -- A store of a command word keeps the rule: the unmarshaller alone writes there, and no command that may be read lies there.
-use Rattle.std.proofs.Common.{◌≡◌, ◌≢◌, ℕ, zero, suc, ◌+◌, ◌-◌, ◌%◌, ◌<◌, ◌≤◌, List, [], ◌∷◌, ◌++◌, ⊎_elim, length, length-set, take, get_or, set, refl, ap, sym, subst, ◌∙◌, arith, le_refl}
-use mathlib.Core.Option.{none, some, some-injective}
+use Rattle.std.proofs.Common.{◌≡◌, ◌≢◌, ℕ, ◌+◌, ◌-◌, ◌%◌, ◌<◌, ◌≤◌, [], ◌∷◌, ◌++◌, ⊎_elim, length, length-set, take, get_or, set, refl, ap, sym, subst, ◌∙◌, arith}
+use mathlib.Core.Option.{none, some}
 use lib.ListN.{get_elem?}
 use Rattle.atomic_table.specs.Table.{State, step, keeps, Allows}
 use Rattle.ring_words.specs.declared.view.Role.{Role}
-use Rattle.ring_words.specs.declared.view.Role.TheVariants.{Process, Unmarshal, Gateway}
+use Rattle.ring_words.specs.declared.view.Role.TheVariants.{Unmarshal}
 use Rattle.ring_words.specs.declared.view.View.{View}
-use Rattle.ring_words.specs.Places.{processed, claim, unmarshalled, journalled, first_row, in_row, place_of}
+use Rattle.ring_words.specs.Places.{processed, claim, unmarshalled, journalled, first_row, in_row, out_row, place_of}
 use Rattle.ring_words.specs.Terms.{Terms, commands_of, command_of}
 use Rattle.ring_words.specs.Rule.{Depth, PartOf, words_of, Lawful}
 use Rattle.ring_words.specs.Seats.{person, IsAlone, alone, stored}
 use Rattle.ring_words.specs.Steps.{Seated, GoesOn, stores_command}
 use Rattle.ring_words.proofs.Windows.{same_row, one_window, row_inside, no_control}
 use Rattle.ring_words.proofs.Puts.{word_here, word_else}
-use Rattle.ring_words.proofs.Logs.{short_words, at_end, within, reaches, depth_risen}
+use Rattle.ring_words.proofs.Logs.{short_words, at_end, within, reaches}
 use Rattle.ring_words.proofs.Keeps.{mine, after}
+use Rattle.ring_words.proofs.Outgoings.{outgoing_stays, no_output, row_before}
 use Rattle.ring_words.proofs.Writes.{place_low, few_words, others_know, in_take, long_take}
 
 module _ {L : Type 0} (S : Type 0) (terms : Terms L) where
@@ -30,6 +31,8 @@ module _ {L : Type 0} (S : Type 0) (terms : Terms L) where
       let control : (c : ℕ) → c < first_row → w' c ≡ w c = λ c low. word_else ws here c x (λ e. no_control terms.rows a (i + 48) c low (sym e)) in
       let stays : (t j : ℕ) → j < 64 → (t % terms.rows ≡ a % terms.rows → j ≢ i + 48) → w' (in_row terms.rows t j) ≡ w (in_row terms.rows t j) =
       λ t j low differs. word_else ws here (in_row terms.rows t j) x (λ e. let both = same_row terms.rows t a j (i + 48) low (let g : i + 48 < 64 = omega arith in g) e in differs both.0 both.1) in
+      let outside : (q j : ℕ) → w' (out_row terms.rows terms.output_rows q j) ≡ w (out_row terms.rows terms.output_rows q j) =
+      λ q j. word_else ws here (out_row terms.rows terms.output_rows q j) x (no_output terms.rows terms.output_rows q j here (row_before terms.rows a (i + 48) r.some_row (let g : i + 48 < 64 = omega arith in g))) in
       let apart_from : (t j : ℕ) → j < 48 → w' (in_row terms.rows t j) ≡ w (in_row terms.rows t j) = λ t j low. stays t j (omega arith) (λ _. (λ (e : j ≡ i + 48). omega arith)) in
       let claim_is' : w' claim ≡ w claim = control claim (omega arith) in let zero_is : w' processed ≡ w processed = control processed (omega arith) in
       let unmarshalled_is : w' unmarshalled ≡ w unmarshalled = control unmarshalled (omega arith) in let journalled_is : w' journalled ≡ w journalled = control journalled (omega arith) in
@@ -43,7 +46,6 @@ module _ {L : Type 0} (S : Type 0) (terms : Terms L) where
         journalled_claimed = omega arith;
         room = omega arith;
         most = omega arith;
-        silent = (control 32 (omega arith) ∙ r.order.silent.0, control 104 (omega arith) ∙ r.order.silent.1);
       }
       record {
         start = omega arith;
@@ -66,6 +68,7 @@ module _ {L : Type 0} (S : Type 0) (terms : Terms L) where
             stays t (j + 48) (omega arith) (λ same. absurd (let one_sequence : t ≡ a = one_window (w claim - terms.rows) t a terms.rows (omega arith) (omega arith) (omega arith) (omega arith) same in omega arith))
             ∙ r.rows.commands t e is under late j y there);
       }
+      (outgoing_stays terms w w' r.log r.log r.few refl r.outgoing.front zero_is journalled_is (λ c _ low. control c low) outside r.outgoing)
       record {
         role = knows.role;
         front = knows.front;
@@ -74,11 +77,11 @@ module _ {L : Type 0} (S : Type 0) (terms : Terms L) where
         claims = knows.claims;
         own = control (place_of p.role) (place_low terms.gateways p.role r.few knows.role) ∙ knows.own;
         loads = λ j l there low. subst (λ (y : ℕ). l.value ≤ y) (sym (control l.place low)) (knows.loads j l there low);
-        part = subst (λ (z : Role). PartOf terms.rows w' r.log z record { sequence = a; words = take i p.part.words ++ x ∷ [] }) (sym role)
+        part = subst (λ (z : Role). PartOf terms.rows terms.output_rows w' r.log z record { sequence = a; words = take i p.part.words ++ x ∷ [] }) (sym role)
             (λ j y there. ⊎_elim
             (λ was. let old_one = in_take p.part.words i j y was in ⊎_elim
             (λ (none_yet : i ≡ 0). let lt = old_one.0 in absurd (omega arith))
-            (λ (on : (p.part.sequence ≡ a) × (i ≤ length p.part.words)). let h = subst (λ (z : Role). PartOf terms.rows w r.log z p.part) role knows.part j y old_one.1 in
+            (λ (on : (p.part.sequence ≡ a) × (i ≤ length p.part.words)). let h = subst (λ (z : Role). PartOf terms.rows terms.output_rows w r.log z p.part) role knows.part j y old_one.1 in
             (h.0, stays a (j + 48) (let lt = h.0 in omega arith) (λ _. (λ (e : j + 48 ≡ i + 48). let lt = old_one.0 in omega arith)) ∙ ap (λ (t : ℕ). w (in_row terms.rows t (j + 48))) (sym on.0) ∙ h.1))
             goes_on)
             (λ (last : (j ≡ length (take i p.part.words)) × (x ≡ y)).
@@ -88,7 +91,8 @@ module _ {L : Type 0} (S : Type 0) (terms : Terms L) where
       }
       (λ o other kn. others_know terms w w' r.log r.log o r.few (λ _ _ e. e) (λ _. refl) (λ _. refl) control
       (λ t j q o_is low t_is. (t_is, apart_from t (j + 1) (omega arith)))
-      (λ t j o_is low. absurd (other (ap place_of o_is ∙ sym (ap place_of role)))) kn)
+      (λ t j o_is low. absurd (other (ap place_of o_is ∙ sym (ap place_of role))))
+      (λ q j _ _. outside q j) (λ q j _ _. outside q (j + 64)) kn)
 
   -- the unmarshaller stores the next word of the command of a sequence that it knows and hasn't released
   pub writes_command : (slots id a i x : ℕ) (me : Seated S L) → IsAlone me.0 → (person me.0).role ≡ Unmarshal → (person me.0).own ≤ a → a < length (person me.0).seen → i < 16 → GoesOn (person me.0).part a i

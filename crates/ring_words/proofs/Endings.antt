@@ -1,6 +1,7 @@
 -- When all seats have come back and no claim is left, each sequence below claim has an entry, and all that anyone knows is of that log.
-use Rattle.std.proofs.Common.{◌≡◌, ℕ, zero, suc, ◌+◌, ◌-◌, ◌<◌, ◌≤◌, Bool, true, false, List, [], ◌∷◌, ◌++◌, cond, eqb, ltb, drop, length, length-append, refl, ap, sym, subst, ◌∙◌, arith}
+use Rattle.std.proofs.Common.{◌≡◌, ℕ, zero, suc, ◌+◌, ◌-◌, ◌<◌, ◌≤◌, Bool, true, false, List, [], ◌∷◌, ◌++◌, cond, eqb, ltb, drop, take, length, length-append, refl, ap, sym, subst, ◌∙◌, arith}
 use Rattle.std.proofs.lemmas.Bool.{lt-ltb, ltb-true, eq-eqb, cond-true, cond-false}
+use Rattle.std.proofs.lemmas.List.{take-append-le, take_all}
 use mathlib.Core.Option.{Option, none, some, some-injective, some-ne-none}
 use native.Mathlib.Decide.{dec_le, ℕ_discrete}
 use lib.ListN.{get_elem?}
@@ -9,19 +10,20 @@ use Rattle.atomic_table.specs.Seated.{TableId}
 use Rattle.atomic_table.proofs.Lists.{at_longer, at_last}
 use Rattle.venue_model.specs.History.{Message}
 use Rattle.ring_words.specs.declared.view.Role.{Role}
-use Rattle.ring_words.specs.declared.view.Role.TheVariants.{Process}
+use Rattle.ring_words.specs.declared.view.Role.TheVariants.{Process, Journal}
 use Rattle.ring_words.specs.declared.view.Person.{Person}
 use Rattle.ring_words.specs.declared.view.View.{View}
 use Rattle.ring_words.specs.declared.seats.GatewaySeat.{GatewaySeat}
-use Rattle.ring_words.specs.Places.{processed, claim, place_of, number_of}
-use Rattle.ring_words.specs.Log.{Status, unclaimed, old, claimed, sent, Log, entry_of, sends_of, claims_of, times}
-use Rattle.ring_words.specs.Terms.{Terms}
-use Rattle.ring_words.specs.Rule.{IsGateway, Knows, words_of, Lawful}
+use Rattle.ring_words.specs.Places.{processed, claim, journalled, published, place_of, number_of}
+use Rattle.ring_words.specs.Log.{Status, unclaimed, old, claimed, sent, Log, entry_of, sends_of, claims_of, times, of_gateway, published_at}
+use Rattle.ring_words.specs.Terms.{Terms, outputs_of}
+use Rattle.ring_words.specs.Rule.{IsGateway, Knows, PartOf, words_of, Lawful}
 use Rattle.ring_words.specs.Seats.{person, together}
 use Rattle.ring_words.specs.Crew.{AreFresh}
 use Rattle.ring_words.specs.Gathered.{Gathers}
-use Rattle.ring_words.specs.Ending.{of_gateway, published_at, AreSpent, Ended}
+use Rattle.ring_words.specs.Ending.{AreSpent, Ended}
 use Rattle.ring_words.proofs.Logs.{stands, within, published_late}
+use Rattle.ring_words.proofs.Outputs.{begins}
 
 -- the log below k, as a list
 abbrev here : Option Message → List Message
@@ -132,7 +134,12 @@ module _ {L : Type 0} (S : Type 0) (terms : Terms L) (s : State S (View L)) (r :
     by_place (no gt) = let early : t < length terms.base = omega arith in
         sends_early t k early ∙ sym (cond-true (ltb t (length terms.base)) [] (of_gateway k (get_elem? whole t)) (lt-ltb t (length terms.base) early))
 
-  pub ends : Ended terms.base gs stages (words_of s processed)
+  -- the history that is kept is its beginning
+  kept_begins : (rest : List Message) × (whole ≡ r.log.history ++ rest)
+  kept_begins = begins r.log.status whole r.log.history (λ t e there. sym (same t) ∙ there) r.outgoing.front
+      (let l : length whole ≡ words_of s claim = long in let kept : length r.log.history ≡ words_of s journalled = r.outgoing.kept in let low = r.order.journalled_claimed in omega arith)
+
+  pub ends : Ended (outputs_of terms) terms.base gs stages (words_of s processed) (words_of s journalled) (words_of s published)
   ends = record {
     log = whole;
     begins = λ t e there. same t ∙ ap entry_of (r.logged.based t e there);
@@ -140,11 +147,26 @@ module _ {L : Type 0} (S : Type 0) (terms : Terms L) (s : State S (View L)) (r :
     mine = λ i g there t. (knows_of i g there).mine t ∙ ap (λ (k : ℕ). sends_of k (r.log.status t)) (number_is g) ∙ sends_are t g.number;
     seen = λ i g there t e at_t. same t ∙ (knows_of i g there).front t e at_t;
     known = λ j p there t e at_t. same t ∙ (knows_stage j p there).front t e at_t;
-    done = (let l : length whole ≡ words_of s claim = long in let first = r.order.processed_unmarshalled in let second = r.order.unmarshalled_claimed in omega arith);
+    done = r.order.processed_journalled;
+    journalled = (let l : length whole ≡ words_of s claim = long in let low = r.order.journalled_claimed in omega arith);
+    least = (let longer = kept_begins in let kept : length r.log.history ≡ words_of s journalled = r.outgoing.kept in let low = r.order.processed_journalled in
+        let is : take (words_of s processed) whole ≡ take (words_of s processed) r.log.history =
+        ap (take (words_of s processed)) longer.1 ∙ take-append-le (words_of s processed) r.log.history longer.0 (omega arith) in
+        subst (λ (h : List Message). length (outputs_of terms h) ≤ words_of s published) (sym is) r.outgoing.least);
+    most = (let longer = kept_begins in let kept : length r.log.history ≡ words_of s journalled = r.outgoing.kept in
+        let is : take (words_of s journalled) whole ≡ r.log.history =
+        ap (take (words_of s journalled)) longer.1 ∙ take-append-le (words_of s journalled) r.log.history longer.0 (omega arith) ∙ take_all (words_of s journalled) r.log.history (omega arith) in
+        subst (λ (h : List Message). words_of s published ≤ length (outputs_of terms (take (suc (words_of s processed)) h))) (sym is) r.outgoing.most);
   }
 
   pub own_is : (p : Person) → get_elem? stages 0 ≡ some p → p.role ≡ Process → words_of s processed ≡ p.own
   own_is p there role = ap (λ (z : Role). words_of s (place_of z)) (sym role) ∙ (knows_stage 0 p there).own
+
+  pub journalled_is : (p : Person) → get_elem? stages 2 ≡ some p → p.role ≡ Journal → words_of s journalled ≡ p.own
+  journalled_is p there role = ap (λ (z : Role). words_of s (place_of z)) (sym role) ∙ (knows_stage 2 p there).own
+
+  pub published_is : (p : Person) → get_elem? stages 0 ≡ some p → p.role ≡ Process → words_of s published ≡ p.part.sequence
+  published_is p there role = sym (subst (λ (z : Role). PartOf terms.rows terms.output_rows (words_of s) r.log z p.part) role (knows_stage 0 p there).part).0
 
 module _ {L : Type 0} (gs : List (GatewaySeat L)) (stages : List Person) where
   -- those behind the first `left` have been taken in

@@ -24,11 +24,14 @@ module _ {L : Type 0} (S : Type 0) (terms : Terms L) where
       record {
         log = r.log;
         some_row = r.some_row;
+        some_output_row = r.some_output_row;
+        some_gateway = r.some_gateway;
         few = r.few;
         wide = r.wide;
         order = r.order;
         logged = r.logged;
         rows = r.rows;
+        outgoing = r.outgoing;
         people = λ i j u o there in_it. ⊎_elim
             (λ (t : (i ≡ other) × (nobody ≡ u)). absurd (some-ne-none o (sym (subst (λ (x : View L). get_elem? x.people j ≡ some o) (sym t.1) in_it))))
             (λ (t : (i ≢ other) × (get_elem? vs i ≡ some u)). ⊎_elim

@@ -12,7 +12,7 @@ use Rattle.ring_words.specs.Places.{place_of}
 use Rattle.ring_words.specs.Log.{Log}
 use Rattle.ring_words.specs.Terms.{Terms}
 use Rattle.ring_words.specs.Seats.{alone}
-use Rattle.ring_words.specs.Rule.{Ordered, Logged, Rows, Knows, owners, all_owners, words_of, Lawful}
+use Rattle.ring_words.specs.Rule.{Ordered, Logged, Rows, Outgoing, Knows, owners, all_owners, words_of, Lawful}
 use Rattle.ring_words.proofs.Owners.{counted, two_of, same_owners, few_in_crew}
 
 -- the only person of a list of one
@@ -39,17 +39,21 @@ module _ {L : Type 0} (S : Type 0) (terms : Terms L) where
 
   -- after a step of the person p, which is then q
   pub after : (s : State S (View L)) (r : Lawful S terms s) (words' : List ℕ) (id : ℕ) (v : View L) (p q : Person) → get_elem? s.views id ≡ some v → v.people ≡ p ∷ [] → q.role ≡ p.role → length words' ≡ length s.words
-      → (log' : Log) → Ordered terms (λ j. get_or words' j 0) → Logged terms (λ j. get_or words' j 0) log' → Rows terms (λ j. get_or words' j 0) log' → Knows terms (λ j. get_or words' j 0) log' q
+      → (log' : Log) → Ordered terms (λ j. get_or words' j 0) → Logged terms (λ j. get_or words' j 0) log' → Rows terms (λ j. get_or words' j 0) log' → Outgoing terms (λ j. get_or words' j 0) log'
+      → Knows terms (λ j. get_or words' j 0) log' q
       → ((o : Person) → place_of o.role ≢ place_of p.role → Knows terms (words_of s) r.log o → Knows terms (λ j. get_or words' j 0) log' o)
       → Lawful S terms record { words = words'; homes = s.homes; views = set s.views id (alone v q) }
-  after s r words' id v p q at one role long log' order logged rows knows others = record {
+  after s r words' id v p q at one role long log' order logged rows outgoing knows others = record {
     log = log';
     some_row = r.some_row;
+    some_output_row = r.some_output_row;
+    some_gateway = r.some_gateway;
     few = r.few;
     wide = long ∙ r.wide;
     order = order;
     logged = logged;
     rows = rows;
+    outgoing = outgoing;
     people = λ i j u o there in_it. ⊎_elim
         (λ (t : (i ≡ id) × (alone v q ≡ u)). let own = mine s r id v p at one in let e : q ∷ [] ≡ u.people = ap (λ (z : View L). z.people) t.1 in let is : o ≡ q = only q o u.people j (sym e) in_it in
         (ap (λ (z : View L). z.logic) (sym t.1) ∙ own.0, ap (λ (z : View L). z.base) (sym t.1) ∙ own.1, subst (Knows terms (λ j. get_or words' j 0) log') (sym is) knows))

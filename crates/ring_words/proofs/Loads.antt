@@ -1,5 +1,5 @@
 -- Each load keeps the rule, and what it tells.
-use Rattle.std.proofs.Common.{◌≡◌, ℕ, zero, suc, ◌+◌, ◌-◌, ◌^◌, ◌<◌, ◌≤◌, Bool, true, false, List, [], ◌∷◌, ◌++◌, ◌⊎◌, inl, inr, ⊎_elim, cond, eqb, leb, length, length-append, get_or, set, refl, ap, sym, subst, ◌∙◌, arith, le_refl}
+use Rattle.std.proofs.Common.{◌≡◌, ℕ, zero, suc, ◌+◌, ◌-◌, ◌^◌, ◌<◌, ◌≤◌, Bool, true, false, List, [], ◌∷◌, ◌++◌, inl, inr, ⊎_elim, cond, eqb, leb, length, length-append, get_or, set, refl, ap, sym, subst, ◌∙◌, arith, le_refl}
 use Rattle.std.proofs.lemmas.List.{set-get_or, append-nil, append_assoc}
 use Rattle.std.proofs.lemmas.Bool.{eq-eqb, ne_eqb, le-leb, leb-true, cond-true, cond-false}
 use mathlib.Core.Option.{none, some}
@@ -13,14 +13,14 @@ use Rattle.ring_words.specs.declared.view.Load.{Load}
 use Rattle.ring_words.specs.declared.view.Person.{Person}
 use Rattle.ring_words.specs.declared.view.View.{View}
 use Rattle.ring_words.specs.declared.view.Role.{Role}
-use Rattle.ring_words.specs.declared.view.Role.TheVariants.{Process, Unmarshal, Journal}
-use Rattle.ring_words.specs.Places.{processed, claim, unmarshalled, journalled, first_row, in_row, place_of}
+use Rattle.ring_words.specs.declared.view.Role.TheVariants.{Process}
+use Rattle.ring_words.specs.Places.{processed, claim, unmarshalled, journalled, in_row, place_of}
 use Rattle.ring_words.specs.Log.{Status, entry_of, IsFront}
 use Rattle.ring_words.specs.Packing.{command_words, IsPackable}
 use Rattle.ring_words.specs.Terms.{Terms, commands_of}
 use Rattle.ring_words.specs.Rule.{Depth, Knows, words_of, Lawful}
 use Rattle.ring_words.specs.Seats.{person, IsAlone, IsReader, alone, looked, saw, knowing, last_from}
-use Rattle.ring_words.specs.Steps.{Seated, lesser, Reaches, sees_claim, sees_processed, sees_mark, sees_raw, sees_unmarshalled, sees_journalled, sees_command}
+use Rattle.ring_words.specs.Steps.{Seated, lesser, sees_claim, sees_processed, sees_mark, sees_raw, sees_unmarshalled, sees_journalled, sees_command}
 use Rattle.ring_words.proofs.Logs.{within, at_end, reaches, knows_looked, knows_saw, knows_knowing, published_late}
 use Rattle.ring_words.proofs.Keeps.{mine, after}
 
@@ -82,7 +82,7 @@ module _ {L : Type 0} (S : Type 0) (terms : Terms L) where
     keeps,
     tt,
     subst (λ (ws : List ℕ). Lawful S terms record { words = ws; homes = s.homes; views = set s.views id (alone me.0 q) }) (sym (set-get_or s.words k 0))
-        (after S terms s r s.words id me.0 (person me.0) q at one role refl r.log r.order r.logged r.rows knows (λ o _ same. same)),
+        (after S terms s r s.words id me.0 (person me.0) q at one role refl r.log r.order r.logged r.rows r.outgoing knows (λ o _ same. same)),
     told,
   )
 

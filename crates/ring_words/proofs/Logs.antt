@@ -11,7 +11,7 @@ use Rattle.ring_words.specs.declared.view.Load.{Load}
 use Rattle.ring_words.specs.declared.view.Role.{Role}
 use Rattle.ring_words.specs.declared.view.Role.TheVariants.{Process, Unmarshal, Journal, Marshal, Gateway}
 use Rattle.ring_words.specs.declared.view.Person.{Person}
-use Rattle.ring_words.specs.Places.{claim, unmarshalled, journalled, first_row, in_row, place_of}
+use Rattle.ring_words.specs.Places.{claim, published, first_row, in_row, out_row, place_of}
 use Rattle.ring_words.specs.Log.{Status, unclaimed, old, claimed, sent, Log, entry_of, IsFront}
 use Rattle.ring_words.specs.Packing.{command_words}
 use Rattle.ring_words.specs.Terms.{Terms}
@@ -36,6 +36,18 @@ at_end [] a b zero e = inr (refl, some-injective a b e)
 at_end [] a b (suc j) e = absurd (some-ne-none b (sym e))
 at_end (x ∷ xs) a b zero e = inl e
 at_end (x ∷ xs) a b (suc j) e = ⊎_elim (λ t. inl t) (λ t. inr (ap suc t.0, t.1)) (at_end xs a b j e)
+
+-- of two lists, one behind the other: what stands in the first
+pub at_longer : {A : Type 0} (l m : List A) (i : ℕ) (a : A) → get_elem? l i ≡ some a → get_elem? (l ++ m) i ≡ some a
+at_longer [] m i a at = absurd (some-ne-none a (sym at))
+at_longer (x ∷ l) m zero a at = at
+at_longer (x ∷ l) m (suc i) a at = at_longer l m i a at
+
+-- what stands in the second
+pub at_behind : {A : Type 0} (l m : List A) (i j : ℕ) (a : A) → j ≡ length l + i → get_elem? m i ≡ some a → get_elem? (l ++ m) j ≡ some a
+at_behind [] m i j a is at = let same : i ≡ j = omega arith in subst (λ (k : ℕ). get_elem? m k ≡ some a) same at
+at_behind (x ∷ l) m i zero a is at = absurd (omega arith)
+at_behind (x ∷ l) m i (suc j) a is at = at_behind l m i j a (omega arith) at
 
 -- what stands at a place is what is read there
 pub read_at : (l : List ℕ) (i a : ℕ) → get_elem? l i ≡ some a → a ≡ get_or l i 0
@@ -69,7 +81,7 @@ pub depth_risen : (w w' : ℕ → ℕ) → ((k : ℕ) → k < first_row → w k 
 depth_risen w w' up Process k d = let a : w 16 ≤ w' 16 = up 16 (omega arith) in let b : w 24 ≤ w' 24 = up 24 (omega arith) in let c : k ≤ w 16 = d.0 in let e : k ≤ w 24 = d.1 in (omega arith, omega arith)
 depth_risen w w' up Unmarshal k d = tt
 depth_risen w w' up Journal k d = tt
-depth_risen w w' up Marshal k d = tt
+depth_risen w w' up Marshal k d = let b : w 24 ≤ w' 24 = up 24 (omega arith) in let c : k ≤ w 24 = d in omega arith
 depth_risen w w' up (Gateway j) k d = let b : w 24 ≤ w' 24 = up 24 (omega arith) in let c : k ≤ w 24 = d in omega arith
 
 module _ {L : Type 0} (terms : Terms L) (w : ℕ → ℕ) (log : Log) where
@@ -127,10 +139,11 @@ module _ {L : Type 0} (terms : Terms L) (w : ℕ → ℕ) (log : Log) where
     front = front;
   }
 
-  -- what is known stays where no control word falls, no row word changes, and the own word is as it says
+  -- what is known stays where no control word falls, no row word changes, published is as it was, and the own word is as it says
   pub knows_risen : (w' : ℕ → ℕ) (p : Person) (own : ℕ) → ((k : ℕ) → k < first_row → w k ≤ w' k) → ((s i : ℕ) → w' (in_row terms.rows s i) ≡ w (in_row terms.rows s i))
+      → ((q i : ℕ) → w' (out_row terms.rows terms.output_rows q i) ≡ w (out_row terms.rows terms.output_rows q i)) → (p.role ≡ Process → w' published ≡ w published)
       → w' (place_of p.role) ≡ own → Knows terms w log p → Knows terms w' log (moved p own)
-  knows_risen w' p own risen same is r = record {
+  knows_risen w' p own risen same same_out place_stays is r = record {
     role = r.role;
     front = r.front;
     depth = depth_risen w w' risen p.role (length p.seen) r.depth;
@@ -138,11 +151,30 @@ module _ {L : Type 0} (terms : Terms L) (w : ℕ → ℕ) (log : Log) where
     mine = r.mine;
     claims = r.claims;
     loads = λ i l at low. (let a = r.loads i l at low in let b = risen l.place low in omega arith);
+    part = part_stays p.role refl r.part;
+  } where
+    part_stays : (role : Role) → p.role ≡ role → PartOf terms.rows terms.output_rows w log role p.part → PartOf terms.rows terms.output_rows w' log role p.part
+    part_stays Process e h = (h.0 ∙ sym (place_stays e), λ i x at. let t = h.1 i x at in (t.0, same_out p.part.sequence i ∙ t.1))
+    part_stays Unmarshal e h = λ i x at. let t = h i x at in (t.0, same p.part.sequence (i + 48) ∙ t.1)
+    part_stays Journal e h = tt
+    part_stays Marshal e h = λ i x at. let t = h i x at in (t.0, same_out p.part.sequence (i + 64) ∙ t.1)
+    part_stays (Gateway k) e h = λ i x at. let t = h i x at in (t.0, t.1, same p.part.sequence (i + 1) ∙ t.2)
+
+  -- no one knows of the history that is kept but by what it knows of the log
+  pub still_knows : (h : List Message) (p : Person) → Knows terms w log p → Knows terms w (record log { history = h }) p
+  still_knows h p r = record {
+    role = r.role;
+    front = r.front;
+    depth = r.depth;
+    own = r.own;
+    mine = r.mine;
+    claims = r.claims;
+    loads = r.loads;
     part = part_stays p.role r.part;
   } where
-    part_stays : (role : Role) → PartOf terms.rows w log role p.part → PartOf terms.rows w' log role p.part
-    part_stays Process h = tt
-    part_stays Unmarshal h = λ i x at. let t = h i x at in (t.0, same p.part.sequence (i + 48) ∙ t.1)
-    part_stays Journal h = tt
-    part_stays Marshal h = tt
-    part_stays (Gateway k) h = λ i x at. let t = h i x at in (t.0, t.1, same p.part.sequence (i + 1) ∙ t.2)
+    part_stays : (role : Role) → PartOf terms.rows terms.output_rows w log role p.part → PartOf terms.rows terms.output_rows w (record log { history = h }) role p.part
+    part_stays Process t = t
+    part_stays Unmarshal t = t
+    part_stays Journal t = tt
+    part_stays Marshal t = t
+    part_stays (Gateway k) t = t

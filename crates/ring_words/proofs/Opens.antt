@@ -1,6 +1,7 @@
 -- The rule holds of the table at the start, and a seat of several persons may be split.
-use Rattle.std.proofs.Common.{◌≡◌, ◌≢◌, ℕ, zero, suc, ◌+◌, ◌-◌, ◌*◌, ◌^◌, ◌<◌, ◌≤◌, Bool, true, false, List, [], ◌∷◌, ◌++◌, ⊎_elim, cond, eqb, ltb, length, get_or, set, drop, refl, ap, sym, subst, ◌∙◌, arith, le_refl}
+use Rattle.std.proofs.Common.{◌≡◌, ◌≢◌, ℕ, zero, suc, ◌+◌, ◌-◌, ◌*◌, ◌^◌, ◌<◌, ◌≤◌, Bool, true, false, List, [], ◌∷◌, ◌++◌, ⊎_elim, cond, eqb, ltb, length, get_or, set, take, drop, refl, ap, sym, subst, ◌∙◌, arith, le_refl}
 use Rattle.std.proofs.lemmas.Bool.{lt-ltb, ltb-true, cond-true, cond-false}
+use Rattle.std.proofs.lemmas.List.{take_all}
 use mathlib.Core.Option.{Option, none, some, some-injective, some-ne-none}
 use lib.ListN.{get_elem?}
 use Rattle.atomic_table.specs.Table.{opening, Splits}
@@ -10,10 +11,10 @@ use Rattle.ring_words.specs.declared.view.Role.{Role}
 use Rattle.ring_words.specs.declared.view.Role.TheVariants.{Process, Unmarshal, Journal, Marshal, Gateway}
 use Rattle.ring_words.specs.declared.view.Person.{Person}
 use Rattle.ring_words.specs.declared.view.View.{View}
-use Rattle.ring_words.specs.Places.{processed, unmarshalled, journalled, in_row, table_words, taken, place_of, number_of}
+use Rattle.ring_words.specs.Places.{processed, unmarshalled, journalled, marshalled, published, in_row, table_words, taken, place_of, number_of}
 use Rattle.ring_words.specs.Log.{Status, unclaimed, old, claimed, sent, Log, entry_of, sends_of, claims_of}
-use Rattle.ring_words.specs.Terms.{Terms}
-use Rattle.ring_words.specs.Rule.{IsRole, Depth, PartOf, Knows, newcomer, gateways, crew, opening_word, owners, all_owners, words_of, Lawful, view_of, first_view}
+use Rattle.ring_words.specs.Terms.{Terms, outputs_of}
+use Rattle.ring_words.specs.Rule.{IsGateway, IsRole, Depth, PartOf, Knows, at_place, newcomer, processor, gateways, crew, opening_word, owners, all_owners, words_of, Lawful, view_of, first_view}
 use Rattle.ring_words.specs.Seats.{first_of, person, others, apart}
 use Rattle.ring_words.proofs.Windows.{row_inside}
 use Rattle.ring_words.proofs.Logs.{stands, within}
@@ -25,7 +26,7 @@ as_status none = unclaimed
 as_status (some e) = old e
 
 abbrev start_log : List Message → Log
-start_log base = record { status = λ s. as_status (get_elem? base s) }
+start_log base = record { status = λ s. as_status (get_elem? base s); history = base }
 
 not_old : (o : Option Message) (e : Message) → as_status o ≡ sent e → ⊥
 not_old none e is = let z : zero ≡ suc zero = cc in omega arith
@@ -89,10 +90,10 @@ module _ {L : Type 0} where
   only_view v (suc i) u at = absurd (some-ne-none u (sym at))
 
 module _ {L : Type 0} (S : Type 0) (terms : Terms L) where
-  -- what someone who knows the history at the start knows, and nothing more
-  new_knows : (w : ℕ → ℕ) (role : Role) (own : ℕ) → IsRole terms.gateways role → w (place_of role) ≡ own → length terms.base ≤ w unmarshalled → length terms.base ≤ w journalled
-      → Knows terms w (start_log terms.base) (newcomer role terms.base own)
-  new_knows w role own there is u j = record {
+  -- what someone who knows the history at the start knows, and nothing more: its row under way, at this place, has no word
+  new_knows : (w : ℕ → ℕ) (role : Role) (own place : ℕ) → IsRole terms.gateways role → w (place_of role) ≡ own → length terms.base ≤ w unmarshalled → length terms.base ≤ w journalled
+      → (role ≡ Process → place ≡ w published) → Knows terms w (start_log terms.base) (at_place (newcomer role terms.base own) place)
+  new_knows w role own place there is u j at_published = record {
     role = there;
     front = λ s e at. ap (λ (o : Option Message). entry_of (as_status o)) at;
     depth = deep role;
@@ -100,26 +101,26 @@ module _ {L : Type 0} (S : Type 0) (terms : Terms L) where
     mine = λ s. no_sends (number_of role) (get_elem? terms.base s);
     claims = λ s. no_claims (number_of role) (get_elem? terms.base s);
     loads = λ i l at. absurd (some-ne-none l (sym at));
-    part = nothing_stored role;
+    part = nothing_stored role refl;
   } where
     deep : (role : Role) → Depth w role (length terms.base)
     deep Process = (u, j)
     deep Unmarshal = tt
     deep Journal = tt
-    deep Marshal = tt
+    deep Marshal = j
     deep (Gateway k) = j
 
-    nothing_stored : (role : Role) → PartOf terms.rows w (start_log terms.base) role record { sequence = 0; words = [] }
-    nothing_stored Process = tt
-    nothing_stored Unmarshal = λ i x at. absurd (some-ne-none x (sym at))
-    nothing_stored Journal = tt
-    nothing_stored Marshal = tt
-    nothing_stored (Gateway k) = λ i x at. absurd (some-ne-none x (sym at))
+    nothing_stored : (other : Role) → role ≡ other → PartOf terms.rows terms.output_rows w (start_log terms.base) other record { sequence = place; words = [] }
+    nothing_stored Process e = (at_published e, λ i x at. absurd (some-ne-none x (sym at)))
+    nothing_stored Unmarshal e = λ i x at. absurd (some-ne-none x (sym at))
+    nothing_stored Journal e = tt
+    nothing_stored Marshal e = λ i x at. absurd (some-ne-none x (sym at))
+    nothing_stored (Gateway k) e = λ i x at. absurd (some-ne-none x (sym at))
 
   -- what a person of the first crew knows
-  of_crew : (w : ℕ → ℕ) → terms.gateways ≤ 8 → w processed ≡ length terms.base → w unmarshalled ≡ length terms.base → w journalled ≡ length terms.base → ((k : ℕ) → 1 ≤ k → k ≤ 8 → w (taken k) ≡ terms.given)
+  of_crew : (w : ℕ → ℕ) → terms.gateways ≤ 8 → w processed ≡ length terms.base → w unmarshalled ≡ length terms.base → w journalled ≡ length terms.base → w marshalled ≡ terms.given → w published ≡ terms.given → ((k : ℕ) → 1 ≤ k → k ≤ 8 → w (taken k) ≡ terms.given)
       → (j : ℕ) (p : Person) → get_elem? (crew terms.gateways terms.base terms.given) j ≡ some p → Knows terms w (start_log terms.base) p
-  of_crew w few_gates first second third each j p at = by_place j at where
+  of_crew w few_gates first second third fourth last each j p at = by_place j at where
     n : ℕ
     n = length terms.base
 
@@ -130,23 +131,30 @@ module _ {L : Type 0} (S : Type 0) (terms : Terms L) where
     v = omega arith
 
     by_place : (j : ℕ) → get_elem? (crew terms.gateways terms.base terms.given) j ≡ some p → Knows terms w (start_log terms.base) p
-    by_place zero at = subst (Knows terms w (start_log terms.base)) (some-injective (newcomer Process terms.base (length terms.base)) p at) (new_knows w Process (length terms.base) tt first u v)
-    by_place (suc zero) at = subst (Knows terms w (start_log terms.base)) (some-injective (newcomer Unmarshal terms.base (length terms.base)) p at) (new_knows w Unmarshal (length terms.base) tt second u v)
-    by_place (suc (suc zero)) at = subst (Knows terms w (start_log terms.base)) (some-injective (newcomer Journal terms.base (length terms.base)) p at) (new_knows w Journal (length terms.base) tt third u v)
-    by_place (suc (suc (suc j))) at = let g : ℕ = terms.gateways in let t = each_of 1 g terms.base terms.given j p at in let k : ℕ = t.0 in let lo : 1 ≤ k = t.1 in let hi : k < 1 + g = t.2 in
+    by_place zero at = subst (Knows terms w (start_log terms.base)) (some-injective (processor terms.base terms.given) p at) (new_knows w Process n terms.given tt first u v (λ _. sym last))
+    by_place (suc zero) at = subst (Knows terms w (start_log terms.base)) (some-injective (newcomer Unmarshal terms.base n) p at) (new_knows w Unmarshal n 0 tt second u v (λ e. absurd (let z : 16 ≡ 0 = ap place_of e in omega arith)))
+    by_place (suc (suc zero)) at = subst (Knows terms w (start_log terms.base)) (some-injective (newcomer Journal terms.base n) p at) (new_knows w Journal n 0 tt third u v (λ e. absurd (let z : 24 ≡ 0 = ap place_of e in omega arith)))
+    by_place (suc (suc (suc zero))) at = subst (Knows terms w (start_log terms.base)) (some-injective (newcomer Marshal terms.base terms.given) p at) (new_knows w Marshal terms.given 0 tt fourth u v (λ e. absurd (let z : 32 ≡ 0 = ap place_of e in omega arith)))
+    by_place (suc (suc (suc (suc j)))) at = let g : ℕ = terms.gateways in let t = each_of 1 g terms.base terms.given j p at in let k : ℕ = t.0 in let lo : 1 ≤ k = t.1 in let hi : k < 1 + g = t.2 in
         let few_g : g ≤ 8 = few_gates in let le : k ≤ 8 = omega arith in let inside : k ≤ g = omega arith in
-        subst (Knows terms w (start_log terms.base)) t.3 (new_knows w (Gateway k) terms.given (lo, inside) (each k lo le) u v)
+        subst (Knows terms w (start_log terms.base)) t.3 (new_knows w (Gateway k) terms.given 0 (lo, inside) (each k lo le) u v (λ e. absurd (let z : 32 + 8 * k ≡ 0 = ap place_of e in omega arith)))
 
-  pub starts : (ws : List ℕ) → 0 < terms.rows → terms.gateways ≤ 8 → length terms.base ≤ 2 ^ 48 → length ws ≡ table_words terms.rows terms.output_rows
+  pub starts : (ws : List ℕ) → 0 < terms.rows → 0 < terms.output_rows → 1 ≤ terms.gateways → terms.gateways ≤ 8 → terms.given ≡ length (outputs_of terms terms.base) → length terms.base ≤ 2 ^ 48 → length ws ≡ table_words terms.rows terms.output_rows
       → ((k : ℕ) → k < length ws → get_or ws k 0 ≡ opening_word (length terms.base) terms.given k) → Lawful S terms (opening {S = S} ws [] (first_view terms))
-  starts ws pos few_gates small wide is = let b : ℕ = length terms.base in let w : ℕ → ℕ = λ (k : ℕ). get_or ws k 0 in
+  starts ws pos out_pos some_gates few_gates given_is small wide is = let b : ℕ = length terms.base in let w : ℕ → ℕ = λ (k : ℕ). get_or ws k 0 in
       let done_is : w 0 ≡ b = is 0 (omega arith) in let claim_is : w 8 ≡ b = is 8 (omega arith) in let unmarshalled_is : w 16 ≡ b = is 16 (omega arith) in let journalled_is : w 24 ≡ b = is 24 (omega arith) in
+      let m_is : w 32 ≡ terms.given = is 32 (omega arith) in let p_is : w 104 ≡ terms.given = is 104 (omega arith) in
+      let each : (k : ℕ) → 1 ≤ k → k ≤ 8 → w (taken k) ≡ terms.given = λ k lo hi. is (taken k) (let x : 32 + 8 * k < length ws = omega arith in x) ∙ taken_given b terms.given k lo hi in
+      let gate : (k : ℕ) → IsGateway terms.gateways k → w (taken k) ≡ terms.given = λ k g. (let lo : 1 ≤ k = g.0 in let hi : k ≤ terms.gateways = g.1 in each k lo (omega arith)) in
+      let none_left : (k q : ℕ) → IsGateway terms.gateways k → w (taken k) ≤ q → q < terms.given → ⊥ = λ k q g from to. (let e = gate k g in omega arith) in
       record {
         log = start_log terms.base;
         some_row = pos;
+        some_output_row = out_pos;
+        some_gateway = some_gates;
         few = few_gates;
         wide = wide;
-        order = record { processed_unmarshalled = omega arith; processed_journalled = omega arith; unmarshalled_claimed = omega arith; journalled_claimed = omega arith; room = omega arith; most = omega arith; silent = (is 32 (omega arith), is 104 (omega arith)) };
+        order = record { processed_unmarshalled = omega arith; processed_journalled = omega arith; unmarshalled_claimed = omega arith; journalled_claimed = omega arith; room = omega arith; most = omega arith };
         logged = record {
           start = omega arith;
           based = λ s e at. ap as_status at;
@@ -165,12 +173,26 @@ module _ {L : Type 0} (S : Type 0) (terms : Terms L) where
           commands = λ s e at. absurd (not_old (get_elem? terms.base s) e at);
           packable = λ s e at. absurd (not_old (get_elem? terms.base s) e at);
         };
+        outgoing = record {
+          kept = sym journalled_is;
+          front = λ s e at. ap (λ (o : Option Message). entry_of (as_status o)) at;
+          marshalled_published = omega arith;
+          taken_marshalled = λ k g. (let e = gate k g in omega arith);
+          free = λ k g. (let e = gate k g in omega arith);
+          least = (let all : take (w 0) terms.base ≡ terms.base = take_all (w 0) terms.base (omega arith) in
+              let long : length (outputs_of terms (take (w 0) terms.base)) ≡ length (outputs_of terms terms.base) = ap (λ (h : List Message). length (outputs_of terms h)) all in omega arith);
+          most = (let all : take (suc (w 0)) terms.base ≡ terms.base = take_all (suc (w 0)) terms.base (omega arith) in
+              let long : length (outputs_of terms (take (suc (w 0)) terms.base)) ≡ length (outputs_of terms terms.base) = ap (λ (h : List Message). length (outputs_of terms h)) all in omega arith);
+          outputs = λ k q o g from to. absurd (none_left k q g from (omega arith));
+          packable = λ k q o g from to. absurd (none_left k q g from (omega arith));
+          texts = λ k q o g from to. absurd (none_left k q g from (omega arith));
+          readable = λ k q o g from to. absurd (none_left k q g from (omega arith));
+        };
         people = λ id j v p there in_it. (let first : View L = first_view terms in let is_first : first ≡ v = only_view first id v there in
             let at : get_elem? (crew terms.gateways terms.base terms.given) j ≡ some p = subst (λ (u : View L). get_elem? u.people j ≡ some p) (sym is_first) in_it in (
               ap (λ (u : View L). u.logic) (sym is_first),
               ap (λ (u : View L). u.base) (sym is_first),
-              of_crew w few_gates done_is unmarshalled_is journalled_is
-                  (λ k lo hi. is (taken k) (let x : 32 + 8 * k < length ws = omega arith in x) ∙ taken_given b terms.given k lo hi) j p at,
+              of_crew w few_gates done_is unmarshalled_is journalled_is m_is p_is each j p at,
             ));
         once = λ k. (let x : ℕ = owners k (crew terms.gateways terms.base terms.given) in let g : x + 0 ≡ x = omega arith in g);
       }
@@ -180,11 +202,14 @@ module _ {L : Type 0} (S : Type 0) (terms : Terms L) where
   splits id v p ps one s r at = record {
     log = r.log;
     some_row = r.some_row;
+    some_output_row = r.some_output_row;
+    some_gateway = r.some_gateway;
     few = r.few;
     wide = r.wide;
     order = r.order;
     logged = r.logged;
     rows = r.rows;
+    outgoing = r.outgoing;
     people = λ i j u q there in_it. ⊎_elim
         (λ within_set. ⊎_elim
         (λ (t : (i ≡ id) × (others v ≡ u)). let at_v : get_elem? v.people (suc j) ≡ some q = subst (λ (l : List Person). get_elem? l (suc j) ≡ some q) (sym one)

@@ -5,11 +5,11 @@ use mathlib.Core.Option.{some, some-injective, some-ne-none}
 use native.Mathlib.Decide.{ℕ_discrete}
 use lib.ListN.{get_elem?}
 use Rattle.venue_model.specs.History.{Message}
-use Rattle.ring_words.specs.declared.view.Role.TheVariants.{Process, Unmarshal, Journal, Gateway}
+use Rattle.ring_words.specs.declared.view.Role.TheVariants.{Unmarshal, Journal, Marshal}
 use Rattle.ring_words.specs.declared.view.Person.{Person}
 use Rattle.ring_words.specs.declared.view.View.{View}
 use Rattle.ring_words.specs.Places.{taken, place_of}
-use Rattle.ring_words.specs.Rule.{owners, all_owners, newcomer, gateways, crew}
+use Rattle.ring_words.specs.Rule.{owners, all_owners, processor, newcomer, gateways, crew}
 
 at_least : (b : Bool) (x : ℕ) → 1 ≤ x → 1 ≤ cond b (suc x) x
 at_least true x h = omega arith
@@ -55,12 +55,15 @@ one_before p ps x b is rest = by_case (ℕ_discrete (place_of p.role) x) rest wh
 pub few_in_crew : (g : ℕ) (base : List Message) (given x : ℕ) → owners x (crew g base given) ≤ 1
 few_in_crew g base given x = let n : ℕ = length base in
     let rest = few 1 g base given x in
-    let third = one_before (newcomer Journal base n) (gateways 1 g base given) x 24 refl (rest.0, λ le. rest.1 (omega arith)) in
-    let second = one_before (newcomer Unmarshal base n) (newcomer Journal base n ∷ gateways 1 g base given) x 16 refl (third.0, λ le. third.1 (omega arith)) in
-    (one_before (newcomer Process base n) (newcomer Unmarshal base n ∷ newcomer Journal base n ∷ gateways 1 g base given) x 0 refl (second.0, λ le. second.1 (omega arith))).0
+    let marshaller = newcomer Marshal base given ∷ gateways 1 g base given in let journaller = newcomer Journal base n ∷ marshaller in let unmarshaller = newcomer Unmarshal base n ∷ journaller in
+    let fourth = one_before (newcomer Marshal base given) (gateways 1 g base given) x 32 refl (rest.0, λ le. rest.1 (omega arith)) in
+    let third = one_before (newcomer Journal base n) marshaller x 24 refl (fourth.0, λ le. fourth.1 (omega arith)) in
+    let second = one_before (newcomer Unmarshal base n) journaller x 16 refl (third.0, λ le. third.1 (omega arith)) in
+    (one_before (processor base given) unmarshaller x 0 refl (second.0, λ le. second.1 (omega arith))).0
 
 module _ {L : Type 0} where
-  one_of : (k : ℕ) (vs : List (View L)) (i : ℕ) (v : View L) → get_elem? vs i ≡ some v → owners k v.people ≤ all_owners k vs
+  -- a seat's persons are among all
+  pub one_of : (k : ℕ) (vs : List (View L)) (i : ℕ) (v : View L) → get_elem? vs i ≡ some v → owners k v.people ≤ all_owners k vs
   one_of k [] i v at = absurd (some-ne-none v (sym at))
   one_of k (u ∷ vs) zero v at = let e : u ≡ v = some-injective u v at in let a : owners k u.people ≡ owners k v.people = ap (λ (z : View L). owners k z.people) e in
       let x : ℕ = owners k u.people in let y : ℕ = all_owners k vs in let a' : x ≡ owners k v.people = a in omega arith

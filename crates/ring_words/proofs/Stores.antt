@@ -1,26 +1,29 @@
 -- The stores of a stage's own control word keep the rule.
-use Rattle.std.proofs.Common.{◌≡◌, ◌≢◌, ℕ, suc, ◌+◌, ◌<◌, ◌≤◌, List, length, length-set, get_or, set, refl, ap, sym, subst, ◌∙◌, arith, le_refl}
+use Rattle.std.proofs.Common.{◌≡◌, ◌≢◌, ℕ, suc, ◌+◌, ◌<◌, ◌≤◌, List, length, take, length-set, get_or, set, refl, ap, sym, subst, ◌∙◌, arith, le_refl}
+use Rattle.std.proofs.lemmas.List.{length-take-le}
 use mathlib.Core.Option.{none, some}
 use mathlib.Core.Logic.{dite}
-use native.Mathlib.Decide.{ℕ_discrete, dec_le}
+use native.Mathlib.Decide.{ℕ_discrete}
 use lib.ListN.{get_elem?}
 use Rattle.std.specs.Prelude.{Some}
 use Rattle.atomic_table.specs.Table.{State, step, keeps, Allows}
 use Rattle.venue_model.specs.History.{Message}
 use Rattle.ring_words.specs.declared.view.Role.{Role}
-use Rattle.ring_words.specs.declared.view.Role.TheVariants.{Process, Unmarshal, Journal}
+use Rattle.ring_words.specs.declared.view.Role.TheVariants.{Unmarshal, Journal}
 use Rattle.ring_words.specs.declared.view.View.{View}
-use Rattle.ring_words.specs.Places.{processed, claim, unmarshalled, journalled, published, first_row, in_row, place_of}
+use Rattle.ring_words.specs.Places.{processed, claim, unmarshalled, journalled, published, first_row, in_row, out_row, place_of}
 use Rattle.ring_words.specs.Log.{sent, entry_of}
 use Rattle.ring_words.specs.Packing.{command_words, IsPackable}
 use Rattle.ring_words.specs.Terms.{Terms, commands_of, command_of}
-use Rattle.ring_words.specs.Rule.{Depth, Ordered, PartOf, words_of, Lawful}
+use Rattle.ring_words.specs.Rule.{Ordered, PartOf, Outgoing, words_of, Lawful}
 use Rattle.ring_words.specs.Seats.{person, IsAlone, alone, moved}
 use Rattle.ring_words.specs.Steps.{Seated, moves_own}
 use Rattle.ring_words.proofs.Windows.{no_control}
 use Rattle.ring_words.proofs.Puts.{word_here, word_else}
-use Rattle.ring_words.proofs.Logs.{stands, within, one_entry, reaches, knows_risen}
+use Rattle.ring_words.proofs.Logs.{stands, within, one_entry, reaches, knows_risen, still_knows}
 use Rattle.ring_words.proofs.Keeps.{mine, after}
+use Rattle.ring_words.proofs.Outputs.{begins, front_taken}
+use Rattle.ring_words.proofs.Outgoings.{outgoing_stays, outgoing_grows, no_output}
 use Rattle.ring_words.proofs.Loads.{some_is}
 
 -- a word that didn't fall: no word did
@@ -30,15 +33,17 @@ risen ws i x k inside up = dite (ℕ_discrete k i)
     (λ ne. subst (λ (y : ℕ). get_or ws k 0 ≤ y) (sym (word_else ws i k x ne)) (le_refl (get_or ws k 0)))
 
 module _ {L : Type 0} (S : Type 0) (terms : Terms L) where
-  -- a stage moves its word, at k, to x: what is left to show is the order of the control words, and what lies below unmarshalled and journalled
-  own_now : (s : State S (View L)) (r : Lawful S terms s) (id : ℕ) (me : Seated S L) (k x : ℕ) → get_elem? s.views id ≡ some me.0 → IsAlone me.0 → place_of (person me.0).role ≡ k
-      → k < first_row → k ≢ claim → (person me.0).own ≤ x → Ordered terms (λ j. get_or (set s.words k x) j 0)
+  -- Somebody moves the own word, at k, to x, and the history that is kept may become another: what is left to show is the order of the control
+  -- words, what lies below unmarshalled and journalled, and the output ring
+  pub own_now : (s : State S (View L)) (r : Lawful S terms s) (h : List Message) (id : ℕ) (me : Seated S L) (k x : ℕ) → get_elem? s.views id ≡ some me.0 → IsAlone me.0 → place_of (person me.0).role ≡ k
+      → k < first_row → k ≢ claim → k ≢ published → (person me.0).own ≤ x → Ordered terms (λ j. get_or (set s.words k x) j 0)
       → ((t : ℕ) → t < get_or (set s.words k x) unmarshalled 0 → (e : Message) × (entry_of (r.log.status t) ≡ some e))
       → ((t : ℕ) → t < get_or (set s.words k x) journalled 0 → (e : Message) × (entry_of (r.log.status t) ≡ some e))
       → ((t : ℕ) (e : Message) → r.log.status t ≡ sent e → t < get_or (set s.words k x) unmarshalled 0 → words_of s claim ≤ t + terms.rows → (i y : ℕ) → get_elem? (commands_of terms t e) i ≡ some y → words_of s (in_row terms.rows t (i + 48)) ≡ y)
       → ((t : ℕ) (e : Message) → r.log.status t ≡ sent e → t < get_or (set s.words k x) unmarshalled 0 → IsPackable e.gateway (command_of terms t e))
+      → Outgoing terms (λ j. get_or (set s.words k x) j 0) (record r.log { history = h })
       → Lawful S terms record { words = set s.words k x; homes = s.homes; views = set s.views id (alone me.0 (moved (person me.0) x)) }
-  own_now s r id me k x at one place low no_claim up order done kept commands packable =
+  own_now s r h id me k x at one place low no_claim no_published up order done kept commands packable outgoing =
       let p = person me.0 in let ws = s.words in let w = words_of s in let ws' = set ws k x in let w' : ℕ → ℕ = λ (j : ℕ). get_or ws' j 0 in
       let knows = (mine S terms s r id me.0 p at one).2 in
       let own_is : w k ≡ p.own = subst (λ (j : ℕ). w j ≡ p.own) place knows.own in
@@ -47,7 +52,9 @@ module _ {L : Type 0} (S : Type 0) (terms : Terms L) where
       let same : (t i : ℕ) → w' (in_row terms.rows t i) ≡ w (in_row terms.rows t i) = λ t i. word_else ws k (in_row terms.rows t i) x (no_control terms.rows t i k low) in
       let rises : (j : ℕ) → j < first_row → w j ≤ w' j = λ j _. risen ws k x j inside (let g : w k ≤ x = omega arith in g) in
       let start = r.logged.start in let zero_up : w processed ≤ w' processed = rises processed (omega arith) in
-      after S terms s r ws' id me.0 p (moved p x) at one refl (length-set ws k x) r.log order
+      let same_out : (q i : ℕ) → w' (out_row terms.rows terms.output_rows q i) ≡ w (out_row terms.rows terms.output_rows q i) = λ q i. word_else ws k (out_row terms.rows terms.output_rows q i) x (no_output terms.rows terms.output_rows q i k (let n : ℕ = terms.rows in omega arith)) in
+      let published_is : w' published ≡ w published = word_else ws k published x (λ e. no_published (sym e)) in
+      after S terms s r ws' id me.0 p (moved p x) at one refl (length-set ws k x) (record r.log { history = h }) order
       record {
         start = omega arith;
         based = r.logged.based;
@@ -66,39 +73,9 @@ module _ {L : Type 0} (S : Type 0) (terms : Terms L) where
         packable = packable;
         commands = λ t e is below le i y there. same t (i + 48) ∙ commands t e is below (subst (λ (z : ℕ). z ≤ t + terms.rows) claim_is le) i y there;
       }
-      (knows_risen terms w r.log w' p x rises same (ap w' place ∙ here) knows)
-      (λ o apart_from known. knows_risen terms w r.log w' o o.own rises same (word_else ws k (place_of o.role) x (λ e. apart_from (e ∙ sym place)) ∙ known.own) known)
-
-  -- the processor moves its word to what it knows at most
-  pub stores_processed : (slots id : ℕ) (me : Seated S L) (x : ℕ) → IsAlone me.0 → (person me.0).role ≡ Process → (person me.0).own ≤ x → x ≤ length (person me.0).seen
-      → Allows (Lawful S terms) slots id me processed (λ _. x) (λ _. moves_own (step slots processed x 0 none) me x)
-  stores_processed slots id me x one role low high s r wide at _ =
-      let p = person me.0 in let ws = s.words in let w = words_of s in let w' : ℕ → ℕ = λ (j : ℕ). get_or (set ws 0 x) j 0 in
-      let knows = (mine S terms s r id me.0 p at one).2 in let own_is : w 0 ≡ p.own = subst (λ (z : Role). w (place_of z) ≡ p.own) role knows.own in
-      let deep = subst (λ (z : Role). Depth w z (length p.seen)) role knows.depth in let deep_0 : length p.seen ≤ w 16 = deep.0 in let deep_1 : length p.seen ≤ w 24 = deep.1 in
-      let inside : 0 < length ws = (let v = r.wide in omega arith) in
-      let here : w' 0 ≡ x = word_here ws 0 x inside in let claim_is : w' 8 ≡ w 8 = word_else ws 0 8 x (λ (e : 8 ≡ 0). omega arith) in
-      let unmarshalled_is : w' 16 ≡ w 16 = word_else ws 0 16 x (λ (e : 16 ≡ 0). omega arith) in let journalled_is : w' 24 ≡ w 24 = word_else ws 0 24 x (λ (e : 24 ≡ 0). omega arith) in
-      let order = r.order in let third = order.unmarshalled_claimed in let fourth = order.journalled_claimed in let room = order.room in let most = order.most in (
-        alone me.0 (moved p x),
-        keeps,
-        tt,
-        own_now s r id me 0 x at one (ap place_of role) (omega arith) (λ (e : 0 ≡ 8). omega arith) low
-            record {
-              processed_unmarshalled = omega arith;
-              processed_journalled = omega arith;
-              unmarshalled_claimed = omega arith;
-              journalled_claimed = omega arith;
-              room = omega arith;
-              most = omega arith;
-              silent = (word_else ws 0 32 x (λ (e : 32 ≡ 0). omega arith) ∙ order.silent.0, word_else ws 0 104 x (λ (e : 104 ≡ 0). omega arith) ∙ order.silent.1);
-            }
-            (λ t lt. r.logged.done t (subst (λ (y : ℕ). t < y) unmarshalled_is lt))
-            (λ t lt. r.logged.kept t (subst (λ (y : ℕ). t < y) journalled_is lt))
-            (λ t e is below. r.rows.commands t e is (subst (λ (y : ℕ). t < y) unmarshalled_is below))
-            (λ t e is below. r.rows.packable t e is (subst (λ (y : ℕ). t < y) unmarshalled_is below)),
-        refl,
-      )
+      outgoing
+      (still_knows terms w' r.log h (moved p x) (knows_risen terms w r.log w' p x rises same same_out (λ _. published_is) (ap w' place ∙ here) knows))
+      (λ o apart_from known. still_knows terms w' r.log h o (knows_risen terms w r.log w' o o.own rises same same_out (λ _. published_is) (word_else ws k (place_of o.role) x (λ e. apart_from (e ∙ sym place)) ∙ known.own) known))
 
   -- the journaller moves its word to what it knows at most
   pub stores_journalled : (slots id : ℕ) (me : Seated S L) (x : ℕ) → IsAlone me.0 → (person me.0).role ≡ Journal → (person me.0).own ≤ x → x ≤ length (person me.0).seen
@@ -114,7 +91,7 @@ module _ {L : Type 0} (S : Type 0) (terms : Terms L) where
         alone me.0 (moved p x),
         keeps,
         tt,
-        own_now s r id me 24 x at one (ap place_of role) (omega arith) (λ (e : 24 ≡ 8). omega arith) low
+        own_now s r (take x p.seen) id me 24 x at one (ap place_of role) (omega arith) (λ (e : 24 ≡ 8). omega arith) (λ (e : 24 ≡ 104). omega arith) low
             record {
               processed_unmarshalled = omega arith;
               processed_journalled = omega arith;
@@ -122,12 +99,16 @@ module _ {L : Type 0} (S : Type 0) (terms : Terms L) where
               journalled_claimed = omega arith;
               room = omega arith;
               most = omega arith;
-              silent = (word_else ws 24 32 x (λ (e : 32 ≡ 24). omega arith) ∙ order.silent.0, word_else ws 24 104 x (λ (e : 104 ≡ 24). omega arith) ∙ order.silent.1);
             }
             (λ t lt. r.logged.done t (subst (λ (y : ℕ). t < y) unmarshalled_is lt))
             (λ t lt. (let below : t < x = subst (λ (y : ℕ). t < y) here lt in let e = stands p.seen t (let l : t < length p.seen = omega arith in l) in (e.0, knows.front t e.0 e.1)))
             (λ t e is below. r.rows.commands t e is (subst (λ (y : ℕ). t < y) unmarshalled_is below))
-            (λ t e is below. r.rows.packable t e is (subst (λ (y : ℕ). t < y) unmarshalled_is below)),
+            (λ t e is below. r.rows.packable t e is (subst (λ (y : ℕ). t < y) unmarshalled_is below))
+            (let kept_now : length r.log.history ≡ w 24 = r.outgoing.kept in let long = length-take-le x p.seen high in let front = front_taken r.log.status x p.seen knows.front in
+            let longer = begins r.log.status (take x p.seen) r.log.history front r.outgoing.front (omega arith) in
+            outgoing_grows terms w w' r.log (take x p.seen) longer.0 r.few longer.1 front (omega arith) zero_is (here ∙ sym long)
+            (λ k from to. word_else ws 24 k x (λ (e : k ≡ 24). omega arith))
+            (λ q i. word_else ws 24 (out_row terms.rows terms.output_rows q i) x (no_output terms.rows terms.output_rows q i 24 (let n : ℕ = terms.rows in omega arith))) r.outgoing),
         refl,
       )
 
@@ -144,14 +125,14 @@ module _ {L : Type 0} (S : Type 0) (terms : Terms L) where
       let here : w' 16 ≡ x = word_here ws 16 x inside in let zero_is : w' 0 ≡ w 0 = word_else ws 16 0 x (λ (z : 0 ≡ 16). omega arith) in let claim_is : w' 8 ≡ w 8 = word_else ws 16 8 x (λ (z : 8 ≡ 16). omega arith) in
       let journalled_is : w' 24 ≡ w 24 = word_else ws 16 24 x (λ (z : 24 ≡ 16). omega arith) in
       let order = r.order in let first = order.processed_unmarshalled in let second = order.processed_journalled in let third = order.unmarshalled_claimed in let fourth = order.journalled_claimed in let room = order.room in let most = order.most in
-      let part = subst (λ (z : Role). PartOf terms.rows w r.log z p.part) role knows.part in
+      let part = subst (λ (z : Role). PartOf terms.rows terms.output_rows w r.log z p.part) role knows.part in
       let logic_is : lg ≡ terms.logic = some_is lg terms.logic (sym view_is ∙ (mine S terms s r id me.0 p at one).0) in
       let whole : p.part.words ≡ commands_of terms p.own e = subst (λ (l : L). p.part.words ≡ command_words e.gateway (terms.reads l p.own e)) logic_is whole_by in
       let packed : IsPackable e.gateway (command_of terms p.own e) = subst (λ (l : L). IsPackable e.gateway (terms.reads l p.own e)) logic_is packed_by in (
         alone me.0 (moved p x),
         keeps,
         tt,
-        own_now s r id me 16 x at one (ap place_of role) (omega arith) (λ (z : 16 ≡ 8). omega arith) (omega arith)
+        own_now s r r.log.history id me 16 x at one (ap place_of role) (omega arith) (λ (z : 16 ≡ 8). omega arith) (λ (z : 16 ≡ 104). omega arith) (omega arith)
             record {
               processed_unmarshalled = omega arith;
               processed_journalled = omega arith;
@@ -159,7 +140,6 @@ module _ {L : Type 0} (S : Type 0) (terms : Terms L) where
               journalled_claimed = omega arith;
               room = omega arith;
               most = omega arith;
-              silent = (word_else ws 16 32 x (λ (z : 32 ≡ 16). omega arith) ∙ order.silent.0, word_else ws 16 104 x (λ (z : 104 ≡ 16). omega arith) ∙ order.silent.1);
             }
             (λ t lt. (let below : t < x = subst (λ (y : ℕ). t < y) here lt in let d = stands p.seen t (let l : t < length p.seen = omega arith in l) in (d.0, knows.front t d.0 d.1)))
             (λ t lt. r.logged.kept t (subst (λ (y : ℕ). t < y) journalled_is lt))
@@ -173,6 +153,9 @@ module _ {L : Type 0} (S : Type 0) (terms : Terms L) where
             (λ here_is. (let stood : entry_of (r.log.status p.own) ≡ some e = knows.front p.own e held in
             let same : e ≡ d = one_entry (r.log.status p.own) e d stood (ap r.log.status (sym here_is) ∙ is) in
             subst (λ (j : ℕ). IsPackable d.gateway (command_of terms j d)) (sym here_is) (subst (λ (m : Message). IsPackable m.gateway (command_of terms p.own m)) same packed)))
-            (λ ne. r.rows.packable t d is (let below' : t < x = subst (λ (z : ℕ). t < z) here below in let g : t < w 16 = omega arith in g))),
+            (λ ne. r.rows.packable t d is (let below' : t < x = subst (λ (z : ℕ). t < z) here below in let g : t < w 16 = omega arith in g)))
+            (outgoing_stays terms w w' r.log r.log r.few refl r.outgoing.front zero_is journalled_is
+            (λ k from to. word_else ws 16 k x (λ (z : k ≡ 16). omega arith))
+            (λ q i. word_else ws 16 (out_row terms.rows terms.output_rows q i) x (no_output terms.rows terms.output_rows q i 16 (let n : ℕ = terms.rows in omega arith))) r.outgoing),
         refl,
       )

@@ -11,7 +11,7 @@ use Rattle.ring_words.specs.declared.view.Role.{Role}
 use Rattle.ring_words.specs.declared.view.Role.TheVariants.{Process, Unmarshal, Journal, Marshal, Gateway}
 use Rattle.ring_words.specs.declared.view.Person.{Person}
 use Rattle.ring_words.specs.declared.view.View.{View}
-use Rattle.ring_words.specs.Places.{processed, claim, unmarshalled, journalled, taken, first_row, in_row, place_of, number_of}
+use Rattle.ring_words.specs.Places.{processed, claim, unmarshalled, journalled, taken, published, first_row, in_row, out_row, place_of, number_of}
 use Rattle.ring_words.specs.Log.{IsEntry, Status, unclaimed, old, claimed, sent, Log, entry_of, sends_of, claims_of, times}
 use Rattle.ring_words.specs.Raw.{raw_count}
 use Rattle.ring_words.specs.Terms.{Terms, commands_of, command_of}
@@ -22,6 +22,7 @@ use Rattle.ring_words.proofs.Windows.{same_row, one_window, row_inside, no_contr
 use Rattle.ring_words.proofs.Puts.{word_here, word_else}
 use Rattle.ring_words.proofs.Logs.{short_words, at_end, within, depth_risen}
 use Rattle.ring_words.proofs.Keeps.{mine, after}
+use Rattle.ring_words.proofs.Outgoings.{outgoing_stays, no_output, row_before}
 use Rattle.ring_words.proofs.Claims.{claimed_not_sent, sent_not_unclaimed, claimed_by, not_claimed}
 
 -- who has a claim on s: the log says so
@@ -78,8 +79,10 @@ pub others_know : {L : Type 0} (terms : Terms L) (w w' : ℕ → ℕ) (log log' 
     → ((c : ℕ) → c < first_row → w' c ≡ w c)
     → ((t i j : ℕ) → o.role ≡ Gateway j → i < 41 → log.status t ≡ claimed j → (log'.status t ≡ claimed j) × (w' (in_row terms.rows t (i + 1)) ≡ w (in_row terms.rows t (i + 1))))
     → ((t i : ℕ) → o.role ≡ Unmarshal → i < 16 → w' (in_row terms.rows t (i + 48)) ≡ w (in_row terms.rows t (i + 48)))
+    → ((q i : ℕ) → o.role ≡ Process → i < 60 → w' (out_row terms.rows terms.output_rows q i) ≡ w (out_row terms.rows terms.output_rows q i))
+    → ((q i : ℕ) → o.role ≡ Marshal → i < 64 → w' (out_row terms.rows terms.output_rows q (i + 64)) ≡ w (out_row terms.rows terms.output_rows q (i + 64)))
     → Knows terms w log o → Knows terms w' log' o
-others_know terms w w' log log' o few entries sends claims control rows behind r = record {
+others_know terms w w' log log' o few entries sends claims control rows behind outputs texts r = record {
   role = r.role;
   front = λ s e at. entries s e (r.front s e at);
   depth = depth_risen w w' (λ c low. subst (λ (y : ℕ). w c ≤ y) (sym (control c low)) (le_refl (w c))) o.role (length o.seen) r.depth;
@@ -89,11 +92,11 @@ others_know terms w w' log log' o few entries sends claims control rows behind r
   loads = λ i l at low. subst (λ (y : ℕ). l.value ≤ y) (sym (control l.place low)) (r.loads i l at low);
   part = part_stays o.role refl r.part;
 } where
-  part_stays : (role : Role) → o.role ≡ role → PartOf terms.rows w log role o.part → PartOf terms.rows w' log' role o.part
-  part_stays Process is h = tt
+  part_stays : (role : Role) → o.role ≡ role → PartOf terms.rows terms.output_rows w log role o.part → PartOf terms.rows terms.output_rows w' log' role o.part
+  part_stays Process is h = (h.0 ∙ sym (control published (omega arith)), λ i x at. let t = h.1 i x at in (t.0, outputs o.part.sequence i is t.0 ∙ t.1))
   part_stays Unmarshal is h = λ i x at. let t = h i x at in (t.0, behind o.part.sequence i is t.0 ∙ t.1)
   part_stays Journal is h = tt
-  part_stays Marshal is h = tt
+  part_stays Marshal is h = λ i x at. let t = h i x at in (t.0, texts o.part.sequence i is t.0 ∙ t.1)
   part_stays (Gateway j) is h = λ i x at. let t = h i x at in let u = rows o.part.sequence i j is t.0 t.1 in (t.0, u.0, u.1 ∙ t.2)
 
 pub in_take : (l : List ℕ) (i j a : ℕ) → get_elem? (take i l) j ≡ some a → (j < i) × (get_elem? l j ≡ some a)
@@ -120,11 +123,13 @@ module _ {L : Type 0} (S : Type 0) (terms : Terms L) where
       let control : (c : ℕ) → c < first_row → w' c ≡ w c = λ c low. word_else ws here c x (λ e. no_control terms.rows a (i + 1) c low (sym e)) in
       let stays : (t j : ℕ) → j < 64 → (t % terms.rows ≡ a % terms.rows → j ≢ i + 1) → w' (in_row terms.rows t j) ≡ w (in_row terms.rows t j) =
       λ t j low differs. word_else ws here (in_row terms.rows t j) x (λ e. let both = same_row terms.rows t a j (i + 1) low (let g : i + 1 < 64 = omega arith in g) e in differs both.0 both.1) in
+      let outside : (q j : ℕ) → w' (out_row terms.rows terms.output_rows q j) ≡ w (out_row terms.rows terms.output_rows q j) =
+      λ q j. word_else ws here (out_row terms.rows terms.output_rows q j) x (no_output terms.rows terms.output_rows q j here (row_before terms.rows a (i + 1) r.some_row (let g : i + 1 < 64 = omega arith in g))) in
       let claim_is' : w' claim ≡ w claim = control claim (omega arith) in let zero_is : w' processed ≡ w processed = control processed (omega arith) in
       let unmarshalled_is : w' unmarshalled ≡ w unmarshalled = control unmarshalled (omega arith) in let journalled_is : w' journalled ≡ w journalled = control journalled (omega arith) in
       let order = r.order in let first = order.processed_unmarshalled in let second = order.processed_journalled in let third = order.unmarshalled_claimed in let fourth = order.journalled_claimed in let room = order.room in let most = order.most in let start = r.logged.start in
       after S terms s r ws' id me.0 p (stored p a i x) at one refl (length-set ws here x) r.log
-      record { processed_unmarshalled = omega arith; processed_journalled = omega arith; unmarshalled_claimed = omega arith; journalled_claimed = omega arith; room = omega arith; most = omega arith; silent = (control 32 (omega arith) ∙ r.order.silent.0, control 104 (omega arith) ∙ r.order.silent.1) }
+      record { processed_unmarshalled = omega arith; processed_journalled = omega arith; unmarshalled_claimed = omega arith; journalled_claimed = omega arith; room = omega arith; most = omega arith }
       record {
         start = omega arith;
         based = r.logged.based;
@@ -147,6 +152,7 @@ module _ {L : Type 0} (S : Type 0) (terms : Terms L) where
         commands = λ t e sent_is below le j y there. (let size = short_words e.gateway (command_of terms t e) in let few = within (commands_of terms t e) j y there in
             stays t (j + 48) (omega arith) (λ _. (λ (z : j + 48 ≡ i + 1). omega arith)) ∙ r.rows.commands t e sent_is (subst (λ (z : ℕ). t < z) unmarshalled_is below) (subst (λ (z : ℕ). z ≤ t + terms.rows) claim_is' le) j y there);
       }
+      (outgoing_stays terms w w' r.log r.log r.few refl r.outgoing.front zero_is journalled_is (λ c _ low. control c low) outside r.outgoing)
       record {
         role = knows.role;
         front = knows.front;
@@ -155,11 +161,11 @@ module _ {L : Type 0} (S : Type 0) (terms : Terms L) where
         claims = knows.claims;
         own = control (place_of p.role) (place_low terms.gateways p.role r.few knows.role) ∙ knows.own;
         loads = λ j l there low. subst (λ (y : ℕ). l.value ≤ y) (sym (control l.place low)) (knows.loads j l there low);
-        part = subst (λ (z : Role). PartOf terms.rows w' r.log z record { sequence = a; words = take i p.part.words ++ x ∷ [] }) (sym role)
+        part = subst (λ (z : Role). PartOf terms.rows terms.output_rows w' r.log z record { sequence = a; words = take i p.part.words ++ x ∷ [] }) (sym role)
             (λ j y there. ⊎_elim
             (λ was. let old_one = in_take p.part.words i j y was in ⊎_elim
             (λ (none_yet : i ≡ 0). let lt = old_one.0 in absurd (omega arith))
-            (λ (on : (p.part.sequence ≡ a) × (i ≤ length p.part.words)). let h = subst (λ (z : Role). PartOf terms.rows w r.log z p.part) role knows.part j y old_one.1 in
+            (λ (on : (p.part.sequence ≡ a) × (i ≤ length p.part.words)). let h = subst (λ (z : Role). PartOf terms.rows terms.output_rows w r.log z p.part) role knows.part j y old_one.1 in
             (h.0, is, stays a (j + 1) (let lt = h.0 in omega arith) (λ _. (λ (e : j + 1 ≡ i + 1). let lt = old_one.0 in omega arith)) ∙ ap (λ (t : ℕ). w (in_row terms.rows t (j + 1))) (sym on.0) ∙ h.2))
             goes_on)
             (λ (last : (j ≡ length (take i p.part.words)) × (x ≡ y)).
@@ -175,7 +181,8 @@ module _ {L : Type 0} (S : Type 0) (terms : Terms L) where
             let eq : t ≡ a = one_row terms w r.log order r.logged a t k is (λ (z : r.log.status t ≡ unclaimed). not_claimed q (sym t_is ∙ z)) (omega arith) same in
             apart_from (ap place_of o_is ∙ ap taken (claimed_by q k (sym t_is ∙ ap r.log.status eq ∙ is)) ∙ sym (ap place_of role)))),
       ))
-      (λ t j _ low. stays t (j + 48) (omega arith) (λ _. (λ (z : j + 48 ≡ i + 1). omega arith))) kn)
+      (λ t j _ low. stays t (j + 48) (omega arith) (λ _. (λ (z : j + 48 ≡ i + 1). omega arith)))
+      (λ q j _ _. outside q j) (λ q j _ _. outside q (j + 64)) kn)
 
   -- a gateway stores the next raw word of a row that it claimed
   pub writes_raw : (slots id k a i x : ℕ) (me : Seated S L) → IsAlone me.0 → (person me.0).role ≡ Gateway k → 0 < times a (person me.0).claims → i < 41 → GoesOn (person me.0).part a i

@@ -5,10 +5,10 @@ use lib.ListN.{get_elem?}
 use Rattle.atomic_table.specs.Seated.{TableId}
 use Rattle.venue_model.specs.History.{Message}
 use Rattle.ring_words.specs.declared.view.Role.{Role}
-use Rattle.ring_words.specs.declared.view.Role.TheVariants.{Gateway}
+use Rattle.ring_words.specs.declared.view.Role.TheVariants.{Gateway, Marshal}
 use Rattle.ring_words.specs.declared.seats.GatewaySeat.{GatewaySeat}
 use Rattle.ring_words.specs.declared.view.View.{View}
-use Rattle.ring_words.specs.Rule.{newcomer, view_of}
+use Rattle.ring_words.specs.Rule.{newcomer, processor, view_of}
 
 module _ {L : Type 0} (table : TableId) (logic : L) (base : List Message) where
   -- the seat of gateway k, which has published and claimed nothing, knows the history at the start, and has taken the outputs given
@@ -21,6 +21,14 @@ module _ {L : Type 0} (table : TableId) (logic : L) (base : List Message) where
   abbrev pub AreFresh : ℕ → List (GatewaySeat L) → Type 0
   AreFresh given seats = (i : ℕ) (s : GatewaySeat L) → get_elem? seats i ≡ some s → IsFresh given (i + 1) s
 
--- the view of a stage that has done the history at the start
+-- the view of the processor, which has done the history at the start and published the outputs given
+abbrev pub process_view : {L : Type 0} → L → List Message → ℕ → View L
+process_view logic base given = view_of logic base (processor base given ∷ [])
+
+-- the view of the marshaller, which has written the outputs given
+abbrev pub marshal_view : {L : Type 0} → L → List Message → ℕ → View L
+marshal_view logic base given = view_of logic base (newcomer Marshal base given ∷ [])
+
+-- the view of unmarshaller or journaller, which has done the history at the start
 abbrev pub stage_view : {L : Type 0} → L → List Message → Role → View L
 stage_view logic base role = view_of logic base (newcomer role base (length base) ∷ [])

@@ -2,10 +2,13 @@ pub mod Places
 pub mod Log
 pub mod Raw
 pub mod Packing
+pub mod OutputPacking
+pub mod Texts
 pub mod Terms
 pub mod Rule
 pub mod Seats
 pub mod Steps
+pub mod Meeting
 pub mod Sizes
 pub mod Crew
 pub mod Gathered

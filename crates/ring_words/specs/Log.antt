@@ -1,5 +1,5 @@
 -- The log: what stands at each input sequence, and what follows of it for gateways and stages.
-use Rattle.std.specs.Prelude.{◌≡◌, ℕ, suc, ◌<◌, List, [], ◌∷◌, ◌==◌, cond, slice_index_or}
+use Rattle.std.specs.Prelude.{◌≡◌, ℕ, suc, ◌<◌, List, [], ◌∷◌, ◌==◌, cond, slice_index_or, if◌then◌else◌, nat_lt}
 use mathlib.Core.Option.{Option, none, some}
 use lib.ListN.{get_elem?}
 use Rattle.venue_model.specs.History.{Message, IsMessage}
@@ -17,9 +17,10 @@ pub data Status : Type 0 where
   claimed : ℕ → Status
   sent : Message → Status
 
--- the log: what stands at each sequence
+-- the log: what stands at each sequence, and the history that is kept, which is its beginning
 pub record Log : Type 0 where
   pub status : ℕ → Status
+  pub history : List Message
 
 -- the entry that stands there
 abbrev pub entry_of : Status → Option Message
@@ -56,6 +57,15 @@ times s (c ∷ cs) = cond (c == s) (suc (times s cs)) (times s cs)
 abbrev pub without : ℕ → List ℕ → List ℕ
 without s [] = []
 without s (c ∷ cs) = cond (c == s) (without s cs) (c ∷ without s cs)
+
+-- the message that stands there, if it is of this gateway
+abbrev pub of_gateway : ℕ → Option Message → List Message
+of_gateway k none = []
+of_gateway k (some e) = cond (e.gateway == k) (e ∷ []) []
+
+-- what this gateway published at s, by a log that begins with so many entries of the history at the start
+abbrev pub published_at : ℕ → ℕ → List Message → ℕ → List Message
+published_at start k log s = if nat_lt s start then [] else of_gateway k (get_elem? log s)
 
 -- the history is a beginning of the log
 abbrev pub IsFront : (ℕ → Status) → List Message → Type 0

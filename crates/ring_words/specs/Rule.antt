@@ -1,21 +1,24 @@
 -- The rule of the table, which holds between any two steps: the order of the control words, the log with what each
 -- person knows of it, and what stands in the rows. The words are read as a function from places.
-use Rattle.std.specs.Prelude.{◌≡◌, ◌≢◌, ℕ, zero, suc, ◌+◌, ◌%◌, ◌^◌, ◌<◌, ◌≤◌, List, [], ◌∷◌, ◌==◌, cond, length, slice_index, if◌then◌else◌, nat_lt, Some}
+use Rattle.std.specs.Prelude.{◌≡◌, ◌≢◌, ℕ, zero, suc, ◌+◌, ◌%◌, ◌^◌, ◌<◌, ◌≤◌, List, [], ◌∷◌, ◌==◌, cond, length, take, slice_index, if◌then◌else◌, nat_lt, Some}
 use mathlib.Core.Option.{some}
 use lib.ListN.{get_elem?}
 use Rattle.atomic_table.specs.Table.{State}
 use Rattle.venue_model.specs.History.{Message}
+use Rattle.venue_model.specs.declared.outputs.Output.{Output}
 use Rattle.ring_words.specs.declared.view.Role.{Role}
 use Rattle.ring_words.specs.declared.view.Role.TheVariants.{Process, Unmarshal, Journal, Marshal, Gateway}
 use Rattle.ring_words.specs.declared.view.Load.{Load}
 use Rattle.ring_words.specs.declared.view.Part.{Part}
 use Rattle.ring_words.specs.declared.view.Person.{Person}
 use Rattle.ring_words.specs.declared.view.View.{View}
-use Rattle.ring_words.specs.Places.{processed, claim, unmarshalled, journalled, marshalled, published, first_row, in_row, table_words, place_of, number_of}
+use Rattle.ring_words.specs.Places.{processed, claim, unmarshalled, journalled, marshalled, taken, published, first_row, in_row, out_row, table_words, place_of, number_of}
 use Rattle.ring_words.specs.Log.{IsEntry, unclaimed, old, claimed, sent, Log, entry_of, sends_of, claims_of, sent_at, times, IsFront}
 use Rattle.ring_words.specs.Raw.{raw_word, raw_count}
 use Rattle.ring_words.specs.Packing.{IsPackable}
-use Rattle.ring_words.specs.Terms.{Terms, commands_of, command_of}
+use Rattle.ring_words.specs.OutputPacking.{output_words, IsPackableOutput}
+use Rattle.ring_words.specs.Texts.{text_words, IsPackableText}
+use Rattle.ring_words.specs.Terms.{Terms, commands_of, command_of, outputs_of, text_of}
 
 -- the number of one of g gateways
 abbrev pub IsGateway : ℕ → ℕ → Type 0
@@ -34,7 +37,7 @@ abbrev pub Depth : (ℕ → ℕ) → Role → ℕ → Type 0
 Depth w Process k = (k ≤ w unmarshalled) × (k ≤ w journalled)
 Depth w Unmarshal k = Unit {0}
 Depth w Journal k = Unit {0}
-Depth w Marshal k = Unit {0}
+Depth w Marshal k = k ≤ w journalled
 Depth w (Gateway j) k = k ≤ w journalled
 
 -- the words that a gateway has stored stand in the row that it claimed, in a ring of n rows
@@ -45,13 +48,21 @@ Stands n w log k t = (i x : ℕ) → get_elem? t.words i ≡ some x → (i < 41)
 abbrev pub StandsBehind : ℕ → (ℕ → ℕ) → Part → Type 0
 StandsBehind n w t = (i x : ℕ) → get_elem? t.words i ≡ some x → (i < 16) × (w (in_row n t.sequence (i + 48)) ≡ x)
 
--- the row under way, by role
-abbrev pub PartOf : ℕ → (ℕ → ℕ) → Log → Role → Part → Type 0
-PartOf n w log Process t = Unit {0}
-PartOf n w log Unmarshal t = StandsBehind n w t
-PartOf n w log Journal t = Unit {0}
-PartOf n w log Marshal t = Unit {0}
-PartOf n w log (Gateway k) t = Stands n w log k t
+-- the words of an output that were stored stand in the row of its place, in a ring of m rows behind n input rows
+abbrev pub StandsOut : ℕ → ℕ → (ℕ → ℕ) → Part → Type 0
+StandsOut n m w t = (i x : ℕ) → get_elem? t.words i ≡ some x → (i < 60) × (w (out_row n m t.sequence i) ≡ x)
+
+-- the words of a text that were stored stand in the row of its output's place
+abbrev pub StandsText : ℕ → ℕ → (ℕ → ℕ) → Part → Type 0
+StandsText n m w t = (i x : ℕ) → get_elem? t.words i ≡ some x → (i < 64) × (w (out_row n m t.sequence (i + 64)) ≡ x)
+
+-- the row under way, by role; the processor's is that of the next output
+abbrev pub PartOf : ℕ → ℕ → (ℕ → ℕ) → Log → Role → Part → Type 0
+PartOf n m w log Process t = (t.sequence ≡ w published) × StandsOut n m w t
+PartOf n m w log Unmarshal t = StandsBehind n w t
+PartOf n m w log Journal t = Unit {0}
+PartOf n m w log Marshal t = StandsText n m w t
+PartOf n m w log (Gateway k) t = Stands n w log k t
 
 -- how many of these persons store the word at k
 abbrev pub owners : ℕ → List Person → ℕ
@@ -67,16 +78,25 @@ abbrev pub gateways : ℕ → ℕ → List Message → ℕ → List Person
 gateways k zero base given = []
 gateways k (suc g) base given = newcomer (Gateway k) base given ∷ gateways (suc k) g base given
 
--- all persons at the start: three stages and g gateways
+-- no word is stored so far in the row of q
+abbrev pub at_place : Person → ℕ → Person
+at_place p q = record p { part = record { sequence = q; words = [] } }
+
+-- the processor at the start: the next output's place is the number of outputs given
+abbrev pub processor : List Message → ℕ → Person
+processor base given = at_place (newcomer Process base (length base)) given
+
+-- all persons at the start: four stages and g gateways
 abbrev pub crew : ℕ → List Message → ℕ → List Person
-crew g base given = newcomer Process base (length base) ∷ newcomer Unmarshal base (length base) ∷ newcomer Journal base (length base) ∷ gateways 1 g base given
+crew g base given =
+    processor base given ∷ newcomer Unmarshal base (length base) ∷ newcomer Journal base (length base) ∷ newcomer Marshal base given ∷ gateways 1 g base given
 
 -- the words at the start: what sequences count begins at the length of the history, what outputs count at those given, and all rows are empty
 abbrev pub opening_word : ℕ → ℕ → ℕ → ℕ
 opening_word start given i = if nat_lt i 32 then start else (if nat_lt i 112 then given else 0)
 
 module _ {L : Type 0} where
-  -- the order of the control words. So far no outputs are put
+  -- the order of the control words of the input ring
   pub record Ordered (terms : Terms L) (w : ℕ → ℕ) : Type 0 where
     pub processed_unmarshalled : w processed ≤ w unmarshalled
     pub processed_journalled : w processed ≤ w journalled
@@ -84,7 +104,6 @@ module _ {L : Type 0} where
     pub journalled_claimed : w journalled ≤ w claim
     pub room : w claim ≤ w processed + terms.rows
     pub most : w claim ≤ 2 ^ 48
-    pub silent : (w marshalled ≡ terms.given) × (w published ≡ terms.given)
 
   -- the log: what was there at the start, what is claimed and published, each by a gateway that there is, and that all below
   -- unmarshalled and all below journalled stands
@@ -108,7 +127,7 @@ module _ {L : Type 0} where
     pub mine : (s : ℕ) → sent_at s p.mine ≡ sends_of (number_of p.role) (log.status s)
     pub claims : (s : ℕ) → times s p.claims ≡ claims_of (number_of p.role) (log.status s)
     pub loads : (i : ℕ) (l : Load) → get_elem? p.loads i ≡ some l → l.place < first_row → l.value ≤ w l.place
-    pub part : PartOf terms.rows w log p.role p.part
+    pub part : PartOf terms.rows terms.output_rows w log p.role p.part
 
   -- the rows: an availability word names a published sequence of its row, and a row that may still be read has its own, its message, and below
   -- unmarshalled its command
@@ -119,6 +138,26 @@ module _ {L : Type 0} where
     pub commands : (s : ℕ) (e : Message) → log.status s ≡ sent e → s < w unmarshalled → w claim ≤ s + terms.rows
         → (i x : ℕ) → get_elem? (commands_of terms s e) i ≡ some x → w (in_row terms.rows s (i + 48)) ≡ x
     pub packable : (s : ℕ) (e : Message) → log.status s ≡ sent e → s < w unmarshalled → IsPackable e.gateway (command_of terms s e)
+
+  -- The output ring. The outputs that go through it are those of the history that is kept, which is the log's beginning: all of the
+  -- entries processed are published, and maybe some of the next entry's. No row is used again before each gateway has taken its output: until
+  -- then that stands in its row, and below marshalled its text.
+  pub record Outgoing (terms : Terms L) (w : ℕ → ℕ) (log : Log) : Type 0 where
+    pub kept : length log.history ≡ w journalled
+    pub front : IsFront log.status log.history
+    pub marshalled_published : w marshalled ≤ w published
+    pub taken_marshalled : (k : ℕ) → IsGateway terms.gateways k → w (taken k) ≤ w marshalled
+    pub free : (k : ℕ) → IsGateway terms.gateways k → w published ≤ w (taken k) + terms.output_rows
+    pub least : length (outputs_of terms (take (w processed) log.history)) ≤ w published
+    pub most : w published ≤ length (outputs_of terms (take (suc (w processed)) log.history))
+    pub outputs : (k q : ℕ) (o : Output) → IsGateway terms.gateways k → w (taken k) ≤ q → q < w published → get_elem? (outputs_of terms log.history) q ≡ some o
+        → (i x : ℕ) → get_elem? (output_words o) i ≡ some x → w (out_row terms.rows terms.output_rows q i) ≡ x
+    pub packable : (k q : ℕ) (o : Output) → IsGateway terms.gateways k → w (taken k) ≤ q → q < w published → get_elem? (outputs_of terms log.history) q ≡ some o
+        → IsPackableOutput o
+    pub texts : (k q : ℕ) (o : Output) → IsGateway terms.gateways k → w (taken k) ≤ q → q < w marshalled → get_elem? (outputs_of terms log.history) q ≡ some o
+        → (i x : ℕ) → get_elem? (text_words (text_of terms o q)) i ≡ some x → w (out_row terms.rows terms.output_rows q (i + 64)) ≡ x
+    pub readable : (k q : ℕ) (o : Output) → IsGateway terms.gateways k → w (taken k) ≤ q → q < w marshalled → get_elem? (outputs_of terms log.history) q ≡ some o
+        → IsPackableText (text_of terms o q)
 
   -- how many persons of all views store the word at k
   abbrev pub all_owners : ℕ → List (View L) → ℕ
@@ -133,11 +172,14 @@ module _ {L : Type 0} where
   pub record Lawful (S : Type 0) (terms : Terms L) (s : State S (View L)) : Type 0 where
     pub log : Log
     pub some_row : 0 < terms.rows
+    pub some_output_row : 0 < terms.output_rows
+    pub some_gateway : 1 ≤ terms.gateways
     pub few : terms.gateways ≤ 8
     pub wide : length s.words ≡ table_words terms.rows terms.output_rows
     pub order : Ordered terms (words_of s)
     pub logged : Logged terms (words_of s) log
     pub rows : Rows terms (words_of s) log
+    pub outgoing : Outgoing terms (words_of s) log
     pub people : (id j : ℕ) (v : View L) (p : Person) → get_elem? s.views id ≡ some v → get_elem? v.people j ≡ some p
         → (v.logic ≡ Some terms.logic) × (v.base ≡ terms.base) × Knows terms (words_of s) log p
     pub once : (k : ℕ) → all_owners k s.views ≡ owners k (crew terms.gateways terms.base terms.given)

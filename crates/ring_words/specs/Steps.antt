@@ -1,18 +1,23 @@
 -- What each kind of step tells the one who makes it: of the step, the seat before, the number found (at a store, the number stored), and the seat after.
-use Rattle.std.specs.Prelude.{Some, ◌≡◌, ◌≢◌, ◌⊎◌, ℕ, suc, ◌+◌, ◌^◌, ◌<◌, ◌≤◌, List, [], ◌++◌, length, if◌then◌else◌, nat_le}
+use Rattle.std.specs.Prelude.{Some, ◌≡◌, ◌≢◌, ◌⊎◌, ℕ, suc, ◌+◌, ◌^◌, ◌<◌, ◌≤◌, List, [], ◌++◌, length, take, if◌then◌else◌, nat_le}
 use mathlib.Core.Option.{some}
 use lib.ListN.{get_elem?}
 use Rattle.atomic_table.specs.Table.{Me, Step}
 use Rattle.venue_model.specs.History.{Message}
+use Rattle.venue_model.specs.Texts.{Text}
 use Rattle.venue_model.specs.declared.commands.Command.{Command}
+use Rattle.venue_model.specs.declared.outputs.Output.{Output}
 use Rattle.ring_words.specs.declared.view.Load.{Load}
 use Rattle.ring_words.specs.declared.view.Part.{Part}
 use Rattle.ring_words.specs.declared.view.Person.{Person}
 use Rattle.ring_words.specs.declared.view.View.{View}
-use Rattle.ring_words.specs.Places.{processed, claim, unmarshalled, journalled, in_row}
-use Rattle.ring_words.specs.Log.{IsEntry, times}
+use Rattle.ring_words.specs.Places.{processed, claim, unmarshalled, journalled, marshalled, taken, published, in_row, out_row, number_of}
+use Rattle.ring_words.specs.Log.{IsEntry, times, sent_at, published_at}
 use Rattle.ring_words.specs.Raw.{raw_word, raw_count, Spells}
 use Rattle.ring_words.specs.Packing.{command_words, IsPackable}
+use Rattle.ring_words.specs.OutputPacking.{output_words, IsPackableOutput}
+use Rattle.ring_words.specs.Texts.{text_words, IsPackableText}
+use Rattle.ring_words.specs.Rule.{IsGateway, at_place}
 use Rattle.ring_words.specs.Seats.{person, alone, looked, with_claim, stored, marked, saw, knowing, last_from, moved}
 
 -- no claim value that the person loaded is above x
@@ -22,6 +27,18 @@ ClaimsUpTo p x = (i : ℕ) (l : Load) → get_elem? p.loads i ≡ some l → l.p
 -- the person loaded some processed value that leaves room for s in a ring of n rows
 abbrev pub HasRoom : ℕ → Person → ℕ → Type 0
 HasRoom n p s = (i : ℕ) × ((l : Load) × (get_elem? p.loads i ≡ some l) × (l.place ≡ processed) × (s < l.value + n))
+
+-- the person loaded some value of the word at k that is above q
+abbrev pub Shows : ℕ → Person → ℕ → Type 0
+Shows k p q = (i : ℕ) × ((l : Load) × (get_elem? p.loads i ≡ some l) × (l.place ≡ k) × (q < l.value))
+
+-- of each of g gateways the person loaded some taken value that leaves room for the output at q in a ring of m rows
+abbrev pub HasOutputRoom : ℕ → ℕ → Person → ℕ → Type 0
+HasOutputRoom g m p q = (k : ℕ) → IsGateway g k → (i : ℕ) × ((l : Load) × (get_elem? p.loads i ≡ some l) × (l.place ≡ taken k) × (q < l.value + m))
+
+-- the history has messages of this person's gateway, behind so many entries of the history at the start, exactly where it published them
+abbrev pub IsLegal : ℕ → Person → List Message → Type 0
+IsLegal start p h = (s : ℕ) → s < length h → sent_at s p.mine ≡ published_at start (number_of p.role) h s
 
 -- word i of the row of s goes on with the row under way, or begins it
 abbrev pub GoesOn : Part → ℕ → ℕ → Type 0
@@ -44,6 +61,28 @@ pub record WroteCommand {L : Type 0} (reads : L → ℕ → Message → Command)
   pub row : (person v).part.sequence ≡ (person v).own
   pub words : (person v).part.words ≡ command_words e.gateway (reads logic (person v).own e)
   pub packable : IsPackable e.gateway (reads logic (person v).own e)
+
+-- the processor wrote the whole output at the next place, which is one of the next entry's; it saw that entry journalled
+pub record WroteOutput {L : Type 0} (outputs : L → List Message → List Output) (v : View L) (logic : L) (o : Output) : Type 0 where
+  pub by : v.logic ≡ Some logic
+  pub synced : Shows journalled (person v) (person v).own
+  pub output : get_elem? (outputs logic (take (suc (person v).own) (person v).seen)) (person v).part.sequence ≡ some o
+  pub words : (person v).part.words ≡ output_words o
+  pub packable : IsPackableOutput o
+
+-- the processor published all outputs of the first entries that it knows, so many
+pub record HasPublished {L : Type 0} (outputs : L → List Message → List Output) (v : View L) (logic : L) (upto : ℕ) : Type 0 where
+  pub by : v.logic ≡ Some logic
+  pub all : length (outputs logic (take upto (person v).seen)) ≤ (person v).part.sequence
+
+-- the marshaller wrote the whole text of the next output
+pub record WroteText {L : Type 0} (outputs : L → List Message → List Output) (text : L → Output → ℕ → Text) (v : View L) (logic : L) (o : Output) : Type 0 where
+  pub by : v.logic ≡ Some logic
+  pub shown : Shows published (person v) (person v).own
+  pub output : get_elem? (outputs logic (person v).seen) (person v).own ≡ some o
+  pub row : (person v).part.sequence ≡ (person v).own
+  pub words : (person v).part.words ≡ text_words (text logic o (person v).own)
+  pub packable : IsPackableText (text logic o (person v).own)
 
 module _ {S L : Type 0} where
   -- the seat is as before, but for its one person, who is now q
@@ -103,3 +142,46 @@ module _ {S L : Type 0} where
   -- a store of the own word
   abbrev pub moves_own : Step S → Seated S L → ℕ → Seated S L → Type 0
   moves_own st m r m' = Became m (moved (person m.0) r) m'
+
+  -- a load of a gateway's taken word by the processor, in a ring of m output rows
+  abbrev pub sees_taken : ℕ → Step S → Seated S L → ℕ → Seated S L → Type 0
+  sees_taken rows st m r after = Became m (looked (person m.0) st.word r) after × (r ≤ (person m.0).part.sequence) × ((person m.0).part.sequence ≤ r + rows)
+
+  -- a store of an output word in the row of the next place
+  abbrev pub stores_output : ℕ → ℕ → Step S → Seated S L → ℕ → Seated S L → Type 0
+  stores_output n rows st m r after = (i : ℕ) → i < 60 → st.word ≡ out_row n rows (person m.0).part.sequence i → Became m (stored (person m.0) (person m.0).part.sequence i r) after
+
+  -- a store of published
+  abbrev pub publishes : Step S → Seated S L → ℕ → Seated S L → Type 0
+  publishes st m r after = Became m (at_place (person m.0) r) after
+
+  -- a load of an output word, where a value of the word at `gate` was loaded above its place and it isn't released: the output is that of the
+  -- history that is known
+  abbrev pub sees_output : ℕ → ℕ → ℕ → (L → List Message → List Output) → Step S → Seated S L → ℕ → Seated S L → Type 0
+  sees_output n rows gate outputs st m r after = Became m (looked (person m.0) st.word r) after
+      × ((logic : L) (q i x : ℕ) (o : Output) → m.0.logic ≡ Some logic → get_elem? (outputs logic (person m.0).seen) q ≡ some o → (person m.0).own ≤ q → Shows gate (person m.0) q
+      → get_elem? (output_words o) i ≡ some x → st.word ≡ out_row n rows q i → (r ≡ x) × IsPackableOutput o)
+
+  -- a load of published: the marshaller knows a history that has so many outputs
+  abbrev pub sees_published : (L → List Message → List Output) → Step S → Seated S L → ℕ → Seated S L → Type 0
+  sees_published outputs st m r after = ((person m.0).own ≤ r)
+      × ((rest : List Message) × Became m (knowing (looked (person m.0) published r) rest) after
+      × ((logic : L) → m.0.logic ≡ Some logic → r ≤ length (outputs logic ((person m.0).seen ++ rest))))
+
+  -- a store of a text word in the row of an output that is published and not released
+  abbrev pub stores_text : ℕ → ℕ → Step S → Seated S L → ℕ → Seated S L → Type 0
+  stores_text n rows st m r after = (q i : ℕ) → (person m.0).own ≤ q → Shows published (person m.0) q → i < 64 → st.word ≡ out_row n rows q (i + 64) → Became m (stored (person m.0) q i r) after
+
+  -- a load of marshalled by a gateway: where it shows an output at its place, the gateway knows a history with that output which is legal for it
+  abbrev pub sees_marshalled : (L → List Message → List Output) → Step S → Seated S L → ℕ → Seated S L → Type 0
+  sees_marshalled outputs st m r after = ((person m.0).own ≤ r)
+      × (r ≡ (person m.0).own → Became m (looked (person m.0) marshalled r) after)
+      × ((person m.0).own < r → (rest : List Message) × Became m (knowing (looked (person m.0) marshalled r) rest) after
+      × IsLegal (length m.0.base) (person m.0) ((person m.0).seen ++ rest) × (length ((person m.0).seen ++ rest) ≤ 2 ^ 48)
+      × ((logic : L) → m.0.logic ≡ Some logic → (o : Output) × (get_elem? (outputs logic ((person m.0).seen ++ rest)) (person m.0).own ≡ some o)))
+
+  -- a load of a text word, where a value of marshalled was loaded above its place and it isn't taken
+  abbrev pub sees_text : ℕ → ℕ → (L → List Message → List Output) → (L → Output → ℕ → Text) → Step S → Seated S L → ℕ → Seated S L → Type 0
+  sees_text n rows outputs text st m r after = Became m (looked (person m.0) st.word r) after
+      × ((logic : L) (q i x : ℕ) (o : Output) → m.0.logic ≡ Some logic → get_elem? (outputs logic (person m.0).seen) q ≡ some o → (person m.0).own ≤ q → Shows marshalled (person m.0) q
+      → get_elem? (text_words (text logic o q)) i ≡ some x → st.word ≡ out_row n rows q (i + 64) → (r ≡ x) × IsPackableText (text logic o q))

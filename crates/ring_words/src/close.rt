@@ -4,6 +4,7 @@ ghost use Rattle.ring_words.specs.Seats.{person};
 ghost use Rattle.ring_words.specs.Ending.{AreSpent, Ended};
 ghost use Rattle.ring_words.specs.Gathered.{Gathers};
 
+use crate::marshal_seat::MarshalSeat;
 use crate::places::{PROCESSED, PUBLISHED};
 use crate::plays::Together;
 use crate::process_seat::ProcessSeat;
@@ -30,18 +31,22 @@ impl<L: Logic + Drop, const N: usize, const M: usize, const G: usize> Rings<L, N
         process: ProcessSeat<L>,
         unmarshal: UnmarshalSeat<L>,
         journal: JournalSeat<L>,
+        marshal: MarshalSeat<L>,
     ) -> Seat<(), View<L>>
         requires process { process.seat.table_id ≡ self.now.table.shared.table_id }
         requires unmarshal { unmarshal.seat.table_id ≡ self.now.table.shared.table_id }
         requires journal { journal.seat.table_id ≡ self.now.table.shared.table_id }
+        requires marshal { marshal.seat.table_id ≡ self.now.table.shared.table_id }
         ensures table { (result.table_id ≡ self.now.table.shared.table_id) × (result.me.1 ≡ []) }
-        ensures all { result.me.0.people ≡ person process.seat.me.0 ∷ person unmarshal.seat.me.0 ∷ person journal.seat.me.0 ∷ [] }
+        ensures all { result.me.0.people ≡ person process.seat.me.0 ∷ person unmarshal.seat.me.0 ∷ person journal.seat.me.0 ∷ person marshal.seat.me.0 ∷ [] }
     {
         let ProcessSeat { seat: mut all, .. } = process;
         let ReaderSeat { seat: second, .. } = unmarshal;
         self.table.shared.join_seat::<Together>(&mut all, second);
         let ReaderSeat { seat: third, .. } = journal;
         self.table.shared.join_seat::<Together>(&mut all, third);
+        let MarshalSeat { seat: fourth, .. } = marshal;
+        self.table.shared.join_seat::<Together>(&mut all, fourth);
         all
     }
 
@@ -71,19 +76,21 @@ impl<L: Logic + Drop, const N: usize, const M: usize, const G: usize> Rings<L, N
         requires process { seats.process.seat.table_id ≡ self.table.shared.table_id }
         requires unmarshal { seats.unmarshal.seat.table_id ≡ self.table.shared.table_id }
         requires journal { seats.journal.seat.table_id ≡ self.table.shared.table_id }
+        requires marshal { seats.marshal.seat.table_id ≡ self.table.shared.table_id }
         requires gateways { AreSpent self.table.shared.table_id seats.gateways.items }
         requires count { vec_len seats.gateways ≡ G }
         ensures commands { result.commands ≡ (person seats.process.seat.me.0).own }
-        ensures outputs { result.outputs ≡ self.table.shared.key.given }
-        ensures log { Ended self.table.shared.key.base.value.items seats.gateways.items (person seats.process.seat.me.0 ∷ person seats.unmarshal.seat.me.0 ∷ person seats.journal.seat.me.0 ∷ []) result.commands }
+        ensures outputs { result.outputs ≡ (person seats.process.seat.me.0).part.sequence }
+        ensures log { Ended (L.outputs self.table.shared.key.logic) self.table.shared.key.base.value.items seats.gateways.items (person seats.process.seat.me.0 ∷ person seats.unmarshal.seat.me.0 ∷ person seats.journal.seat.me.0 ∷ person seats.marshal.seat.me.0 ∷ []) result.commands (person seats.journal.seat.me.0).own result.outputs }
     {
         let Seats {
             gateways,
             unmarshal,
             journal,
             process,
+            marshal,
         } = seats;
-        let stages = self.gather_stages(process, unmarshal, journal);
+        let stages = self.gather_stages(process, unmarshal, journal, marshal);
         let all = self.gather(gateways, stages);
         let Rings { table } = self;
         let closed = table.close_with(all);

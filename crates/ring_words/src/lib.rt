@@ -1,9 +1,15 @@
 //! The one table that holds both rings: its words, the rule over them, and who may step where.
-//! Every message goes through it: gateways put entries in, the stages read them.
+//! Every message goes through it: gateways put entries in, the stages read them, and outputs come back.
 #![tactic(auto)]
 
+mod bytes;
 mod close;
+mod marshal_seat;
+mod marshal_steps;
+mod meeting;
 mod open;
+mod output_packing;
+mod output_steps;
 mod packing;
 mod places;
 mod plays;
@@ -16,10 +22,15 @@ mod seats;
 mod setup;
 mod stage_steps;
 mod steps;
+mod take_steps;
+mod text_head;
 mod view;
 
+pub use bytes::word_at;
 pub use close::Summary;
+pub use marshal_seat::MarshalSeat;
 pub use open::OpenError;
+pub use output_packing::{OUTPUT_WORDS, PackedOutput, output_words_of, pack_output, unpack_output};
 pub use packing::{COMMAND_WORDS, PackedCommand, pack, unpack, words_of};
 pub use process_seat::ProcessSeat;
 pub use raw::Raw;
@@ -27,4 +38,5 @@ pub use reader_seat::{JournalSeat, Journalling, Reader, ReaderSeat, UnmarshalSea
 pub use rings::{Ring, Rings};
 pub use seats::{GatewaySeat, Seats};
 pub use setup::Setup;
+pub use text_head::TextHead;
 pub use view::{Load, Part, Person, Role, Sent, View};

@@ -1,12 +1,13 @@
 //! How the rings begin: their words, the first seat, and the seats that it is split into.
 ghost use Rattle.std.specs.Prelude.{◌≡◌, ◌≢◌, ℕ, suc, ◌+◌, ◌-◌, ◌*◌, ◌^◌, ◌<◌, ◌≤◌, [], ◌∷◌, length, slice_index_or, vec_len, IfOk, IsErrOf, IsTrue, IsFalse, IsOk, ◌&&◌};
-ghost use Rattle.ring_words.specs.Rule.{gateways, newcomer, opening_word, view_of};
-ghost use Rattle.ring_words.specs.declared.view.Role.TheVariants.{Process, Unmarshal, Journal};
+ghost use Rattle.ring_words.specs.Rule.{gateways, newcomer, processor, opening_word, view_of};
+ghost use Rattle.ring_words.specs.declared.view.Role.TheVariants.{Unmarshal, Journal, Marshal};
 ghost use Rattle.ring_words.specs.Seats.{person, others, apart};
 ghost use Rattle.ring_words.specs.Sizes.{ring_size};
-ghost use Rattle.ring_words.specs.Crew.{IsFresh, AreFresh, stage_view};
+ghost use Rattle.ring_words.specs.Crew.{IsFresh, AreFresh, stage_view, process_view, marshal_view};
 
-use crate::places::{FIRST_OUTPUT_WORD, FIRST_ROW, OUTPUT_ROW_WORDS, OUTPUT_WORDS_END, ROW_WORDS};
+use crate::marshal_seat::MarshalSeat;
+use crate::places::{FIRST_ROW, MARSHALLED, OUTPUT_ROW_WORDS, OUTPUT_WORDS_END, ROW_WORDS};
 use crate::plays::Apart;
 use crate::process_seat::ProcessSeat;
 use crate::reader_seat::{Reader, ReaderSeat};
@@ -44,7 +45,7 @@ fn is_ring_size(rows: usize) -> bool
 fn word_at_start(place: usize, start: u64, given: u64) -> u64
     ensures { result ≡ opening_word start given place }
 {
-    if place < FIRST_OUTPUT_WORD {
+    if place < MARSHALLED {
         start
     } else if place < OUTPUT_WORDS_END {
         given
@@ -82,11 +83,11 @@ impl<L: Logic, const N: usize, const M: usize, const G: usize> Rings<L, N, M, G>
     }
 
     /// Splits the processor's seat off the first one.
-    fn process_seat(&self, first: &mut Seat<(), View<L>>, count: u64) -> ProcessSeat<L>
+    fn process_seat(&self, first: &mut Seat<(), View<L>>, count: u64, given: u64) -> ProcessSeat<L>
         requires table { first.old.table_id ≡ self.now.table.shared.table_id }
         requires bare { first.old.me.1 ≡ [] }
         requires some { 0 < length first.old.me.0.people }
-        requires head { person first.old.me.0 ≡ newcomer Process self.now.table.shared.key.base.value.items count }
+        requires head { person first.old.me.0 ≡ processor self.now.table.shared.key.base.value.items given }
         requires count { count ≡ length self.now.table.shared.key.base.value.items }
         requires small { count ≤ 2 ^ 48 }
         ensures first { (first.new.table_id ≡ first.old.table_id) × (first.new.me ≡ (others first.old.me.0, [])) }
@@ -97,6 +98,22 @@ impl<L: Logic, const N: usize, const M: usize, const G: usize> Rings<L, N, M, G>
             known: count,
             own: count,
             gate: 0,
+            published: given,
+        }
+    }
+
+    /// Splits the marshaller's seat off the first one.
+    fn marshal_seat(&self, first: &mut Seat<(), View<L>>, given: u64) -> MarshalSeat<L>
+        requires table { first.old.table_id ≡ self.now.table.shared.table_id }
+        requires bare { first.old.me.1 ≡ [] }
+        requires some { 0 < length first.old.me.0.people }
+        requires head { person first.old.me.0 ≡ newcomer Marshal self.now.table.shared.key.base.value.items given }
+        ensures first { (first.new.table_id ≡ first.old.table_id) × (first.new.me ≡ (others first.old.me.0, [])) }
+        ensures seat { (result.seat.table_id ≡ first.old.table_id) × (result.seat.me.0 ≡ apart first.old.me.0) }
+    {
+        MarshalSeat {
+            seat: self.split(first),
+            own: given,
         }
     }
 
@@ -120,11 +137,18 @@ impl<L: Logic, const N: usize, const M: usize, const G: usize> Rings<L, N, M, G>
     }
 
     /// Splits the seat of the next gateway off the first one, which has those of `left` gateways.
-    fn gateway_seat(&self, first: &mut Seat<(), View<L>>, number: u64, left: u64) -> GatewaySeat<L>
+    fn gateway_seat(
+        &self,
+        first: &mut Seat<(), View<L>>,
+        number: u64,
+        left: u64,
+        given: u64,
+    ) -> GatewaySeat<L>
         requires table { first.old.table_id ≡ self.now.table.shared.table_id }
         requires bare { first.old.me.1 ≡ [] }
         requires people { first.old.me.0 ≡ view_of self.now.table.shared.key.logic self.now.table.shared.key.base.value.items (gateways number left self.now.table.shared.key.base.value.items self.now.table.shared.key.given) }
         requires some { 0 < left }
+        requires given { given ≡ self.now.table.shared.key.given }
         requires number { (1 ≤ number) × (number ≤ 8) }
         ensures first { (first.new.table_id ≡ first.old.table_id) × (first.new.me.1 ≡ []) }
         ensures people { first.new.me.0 ≡ view_of self.now.table.shared.key.logic self.now.table.shared.key.base.value.items (gateways (number + 1) (left - 1) self.now.table.shared.key.base.value.items self.now.table.shared.key.given) }
@@ -133,6 +157,7 @@ impl<L: Logic, const N: usize, const M: usize, const G: usize> Rings<L, N, M, G>
         GatewaySeat {
             seat: self.split(first),
             number,
+            taken: given,
         }
     }
 
@@ -141,10 +166,12 @@ impl<L: Logic, const N: usize, const M: usize, const G: usize> Rings<L, N, M, G>
         &self,
         alloc: Global,
         mut first: Seat<(), View<L>>,
+        given: u64,
     ) -> Result<Vec<GatewaySeat<L>>, AllocError>
         requires table { first.table_id ≡ self.now.table.shared.table_id }
         requires bare { first.me.1 ≡ [] }
         requires people { first.me.0 ≡ view_of self.now.table.shared.key.logic self.now.table.shared.key.base.value.items (gateways 1 G self.now.table.shared.key.base.value.items self.now.table.shared.key.given) }
+        requires given { given ≡ self.now.table.shared.key.given }
         requires few { G ≤ 8 }
         ensures count { IfOk result (λ seats. vec_len seats ≡ G) }
         ensures seats { IfOk result (λ seats. AreFresh self.now.table.shared.table_id self.now.table.shared.key.logic self.now.table.shared.key.base.value.items self.now.table.shared.key.given seats.items) }
@@ -153,7 +180,7 @@ impl<L: Logic, const N: usize, const M: usize, const G: usize> Rings<L, N, M, G>
         let mut number = 1;
         let mut left = G as u64;
         while left > 0 {
-            let seat = self.gateway_seat(&mut first, number, left);
+            let seat = self.gateway_seat(&mut first, number, left, given);
             seats.push(seat)?;
             number += 1;
             left -= 1;
@@ -180,9 +207,10 @@ impl<L: Logic + Drop, const N: usize, const M: usize, const G: usize> Rings<L, N
         ensures opened { IfOk result (λ r. (r.0.table.shared.key.logic ≡ logic) × (r.0.table.shared.key.base.value.items ≡ base.now.items) × (r.0.table.shared.key.given ≡ given)) }
         ensures count { IfOk result (λ r. vec_len r.1.gateways ≡ G) }
         ensures gateways { IfOk result (λ r. AreFresh r.0.table.shared.table_id logic base.now.items given r.1.gateways.items) }
-        ensures process { IfOk result (λ r. (r.1.process.seat.table_id ≡ r.0.table.shared.table_id) × (r.1.process.seat.me.0 ≡ stage_view logic base.now.items Process)) }
+        ensures process { IfOk result (λ r. (r.1.process.seat.table_id ≡ r.0.table.shared.table_id) × (r.1.process.seat.me.0 ≡ process_view logic base.now.items given)) }
         ensures unmarshal { IfOk result (λ r. (r.1.unmarshal.seat.table_id ≡ r.0.table.shared.table_id) × (r.1.unmarshal.seat.me.0 ≡ stage_view logic base.now.items Unmarshal)) }
         ensures journal { IfOk result (λ r. (r.1.journal.seat.table_id ≡ r.0.table.shared.table_id) × (r.1.journal.seat.me.0 ≡ stage_view logic base.now.items Journal)) }
+        ensures marshal { IfOk result (λ r. (r.1.marshal.seat.table_id ≡ r.0.table.shared.table_id) × (r.1.marshal.seat.me.0 ≡ marshal_view logic base.now.items given)) }
     {
         if !is_ring_size(N) || !is_ring_size(M) {
             return Err(OpenError::NotPowerOfTwo);
@@ -204,10 +232,11 @@ impl<L: Logic + Drop, const N: usize, const M: usize, const G: usize> Rings<L, N
             return Err(OpenError::Memory);
         };
         let rings = Rings { table };
-        let process = rings.process_seat(&mut first, count);
+        let process = rings.process_seat(&mut first, count, given);
         let unmarshal = rings.reader_seat(&mut first, count);
         let journal = rings.reader_seat(&mut first, count);
-        let Ok(gateways) = rings.gateway_seats(alloc, first) else {
+        let marshal = rings.marshal_seat(&mut first, given);
+        let Ok(gateways) = rings.gateway_seats(alloc, first, given) else {
             return Err(OpenError::Memory);
         };
         Ok((
@@ -217,6 +246,7 @@ impl<L: Logic + Drop, const N: usize, const M: usize, const G: usize> Rings<L, N
                 unmarshal,
                 journal,
                 process,
+                marshal,
             },
         ))
     }

@@ -18,7 +18,7 @@ ghost use Rattle.venue_model.specs.Step.{IsCommand};
 ghost use Rattle.venue_model.specs.declared.commands.Command.{Command};
 ghost use Rattle.ring_words.specs.Packing.{order_fields, fault_fields, head_word, more_words, command_words, IsPackable};
 
-mod fields;
+pub(crate) mod fields;
 mod unpacking;
 
 use crate::packing::fields::{

@@ -8,8 +8,10 @@ pub(crate) const CLAIM: usize = 8;
 pub(crate) const UNMARSHALLED: usize = 16;
 /// The journaller's word.
 pub(crate) const JOURNALLED: usize = 24;
-/// The first of the words that begin at the number of outputs given: marshalled, then taken and published.
-pub(crate) const FIRST_OUTPUT_WORD: usize = 32;
+/// The marshaller's word, the first of those that begin at the number of outputs given: the taken words follow, and published.
+pub(crate) const MARSHALLED: usize = 32;
+/// How far apart the taken words are. That of gateway k lies k times so far behind marshalled.
+pub(crate) const TAKEN_STRIDE: usize = 8;
 /// Behind the last of them.
 pub(crate) const OUTPUT_WORDS_END: usize = 112;
 /// The published word.
@@ -22,3 +24,5 @@ pub(crate) const ROW_WORDS: usize = 64;
 pub(crate) const COMMAND: usize = 48;
 /// How many words an output row has.
 pub(crate) const OUTPUT_ROW_WORDS: usize = 128;
+/// Where the text's words lie in an output row.
+pub(crate) const TEXT: usize = 64;

@@ -1,5 +1,6 @@
 //! What each kind of step tells. These types are for the proofs alone.
-ghost use Rattle.ring_words.specs.Steps.{sees_claim, sees_processed, claims_next, stores_raw, marks_sent, sees_mark, sees_raw, stores_command, sees_unmarshalled, sees_journalled, sees_command, moves_own};
+ghost use Rattle.ring_words.specs.Steps.{sees_claim, sees_processed, claims_next, stores_raw, marks_sent, sees_mark, sees_raw, stores_command, sees_unmarshalled, sees_journalled, sees_command, moves_own, sees_taken, stores_output, publishes, sees_output, sees_published, stores_text, sees_marshalled, sees_text};
+ghost use Rattle.ring_words.specs.Places.{marshalled, published};
 
 use crate::view::View;
 use atomic_table::{Join, Play, Split};
@@ -77,6 +78,60 @@ impl<L> Play<(), View<L>> for MoveOwn {
     ghost then = { moves_own };
 }
 
+pub(crate) struct SeeTaken<const M: usize>;
+
+impl<L, const M: usize> Play<(), View<L>> for SeeTaken<M> {
+    ghost then = { sees_taken M };
+}
+
+pub(crate) struct StoreOutput<const N: usize, const M: usize>;
+
+impl<L, const N: usize, const M: usize> Play<(), View<L>> for StoreOutput<N, M> {
+    ghost then = { stores_output N M };
+}
+
+pub(crate) struct PublishOutput;
+
+impl<L> Play<(), View<L>> for PublishOutput {
+    ghost then = { publishes };
+}
+
+pub(crate) struct SeePublished;
+
+impl<L: Logic> Play<(), View<L>> for SeePublished {
+    ghost then = { sees_published L.outputs };
+}
+
+pub(crate) struct SeeOutput<const N: usize, const M: usize>;
+
+impl<L: Logic, const N: usize, const M: usize> Play<(), View<L>> for SeeOutput<N, M> {
+    ghost then = { sees_output N M published L.outputs };
+}
+
+pub(crate) struct StoreText<const N: usize, const M: usize>;
+
+impl<L, const N: usize, const M: usize> Play<(), View<L>> for StoreText<N, M> {
+    ghost then = { stores_text N M };
+}
+
+pub(crate) struct SeeMarshalled;
+
+impl<L: Logic> Play<(), View<L>> for SeeMarshalled {
+    ghost then = { sees_marshalled L.outputs };
+}
+
+pub(crate) struct SeeAddress<const N: usize, const M: usize>;
+
+impl<L: Logic, const N: usize, const M: usize> Play<(), View<L>> for SeeAddress<N, M> {
+    ghost then = { sees_output N M marshalled L.outputs };
+}
+
+pub(crate) struct SeeText<const N: usize, const M: usize>;
+
+impl<L: Logic, const N: usize, const M: usize> Play<(), View<L>> for SeeText<N, M> {
+    ghost then = { sees_text N M L.outputs L.text };
+}
+
 /// The first person of a view gets a seat of its own.
 pub(crate) struct Apart;
 
@@ -97,4 +152,42 @@ impl<L> Join<View<L>> for Together {
     ghost both = { together };
 
     ghost spent = { nobody };
+}
+
+pub(crate) struct Meet;
+
+impl<L> Play<(), View<L>> for Meet {
+    ghost use Rattle.ring_words.specs.Meeting.{sees_meeting};
+
+    ghost then = { sees_meeting };
+}
+
+pub(crate) struct MeetJournal;
+
+impl<L> Play<(), View<L>> for MeetJournal {
+    ghost use Rattle.ring_words.specs.Meeting.{sees_journal};
+
+    ghost then = { sees_journal };
+}
+
+/// A seat of nobody is split off, and the first one stays as it is.
+pub(crate) struct Spare;
+
+impl<L> Split<View<L>> for Spare {
+    ghost use Rattle.ring_words.specs.Meeting.{nobody_else};
+
+    ghost left = { λ v. v };
+
+    ghost right = { nobody_else };
+}
+
+/// Of two persons the second gets a seat of its own.
+pub(crate) struct Parted;
+
+impl<L> Split<View<L>> for Parted {
+    ghost use Rattle.ring_words.specs.Meeting.{first_alone, second_alone};
+
+    ghost left = { first_alone };
+
+    ghost right = { second_alone };
 }

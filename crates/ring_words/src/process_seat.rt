@@ -7,19 +7,21 @@ ghost use Rattle.ring_words.specs.Seats.{person, IsAlone, last_from};
 use crate::view::View;
 use atomic_table::Seat;
 
-/// The processor's place at the table. It holds the length of the history that it knows, its own word, and the unmarshalled value that
-/// it loaded last.
+/// The processor's place at the table. It holds the length of the history that it knows, its own word, the unmarshalled value that it loaded
+/// last, and how many outputs are published.
 #[derive(Drop)]
 pub struct ProcessSeat<L> {
     pub(crate) seat: Seat<(), View<L>>,
     pub(crate) known: u64,
     pub(crate) own: u64,
     pub(crate) gate: u64,
+    pub(crate) published: u64,
     ghost alone: { IsAlone seat.me.0 },
     ghost bare: { seat.me.1 ≡ [] },
     ghost role: { (person seat.me.0).role ≡ Process },
     ghost counts: { (known ≡ length (person seat.me.0).seen) × (own ≡ (person seat.me.0).own) × (own ≤ known) × (known ≤ 2 ^ 48) },
     ghost gated: { gate ≡ last_from unmarshalled 0 (person seat.me.0).loads },
+    ghost put: { published ≡ (person seat.me.0).part.sequence },
 }
 
 impl<L> ProcessSeat<L> {
@@ -37,5 +39,12 @@ impl<L> ProcessSeat<L> {
         ensures known { result ≤ length (person self.now.seat.me.0).seen }
     {
         self.own
+    }
+
+    /// How many outputs are published: the place of the next one.
+    pub fn published(&self) -> u64
+        ensures value { result ≡ (person self.now.seat.me.0).part.sequence }
+    {
+        self.published
     }
 }

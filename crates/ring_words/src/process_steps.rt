@@ -7,7 +7,7 @@ ghost use Rattle.ring_words.specs.Places.{unmarshalled, journalled, in_row};
 ghost use Rattle.ring_words.specs.Log.{IsEntry};
 ghost use Rattle.ring_words.specs.Packing.{command_words, IsPackable};
 ghost use Rattle.ring_words.specs.Seats.{person, alone, looked, knowing, last_from, moved};
-ghost use Rattle.ring_words.specs.Steps.{lesser, Reaches};
+ghost use Rattle.ring_words.specs.Steps.{lesser, Reaches, HasPublished};
 
 use crate::places::{COMMAND, JOURNALLED, PROCESSED, UNMARSHALLED};
 use crate::plays::{MoveOwn, SeeCommand, SeeJournalled, SeeUnmarshalled};
@@ -71,11 +71,12 @@ impl<L: Logic, const N: usize, const M: usize, const G: usize> Rings<L, N, M, G>
             .load::<SeeCommand<N>>(&mut seat.seat, place)
     }
 
-    /// Stores the processor's word: all sequences below it are done, and their rows may be claimed again.
+    /// Stores the processor's word: all sequences below it are done, their outputs are published, and their rows may be claimed again.
     pub fn store_processed(&self, seat: &mut ProcessSeat<L>, upto: u64)
         requires table { seat.old.seat.table_id ≡ self.now.table.shared.table_id }
         requires from { (person seat.old.seat.me.0).own ≤ upto }
         requires to { upto ≤ length (person seat.old.seat.me.0).seen }
+        requires outputs { (logic : L) × HasPublished L.outputs seat.old.seat.me.0 logic upto }
         ensures table { seat.new.seat.table_id ≡ seat.old.seat.table_id }
         ensures view { seat.new.seat.me.0 ≡ alone seat.old.seat.me.0 (moved (person seat.old.seat.me.0) upto) }
     {

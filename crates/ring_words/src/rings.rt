@@ -1,4 +1,4 @@
-//! The table under its rule: each message goes through its words from a gateway to the processor.
+//! The table under its rule: each message goes through its words from a gateway to the processor, and each output back.
 ghost use Rattle.std.specs.Prelude.{◌≡◌, ◌<◌, ◌≤◌};
 ghost use Rattle.ring_words.specs.Places.{table_words};
 
@@ -18,9 +18,9 @@ impl<L: Logic> TableRule<(), View<L>, Setup<L>> for Ring<L> {
     ghost use Rattle.ring_words.specs.Terms.{terms_of};
     ghost use Rattle.ring_words.specs.Rule.{Lawful, first_view};
 
-    ghost holds = { λ k. Lawful (Unit {0}) (terms_of L.reads k) };
+    ghost holds = { λ k. Lawful (Unit {0}) (terms_of L.reads L.outputs L.text L.nothing L.grows k) };
 
-    ghost first = { λ k. first_view (terms_of L.reads k) };
+    ghost first = { λ k. first_view (terms_of L.reads L.outputs L.text L.nothing L.grows k) };
 }
 
 /// Both rings: `N` input rows and `M` output rows, powers of two from 2 to 4,096, for `G` gateways, 1 to 8.
@@ -28,6 +28,6 @@ impl<L: Logic> TableRule<(), View<L>, Setup<L>> for Ring<L> {
 pub struct Rings<L: Logic, const N: usize, const M: usize, const G: usize> {
     pub(crate) table: Table<(), View<L>, Setup<L>, Ring<L>, Global>,
     ghost rows: { (table.shared.key.rows ≡ N) × (table.shared.key.output_rows ≡ M) × (table.shared.key.gateways ≡ G) },
-    ghost words: { (table.shared.table_id.words ≡ table_words N M) × (0 < N) × (N ≤ 4096) × (M ≤ 4096) },
+    ghost words: { (table.shared.table_id.words ≡ table_words N M) × (0 < N) × (N ≤ 4096) × (0 < M) × (M ≤ 4096) × (1 ≤ G) × (G ≤ 8) },
     ghost bare: { table.shared.table_id.slots ≡ 0 },
 }

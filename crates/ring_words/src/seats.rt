@@ -3,6 +3,7 @@ ghost use Rattle.std.specs.Prelude.{◌≡◌, ◌≤◌, []};
 ghost use Rattle.ring_words.specs.declared.view.Role.TheVariants.{Gateway};
 ghost use Rattle.ring_words.specs.Seats.{person, IsAlone};
 
+use crate::marshal_seat::MarshalSeat;
 use crate::process_seat::ProcessSeat;
 use crate::reader_seat::{JournalSeat, UnmarshalSeat};
 use crate::view::View;
@@ -13,10 +14,12 @@ use atomic_table::Seat;
 pub struct GatewaySeat<L> {
     pub(crate) seat: Seat<(), View<L>>,
     pub(crate) number: u64,
+    pub(crate) taken: u64,
     ghost alone: { IsAlone seat.me.0 },
     ghost bare: { seat.me.1 ≡ [] },
     ghost role: { (person seat.me.0).role ≡ Gateway number },
     ghost numbered: { (1 ≤ number) × (number ≤ 8) },
+    ghost counts: { taken ≡ (person seat.me.0).own },
 }
 
 impl<L> GatewaySeat<L> {
@@ -28,6 +31,13 @@ impl<L> GatewaySeat<L> {
     {
         self.number
     }
+
+    /// How many outputs the gateway took or passed over, with those given: the place of the next one.
+    pub fn taken(&self) -> u64
+        ensures value { result ≡ (person self.now.seat.me.0).own }
+    {
+        self.taken
+    }
 }
 
 /// All seats of one table: the gateways' in the order of their numbers, and the stages'.
@@ -37,4 +47,5 @@ pub struct Seats<L> {
     pub unmarshal: UnmarshalSeat<L>,
     pub journal: JournalSeat<L>,
     pub process: ProcessSeat<L>,
+    pub marshal: MarshalSeat<L>,
 }

@@ -28,7 +28,8 @@ pub struct Load {
     pub value: u64,
 }
 
-/// What was stored so far in the row under way: the first words of the message, in order.
+/// The row under way: its sequence or place, and the words stored so far in it, in order, of the message, the command, the output or the text.
+/// Of the processor the place is always the published word.
 pub struct Part {
     pub sequence: u64,
     pub words: LinkedList<u64>,

@@ -1,2 +1,6 @@
 pub mod Numbers
+pub mod OutputWords
+pub mod Rooms
+pub mod Takings
+pub mod TextReading
 pub mod WordLemmas

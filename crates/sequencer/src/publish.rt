@@ -1,37 +1,12 @@
 //! Publications: a gateway writes its message into the row that it claimed, and makes it available to the stages.
-ghost use Rattle.std.specs.Prelude.{◌≡◌, ◌*◌, ◌<◌, ◌≤◌, length};
-ghost use Rattle.std.specs.Int.{from_be_bytes};
-ghost use mir.Syntax.{w64};
+ghost use Rattle.std.specs.Prelude.{◌≡◌, ◌<◌, ◌≤◌, length};
 ghost use Rattle.ring_words.specs.Log.{times};
-ghost use Rattle.ring_words.specs.Raw.{eight};
 ghost use Rattle.ring_words.specs.Seats.{person, alone, marked, wrote};
 ghost use Rattle.sequencer.specs.Words.{words_of};
 
 use crate::claim::Claim;
-use ring_words::{GatewaySeat, Raw, Rings};
+use ring_words::{GatewaySeat, Raw, Rings, word_at};
 use venue_model::Logic;
-
-/// The last word of a message, where fewer than eight bytes are left: they are filled up with zeros.
-fn padded(rest: &[u8]) -> u64
-    requires { length rest.now < 8 }
-    ensures { result ≡ from_be_bytes w64 (eight rest.now 0) }
-{
-    let mut word = [0; 8];
-    word[..rest.len()].copy_from_slice(rest);
-    u64::from_be_bytes(word)
-}
-
-/// The word `index` of these bytes, eight a word, big-endian.
-fn word_at(bytes: &[u8], index: usize) -> u64
-    requires { 8 * index < length bytes.now }
-    ensures { result ≡ from_be_bytes w64 (eight bytes.now index) }
-{
-    let rest = &bytes[8 * index..];
-    match rest.first_chunk() {
-        Some(whole) => u64::from_be_bytes(*whole),
-        None => padded(rest),
-    }
-}
 
 /// Stores all words of the message in the row of a sequence that the gateway claimed.
 fn store_words<L: Logic, const N: usize, const M: usize, const G: usize>(

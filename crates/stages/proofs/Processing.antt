@@ -1,5 +1,5 @@
--- One command through the processor: it is read at the own word, and book and outputs follow when its entry is done.
-use Rattle.std.proofs.Common.{◌≡◌, ℕ, zero, suc, ◌+◌, ◌<◌, ◌≤◌, List, [], ◌∷◌, ◌++◌, length, take, Some, ap, sym, subst, ◌∙◌, append_assoc, arith}
+-- One command through the processor: it is read at the own word and done in the book, and its outputs are put behind those before.
+use Rattle.std.proofs.Common.{◌≡◌, ℕ, zero, suc, ◌+◌, ◌*◌, ◌<◌, ◌≤◌, List, [], ◌∷◌, ◌++◌, length, take, drop, Some, ap, refl, sym, subst, ◌∙◌, length-append, arith}
 use Rattle.std.proofs.lemmas.List.{length-take-le}
 use mathlib.Core.Option.{some, some-injective, some-ne-none}
 use lib.ListN.{get_elem?}
@@ -8,21 +8,22 @@ use Rattle.venue_model.specs.declared.commands.Command.{Command}
 use Rattle.venue_model.specs.declared.outputs.Output.{Output}
 use Rattle.venue_model.specs.Requests.{Symbols, State, Stepped}
 use Rattle.venue_model.specs.Step.{Request, IsCommand, requests, state, outputs, step}
-use Rattle.venue_model.proofs.Bounds.{requests_from-more, state-more, outputs-one}
+use Rattle.venue_model.proofs.Bounds.{requests_from-more, state-more, outputs-one, few-resting}
 use Rattle.fix_orders.specs.Reading.{reads}
 use Rattle.fix_orders.proofs.RangeLemmas.{reads_within}
 use Rattle.ring_words.specs.declared.view.Person.{Person}
 use Rattle.ring_words.specs.declared.view.View.{View}
 use Rattle.ring_words.specs.Log.{IsEntry}
-use Rattle.ring_words.specs.Seats.{person, alone, moved}
+use Rattle.ring_words.specs.Seats.{person, alone}
 use Rattle.ring_words.specs.Packing.{command_words}
 use Rattle.ring_words.proofs.Logs.{stands}
 use Rattle.barrier.specs.Commands.{after_command}
 use Rattle.book.specs.Books.{Book}
 use Rattle.book.specs.Standing.{Below}
 use Rattle.book.proofs.LawStamps.{history-behind, length-requests}
-use Rattle.stages.specs.Turns.{done, after_reading}
+use Rattle.stages.specs.Turns.{after_reading}
 use Rattle.stages.specs.Processed.{entries_done, state_of, outputs_of}
+use Rattle.stages.specs.Processes.{to_put}
 
 -- HISTORIES
 
@@ -38,7 +39,7 @@ length-first (suc i) [] = omega arith
 length-first (suc i) (x ∷ xs) = let most = length-first i xs in omega (arith, most)
 
 -- what the entry asks
-abbrev asks : Message → Request
+abbrev pub asks : Message → Request
 asks e = record { gateway = e.gateway; command = reads e.bytes }
 
 abbrev asked : List Message → List Request
@@ -63,10 +64,14 @@ module _ (symbols : Symbols) (p : Person) (e : Message) (at : get_elem? p.seen p
   next_outputs = ap (outputs symbols) one_more ∙ outputs-one symbols (asked (entries_done p)) (asks e)
       ∙ ap (λ (n : ℕ). outputs_of symbols (entries_done p) ++ (step symbols (state_of symbols (entries_done p)) n (asks e)).outputs) place
 
--- what rests was stamped before the own word
-pub behind : (symbols : Symbols) (p : Person) (s : State) → s ≡ state_of symbols (entries_done p) → Below p.own s.orders
-behind symbols p s is = subst (λ (z : State). Below p.own z.orders) (sym is)
-    (history-behind (λ sequence m. reads m.bytes) symbols (entries_done p) p.own (length-first p.own p.seen))
+-- what rests after the first entries was stamped before the next one
+pub behind : (symbols : Symbols) (k : ℕ) (h : List Message) (s : State) → s ≡ state_of symbols (take k h) → Below k s.orders
+behind symbols k h s is = subst (λ (z : State). Below k z.orders) (sym is)
+    (history-behind (λ sequence m. reads m.bytes) symbols (take k h) k (length-first k h))
+
+-- and there is room for the outputs of one command more
+pub has_room : (symbols : Symbols) (h : List Message) (s : State) → s ≡ state_of symbols h → 2 * length s.orders + 2 ≤ 8194
+has_room symbols h s is = let few = few-resting symbols (asked h) in let same = ap (λ (z : State). length z.orders) is in omega (arith, few, same)
 
 -- A COMMAND THAT WAS READ
 
@@ -111,59 +116,68 @@ module _ (v : View Symbols) (s gateway : ℕ) (command : Command) (symbols : Sym
             ∙ ap (λ (t : ℕ). alone v (after_command n (person v) t (command_words e.gateway (reads e.bytes)))) place;
       }
 
--- what the processor keeps: the book is that of the entries done, and so are the outputs told
-pub record Follows (v : View Symbols) (book : Book) (outputs : List Output) : Type 0 where
+-- WHAT THE PROCESSOR KEEPS
+
+-- the book is that of the first entries, so many; of their outputs all but those left are published
+pub record Follows (v : View Symbols) (book : Book) (applied : ℕ) (left : List Output) : Type 0 where
   pub logic : v.logic ≡ Some book.symbols
-  pub state : book.state ≡ state_of book.symbols (entries_done (person v))
-  pub told : outputs_of book.symbols (entries_done (person v)) ≡ outputs_of book.symbols v.base ++ outputs
+  pub state : book.state ≡ state_of book.symbols (take applied (person v).seen)
+  pub rest : drop (person v).part.sequence (outputs_of book.symbols (take applied (person v).seen)) ≡ left
+  pub published : length (outputs_of book.symbols (take applied (person v).seen)) ≡ (person v).part.sequence + length left
 
-module _ (n : ℕ) (v r : View Symbols) (s gateway : ℕ) (command : Command) (took : Took n v r s gateway command) where
-  -- it stands at the own word, and is known: its row may be given back
-  pub may_release : ((person r).own ≡ s) × (s < length (person r).seen)
-  may_release = let place = took.place in let known = took.known in
-      let own : (person r).own ≡ (person v).own = ap (λ (z : View Symbols). (person z).own) took.view in
-      let seen : length (person r).seen ≡ length (person v).seen = ap (λ (z : View Symbols). length (person z).seen) took.view in
-      (omega (arith, own, place), omega (arith, seen, known, place))
+-- while the command behind those done is under way, its outputs are to be put
+pub left_to_put : (v : View Symbols) (book : Book) (applied : ℕ) (left : List Output) → Follows v book applied left → applied ≡ suc (person v).own
+    → to_put book.symbols (person v) ≡ left
+left_to_put v book applied left follows one =
+    ap (λ (k : ℕ). drop (person v).part.sequence (outputs_of book.symbols (take k (person v).seen))) (sym one) ∙ follows.rest
 
-  -- the own word moves on
-  pub moved_on : (w : View Symbols) → w ≡ alone r (moved (person r) (s + 1)) → w ≡ alone v (done (after_reading n (person v) took.entry))
-  moved_on w is = is ∙ ap (λ (z : View Symbols). alone z (moved (person z) (s + 1))) took.view
-      ∙ ap (λ (k : ℕ). alone v (moved (after_reading n (person v) took.entry) k))
-      (let k : ℕ = (person v).own in let place : s ≡ k = took.place in let g : s + 1 ≡ suc k = omega (arith, place) in g)
+-- what is put behind nothing is all
+pub all_new : (out before more : List Output) → out ≡ before ++ more → before ≡ [] → out ≡ more
+all_new out before more told none = told ∙ ap (λ (l : List Output). l ++ more) none
 
-  module _ (book : Book) (outputs : List Output) (follows : Follows v book outputs) where
-    abbrev next_step : Stepped
-    next_step = next book.symbols (person v) took.entry took.at took.known
+-- where no outputs are left of them
+pub at_rest : (v : View Symbols) (book : Book) (applied s : ℕ) (left : List Output) → Follows v book applied left → applied ≡ s → left ≡ [] → Follows v book s []
+at_rest v book applied s left follows at none = subst (λ (k : ℕ). Follows v book k []) at (subst (Follows v book applied) none follows)
 
-    -- the book was asked what the entry asks, in the state of those before it
-    asked_so : step book.symbols book.state s (record { gateway = gateway; command = command }) ≡ next_step
-    asked_so = ap (λ (t : ℕ). step book.symbols book.state t (record { gateway = gateway; command = command })) took.place
-        ∙ ap (λ (k : ℕ). step book.symbols book.state (person v).own (record { gateway = k; command = command })) took.from
-        ∙ ap (λ (d : Command). step book.symbols book.state (person v).own (record { gateway = took.entry.gateway; command = d })) took.command_is
-        ∙ ap (λ (z : State). step book.symbols z (person v).own (asks took.entry)) follows.state
+-- of a list that goes on, what is behind it
+drop_front : {A : Type 0} (xs ys : List A) (n : ℕ) → length xs ≡ n → drop n (xs ++ ys) ≡ ys
+drop_front [] ys n is = ap (λ (k : ℕ). drop k ys) (sym is)
+drop_front (x ∷ xs) ys n is = ap (λ (k : ℕ). drop k (x ∷ xs ++ ys)) (sym is) ∙ drop_front xs ys (length xs) refl
 
-    -- book and outputs follow when it is done
-    follows_next : Follows (alone v (done (after_reading n (person v) took.entry))) (record book { state = next_step.state })
-        (outputs ++ next_step.outputs)
-    follows_next = record {
-      logic = follows.logic;
-      state = sym (next_state book.symbols (person v) took.entry took.at took.known);
-      told = next_outputs book.symbols (person v) took.entry took.at took.known ∙ ap (λ (o : List Output). o ++ next_step.outputs) follows.told
-          ∙ append_assoc (outputs_of book.symbols v.base) outputs next_step.outputs;
-    }
+module _ (n : ℕ) (v r : View Symbols) (s gateway : ℕ) (command : Command) (took : Took n v r s gateway command) (book : Book)
+    (follows : Follows v book s []) where
+  abbrev this_step : Stepped
+  this_step = step book.symbols book.state s (record { gateway = gateway; command = command })
 
-    pub follows_on : (w : View Symbols) (book' : Book) (outputs' : List Output) → w ≡ alone r (moved (person r) (s + 1)) →
-        book' ≡ record book { state = (step book.symbols book.state s (record { gateway = gateway; command = command })).state } →
-        outputs' ≡ outputs ++ (step book.symbols book.state s (record { gateway = gateway; command = command })).outputs → Follows w book' outputs'
-    follows_on w book' outputs' released applied told =
-        subst (λ (z : View Symbols). Follows z book' outputs') (sym (moved_on w released))
-        (subst (λ (b : Book). Follows (alone v (done (after_reading n (person v) took.entry))) b outputs')
-        (sym (applied ∙ ap (λ (t : Stepped). record book { state = t.state }) asked_so))
-        (subst (λ (o : List Output). Follows (alone v (done (after_reading n (person v) took.entry))) (record book { state = next_step.state }) o)
-        (sym (told ∙ ap (λ (t : Stepped). outputs ++ t.outputs) asked_so)) follows_next))
+  before : Follows v book (person v).own []
+  before = subst (λ (k : ℕ). Follows v book k []) took.place follows
 
-    -- and stay as they are while it waits
-    pub follows_still : (book' : Book) (outputs' : List Output) → book' ≡ book → outputs' ≡ outputs → Follows r book' outputs'
-    follows_still book' outputs' same also = subst (λ (b : Book). Follows r b outputs') (sym same)
-        (subst (λ (o : List Output). Follows r book o) (sym also) (subst (λ (z : View Symbols). Follows z book outputs) (sym took.view)
-        (record { logic = follows.logic; state = follows.state; told = follows.told })))
+  -- the book was asked what the entry asks, in the state of those before it
+  asked_so : this_step ≡ next book.symbols (person v) took.entry took.at took.known
+  asked_so = ap (λ (t : ℕ). step book.symbols book.state t (record { gateway = gateway; command = command })) took.place
+      ∙ ap (λ (k : ℕ). step book.symbols book.state (person v).own (record { gateway = k; command = command })) took.from
+      ∙ ap (λ (d : Command). step book.symbols book.state (person v).own (record { gateway = took.entry.gateway; command = d })) took.command_is
+      ∙ ap (λ (z : State). step book.symbols z (person v).own (asks took.entry)) before.state
+
+  grown : outputs_of book.symbols (take (suc (person v).own) (person v).seen) ≡ outputs_of book.symbols (entries_done (person v)) ++ this_step.outputs
+  grown = next_outputs book.symbols (person v) took.entry took.at took.known
+      ∙ ap (λ (t : Stepped). outputs_of book.symbols (entries_done (person v)) ++ t.outputs) (sym asked_so)
+
+  -- all before were published
+  all_out : length (outputs_of book.symbols (entries_done (person v))) ≡ (person v).part.sequence
+  all_out = let all = before.published in omega (arith, all)
+
+  -- the book follows with one entry more, and its outputs are left
+  pub follows_on : (book' : Book) (left : List Output) (k : ℕ) → k ≡ suc s → book' ≡ record book { state = this_step.state } → left ≡ this_step.outputs
+      → Follows r book' k left
+  follows_on book' left k k_is stepped told =
+      subst (λ (z : View Symbols). Follows z book' k left) (sym took.view)
+      (subst (λ (b : Book). Follows (alone v (after_reading n (person v) took.entry)) b k left) (sym stepped)
+      (subst (λ (i : ℕ). Follows (alone v (after_reading n (person v) took.entry)) (record book { state = this_step.state }) i left)
+      (sym (k_is ∙ ap suc took.place)) (record {
+        logic = follows.logic;
+        state = ap (λ (t : Stepped). t.state) asked_so ∙ sym (next_state book.symbols (person v) took.entry took.at took.known);
+        rest = ap (drop (person v).part.sequence) grown ∙ drop_front _ _ _ all_out ∙ sym told;
+        published = ap length grown ∙ length-append (outputs_of book.symbols (entries_done (person v))) this_step.outputs
+            ∙ ap (λ (i : ℕ). i + length this_step.outputs) all_out ∙ ap (λ (l : List Output). (person v).part.sequence + length l) (sym told);
+      })))

@@ -1,3 +1,5 @@
 pub mod Turns
 pub mod Processed
 pub mod Kept
+pub mod Marshals
+pub mod Processes

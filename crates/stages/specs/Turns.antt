@@ -5,16 +5,15 @@ use lib.ListN.{get_elem?}
 use Rattle.venue_model.specs.History.{Message}
 use Rattle.fix_orders.specs.Reading.{reads}
 use Rattle.ring_words.specs.declared.view.Person.{Person}
-use Rattle.ring_words.specs.Places.{unmarshalled, journalled, in_row}
+use Rattle.ring_words.specs.Places.{in_row}
 use Rattle.ring_words.specs.Raw.{raw_count}
 use Rattle.ring_words.specs.Packing.{command_words}
 use Rattle.ring_words.specs.Seats.{looked, wrote, moved}
-use Rattle.ring_words.specs.Steps.{lesser}
-use Rattle.barrier.specs.Availability.{Shown, Gated}
+use Rattle.barrier.specs.Availability.{Shown}
 use Rattle.barrier.specs.Commands.{after_command}
 use Rattle.barrier.specs.Reading.{after_loads}
 use Rattle.stages.specs.declared.turn.Turn.{Turn}
-use Rattle.stages.specs.declared.turn.Turn.TheVariants.{Did, Idle, Memory, JournalFailed}
+use Rattle.stages.specs.declared.turn.Turn.TheVariants.{Did, Idle, OutFull, JournalFailed}
 
 -- the stage knows nothing beyond its own word, and the one word that it loaded, the availability of its next sequence, doesn't show
 -- that sequence
@@ -39,7 +38,7 @@ abbrev pub Unmarshals : ℕ → Turn → Person → Person → Type 0
 Unmarshals n (Did k) v w =
     (k ≡ 1) × ((u : Person) × Shown n v u × ((e : Message) × (get_elem? u.seen u.own ≡ some e) × (w ≡ after_unmarshalling n u e)))
 Unmarshals n Idle v w = NothingShown n v w
-Unmarshals n Memory v w = ⊥
+Unmarshals n OutFull v w = ⊥
 Unmarshals n JournalFailed v w = ⊥
 
 -- the message of the next sequence was read
@@ -54,7 +53,7 @@ OnlyRead n v w = (u : Person) × Shown n v u × ((e : Message) × (get_elem? u.s
 abbrev pub KeepsNext : ℕ → Turn → Person → Person → Type 0
 KeepsNext n (Did k) v w = (k ≡ 1) × ((e : Message) × (get_elem? v.seen v.own ≡ some e) × (w ≡ done (after_message n v e)))
 KeepsNext n Idle v w = ⊥
-KeepsNext n Memory v w = ⊥
+KeepsNext n OutFull v w = ⊥
 KeepsNext n JournalFailed v w = (e : Message) × (get_elem? v.seen v.own ≡ some e) × (w ≡ after_message n v e)
 
 -- The journaller did one sequence, which the look for new ones left known; or that showed nothing new; or the journal had failed before,
@@ -63,24 +62,5 @@ abbrev pub Journals : ℕ → Turn → Person → Person → Type 0
 Journals n (Did k) v w =
     (k ≡ 1) × ((u : Person) × Shown n v u × ((e : Message) × (get_elem? u.seen u.own ≡ some e) × (w ≡ done (after_message n u e))))
 Journals n Idle v w = NothingShown n v w
-Journals n Memory v w = ⊥
+Journals n OutFull v w = ⊥
 Journals n JournalFailed v w = (w ≡ v) ⊎ OnlyRead n v w
-
--- the lesser of unmarshalled and journalled, loaded in this order, was the stage's own word, and it knows nothing beyond that
-abbrev pub NothingHandedOn : Person → Person → Type 0
-NothingHandedOn v w =
-    (length v.seen ≡ v.own) × ((u j : ℕ) × (lesser u j ≡ v.own) × (w ≡ looked (looked v unmarshalled u) journalled j))
-
--- the command of the next sequence was read, and done; or there was no memory for it, and it waits
-abbrev pub Obeys : ℕ → Turn → Person → Person → Type 0
-Obeys n (Did k) v w = (k ≡ 1) × ((e : Message) × (get_elem? v.seen v.own ≡ some e) × (w ≡ done (after_reading n v e)))
-Obeys n Idle v w = ⊥
-Obeys n Memory v w = (e : Message) × (get_elem? v.seen v.own ≡ some e) × (w ≡ after_reading n v e)
-Obeys n JournalFailed v w = ⊥
-
--- the processor took up the next sequence, which its look for new ones left known; or that showed nothing new
-abbrev pub Processes : ℕ → Turn → Person → Person → Type 0
-Processes n (Did k) v w = (u : Person) × Gated v u × Obeys n (Did k) u w
-Processes n Idle v w = NothingHandedOn v w
-Processes n Memory v w = (u : Person) × Gated v u × Obeys n Memory u w
-Processes n JournalFailed v w = ⊥

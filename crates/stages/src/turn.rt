@@ -7,8 +7,9 @@ pub enum Turn {
     Did(u64),
     /// The words that were read in this call showed nothing new.
     Idle,
-    /// 12: memory was refused, of the processor alone. Its command waits, and the next poll tries it again.
-    Memory,
+    /// The output ring had no room for some outputs of one command, of the processor alone: they are left, and the next poll goes on with
+    /// them.
+    OutFull,
     /// 41: an append failed, of the journaller alone. From then on it is always this, and nothing more is handed on.
     JournalFailed,
 }

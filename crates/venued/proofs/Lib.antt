@@ -17,9 +17,11 @@ pub mod FrameBytes
 pub mod HeaderLemmas
 pub mod HearingLemmas
 pub mod OpenedLemmas
-pub mod VenueLemmas
-pub mod ProcessorLemmas
+pub mod OutputSymbols
+pub mod Carried
+pub mod TakenLemmas
 pub mod JournallerLemmas
+pub mod VenueLemmas
 pub mod ServingLemmas
 pub mod Requests
 pub mod RingTests

@@ -1,6 +1,5 @@
 -- The venue's rings as they are opened: their size is right, and each seat begins behind the same history.
-use Rattle.std.proofs.Common.{◌≡◌, ℕ, ◌&&◌, true, List, [], ◌∷◌, ◌++◌, length, refl, ap, sym, ◌∙◌, arith, length-append}
-use Rattle.std.proofs.lemmas.List.{take_all}
+use Rattle.std.proofs.Common.{◌≡◌, ℕ, ◌&&◌, true, List, [], ◌∷◌, ◌++◌, length, refl, ap, arith, length-append}
 use mathlib.Core.Option.{some}
 use lib.Count.{ones, ones_in}
 use lib.ListN.{get_elem?}
@@ -8,12 +7,9 @@ use Rattle.venue_model.specs.History.{Message}
 use Rattle.venue_model.specs.Requests.{Symbols}
 use Rattle.ring_words.specs.declared.view.Role.{Role}
 use Rattle.ring_words.specs.declared.view.Role.TheVariants.{Gateway}
-use Rattle.ring_words.specs.declared.view.View.{View}
-use Rattle.ring_words.specs.Seats.{person}
-use Rattle.ring_words.specs.Crew.{stage_view}
+use Rattle.ring_words.specs.Crew.{stage_view, process_view, marshal_view}
 use Rattle.ring_words.specs.Rule.{newcomer, view_of}
 use Rattle.ring_words.specs.Sizes.{ring_size}
-use Rattle.stages.specs.Processed.{entries_done}
 use Rattle.venued.specs.VenueRings.{new_gateway}
 
 -- what is popped off a list of one is that one
@@ -31,12 +27,14 @@ module _ (logic symbols : Symbols) (same : logic ≡ symbols) (base : List Messa
   pub gateway_begins : (given : ℕ) → view_of logic base (newcomer (Gateway 1) base given ∷ []) ≡ view_of symbols base (new_gateway base given ∷ [])
   gateway_begins given = λ k. view_of (same k) base (newcomer (Gateway 1) base given ∷ [])
 
-  -- and a stage's
+  -- that of a stage which reads what gateways publish
   pub stage_begins : (role : Role) → stage_view logic base role ≡ stage_view symbols base role
   stage_begins role = λ k. stage_view (same k) base role
 
--- a stage has done the history that it begins with
-pub done_at_start : (symbols : Symbols) (base : List Message) (role : Role) (view : View Symbols) → view ≡ stage_view symbols base role
-    → entries_done (person view) ≡ view.base
-done_at_start symbols base role view is =
-    ap (λ (v : View Symbols). entries_done (person v)) is ∙ take_all (length base) base (omega arith) ∙ sym (ap (λ (v : View Symbols). v.base) is)
+  -- the processor's
+  pub process_begins : (given : ℕ) → process_view logic base given ≡ process_view symbols base given
+  process_begins given = λ k. process_view (same k) base given
+
+  -- and the marshaller's
+  pub marshal_begins : (given : ℕ) → marshal_view logic base given ≡ marshal_view symbols base given
+  marshal_begins given = λ k. marshal_view (same k) base given

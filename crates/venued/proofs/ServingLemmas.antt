@@ -31,7 +31,7 @@ pub goes_with_opened : {D : Type 0} (symbols : Symbols) (desk : OneVenue D) (mad
     → GoesWith begins.session begins.passed (ledger_of desk)
 goes_with_opened symbols desk made begins is few new begin =
     let told = few-told-by (λ sequence m. reads m.bytes) symbols desk.base in
-    let count = ap (λ d. d.count) is in
+    let count = ap (λ d. d.gateway.own) is in
     let passed = ap (λ (f : Front). f.passed) begin ∙ ap (λ (f : Front). f.passed) new in
     let number = ap (λ (f : Front). f.session.number) begin in
     record { number = omega (arith, number); passed_over = omega (arith, passed); few = omega (arith, told, count, few) }

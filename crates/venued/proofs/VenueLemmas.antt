@@ -1,125 +1,153 @@
--- What the venue's desk has for its session: the texts of outputs as their count grows, and the outputs as the history grows.
-use Rattle.std.proofs.Common.{◌≡◌, ℕ, zero, suc, ◌+◌, ◌^◌, ◌<◌, ◌≤◌, true, false, List, [], ◌∷◌, ◌++◌, length, take, drop, ap, sym, ◌∙◌, arith, append-nil, length-append, length-drop, add-zero, None, Some}
-use Rattle.std.specs.Prelude.{◌==◌, if◌then◌else◌, slice_get}
-use Rattle.std.proofs.lemmas.List.{length-take-le, take-append-le, drop-append-le}
-use Rattle.std.proofs.Math.Seq.{take-add}
-use Rattle.fix_orders.specs.Reading.{reads}
-use Rattle.fix_orders.specs.Text.{Said, text}
+-- The venue's desk: what its calls keep, and what they tell.
+use Rattle.std.proofs.Common.{◌≡◌, ℕ, suc, ◌+◌, ◌≤◌, List, length, refl, ap, sym, subst, ◌∙◌, arith, Some}
+use mathlib.Core.Option.{some}
+use lib.ListN.{get_elem?}
+use Rattle.fix_orders.specs.Text.{Said, text, text_bytes}
 use Rattle.venue_model.specs.History.{Message}
 use Rattle.venue_model.specs.Requests.{Symbols}
 use Rattle.venue_model.specs.declared.outputs.Output.{Output}
-use Rattle.venue_model.proofs.Growth.{grows-by, few-told-by}
 use Rattle.ring_words.specs.declared.view.Person.{Person}
-use Rattle.barrier.specs.Availability.{Gated}
-use Rattle.stages.specs.declared.turn.Turn.{Turn}
-use Rattle.stages.specs.declared.turn.Turn.TheVariants.{Did, Idle, Memory, JournalFailed}
-use Rattle.stages.specs.Processed.{entries_done, outputs_of}
-use Rattle.stages.specs.Turns.{Processes}
-use Rattle.venued.specs.VenueDesks.{texts_to}
+use Rattle.ring_words.specs.declared.view.View.{View}
+use Rattle.ring_words.specs.Seats.{person, alone}
+use Rattle.sequencer.specs.declared.take.Take.{Take}
+use Rattle.sequencer.specs.declared.take.Take.TheVariants.{Mine, Passed, Nothing}
+use Rattle.sequencer.specs.Outputs.{TakesNext, Says}
+use Rattle.stages.specs.declared.processor.Processor.{Processor}
+use Rattle.stages.specs.Processed.{outputs_of}
+use Rattle.venued.specs.Desks.{Ledger, TakeTells}
+use Rattle.venued.specs.VenueDesks.{OneVenue, messages_of, ledger_of, HandsOn}
+use Rattle.venued.specs.VenueInsides.{KeepsVenue}
+use Rattle.venued.proofs.Carried.{carried}
+use Rattle.venued.proofs.JournallerLemmas.{Behind}
+use Rattle.venued.proofs.OutputSymbols.{tells_spelled}
+use Rattle.venued.proofs.TakenLemmas.{taken_by, taken_mine, taken_other, still_within, still_small}
 
--- TEXTS
+-- TAKING
 
--- what one output more says, if it goes to this gateway
-abbrev pub one_text : ℕ → ℕ → Output → List Said
-one_text k place o = if o.to == k then text o place ∷ [] else []
+-- gateway k took the output at its count of this history, or passed it over, as the call's answer says
+pub record Took (symbols : Symbols) (base : List Message) (p q : Person) (k : ℕ) (take : Take) (body : List ℕ) : Type 0 where
+  pub history : List Message
+  pub output : Output
+  pub takes : TakesNext (length base) p history q
+  pub next : get_elem? (outputs_of symbols history) p.own ≡ some output
+  pub says : Says k output (text_bytes output p.own) take body
 
-texts-one_more : (k place : ℕ) (xs : List Output) (o : Output) →
-    texts_to k place (xs ++ o ∷ []) ≡ texts_to k place xs ++ one_text k (place + length xs) o
-texts-one_more k place [] o = ap (λ (n : ℕ). one_text k n o) (sym (add-zero place))
-texts-one_more k place (x ∷ xs) o =
-    let number : place + 1 + length xs ≡ place + suc (length xs) = omega arith in
-    let behind : List Said = one_text k (place + suc (length xs)) o in
-    let rest : texts_to k (place + 1) (xs ++ o ∷ []) ≡ texts_to k (place + 1) xs ++ behind =
-    texts-one_more k (place + 1) xs o ∙ ap (λ (n : ℕ). texts_to k (place + 1) xs ++ one_text k n o) number in
-    elim (x.to == k) as (λ b.
-    (if b then text x place ∷ texts_to k (place + 1) (xs ++ o ∷ []) else texts_to k (place + 1) (xs ++ o ∷ []))
-    ≡ (if b then text x place ∷ texts_to k (place + 1) xs else texts_to k (place + 1) xs) ++ behind
-    ) [ true ↦ ap (λ l. text x place ∷ l) rest | false ↦ rest ]
+-- the call's clause, in a venue of these symbols behind this history
+abbrev Takes : View Symbols → Person → ℕ → Take → List ℕ → Type 0
+Takes v q k take body = (history : List Message) × TakesNext (length v.base) (person v) history q
+    × ((symbols : Symbols) → v.logic ≡ Some symbols → (o : Output) × (get_elem? (outputs_of symbols history) (person v).own ≡ some o)
+    × Says k o (text_bytes o (person v).own) take body)
 
--- the first outputs, and the next one
-take_next : {A : Type 0} (l : List A) (i : ℕ) (a : A) → slice_get l i ≡ Some a → take (suc i) l ≡ take i l ++ a ∷ []
-take_next [] i a at = cc
-take_next (x ∷ xs) zero a at = let same : x ≡ a = cc in ap (λ y. y ∷ []) same
-take_next (x ∷ xs) (suc i) a at = ap (λ l. x ∷ l) (take_next xs i a at)
+module _ (symbols : Symbols) (base : List Message) (v w marshaller : View Symbols) (journaller : Person)
+    (held : KeepsVenue symbols base v marshaller journaller) (k : ℕ) (take : Take) (body : List ℕ) where
+  pub took_one : Takes v (person w) k take body → Took symbols base (person v) (person w) k take body
+  took_one taken = let output = taken.2 symbols held.logic in record {
+    history = taken.0;
+    output = output.0;
+    takes = subst (λ (h : List Message). TakesNext (length h) (person v) taken.0 (person w)) held.start taken.1;
+    next = output.1;
+    says = output.2;
+  }
 
--- what is taken behind the outputs at the start when the count goes over one output more
-pub taken-one_more : (k given : ℕ) (all : List Output) (count : ℕ) (o : Output) → slice_get all count ≡ Some o → given ≤ count → count ≤ length all →
-    texts_to k given (drop given (take (count + 1) all)) ≡ texts_to k given (drop given (take count all)) ++ one_text k count o
-taken-one_more k given all count o at from within =
-    let next : count + 1 ≡ suc count = omega arith in
-    let front = length-take-le count all within in
-    let rest : List Output = drop given (take count all) in
-    let behind = length-drop given (take count all) in
-    let long : given + length rest ≡ count = omega (arith, front, behind) in
-    ap (λ (n : ℕ). texts_to k given (drop given (take n all))) next
-    ∙ ap (λ (l : List Output). texts_to k given (drop given l)) (take_next all count o at)
-    ∙ ap (texts_to k given) (drop-append-le given (take count all) (o ∷ []) (omega (arith, front)))
-    ∙ texts-one_more k given rest o ∙ ap (λ (n : ℕ). texts_to k given rest ++ one_text k n o) long
+  -- the seat stays, and the count within the outputs of what the gateway has seen
+  pub kept_taking : w ≡ alone v (person w) → Took symbols base (person v) (person w) k take body → KeepsVenue symbols base w marshaller journaller
+  kept_taking view took =
+      let from = held.from in
+      let own : (person w).own ≡ suc (person v).own = ap (λ (p : Person). p.own) took.takes.taken in
+      record {
+        logic = ap (λ z. z.logic) view ∙ held.logic;
+        marshals = held.marshals;
+        start = ap (λ z. z.base) view ∙ held.start;
+        from = omega (arith, from, own);
+        to = still_within symbols base took.history (person v) (person w) took.output took.takes took.next;
+        behind = held.behind;
+        kept = held.kept;
+      }
 
--- what is found behind the front of a list
-pub found-behind : {A : Type 0} (xs ys : List A) (i : ℕ) → slice_get (xs ++ ys) (length xs + i) ≡ slice_get ys i
-found-behind [] ys i = let same : 0 + i ≡ i = omega arith in ap (slice_get ys) same
-found-behind (x ∷ xs) ys i =
-    let next : suc (length xs) + i ≡ suc (length xs + i) = omega arith in
-    ap (slice_get (x ∷ xs ++ ys)) next ∙ found-behind xs ys i
+module _ {D : Type 0} (d e : OneVenue D) (same : d ≡ e) (q : Person) (k : ℕ) (first : k ≡ 1) where
+  hands : (take : Take) (body : List ℕ) → Took d.symbols d.base d.gateway q k take body → HandsOn d (record d { gateway = q }) body take
+  hands (Mine head) body took = (
+    took.output,
+    record { history = took.history; takes = took.takes; next = took.next; others = refl },
+    took.says.0 ∙ first,
+    carried head body took.output d.gateway.own (tells_spelled d.symbols took.history d.gateway.own took.output took.next) took.says.1,
+  )
+  hands Passed body took =
+      (took.output, record { history = took.history; takes = took.takes; next = took.next; others = refl }, λ is. took.says (is ∙ sym first))
+  hands Nothing body took = elim took.says [ ]
 
--- where nothing is found, the list ends before
-pub past_end : {A : Type 0} (l : List A) (i : ℕ) → slice_get l i ≡ None → length l ≤ i
-past_end [] i none = omega arith
-past_end (x ∷ xs) zero none = cc
-past_end (x ∷ xs) (suc i) none = let rest = past_end xs i none in omega (arith, rest)
+  -- what it took is handed on
+  pub hands_on : (take : Take) (body : List ℕ) → Took d.symbols d.base d.gateway q k take body → HandsOn e (record d { gateway = q }) body take
+  hands_on take body took = subst (λ (z : OneVenue D). HandsOn z (record d { gateway = q }) body take) same (hands take body took)
 
--- OUTPUTS
+  -- the ledger with one output more, of these texts
+  retold : (take : Take) (body : List ℕ) (texts : List Said) → Took d.symbols d.base d.gateway q k take body → taken_by d.symbols d.base q ≡ texts
+      → ledger_of (record d { gateway = q }) ≡ record (ledger_of d) { taken = texts; count = d.gateway.own + 1 }
+  retold take body texts took told =
+      let sends : messages_of q.mine ≡ messages_of d.gateway.mine = ap (λ (w : Person). messages_of w.mine) took.takes.taken in
+      let own : q.own ≡ suc d.gateway.own = ap (λ (w : Person). w.own) took.takes.taken in
+      let count : q.own ≡ d.gateway.own + 1 = omega (arith, own) in
+      λ i. record { published = sends i; taken = told i; count = count i; refusals = d.refusals; nothings = d.nothings }
 
--- what was taken stays as the history grows
-pub taken-stays : (symbols : Symbols) (h after rest : List Message) (k given count : ℕ) → after ≡ h ++ rest → count ≤ length (outputs_of symbols h) →
-    texts_to k given (drop given (take count (outputs_of symbols after))) ≡ texts_to k given (drop given (take count (outputs_of symbols h)))
-taken-stays symbols h after rest k given count grown within =
-    let more = grows-by (λ sequence m. reads m.bytes) symbols h rest in
-    ap (λ (l : List Message). texts_to k given (drop given (take count (outputs_of symbols l)))) grown
-    ∙ ap (λ (os : List Output). texts_to k given (drop given (take count os))) more.1
-    ∙ ap (λ (os : List Output). texts_to k given (drop given os)) (take-append-le count (outputs_of symbols h) more.0 within)
-
--- and so does how many outputs there are at least
-pub no-fewer : (symbols : Symbols) (h after rest : List Message) → after ≡ h ++ rest → length (outputs_of symbols h) ≤ length (outputs_of symbols after)
-no-fewer symbols h after rest grown =
-    let more = grows-by (λ sequence m. reads m.bytes) symbols h rest in
-    let longer : outputs_of symbols after ≡ outputs_of symbols h ++ more.0 = ap (outputs_of symbols) grown ∙ more.1 in
-    let long = length-append (outputs_of symbols h) more.0 in
-    let same : length (outputs_of symbols after) ≡ length (outputs_of symbols h ++ more.0) = ap length longer in
-    omega (arith, long, same)
-
--- what a stage has done is no longer than what it knows
-few-done : (p : Person) → p.own ≤ length p.seen → length (entries_done p) ≡ p.own
-few-done p known = length-take-le p.own p.seen known
-
--- so outputs are few
-pub few-outputs : (symbols : Symbols) (p : Person) (count : ℕ) → p.own ≤ length p.seen → length p.seen ≤ 2 ^ 48 →
-    count < length (outputs_of symbols (entries_done p)) → count + 1 ≤ 2 ^ 62
-few-outputs symbols p count known small within =
-    let told = few-told-by (λ sequence m. reads m.bytes) symbols (entries_done p) in
-    let few = few-done p known in
-    omega (arith, told, few)
-
--- THE PROCESSOR'S POLL
-
--- a look for commands leaves what is done
-still-done : (v u : Person) → v.own ≤ length v.seen → Gated v u → entries_done u ≡ entries_done v
-still-done v u known gated =
-    let rest : List Message = gated.2.0 in
-    ap entries_done gated.2.1 ∙ take-append-le v.own v.seen rest known
-
--- the processor did one entry more, or none
-pub done-more : (n : ℕ) (t : Turn) (v w : Person) → v.own ≤ length v.seen → Processes n t v w → (rest : List Message) × (entries_done w ≡ entries_done v ++ rest)
-done-more n (Did k) v w known poll =
-    let u : Person = poll.0 in
-    let next : suc u.own ≡ u.own + 1 = omega arith in
-    let rest : List Message = take 1 (drop u.own u.seen) in (
-      rest,
-      ap entries_done poll.2.1.2 ∙ ap (λ (i : ℕ). take i u.seen) next ∙ take-add u.own 1 u.seen
-          ∙ ap (λ (l : List Message). l ++ rest) (still-done v u known poll.1),
+  module _ (from : length (outputs_of d.symbols d.base) ≤ d.gateway.own) (to : d.gateway.own ≤ length (outputs_of d.symbols d.gateway.seen)) where
+    tells : (take : Take) (body : List ℕ) → Took d.symbols d.base d.gateway q k take body
+        → TakeTells (ledger_of d) (ledger_of (record d { gateway = q })) body take
+    tells (Mine head) body took = (
+      text took.output d.gateway.own,
+      carried head body took.output d.gateway.own (tells_spelled d.symbols took.history d.gateway.own took.output took.next) took.says.1,
+      still_small d.symbols d.base took.history d.gateway q took.output took.takes took.next,
+      retold (Mine head) body _ took (taken_mine d.symbols d.base took.history d.gateway q took.output took.takes took.next from to (took.says.0 ∙ first)),
     )
-done-more n Idle v w known poll = ([], ap entries_done poll.1.3 ∙ sym (append-nil (entries_done v)))
-done-more n Memory v w known poll =
-    ([], ap entries_done poll.2.2 ∙ still-done v poll.0 known poll.1 ∙ sym (append-nil (entries_done v)))
-done-more n JournalFailed v w known poll = elim poll [ ]
+    tells Passed body took = (
+      still_small d.symbols d.base took.history d.gateway q took.output took.takes took.next,
+      retold Passed body _ took
+          (taken_other d.symbols d.base took.history d.gateway q took.output took.takes took.next from to (λ is. took.says (is ∙ sym first))),
+    )
+    tells Nothing body took = elim took.says [ ]
+
+    -- and told
+    pub take_tells : (take : Take) (body : List ℕ) → Took d.symbols d.base d.gateway q k take body
+        → TakeTells (ledger_of e) (ledger_of (record d { gateway = q })) body take
+    take_tells take body took =
+        subst (λ (z : OneVenue D). TakeTells (ledger_of z) (ledger_of (record d { gateway = q })) body take) same (tells take body took)
+
+-- POLLING
+
+-- a desk of the same symbols and the same history is the same
+pub renamed : {D : Type 0} (d : OneVenue D) (symbols : Symbols) (base : List Message) → d.symbols ≡ symbols → d.base ≡ base
+    → d ≡ record d { symbols = symbols; base = base }
+renamed d symbols base same from = λ k. record d { symbols = same k; base = from k }
+
+-- and so is a ledger of the same outputs taken
+pub relisted : (l : Ledger) (taken : List Said) → l.taken ≡ taken → l ≡ record l { taken = taken }
+relisted l taken same = λ k. record l { taken = same k }
+
+module _ (p q : Processor) (view : q.seat.seat.me.0 ≡ alone p.seat.seat.me.0 (person q.seat.seat.me.0)) where
+  -- after a poll the symbols are the same, and the history at the start
+  pub same_symbols : q.book.symbols ≡ p.book.symbols
+  same_symbols =
+      let same : Some q.book.symbols ≡ Some p.book.symbols = sym q.logic ∙ ap (λ z. z.logic) view ∙ p.logic in
+      cc
+
+  pub same_base : q.seat.seat.me.0.base ≡ p.seat.seat.me.0.base
+  same_base = ap (λ z. z.base) view
+
+  -- so is what the gateway has taken
+  pub still_taken : (gateway : Person) → taken_by q.book.symbols q.seat.seat.me.0.base gateway ≡ taken_by p.book.symbols p.seat.seat.me.0.base gateway
+  still_taken gateway = ap (λ (symbols : Symbols). taken_by symbols q.seat.seat.me.0.base gateway) same_symbols
+      ∙ ap (λ (base : List Message). taken_by p.book.symbols base gateway) same_base
+
+  -- and the journaller keeps the history at the start
+  pub kept_polling : (gateway m n : View Symbols) (v w : Person) → KeepsVenue p.book.symbols p.seat.seat.me.0.base gateway m v → n ≡ alone m (person n)
+      → Behind p.seat.seat.me.0.base w → KeepsVenue q.book.symbols q.seat.seat.me.0.base gateway n w
+  kept_polling gateway m n v w held marshals behind =
+      subst (λ (symbols : Symbols). KeepsVenue symbols q.seat.seat.me.0.base gateway n w) (sym same_symbols)
+      (subst (λ (base : List Message). KeepsVenue p.book.symbols base gateway n w) (sym same_base) (record {
+        logic = held.logic;
+        marshals = ap (λ z. z.logic) marshals ∙ held.marshals;
+        start = held.start;
+        from = held.from;
+        to = held.to;
+        behind = (behind.rest, behind.seen);
+        kept = behind.kept;
+      }))

@@ -6,11 +6,11 @@ use Rattle.fix_orders.specs.Formats.{time_text}
 use Rattle.fix_orders.specs.Text.{Said}
 use Rattle.venued.specs.declared.desk.TryPublish.{TryPublish}
 use Rattle.venued.specs.declared.desk.TryPublish.TheVariants.{Done, Refused, Exhausted}
-use Rattle.venued.specs.declared.desk.OutputType.{OutputType}
-use Rattle.venued.specs.declared.desk.OutputType.TheVariants.{ExecutionReport, OrderCancelReject, Reject}
-use Rattle.venued.specs.declared.desk.Head.{Head}
-use Rattle.venued.specs.declared.desk.Take.{Take}
-use Rattle.venued.specs.declared.desk.Take.TheVariants.{Mine, Passed, Nothing}
+use Rattle.venue_model.specs.declared.outputs.OutputType.{OutputType}
+use Rattle.venue_model.specs.declared.outputs.OutputType.TheVariants.{ExecutionReport, OrderCancelReject, Reject}
+use Rattle.sequencer.specs.declared.take.Head.{Head}
+use Rattle.sequencer.specs.declared.take.Take.{Take}
+use Rattle.sequencer.specs.declared.take.Take.TheVariants.{Mine, Passed, Nothing}
 use Rattle.venue_model.specs.Counts.{Rose}
 
 -- the messages published and the outputs taken, in order; how many outputs were taken or passed over; and how often a

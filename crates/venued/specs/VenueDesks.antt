@@ -1,20 +1,27 @@
--- The venue behind one session: what contracts see of it, and what one thread says of the entries that it has processed.
-use Rattle.std.specs.Prelude.{◌≡◌, ◌≢◌, ℕ, ◌+◌, ◌==◌, if◌then◌else◌, Bool, false, ◌↔◌, List, [], ◌∷◌, ◌++◌, length, map, take, drop, slice_get, Some}
+-- The venue behind one session: what contracts see of it, and what one thread says of the history that the gateway has seen.
+use Rattle.std.specs.Prelude.{◌≡◌, ◌≢◌, ℕ, ◌+◌, ◌==◌, if◌then◌else◌, Bool, false, ◌↔◌, List, [], ◌∷◌, ◌++◌, length, map, take, drop}
+use mathlib.Core.Option.{some}
+use lib.ListN.{get_elem?}
 use Rattle.fix_orders.specs.Text.{Said, text}
 use Rattle.venue_model.specs.History.{History}
 use Rattle.venue_model.specs.Requests.{Symbols}
 use Rattle.venue_model.specs.declared.outputs.Output.{Output}
 use Rattle.ring_words.specs.declared.view.Person.{Person}
-use Rattle.ring_words.specs.declared.view.Role.TheVariants.{Process, Unmarshal, Journal}
+use Rattle.ring_words.specs.declared.view.Role.TheVariants.{Unmarshal, Journal, Marshal}
 use Rattle.ring_words.specs.declared.view.Sent.{Sent}
+use Rattle.ring_words.specs.Places as place
+use Rattle.ring_words.specs.Rule.{newcomer, processor}
+use Rattle.ring_words.specs.Seats.{looked}
+use Rattle.sequencer.specs.declared.take.Take.{Take}
+use Rattle.sequencer.specs.declared.take.Take.TheVariants.{Mine, Passed, Nothing}
+use Rattle.sequencer.specs.Outputs.{TakesNext}
 use Rattle.journal.specs.Format.{IsJournal}
 use Rattle.stages.specs.declared.turn.Turn.{Turn}
 use Rattle.stages.specs.declared.turn.Turn.TheVariants as turns
-use Rattle.stages.specs.Processed.{entries_done, outputs_of}
-use Rattle.stages.specs.Turns.{Unmarshals, Journals, Processes}
-use Rattle.venued.specs.declared.desk.Head.{Head}
-use Rattle.venued.specs.declared.desk.Take.{Take}
-use Rattle.venued.specs.declared.desk.Take.TheVariants.{Mine, Passed, Nothing}
+use Rattle.stages.specs.Processed.{outputs_of}
+use Rattle.stages.specs.Turns.{Unmarshals, Journals}
+use Rattle.stages.specs.Processes.{Processes}
+use Rattle.stages.specs.Marshals.{Marshals}
 use Rattle.venued.specs.declared.desk.TryPublish.{TryPublish}
 use Rattle.venued.specs.Desks.{Ledger, Carries}
 use Rattle.venued.specs.declared.polled.Polled.{Polled}
@@ -22,8 +29,8 @@ use Rattle.venued.specs.declared.polled.Polled.TheVariants as polls
 use Rattle.venued.specs.VenueRings.{new_gateway, new_stage, Enters}
 
 -- the venue's symbols, and the history that it was opened with; the disk, and whether the journal on it failed; what gateway 1 and each
--- stage know of the rings; how many outputs were taken or passed over, those of that history among them; and how often a message
--- found no place or no sequence, or no output was there
+-- stage know of the rings, and how many entries the processor's book has; and how often a message found no place or no sequence, or no output was
+-- there
 pub record OneVenue (D : Type 0) : Type 0 where
   pub symbols : Symbols
   pub base : History
@@ -33,7 +40,8 @@ pub record OneVenue (D : Type 0) : Type 0 where
   pub unmarshaller : Person
   pub journaller : Person
   pub processor : Person
-  pub count : ℕ
+  pub applied : ℕ
+  pub marshaller : Person
   pub refusals : ℕ
   pub nothings : ℕ
 
@@ -55,25 +63,21 @@ abbrev pub IsSaid : Turn → Polled → Type 0
 IsSaid journalled polled = (polled ≡ polls.JournalFailed) ↔ (journalled ≡ turns.JournalFailed)
 
 module _ {D : Type 0} where
-  -- all outputs of the entries processed so far, those at the start among them, by the one-thread meaning of commands
-  abbrev pub outputs_so_far : OneVenue D → List Output
-  outputs_so_far d = outputs_of d.symbols (entries_done d.processor)
-
   -- how many outputs the history at the start has
   abbrev pub given : OneVenue D → ℕ
   given d = length (outputs_of d.symbols d.base)
 
-  -- what was taken: what the outputs say, behind those at the start and up to the count, of those that go to gateway 1. Their places are
-  -- those among all outputs
+  -- what was taken: what the outputs of the history that the gateway has seen say, by the one-thread meaning of commands, behind those at the
+  -- start and up to the gateway's count, of those that go to gateway 1. Their places are those among all outputs
   abbrev pub taken : OneVenue D → List Said
-  taken d = texts_to 1 (given d) (drop (given d) (take d.count (outputs_so_far d)))
+  taken d = texts_to 1 (given d) (drop (given d) (take d.gateway.own (outputs_of d.symbols d.gateway.seen)))
 
   -- the desk as each session sees a desk
   abbrev pub ledger_of : OneVenue D → Ledger
   ledger_of d = record {
     published = messages_of d.gateway.mine;
     taken = taken d;
-    count = d.count;
+    count = d.gateway.own;
     refusals = d.refusals;
     nothings = d.nothings;
   }
@@ -89,8 +93,9 @@ module _ {D : Type 0} where
     gateway = new_gateway base (length (outputs_of symbols base));
     unmarshaller = new_stage Unmarshal base;
     journaller = new_stage Journal base;
-    processor = new_stage Process base;
-    count = length (outputs_of symbols base);
+    processor = processor base (length (outputs_of symbols base));
+    applied = length base;
+    marshaller = newcomer Marshal base (length (outputs_of symbols base));
     refusals = 0;
     nothings = 0;
   }
@@ -100,34 +105,30 @@ module _ {D : Type 0} where
     pub enters : Enters old.gateway new.gateway message answer
     pub others : new ≡ record old { gateway = new.gateway; refusals = new.refusals }
 
-  -- the next output goes to gateway 1, it is carried, and counted
-  pub record HandsReport (old new : OneVenue D) (body : List ℕ) (head : Head) : Type 0 where
-    pub output : Output
-    pub next : slice_get (outputs_so_far old) old.count ≡ Some output
-    pub mine : output.to ≡ 1
-    pub carries : Carries head body (text output old.count)
-    pub counted : new ≡ record old { count = old.count + 1 }
+  -- The output is the one at the gateway's count of all outputs of one history, which the gateway has seen now and which is legal for it; and it is
+  -- counted.
+  pub record TakesOne (old new : OneVenue D) (output : Output) : Type 0 where
+    pub history : History
+    pub takes : TakesNext (length old.base) old.gateway history new.gateway
+    pub next : get_elem? (outputs_of old.symbols history) old.gateway.own ≡ some output
+    pub others : new ≡ record old { gateway = new.gateway }
 
-  -- the next output goes to another gateway, and is counted
-  pub record PassesOver (old new : OneVenue D) : Type 0 where
-    pub output : Output
-    pub next : slice_get (outputs_so_far old) old.count ≡ Some output
-    pub other : output.to ≢ 1
-    pub counted : new ≡ record old { count = old.count + 1 }
-
-  -- What a look with this answer hands on. Nothing: each output so far was taken or passed over before.
+  -- What a look with this answer hands on: an output to gateway 1, which is carried; or one to another, which is passed over; or none, since the
+  -- marshalled word that was loaded showed none at the gateway's count.
   abbrev pub HandsOn : OneVenue D → OneVenue D → List ℕ → Take → Type 0
-  HandsOn old new body (Mine head) = HandsReport old new body head
-  HandsOn old new body Passed = PassesOver old new
-  HandsOn old new body Nothing = (length (outputs_so_far old) ≡ old.count) × (new ≡ record old { nothings = new.nothings })
+  HandsOn old new body (Mine head) = (o : Output) × TakesOne old new o × (o.to ≡ 1) × Carries head body (text o old.gateway.own)
+  HandsOn old new body Passed = (o : Output) × TakesOne old new o × (o.to ≢ 1)
+  HandsOn old new body Nothing = new ≡ record old { gateway = looked old.gateway place.marshalled old.gateway.own; nothings = new.nothings }
 
   -- each stage polled once, and nothing else moved; the answer says whether the journal failed
   pub record Polls (old new : OneVenue D) (polled : Polled) : Type 0 where
     pub unmarshalled : Turn
     pub journalled : Turn
     pub processed : Turn
+    pub marshalled : Turn
     pub unmarshals : Unmarshals 1024 unmarshalled old.unmarshaller new.unmarshaller
     pub journals : Journals 1024 journalled old.journaller new.journaller
-    pub processes : Processes 1024 processed old.processor new.processor
+    pub processes : Processes 1024 1024 1 old.symbols processed old.processor old.applied new.processor new.applied
+    pub marshals : Marshals 1024 1024 old.symbols marshalled old.marshaller new.marshaller
     pub answer : IsSaid journalled polled
-    pub others : new ≡ record old { disk = new.disk; failed = new.failed; unmarshaller = new.unmarshaller; journaller = new.journaller; processor = new.processor }
+    pub others : new ≡ record old { disk = new.disk; failed = new.failed; unmarshaller = new.unmarshaller; journaller = new.journaller; processor = new.processor; applied = new.applied; marshaller = new.marshaller }

@@ -1,7 +1,10 @@
-//! The desk: where a session publishes what its client sent and takes what the venue has for it. The input ring
-//! stands behind this trait, and the output ring will.
+//! The desk: where a session publishes what its client sent and takes what the venue has for it. The rings stand behind this trait.
 ghost use Rattle.std.specs.Prelude.{◌≡◌, ◌≤◌, length};
-ghost use Rattle.venued.specs.Desks.{Ledger, PublishTells, TakeTells};
+ghost use Rattle.venued.specs.Desks.{Ledger, PublishTells, TakeTells, type_text};
+ghost use Rattle.venued.specs.Messages.{IsTypeText};
+
+use sequencer::Take;
+use venue_model::OutputType;
 
 /// What came of a message that was to be published.
 #[derive(Clone, Copy, Debug, PartialEq, Eq)]
@@ -12,37 +15,6 @@ pub enum TryPublish {
     Refused,
     /// There is no sequence left for it, now and later.
     Exhausted,
-}
-
-/// MsgType (35) of an output.
-#[derive(Clone, Copy, Debug, PartialEq, Eq)]
-pub enum OutputType {
-    /// 8.
-    ExecutionReport,
-    /// 9.
-    OrderCancelReject,
-    /// 3.
-    Reject,
-}
-
-/// What stands in front of an output's body: MsgType (35), SendingTime (52) as the number of its 14 digits, and how
-/// many bytes the body has, at most 320.
-#[derive(Clone, Copy, Debug, PartialEq, Eq)]
-pub struct Head {
-    pub msg_type: OutputType,
-    pub sending_time: u64,
-    pub len: usize,
-}
-
-/// What came of a look at the next output.
-#[derive(Clone, Copy, Debug, PartialEq, Eq)]
-pub enum Take {
-    /// It goes to this session's client; its body stands at the buffer's front.
-    Mine(Head),
-    /// It goes to another's client.
-    Passed,
-    /// There is none yet.
-    Nothing,
 }
 
 /// One gateway's side of the venue.
@@ -68,19 +40,14 @@ pub trait Desk {
         ensures fixed { fixed self.new ≡ fixed self.old };
 }
 
-impl OutputType {
-    ghost use Rattle.venued.specs.Desks.{type_text};
-    ghost use Rattle.venued.specs.Messages.{IsTypeText};
-
-    /// The text of MsgType (35).
-    pub fn text(self) -> &'static [u8]
-        ensures value { result.now ≡ type_text self }
-        ensures valid { IsTypeText result.now }
-    {
-        match self {
-            OutputType::ExecutionReport => b"8",
-            OutputType::OrderCancelReject => b"9",
-            OutputType::Reject => b"3",
-        }
+/// The text of MsgType (35).
+pub fn type_text(msg_type: OutputType) -> &'static [u8]
+    ensures value { result.now ≡ type_text msg_type }
+    ensures valid { IsTypeText result.now }
+{
+    match msg_type {
+        OutputType::ExecutionReport => b"8",
+        OutputType::OrderCancelReject => b"9",
+        OutputType::Reject => b"3",
     }
 }

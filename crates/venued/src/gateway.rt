@@ -3,12 +3,13 @@
 ghost use Rattle.std.specs.Prelude.{◌≡◌, ◌≢◌, ◌≤◌, ◌<◌, ◌+◌, ◌^◌, [], None, true, false, IfOk, length};
 ghost use Rattle.venued.specs.HeardOf.{heard_of};
 
-use crate::desk::{Desk, Take, TryPublish};
+use crate::desk::{Desk, TryPublish};
 use crate::ending::{Reason, Turned};
 use crate::flushing::Flushed;
 use crate::input::Input;
 use crate::session::Session;
 use crate::wire::{TryRead, Wire};
+use sequencer::Take;
 use std::alloc::{AllocError, Global};
 use std::marker::Model;
 

@@ -5,12 +5,14 @@ ghost use Rattle.venued.specs.VenueRings.{Enters};
 
 use crate::desk::TryPublish;
 use book::BookLogic;
-use ring_words::{GatewaySeat, JournalSeat, OpenError, ProcessSeat, Rings, Seats, UnmarshalSeat};
+use ring_words::{
+    GatewaySeat, JournalSeat, MarshalSeat, OpenError, ProcessSeat, Rings, Seats, UnmarshalSeat,
+};
 use sequencer::{ClaimRefusal, try_claim};
 use std::alloc::{AllocError, Global};
 use venue_model::{Entry, Limits};
 
-/// Rings of 1,024 rows for one gateway. No output goes through them yet.
+/// Rings of 1,024 rows each for one gateway.
 pub type VenueRings = Rings<BookLogic, 1024, 1024, 1>;
 
 /// The rings, and the seats of gateway 1 and of the stages.
@@ -21,6 +23,7 @@ pub struct Opened {
     pub unmarshal: UnmarshalSeat<BookLogic>,
     pub journal: JournalSeat<BookLogic>,
     pub process: ProcessSeat<BookLogic>,
+    pub marshal: MarshalSeat<BookLogic>,
 }
 
 ghost use Rattle.stages.specs.Processed.{outputs_of};
@@ -47,6 +50,7 @@ pub fn open(
         unmarshal,
         journal,
         process,
+        marshal,
     } = seats;
     let Some(gateway) = gateways.pop() else {
         unreachable!();
@@ -57,6 +61,7 @@ pub fn open(
         unmarshal,
         journal,
         process,
+        marshal,
     })
 }
 
@@ -68,6 +73,7 @@ pub fn publish(rings: &VenueRings, seat: &mut GatewaySeat<BookLogic>, message: &
     requires most { length message.now ≤ 320 }
     ensures table { seat.new.seat.table_id ≡ seat.old.seat.table_id }
     ensures number { seat.new.number ≡ 1 }
+    ensures view { seat.new.seat.me.0 ≡ alone seat.old.seat.me.0 (person seat.new.seat.me.0) }
     ensures enters { Enters (person seat.old.seat.me.0) (person seat.new.seat.me.0) message.now result }
 {
     match try_claim(rings, seat) {

@@ -19,7 +19,7 @@ use std::io::Write;
 
 /// Serves the client of gateway 1 until its session ends, behind the history of the journal on the disk, and gives the disk back. Answers
 /// the program's status: 0; 1, with the fault's line, where the journal can't be opened or room was refused, before a byte is read or
-/// written; 2, with the line of the journal, where that failed. But for room for outputs, all is taken before the session begins.
+/// written; 2, with the line of the journal, where that failed. All room is taken before the session begins.
 pub fn serve<D: JournalDisk, W: Wire, E: Write>(
     alloc: Global,
     words: &Words,

@@ -4,7 +4,7 @@ ghost use Rattle.std.specs.Prelude.{◌≡◌, ◌≢◌, ◌+◌, ◌≤◌, �
 ghost use Rattle.venued.specs.Flushing.{Flushes};
 ghost use Rattle.fix_orders.specs.Text.{Said};
 
-use crate::desk::{Desk, Head, TryPublish};
+use crate::desk::{Desk, TryPublish, type_text};
 use crate::ending::Reason;
 use crate::flushing::{Flushed, flush};
 use crate::hearing::{Heard, Judged, hear};
@@ -14,6 +14,7 @@ use crate::wire::Wire;
 use arrayvec::ArrayVec;
 use fix_frame::Framer;
 use fix_orders::put_field;
+use sequencer::Head;
 use std::alloc::{AllocError, Global};
 use std::marker::Model;
 
@@ -260,6 +261,10 @@ impl Session {
         ensures { (said : Said) → Carries head body.now said → self.new ≡ saying said self.old }
     {
         let body = &body[..];
-        self.say(head.msg_type.text(), head.sending_time, &body[..head.len]);
+        self.say(
+            type_text(head.msg_type),
+            head.sending_time,
+            &body[..head.len],
+        );
     }
 }

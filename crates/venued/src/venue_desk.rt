@@ -1,26 +1,24 @@
-//! The venue behind the session of gateway 1: a message goes through the rings from stage to stage, and the outputs that the
-//! processor has for this client go back to the session. All polls are taken in turn on the session's thread.
-ghost use Rattle.std.specs.Prelude.{◌≡◌, ◌≤◌, ◌<◌, ◌-◌, ◌^◌, ◌⊎◌, true, false, length, slice_get, IfOk, IfErr};
-ghost use Rattle.fix_orders.specs.Text.{kind_of, text};
+//! The venue behind the session of gateway 1: a message goes through the rings from stage to stage, and the outputs for this client come
+//! back through the output ring. All polls are taken in turn on the session's thread.
+ghost use Rattle.std.specs.Prelude.{◌≡◌, ◌≤◌, ◌^◌, ◌⊎◌, true, false, length, IfOk, IfErr};
 ghost use Rattle.venue_model.specs.Counts.{Rose};
 ghost use Rattle.journal.specs.Disk.{Both, Only, LeavesOnly};
 ghost use Rattle.journal.specs.Format.{IsJournal};
 ghost use Rattle.journal.specs.Journals.{Explains};
-ghost use Rattle.venued.specs.Desks.{type_text, Carries};
 ghost use Rattle.venued.specs.VenueDesks.{IsSaid};
 
-use crate::desk::{Desk, Head, OutputType, Take, TryPublish};
+use crate::desk::{Desk, TryPublish};
 use crate::polled::Polled;
 use crate::recovered::{Recovered, recover};
 use crate::rings::{VenueRings, publish};
 use book::BookLogic;
-use fix_orders::body_of;
 use journal::{Journal, JournalDisk, JournalFault};
 use ring_words::GatewaySeat;
-use stages::{Journaller, Processor, Turn, Unmarshaller};
+use sequencer::{Take, take_output};
+use stages::{Journaller, Marshaller, Processor, Turn, Unmarshaller};
 use std::alloc::Global;
 use std::marker::Model;
-use venue_model::{Limits, Output, Report};
+use venue_model::Limits;
 
 /// The venue behind one session. Contracts see a `OneVenue`.
 #[derive(Drop)]
@@ -30,8 +28,7 @@ pub struct VenueDesk<D: JournalDisk> {
     unmarshaller: Unmarshaller,
     journaller: Journaller<D>,
     processor: Processor,
-    given: u64,
-    count: u64,
+    marshaller: Marshaller,
     refusals: u64,
     nothings: u64,
 }
@@ -42,13 +39,14 @@ impl<D: JournalDisk> Model for VenueDesk<D> {
     ghost Value = { OneVenue D };
 
     ghost use Rattle.ring_words.specs.Seats.{person};
-    ghost use Rattle.venued.specs.VenueInsides.{one_venue, KeepsVenue};
+    ghost use Rattle.venued.specs.VenueInsides.{one_venue, AreSeated, KeepsVenue};
 
     ghost view = { λ d. one_venue d.processor (person d.gateway.seat.me.0) (person d.unmarshaller.seat.seat.me.0)
-        (person d.journaller.seat.seat.me.0) d.journaller.journal.disk d.journaller.journal.failed d.count d.refusals d.nothings };
+        (person d.journaller.seat.seat.me.0) (person d.marshaller.seat.seat.me.0) d.journaller.journal.disk d.journaller.journal.failed d.refusals d.nothings };
 
-    ghost invariant = { λ d. KeepsVenue d.rings.table.shared.table_id d.gateway.seat.table_id d.unmarshaller.seat.seat.table_id
-        d.journaller.seat.seat.table_id d.processor.seat.seat.table_id d.gateway.number (person d.journaller.seat.seat.me.0) d.processor d.given d.count };
+    ghost invariant = { λ d. AreSeated d.rings.table.shared.table_id d.gateway.seat.table_id d.unmarshaller.seat.seat.table_id
+        d.journaller.seat.seat.table_id d.processor.seat.seat.table_id d.marshaller.seat.seat.table_id d.gateway.number
+        × KeepsVenue d.processor.book.symbols d.processor.seat.seat.me.0.base d.gateway.seat.me.0 d.marshaller.seat.seat.me.0 (person d.journaller.seat.seat.me.0) };
 }
 
 impl<D: JournalDisk> VenueDesk<D> {
@@ -80,7 +78,7 @@ impl<D: JournalDisk> VenueDesk<D> {
             unmarshal,
             journal: seat,
             processor,
-            given,
+            marshal,
         } = recovered;
         Ok(VenueDesk {
             rings,
@@ -88,16 +86,15 @@ impl<D: JournalDisk> VenueDesk<D> {
             unmarshaller: Unmarshaller::new(unmarshal),
             journaller: Journaller::new(seat, journal),
             processor,
-            given,
-            count: given,
+            marshaller: Marshaller::new(marshal),
             refusals: 0,
             nothings: 0,
         })
     }
 
-    /// Lets each stage poll once, in the order in which a message meets them, so that one message that was published is
-    /// kept and processed. Where memory for its outputs is refused the message waits, and the next poll tries it again. Where the
-    /// journal failed it isn't processed.
+    /// Lets each stage poll once, in the order in which a message meets them, so that one message that was published is kept and processed, and
+    /// one output marshalled. Where the output ring has no room for all of its outputs the message waits, and the next polls go on with it.
+    /// Where the journal failed it isn't processed.
     pub fn poll(&mut self) -> Polled
         ensures polls { Polls self.old self.new result }
         ensures ledger { ledger_of self.new ≡ ledger_of self.old }
@@ -110,6 +107,7 @@ impl<D: JournalDisk> VenueDesk<D> {
         self.unmarshaller.poll(&self.rings);
         let journalled = self.journaller.poll(&self.rings);
         self.processor.poll(&self.rings);
+        self.marshaller.poll(&self.rings);
         polled(journalled)
     }
 
@@ -149,22 +147,16 @@ impl<D: JournalDisk> Desk for VenueDesk<D> {
         answer
     }
 
-    /// Takes the processor's next output, or passes it over.
+    /// Takes the next output out of the output ring, or passes it over.
     fn take(&mut self, body: &mut [u8; 320]) -> Take
         ensures tells { TakeTells (ledger_of self.old) (ledger_of self.new) body.new result }
         ensures next { HandsOn self.old self.new body.new result }
     {
-        let place = self.count;
-        let Some(output) = output_at(&self.processor, place - self.given) else {
+        let take = take_output(&self.rings, &mut self.gateway, body);
+        if take == Take::Nothing {
             self.nothings = self.nothings.saturating_add(1);
-            return Take::Nothing;
-        };
-        self.count = place + 1;
-        if output.to == 1 {
-            Take::Mine(write_body(&output, place, body))
-        } else {
-            Take::Passed
         }
+        take
     }
 }
 
@@ -175,35 +167,5 @@ fn polled(journalled: Turn) -> Polled
     match journalled {
         Turn::JournalFailed => Polled::JournalFailed,
         _ => Polled::Went,
-    }
-}
-
-/// The processor's output at this place behind those at the start, if there is one.
-fn output_at(processor: &Processor, place: u64) -> Option<Output>
-    ensures { result ≡ slice_get processor.now.outputs.items place }
-{
-    processor.outputs().get(place as usize).copied()
-}
-
-/// MsgType (35) of a report.
-fn type_of(report: &Report) -> OutputType
-    ensures { type_text result ≡ kind_of report.now }
-{
-    match report {
-        Report::Exec(_) => OutputType::ExecutionReport,
-        Report::CancelReject(_) => OutputType::OrderCancelReject,
-        Report::SessionReject(_) => OutputType::Reject,
-    }
-}
-
-/// Writes the body of the output at this place of all outputs, and answers its head.
-fn write_body(output: &Output, place: u64, body: &mut [u8; 320]) -> Head
-    requires { place ≤ 2 ^ 62 }
-    ensures { Carries result body.new (text output.now place) }
-{
-    Head {
-        msg_type: type_of(&output.report),
-        sending_time: output.sending_time,
-        len: body_of(output, place + 1, body),
     }
 }

@@ -48,7 +48,7 @@ pub(super) fn gateway_in(head: u64) -> u8
     (head / GATEWAY % (SIDE / GATEWAY)) as u8
 }
 
-pub(super) fn side_number(side: Side) -> u64
+pub(crate) fn side_number(side: Side) -> u64
     ensures value { result ≡ side_number side }
     ensures small { result < 2 }
 {
@@ -69,7 +69,7 @@ pub(super) fn time_in_force_number(time_in_force: TimeInForce) -> u64
     }
 }
 
-pub(super) fn reason_number(reason: SessionRejectReason) -> u64
+pub(crate) fn reason_number(reason: SessionRejectReason) -> u64
     ensures value { result ≡ reason_number reason }
     ensures small { result < 5 }
 {
@@ -82,7 +82,7 @@ pub(super) fn reason_number(reason: SessionRejectReason) -> u64
     }
 }
 
-pub(super) fn type_number(ref_type: RefMsgType) -> u64
+pub(crate) fn type_number(ref_type: RefMsgType) -> u64
     ensures value { result ≡ type_number ref_type }
     ensures small { result < 3 }
 {
@@ -108,7 +108,14 @@ pub(super) fn price_in(head: u64) -> u64
 pub(super) fn side_in(head: u64) -> Side
     ensures { (side : Side) → head / 128 % 2 ≡ side_number side → result ≡ side }
 {
-    match head / SIDE % (TIME_IN_FORCE / SIDE) {
+    side_of(head / SIDE % (TIME_IN_FORCE / SIDE))
+}
+
+/// The side of a number.
+pub(crate) fn side_of(number: u64) -> Side
+    ensures { (side : Side) → number ≡ side_number side → result ≡ side }
+{
+    match number {
         0 => Side::Buy,
         _ => Side::Sell,
     }
@@ -127,7 +134,14 @@ pub(super) fn time_in_force_in(head: u64) -> TimeInForce
 pub(super) fn reason_in(head: u64) -> SessionRejectReason
     ensures { (reason : SessionRejectReason) → head / 128 % 8 ≡ reason_number reason → result ≡ reason }
 {
-    match head / REASON % (REF_TYPE / REASON) {
+    reason_of(head / REASON % (REF_TYPE / REASON))
+}
+
+/// The reason of a number.
+pub(crate) fn reason_of(number: u64) -> SessionRejectReason
+    ensures { (reason : SessionRejectReason) → number ≡ reason_number reason → result ≡ reason }
+{
+    match number {
         0 => SessionRejectReason::RequiredTagMissing,
         1 => SessionRejectReason::TagNotDefined,
         2 => SessionRejectReason::ValueIncorrect,
@@ -139,7 +153,14 @@ pub(super) fn reason_in(head: u64) -> SessionRejectReason
 pub(super) fn type_in(head: u64) -> RefMsgType
     ensures { (ref_type : RefMsgType) → head / 1024 % 4 ≡ type_number ref_type → result ≡ ref_type }
 {
-    match head / REF_TYPE % (TAG / REF_TYPE) {
+    type_of(head / REF_TYPE % (TAG / REF_TYPE))
+}
+
+/// The type of a number.
+pub(crate) fn type_of(number: u64) -> RefMsgType
+    ensures { (ref_type : RefMsgType) → number ≡ type_number ref_type → result ≡ ref_type }
+{
+    match number {
         0 => RefMsgType::NewOrderSingle,
         1 => RefMsgType::OrderCancelRequest,
         _ => RefMsgType::OrderCancelReplaceRequest,
@@ -153,7 +174,7 @@ pub(super) fn tag_in(head: u64) -> u64
 }
 
 /// The bytes of a symbol in one word.
-pub(super) fn symbol_word(symbol: &Symbol) -> u64
+pub(crate) fn symbol_word(symbol: &Symbol) -> u64
     ensures value { result ≡ symbol_word symbol.now }
     ensures spelling { IsSpelling symbol.now }
 {
@@ -164,7 +185,7 @@ pub(super) fn symbol_word(symbol: &Symbol) -> u64
 }
 
 /// The symbol of a word.
-pub(super) fn symbol_in(word: u64) -> Option<Symbol>
+pub(crate) fn symbol_in(word: u64) -> Option<Symbol>
     ensures { (name : List ℕ) → IsSpelling name → word ≡ symbol_word name → result ≡ Some name }
 {
     let bytes = word.to_be_bytes();

@@ -1,69 +1,26 @@
-//! Four gateways and the stages, each gateway on a thread of its own: each order comes through once and whole, is acknowledged to its
-//! gateway's client, and stands behind the gateway's orders before it.
+//! Four gateways and the stages, the gateways each on a thread of its own: each order comes through once and whole, and each gateway takes the
+//! acknowledgements of its own orders, in its order and word for word, and passes over those of the others.
 ghost use Rattle.std.specs.Prelude.{◌≤◌};
 ghost use Rattle.std.specs.Thread.{IsSync};
 
-use super::requests::Request;
-use super::venue::{Stages, Venue, limits_of, open};
-use super::writers::{EACH, Entries, TRIES, Writers, order_of, run_gateways};
-use stages::Turn::Idle;
+use super::crew::Stages;
+use super::venue::{Venue, limits_of, open};
+use super::writers::{EACH, Entries, TRIES, Writers, run_gateways};
+use stages::Turn::Did;
 use std::test::Fail;
 use std::thread;
 use std::thread::{Threads, join};
-use venue_model::{ExecType, Order, Output, Report, Side, Symbol};
+use venue_model::Symbol;
 
-type FourStages<'a> = Stages<'a, 4, 4>;
+type FourStages<'a> = Stages<'a, 4, 16, 4>;
 
-/// Whether the order is the request, which came in at this place, and nothing of it is filled.
-fn is_order(order: &Order, place: u64, request: &Request) -> bool {
-    order.id == place.wrapping_add(1)
-        && order.client == request.client
-        && order.cl_ord_id == request.cl_ord_id
-        && order.symbol == request.symbol
-        && order.side == Side::Buy
-        && order.price == request.price
-        && order.total == request.quantity
-        && (order.cum, order.notional, order.stamp) == (0, 0, place)
-}
-
-/// Whether the output acknowledges the order that came in at this place.
-fn is_acknowledgement(output: &Output, place: u64, request: &Request) -> bool {
-    let Report::Exec(report) = &output.report else {
-        return false;
-    };
-    let ExecType::New = report.exec_type else {
-        return false;
-    };
-    (output.to, output.cause, output.sending_time) == (request.client, place, request.time)
-        && is_order(&report.order, place, request)
-}
-
-/// Whether the outputs are the acknowledgements of all orders: of each gateway in its order, and each for the entry at its place.
-fn are_acknowledgements(outputs: &[Output], symbols: [Symbol; 2]) -> bool {
-    let mut counts = [0; 9];
-    for place in 0..outputs.len() {
-        let output = &outputs[place];
-        if output.to < 1 || output.to > 4 {
-            return false;
-        }
-        let count = counts[usize::from(output.to)];
-        if count >= EACH
-            || !is_acknowledgement(output, place as u64, &order_of(symbols, output.to, count))
-        {
-            return false;
-        }
-        counts[usize::from(output.to)] = count + 1;
-    }
-    counts == [0, EACH, EACH, EACH, EACH, 0, 0, 0, 0]
-}
-
-/// Polls until all orders are processed, and says whether they are and what came out is right.
-fn process_all(mut stages: FourStages<'_>, symbols: [Symbol; 2]) -> bool {
+/// Polls until an output of each order is marshalled, and says whether by then all are processed.
+fn process_all(mut stages: FourStages<'_>) -> bool {
     for _ in 0..TRIES {
-        if stages.processor.next_seq() == 4 * EACH {
-            return are_acknowledgements(stages.processor.outputs(), symbols);
+        if stages.marshaller.next_seq() == 4 * EACH {
+            return stages.processor.next_seq() == 4 * EACH;
         }
-        if stages.poll() == [Idle, Idle, Idle] {
+        if !stages.poll().contains(&Did(1)) {
             thread::yield_now();
         }
     }
@@ -71,18 +28,13 @@ fn process_all(mut stages: FourStages<'_>, symbols: [Symbol; 2]) -> bool {
 }
 
 /// Runs the gateways and the stages, and says whether all went well.
-fn run_all<R: Threads + Sync>(
-    rt: &R,
-    writers: Writers<'_>,
-    stages: FourStages<'_>,
-    symbols: [Symbol; 2],
-) -> bool {
+fn run_all<R: Threads + Sync>(rt: &R, writers: Writers<'_>, stages: FourStages<'_>) -> bool {
     let (wrote, processed) = join(
         rt,
         move || -> bool
             requires { IsSync R.row }
         { run_gateways(rt, writers) },
-        move || process_all(stages, symbols),
+        move || process_all(stages),
     );
     wrote && processed
 }
@@ -95,9 +47,13 @@ fn each_order_acknowledged(rt: HostRuntime) -> Result<(), Fail> {
         Symbol::new(b"XYZ12345").ok_or("no symbol")?,
     ];
     let limits = limits_of(rt.alloc(), &names)?;
-    let (rings, seats) = open::<4, 4>(rt.alloc(), &limits)?;
-    let Venue { members, stages } = Venue::new(rt.alloc(), &rings, seats, &limits)?;
-    let writers = Writers::new(members, Entries::Orders, symbols).ok_or("no gateways")?;
-    assert!(rt; run_all(&rt, writers, stages, symbols));
+    let (rings, seats) = open::<4, 16, 4>(rt.alloc(), &limits)?;
+    let Venue {
+        members,
+        stages,
+        ..
+    } = Venue::new(rt.alloc(), &rings, seats, &limits)?;
+    let writers = Writers::new(rt.alloc(), members, Entries::Orders, symbols).ok_or("no gateways")?;
+    assert!(rt; run_all(&rt, writers, stages));
     Ok(())
 }

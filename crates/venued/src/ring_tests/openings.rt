@@ -8,7 +8,7 @@ use std::test::Fail;
 #[test]
 fn opens_and_closes(rt: HostRuntime) -> Result<(), Fail> {
     let limits = limits_of(rt.alloc(), &["ABC"])?;
-    let (rings, seats) = open::<4, 4>(rt.alloc(), &limits)?;
+    let (rings, seats) = open::<4, 2, 4>(rt.alloc(), &limits)?;
     assert_eq!(rt;
         rings.close(seats),
         Summary {
@@ -16,7 +16,7 @@ fn opens_and_closes(rt: HostRuntime) -> Result<(), Fail> {
             outputs: 0
         }
     );
-    let three = open::<3, 1>(rt.alloc(), &limits);
+    let three = open::<3, 2, 1>(rt.alloc(), &limits);
     assert_eq!(rt; three.err(), Some(OpenError::NotPowerOfTwo));
     Ok(())
 }

@@ -1,5 +1,5 @@
 //! Requests in short form, and the FIX messages that ask for them: what clients send, and gateways publish.
-ghost use Rattle.std.specs.Prelude.{◌+◌, ◌<◌, ◌≤◌, length};
+ghost use Rattle.std.specs.Prelude.{◌≡◌, ◌+◌, ◌<◌, ◌≤◌, length};
 ghost use Rattle.fix_frame.specs.Grammar.{IsField};
 ghost use Rattle.fix_orders.specs.Text.{field};
 ghost use Rattle.venued.specs.Requests.{BeginsRun};
@@ -38,7 +38,27 @@ pub struct Request {
     pub price: u64,
 }
 
+/// 2025-01-02, 09:30:00.
+const HALF_PAST_NINE: u64 = 20250102093000;
+
 impl Request {
+    /// The client's first order, to buy 100 at 50.
+    pub fn buy(symbol: Symbol, client: u8) -> Request
+        ensures { (result.client ≡ client) × (2 ≤ result.side) }
+    {
+        Request {
+            client,
+            kind: Kind::Day,
+            number: 2,
+            time: HALF_PAST_NINE,
+            cl_ord_id: 1,
+            symbol,
+            side: b'1',
+            quantity: 100,
+            price: 50,
+        }
+    }
+
     /// MsgType (35).
     fn msg_type(&self) -> u8
         ensures { 1 < result }

@@ -3,7 +3,8 @@
 ghost use Rattle.std.specs.Prelude.{◌≡◌, ◌≤◌};
 ghost use Rattle.std.specs.Thread.{IsSync};
 
-use super::venue::{Stages, TestRings, Venue, limits_of, open};
+use super::crew::Stages;
+use super::venue::{TestRings, Venue, limits_of, open};
 use super::writers::{EACH, Entries, TRIES, Writers, run_gateways, write_entry};
 use barrier::{available, read_raw, release_kept};
 use book::BookLogic;
@@ -26,7 +27,7 @@ impl Kept for Unkept {
 /// The stages, the journaller of which reads what it hands on, with the count of entries that it read of each gateway.
 #[derive(Drop)]
 struct Reader<'a> {
-    rings: &'a TestRings<4, 4>,
+    rings: &'a TestRings<4, 16, 4>,
     unmarshaller: Unmarshaller,
     seat: JournalSeat<BookLogic>,
     processor: Processor,
@@ -38,12 +39,13 @@ struct Reader<'a> {
 }
 
 /// The reader in place of the stages.
-fn reader_of<'a>(stages: Stages<'a, 4, 4>, symbols: [Symbol; 2]) -> Reader<'a> {
+fn reader_of<'a>(stages: Stages<'a, 4, 16, 4>, symbols: [Symbol; 2]) -> Reader<'a> {
     let Stages {
         rings,
         unmarshaller,
         journaller,
         processor,
+        ..
     } = stages;
     let (seat, _) = journaller.end();
     Reader {
@@ -118,9 +120,13 @@ fn run_all<R: Threads + Sync>(rt: &R, writers: Writers<'_>, mut reader: Reader<'
 fn each_entry_once_and_whole(rt: HostRuntime) -> Result<(), Fail> {
     let symbols = [Symbol::new(b"ABC").ok_or("no symbol")?; 2];
     let limits = limits_of(rt.alloc(), &["ABC"])?;
-    let (rings, seats) = open::<4, 4>(rt.alloc(), &limits)?;
-    let Venue { members, stages } = Venue::new(rt.alloc(), &rings, seats, &limits)?;
-    let writers = Writers::new(members, Entries::Bytes, symbols).ok_or("no gateways")?;
+    let (rings, seats) = open::<4, 16, 4>(rt.alloc(), &limits)?;
+    let Venue {
+        members,
+        stages,
+        ..
+    } = Venue::new(rt.alloc(), &rings, seats, &limits)?;
+    let writers = Writers::new(rt.alloc(), members, Entries::Bytes, symbols).ok_or("no gateways")?;
     assert!(rt; run_all(&rt, writers, reader_of(stages, symbols)));
     Ok(())
 }

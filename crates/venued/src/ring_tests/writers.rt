@@ -1,11 +1,15 @@
-//! Four gateways on threads of their own, each of which publishes 1,000 entries that are functions of gateway and count.
+//! Four gateways on threads of their own, each of which publishes 1,000 entries that are functions of gateway and count, and takes or passes
+//! over all outputs.
 ghost use Rattle.std.specs.Prelude.{◌≡◌, ◌<◌, ◌≤◌, ℕ, length};
 ghost use mathlib.Core.Option.{some};
 ghost use lib.ListN.{get_elem?};
 ghost use Rattle.std.specs.Thread.{IsSync};
 
+use super::member::Member;
+use super::reports::is_acknowledgement;
 use super::requests::{Kind, Request, write_request};
-use super::venue::Member;
+use sequencer::{Head, Take};
+use std::alloc::Global;
 use std::thread;
 use std::thread::{Threads, join};
 use venue_model::Symbol;
@@ -16,16 +20,28 @@ pub const EACH: u64 = 1_000;
 /// How often in a row a thread tries and finds nothing to do before it gives up: long enough for any machine, and no hang.
 pub const TRIES: u64 = 100_000_000;
 
-/// The gateways of rings of four rows.
-pub type FourthMember<'a> = Member<'a, 4, 4>;
+/// The gateways of rings of four input rows and 16 output rows.
+pub type FourthMember<'a> = Member<'a, 4, 16, 4>;
 
 /// What the gateways publish.
 #[derive(Clone, Copy)]
 pub enum Entries {
-    /// Orders to buy.
+    /// Orders to buy: each is acknowledged.
     Orders,
-    /// Any bytes.
+    /// Any bytes, which are no messages: there are no outputs.
     Bytes,
+}
+
+impl Entries {
+    /// How many outputs there are of each gateway's entries.
+    fn outputs(self) -> u64
+        ensures { result ≤ 1000 }
+    {
+        match self {
+            Entries::Orders => EACH,
+            Entries::Bytes => 0,
+        }
+    }
 }
 
 /// The order of a gateway's count, from 0: each of its fields tells one or both.
@@ -81,13 +97,16 @@ pub fn write_entry(
 /// A gateway on a thread of its own.
 #[derive(Drop)]
 pub struct Writer<'a> {
+    alloc: Global,
     member: FourthMember<'a>,
     entries: Entries,
     symbols: [Symbol; 2],
+    /// How many acknowledgements of its own orders it took.
+    acknowledged: u64,
 }
 
 impl<'a> Writer<'a> {
-    /// Publishes the message, or gives up.
+    /// Publishes the message, or gives up; while the ring is full it takes outputs.
     fn publish(&mut self, message: &[u8]) -> bool
         requires { (1 ≤ length message.now) × (length message.now ≤ 320) }
     {
@@ -95,12 +114,54 @@ impl<'a> Writer<'a> {
             if self.member.publish(message).is_ok() {
                 return true;
             }
-            thread::yield_now();
+            if !self.take() {
+                return false;
+            }
         }
         false
     }
 
-    /// Publishes all its entries.
+    /// Takes or passes over the next output, if there is one, and says whether that was right: one of its own acknowledges its next order.
+    fn take(&mut self) -> bool {
+        let mut buf = [0; 320];
+        match self.member.take(&mut buf) {
+            Take::Mine(head) => self.is_next(&head, &buf),
+            Take::Passed => true,
+            Take::Nothing => {
+                thread::yield_now();
+                true
+            }
+        }
+    }
+
+    /// Whether what was taken acknowledges the next order. Each order has one output, so the numbers of order and report are both that of
+    /// the outputs up to here.
+    fn is_next(&mut self, head: &Head, buf: &[u8; 320]) -> bool {
+        let count = self.acknowledged;
+        if count >= EACH || head.len > 320 {
+            return false;
+        }
+        self.acknowledged = count + 1;
+        let order = order_of(self.symbols, self.member.seat.number() as u8, count);
+        let id = self.member.seat.taken();
+        is_acknowledgement(self.alloc, &order, id, head, &buf[..head.len]).unwrap_or(false)
+    }
+
+    /// Takes or passes over the outputs that are left, and says whether they were right.
+    fn take_rest(&mut self) -> bool {
+        let outputs = self.entries.outputs();
+        for _ in 0..TRIES {
+            if self.member.seat.taken() == 4 * outputs {
+                return self.acknowledged == outputs;
+            }
+            if !self.take() {
+                return false;
+            }
+        }
+        false
+    }
+
+    /// Publishes all its entries, and takes or passes over all outputs.
     fn run(&mut self) -> bool {
         let gateway = self.member.seat.number() as u8;
         let mut buf = [0; 320];
@@ -110,7 +171,7 @@ impl<'a> Writer<'a> {
                 return false;
             }
         }
-        true
+        self.take_rest()
     }
 }
 
@@ -126,30 +187,34 @@ pub struct Writers<'a> {
 impl<'a> Writers<'a> {
     /// The writers of four gateways.
     pub fn new(
+        alloc: Global,
         mut members: Vec<FourthMember<'a>>,
         entries: Entries,
         symbols: [Symbol; 2],
     ) -> Option<Writers<'a>> {
         Some(Writers {
-            first: next_writer(&mut members, entries, symbols)?,
-            second: next_writer(&mut members, entries, symbols)?,
-            third: next_writer(&mut members, entries, symbols)?,
-            fourth: next_writer(&mut members, entries, symbols)?,
+            first: next_writer(alloc, &mut members, entries, symbols)?,
+            second: next_writer(alloc, &mut members, entries, symbols)?,
+            third: next_writer(alloc, &mut members, entries, symbols)?,
+            fourth: next_writer(alloc, &mut members, entries, symbols)?,
         })
     }
 }
 
 /// The writer of the next gateway, from the last one on.
 fn next_writer<'a>(
+    alloc: Global,
     members: &mut Vec<FourthMember<'a>>,
     entries: Entries,
     symbols: [Symbol; 2],
 ) -> Option<Writer<'a>> {
     let member = members.pop()?;
     Some(Writer {
+        alloc,
         member,
         entries,
         symbols,
+        acknowledged: 0,
     })
 }
 

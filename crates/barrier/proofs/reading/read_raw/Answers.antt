@@ -1,9 +1,10 @@
-use Rattle.std.proofs.Common.{rules, subst, arith, ◌+◌}
+use Rattle.std.proofs.Common.{rules, ℕ, List, length, ap, subst, arith, ◌+◌}
 use Rattle.venue_model.specs.History.{Message}
 use Rattle.ring_words.proofs.Logs.{stands}
 use Rattle.ring_words.specs.Seats.{person}
 use Rattle.barrier.specs.Reading.{Reads}
-use Rattle.barrier.proofs.Words.{loads_more, in_message, bytes_more, loaded_bytes, reads_whole, length_kept, counted, all_loaded, one_entry, still}
+use Rattle.ring_words.proofs.Buffers.{bytes_more, length_kept}
+use Rattle.barrier.proofs.Words.{loads_more, in_message, loaded_bytes, reads_whole, counted, all_loaded, one_entry, still}
 use Rattle.barrier.proofs.reading.read_raw.Goals as goal
 
 pub loop-index-init : goal.loop-index-init
@@ -17,7 +18,7 @@ loop-index-preserved g c = let known = c.loop-index.invariant in let e = known.2
     let word = c.load_raw-word.ensures.raw e (still g.row.N v u c.args.sequence (i + 1) e known.2.3 known.2.1) inside.0 in
     let bytes = loaded_bytes e i c.load_raw-word.result _ c.to_be_bytes.result word c.to_be_bytes.ensures c.copy_from_slice.ensures.after in (
       search rules,
-      length_kept c.loop-index.buf c.copy_from_slice.new.self e.bytes i _ known.1 inside.1 bytes (omega arith),
+      length_kept c.loop-index.buf c.copy_from_slice.new.self i _ known.1 inside.1 (ap (λ (l : List ℕ). length l) bytes) (omega arith),
       (
         e,
         known.2.1,

@@ -1,7 +1,6 @@
-use Rattle.std.proofs.Common.{rules, [], ◌∷◌, ◌++◌, List, length, ap, subst, refl}
+use Rattle.std.proofs.Common.{rules, [], ◌∷◌, ◌++◌, List, length, subst, refl}
 use Rattle.atomic_table.proofs.Lists.{at_last}
 use Rattle.ring_words.specs.declared.seats.GatewaySeat.{GatewaySeat}
-use Rattle.ring_words.specs.declared.view.Person.{Person}
 use Rattle.ring_words.specs.Terms.{terms_of}
 use Rattle.ring_words.proofs.Joins.{joins}
 use Rattle.ring_words.proofs.Logs.{stands}
@@ -21,7 +20,7 @@ join_seat-requires g c = let key = c.args.self.now.table.shared.key in let inv =
       at.at,
       x.bare,
       search rules,
-      joins (Unit {0}) (terms_of g.L.Logic.reads key) all.id x.seat.id all.me.0 x.seat.me.0 head.0 _ (begins_with all.me.0.people head.0 (was.stage 0 head.0 head.1)),
+      joins (Unit {0}) (terms_of g.L.Logic.reads g.L.Logic.outputs g.L.Logic.text g.L.Logic.nothing g.L.Logic.grows key) all.id x.seat.id all.me.0 x.seat.me.0 head.0 _ (begins_with all.me.0.people head.0 (was.stage 0 head.0 head.1)),
     )
 
 pub loop-gateway-preserved : goal.loop-gateway-preserved

@@ -10,7 +10,7 @@ use Rattle.ring_words.proofs.rings.Rings.load_command.Goals as goal
 
 pub load-requires : goal.load-requires
 load-requires g c = let key = c.args.self.now.table.shared.key in
-    (search rules, search rules, loads_command_in (Unit {0}) (terms_of g.L.Logic.reads key) g.row.N c.args.self.now.rows.0 _ _ _ _ c.args.seat.now.alone c.args.seat.now.role)
+    (search rules, search rules, loads_command_in (Unit {0}) (terms_of g.L.Logic.reads g.L.Logic.outputs g.L.Logic.text g.L.Logic.nothing g.L.Logic.grows key) g.row.N c.args.self.now.rows.0 _ _ _ _ c.args.seat.now.alone c.args.seat.now.role)
 
 pub invariant_of-seat : goal.invariant_of-seat
 invariant_of-seat g c = let seat = c.args.seat.now in let is = c.load.ensures.2.0 in let place = c.row_word-place.ensures.place in
@@ -21,4 +21,5 @@ invariant_of-seat g c = let seat = c.args.seat.now in let is = c.load.ensures.2.
       counts = search rules;
       gated = seat.gated ∙ sym (ap (λ (z : Seated (Unit {0}) g.row.L.Denot). last_from 16 0 (person z.0).loads) is
           ∙ last_kept 16 c.row_word-place.result 0 c.load.result (person seat.seat.me.0).loads (λ e. no_control g.row.N c.args.sequence (c.args.word + 48) 16 (omega arith) (sym place ∙ e)));
+      put = search rules;
     }

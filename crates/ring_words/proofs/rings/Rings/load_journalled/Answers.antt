@@ -10,7 +10,7 @@ use Rattle.ring_words.proofs.rings.Rings.load_journalled.Goals as goal
 
 pub load-found-requires : goal.load-found-requires
 load-found-requires g c = let key = c.args.self.now.table.shared.key in
-    (search rules, search rules, loads_journalled (Unit {0}) (terms_of g.L.Logic.reads key) _ _ _ c.args.seat.now.alone c.args.seat.now.role)
+    (search rules, search rules, loads_journalled (Unit {0}) (terms_of g.L.Logic.reads g.L.Logic.outputs g.L.Logic.text g.L.Logic.nothing g.L.Logic.grows key) _ _ _ c.args.seat.now.alone c.args.seat.now.role)
 
 pub invariant_of-seat : goal.invariant_of-seat
 invariant_of-seat g c = let seat = c.args.seat.now in let p = person seat.seat.me.0 in let told = c.load-found.ensures.2.2 in let rest = told.0 in let is = told.2 in let r : ℕ = c.load-found.result in
@@ -26,6 +26,7 @@ invariant_of-seat g c = let seat = c.args.seat.now in let p = person seat.seat.m
       role = still_role seat.seat.me _ _ is _ seat.role;
       counts = (omega arith, search rules, omega arith, omega arith);
       gated = seat.gated ∙ sym (ap (λ (z : Seated (Unit {0}) g.row.L.Denot). last_from 16 0 (person z.0).loads) is ∙ last_kept 16 24 0 r p.loads (λ (e : 24 ≡ 16). omega arith));
+      put = search rules;
     }
 
 pub invariant_of-seat-else-seat-reach : goal.invariant_of-seat-else-seat-reach
@@ -41,4 +42,5 @@ invariant_of-seat-else-seat-reach g c = let seat = c.args.seat.now in let p = pe
       role = still_role seat.seat.me _ _ is _ seat.role;
       counts = (omega arith, search rules, seat.counts.2, seat.counts.3);
       gated = seat.gated ∙ sym (ap (λ (z : Seated (Unit {0}) g.row.L.Denot). last_from 16 0 (person z.0).loads) is ∙ last_kept 16 24 0 r p.loads (λ (e : 24 ≡ 16). omega arith));
+      put = search rules;
     }

@@ -9,8 +9,8 @@ use Rattle.ring_words.proofs.rings.Rings.load_unmarshalled.Goals as goal
 
 pub load-found-requires : goal.load-found-requires
 load-found-requires g c = let key = c.args.self.now.table.shared.key in
-    (search rules, search rules, loads_unmarshalled (Unit {0}) (terms_of g.L.Logic.reads key) _ _ _ c.args.seat.now.alone c.args.seat.now.role)
+    (search rules, search rules, loads_unmarshalled (Unit {0}) (terms_of g.L.Logic.reads g.L.Logic.outputs g.L.Logic.text g.L.Logic.nothing g.L.Logic.grows key) _ _ _ c.args.seat.now.alone c.args.seat.now.role)
 
 pub invariant_of-seat : goal.invariant_of-seat
 invariant_of-seat g c = let seat = c.args.seat.now in let is = c.load-found.ensures.2.0 in
-    record { alone = still_alone seat.seat.me _ _ is; bare = still_bare seat.seat.me _ _ is seat.bare; role = still_role seat.seat.me _ _ is _ seat.role; counts = search rules; gated = sym (ap (λ (z : Seated (Unit {0}) g.row.L.Denot). last_from 16 0 (person z.0).loads) is ∙ last_loaded 16 0 c.load-found.result (person seat.seat.me.0).loads) }
+    record { alone = still_alone seat.seat.me _ _ is; bare = still_bare seat.seat.me _ _ is seat.bare; role = still_role seat.seat.me _ _ is _ seat.role; counts = search rules; gated = sym (ap (λ (z : Seated (Unit {0}) g.row.L.Denot). last_from 16 0 (person z.0).loads) is ∙ last_loaded 16 0 c.load-found.result (person seat.seat.me.0).loads); put = search rules }

@@ -8,6 +8,18 @@ of_words-requires g c = let bound = c.if-not-is_ring_size.ensures.bounds refl in
     let wide : length c.in-Ok.words.items ≡ 128 + 64 * g.row.N + 128 * g.row.M = search rules in
     let count : c.len-count.result ≡ length c.args.base.now.items = search rules in
     rw c.of.ensures (rw c.as_slice.ensures.value (starts (Unit {0})
-    (record { rows = g.row.N; output_rows = g.row.M; gateways = g.row.G; logic = c.args.logic; base = c.args.base.now.items; given = c.args.given; reads = g.L.Logic.reads })
-    c.in-Ok.words.items (omega arith) gates.1 (search rules) wide
+    (record {
+      rows = g.row.N;
+      output_rows = g.row.M;
+      gateways = g.row.G;
+      logic = c.args.logic;
+      base = c.args.base.now.items;
+      given = c.args.given;
+      reads = g.L.Logic.reads;
+      outputs = g.L.Logic.outputs;
+      text = g.L.Logic.text;
+      nothing = g.L.Logic.nothing c.args.logic;
+      grows = g.L.Logic.grows c.args.logic;
+    })
+    c.in-Ok.words.items (omega arith) (omega arith) gates.0 gates.1 c.requires.given (search rules) wide
     (λ k within. subst (λ (b : ℕ). get_or c.in-Ok.words.items k 0 ≡ opening_word b c.args.given k) count (words.words k (subst (λ (y : ℕ). k < y) wide within)))))

@@ -8,7 +8,7 @@ pub store-requires : goal.store-requires
 store-requires g c = let key = c.args.self.now.table.shared.key in (
   search rules,
   search rules,
-  writes_command_in (Unit {0}) (terms_of g.L.Logic.reads key) g.row.N c.args.self.now.rows.0 _ _ c.args.sequence c.args.word c.args.value _ _
+  writes_command_in (Unit {0}) (terms_of g.L.Logic.reads g.L.Logic.outputs g.L.Logic.text g.L.Logic.nothing g.L.Logic.grows key) g.row.N c.args.self.now.rows.0 _ _ c.args.sequence c.args.word c.args.value _ _
       c.args.seat.now.alone c.args.seat.now.role c.requires.from c.requires.to c.requires.word c.requires.order c.row_word-place.ensures.place,
 )
 

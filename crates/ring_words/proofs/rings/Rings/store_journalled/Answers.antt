@@ -5,4 +5,4 @@ use Rattle.ring_words.proofs.rings.Rings.store_journalled.Goals as goal
 
 pub store-requires : goal.store-requires
 store-requires g c = let key = c.args.self.now.table.shared.key in
-    (search rules, search rules, stores_journalled (Unit {0}) (terms_of g.L.Logic.reads key) _ _ _ c.args.upto c.args.seat.now.alone c.args.seat.now.role c.requires.from c.requires.to)
+    (search rules, search rules, stores_journalled (Unit {0}) (terms_of g.L.Logic.reads g.L.Logic.outputs g.L.Logic.text g.L.Logic.nothing g.L.Logic.grows key) _ _ _ c.args.upto c.args.seat.now.alone c.args.seat.now.role c.requires.from c.requires.to)

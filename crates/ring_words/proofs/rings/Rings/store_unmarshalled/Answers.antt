@@ -1,4 +1,4 @@
-use Rattle.std.proofs.Common.{rules, ◌≡◌, ◌+◌, ◌∙◌, suc, arith}
+use Rattle.std.proofs.Common.{rules, arith}
 use Rattle.ring_words.specs.Terms.{terms_of}
 use Rattle.ring_words.specs.Seats.{person}
 use Rattle.ring_words.proofs.Logs.{within}
@@ -10,7 +10,7 @@ pub store-requires : goal.store-requires
 store-requires g c = let key = c.args.self.now.table.shared.key in let wrote = c.requires.command in let command = wrote.1.1 in (
   search rules,
   search rules,
-  stores_unmarshalled (Unit {0}) (terms_of g.L.Logic.reads key) _ _ _ _ wrote.0 wrote.1.0 command.by c.args.seat.now.alone c.args.seat.now.role (search rules)
+  stores_unmarshalled (Unit {0}) (terms_of g.L.Logic.reads g.L.Logic.outputs g.L.Logic.text g.L.Logic.nothing g.L.Logic.grows key) _ _ _ _ wrote.0 wrote.1.0 command.by c.args.seat.now.alone c.args.seat.now.role (search rules)
       command.entry command.row command.words command.packable,
 )
 

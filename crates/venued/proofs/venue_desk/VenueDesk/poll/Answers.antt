@@ -1,64 +1,58 @@
--- The unmarshaller and the journaller keep the outputs, and the processor only adds to them. What the journaller knows grows.
-use Rattle.std.proofs.Common.{ap, length, subst, sym, ◌∙◌}
-use Rattle.venue_model.specs.History.{History}
+-- A poll leaves the gateway as it is. What the journaller knows grows.
+use Rattle.std.proofs.Common.{◌∙◌}
 use Rattle.ring_words.specs.Seats.{person}
 use Rattle.venued.proofs.JournallerLemmas.{polled, Behind, still_behind, leaves_behind}
-use Rattle.venued.proofs.ProcessorLemmas.{renamed, retold, same_symbols, same_base, same_first, still_there, still_taken}
+use Rattle.venued.proofs.VenueLemmas.{renamed, relisted, same_symbols, same_base, still_taken, kept_polling}
 use Rattle.venued.proofs.venue_desk.VenueDesk.poll.Goals as goal
 
 pub invariant_of-self : goal.invariant_of-self
 invariant_of-self g c =
-    let held = c.self.invariant in
+    let seated = c.self.invariant.0 in
+    let held = c.self.invariant.1 in
     let p = c.self.inside.processor in
-    let q = c.poll-2.new.self in
     let v = person c.self.inside.journaller.seat.seat.me.0 in
     let w = person c.poll-journalled.new.self.seat.seat.me.0 in
-    let view = c.poll-2.ensures.view in
-    let turn = c.poll-2.ensures.turn in
     let grows = polled 1024 c.poll-journalled.result v w c.poll-journalled.ensures.turn in
-    let behind = still_behind p.seat.seat.me.0.base v w (record { rest = held.behind.0; seen = held.behind.1; kept = held.kept }) grows in
-    let now = subst (λ (base : History). Behind base w) (sym (same_base p q c.poll-2.result view turn)) behind in
-    record {
-      gateway = held.gateway;
-      unmarshaller = c.poll.ensures.table ∙ held.unmarshaller;
-      at_journal = c.poll-journalled.ensures.table ∙ held.at_journal;
-      processor = c.poll-2.ensures.table ∙ held.processor;
-      first = held.first;
-      counted = held.counted ∙ sym (ap length (same_first p q c.poll-2.result view turn));
-      from = held.from;
-      to = still_there p q c.poll-2.result view turn c.self.inside.given c.self.inside.count held.counted held.to;
-      behind = (now.rest, now.seen);
-      kept = now.kept;
-    }
+    let behind = still_behind p.seat.seat.me.0.base v w (record { rest = held.behind.0; seen = held.behind.1; kept = held.kept }) grows in (
+      record {
+        gateway_at = seated.gateway_at;
+        unmarshaller_at = c.poll.ensures.table ∙ seated.unmarshaller_at;
+        journaller_at = c.poll-journalled.ensures.table ∙ seated.journaller_at;
+        processor_at = c.poll-2.ensures.table ∙ seated.processor_at;
+        marshaller_at = c.poll-3.ensures.table ∙ seated.marshaller_at;
+        first = seated.first;
+      },
+      kept_polling p c.poll-2.new.self c.poll-2.ensures.view c.self.inside.gateway.seat.me.0 c.self.inside.marshaller.seat.seat.me.0
+          c.poll-3.new.self.seat.seat.me.0 v w held c.poll-3.ensures.view behind,
+    )
 
 pub returns-clause-polls : goal.returns-clause-polls
 returns-clause-polls g c =
+    let held = c.self.invariant.1 in
     let p = c.self.inside.processor in
     let q = c.poll-2.new.self in
     let view = c.poll-2.ensures.view in
-    let turn = c.poll-2.ensures.turn in
     rw (← c.self.view_is) (record {
       unmarshalled = c.poll.result;
       journalled = c.poll-journalled.result;
       processed = c.poll-2.result;
+      marshalled = c.poll-3.result;
       unmarshals = c.poll.ensures.turn;
       journals = c.poll-journalled.ensures.turn;
-      processes = turn;
+      processes = c.poll-2.ensures.turn;
+      marshals = c.poll-3.ensures.turn p.book.symbols held.marshals;
       answer = c.polled.ensures;
-      others = renamed _ p.book.symbols p.seat.seat.me.0.base (same_symbols p q c.poll-2.result view turn) (same_base p q c.poll-2.result view turn);
+      others = renamed _ p.book.symbols p.seat.seat.me.0.base (same_symbols p q view) (same_base p q view);
     })
 
 pub returns-clause-ledger : goal.returns-clause-ledger
 returns-clause-ledger g c =
-    let p = c.self.inside.processor in
-    let q = c.poll-2.new.self in
-    let held = c.self.invariant in
-    let taken = still_taken p q c.poll-2.result c.poll-2.ensures.view c.poll-2.ensures.turn c.self.inside.given c.self.inside.count held.counted held.to in
-    rw (← c.self.view_is) (retold _ _ taken)
+    let d = c.self.inside in
+    rw (← c.self.view_is) (relisted _ _ (still_taken d.processor c.poll-2.new.self c.poll-2.ensures.view (person d.gateway.seat.me.0)))
 
 pub returns-clause-any_moment : goal.returns-clause-any_moment
 returns-clause-any_moment g c =
-    let held = c.self.invariant in
+    let held = c.self.invariant.1 in
     let v = person c.self.inside.journaller.seat.seat.me.0 in
     let w = person c.poll-journalled.new.self.seat.seat.me.0 in
     let tells = g.D.JournalDisk.tells in

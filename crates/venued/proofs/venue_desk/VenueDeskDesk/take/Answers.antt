@@ -1,67 +1,45 @@
--- The output at the count is the next of all outputs so far, and there are fewer than 2 ^ 62.
-use Rattle.std.proofs.Common.{refl, sym, ◌∙◌, arith}
-use Rattle.fix_orders.specs.Text.{text}
-use Rattle.venued.proofs.ProcessorLemmas.{retold, is_within, is_small, is_next, taken_mine, taken_other}
-use Rattle.venued.proofs.venue_desk.VenueDeskDesk.take.Goals.{then-output-eq1, else-output-eq1}
+-- The output that is taken is that of a history of the venue's symbols, behind the history at the start.
+use Rattle.std.proofs.Common.{◌≡◌, ◌≢◌, true, ◌∙◌, rules}
+use Rattle.sequencer.specs.declared.take.Take.TheVariants.{Nothing}
+use Rattle.ring_words.specs.Seats.{person}
+use Rattle.venued.proofs.VenueLemmas.{took_one, hands_on, take_tells, kept_taking}
 use Rattle.venued.proofs.venue_desk.VenueDeskDesk.take.Goals as goal
 
-pub write_body-requires : goal.write_body-requires
-write_body-requires g c =
-    let d = c.self.inside in let held = c.self.invariant in
-    let small = is_small d.processor d.given d.count held.counted held.from held.to c.in-Some.output (sym c.output_at.ensures ∙ c.in-Some.is) in
-    omega (arith, small)
-
-pub invariant_of-self-2 : goal.invariant_of-self-2
-invariant_of-self-2 g c =
+pub invariant_of-self-else-eq : goal.invariant_of-self-else-eq
+invariant_of-self-else-eq g c =
     let d = c.self.inside in
-    let held = c.self.invariant in
-    let from = held.from in
-    let within = is_within d.processor d.given d.count held.counted held.from held.to c.in-Some.output (sym c.output_at.ensures ∙ c.in-Some.is) in
-    record {
-      gateway = held.gateway;
-      unmarshaller = held.unmarshaller;
-      at_journal = held.at_journal;
-      processor = held.processor;
-      first = held.first;
-      counted = held.counted;
-      from = omega (arith, from);
-      to = omega (arith, within);
-      behind = held.behind;
-      kept = held.kept;
-    }
+    let seated = c.self.invariant.0 in
+    let held = c.self.invariant.1 in
+    let some : c.take_output-take.result ≢ Nothing = λ is. (let yes : c.eq.result ≡ true = search rules in cc) in
+    let w = c.take_output-take.new.seat.seat.me.0 in
+    let took = took_one _ _ d.gateway.seat.me.0 w d.marshaller.seat.seat.me.0 _ held _ _ _ (c.take_output-take.ensures.taken some) in (
+      record {
+        gateway_at = c.take_output-take.ensures.table ∙ seated.gateway_at;
+        unmarshaller_at = seated.unmarshaller_at;
+        journaller_at = seated.journaller_at;
+        processor_at = seated.processor_at;
+        marshaller_at = seated.marshaller_at;
+        first = c.take_output-take.ensures.number ∙ seated.first;
+      },
+      kept_taking _ _ d.gateway.seat.me.0 w _ _ held _ _ _ c.take_output-take.ensures.view took,
+    )
 
-pub overflow_add-self : goal.overflow_add-self
-overflow_add-self g c =
-    let d = c.self.inside in let held = c.self.invariant in
-    let small = is_small d.processor d.given d.count held.counted held.from held.to c.in-Some.output (sym c.output_at.ensures ∙ c.in-Some.is) in
-    omega (arith, small)
-
-pub returns-clause-next : goal.returns-clause-next
-returns-clause-next g c =
+pub returns-else-eq-clause-next : goal.returns-else-eq-clause-next
+returns-else-eq-clause-next g c =
     let d = c.self.inside in
-    let held = c.self.invariant in
-    let output = c.in-Some.output in
-    let next = is_next d.processor d.given d.count held.counted held.from held.to output (sym c.output_at.ensures ∙ c.in-Some.is) in
-    elim c.if-output-eq1.branch [
-      | then-output-eq1 w ↦
-          rw (← c.self.view_is, w.result-is, w.body-is)
-          (record { output = output; next = next; mine = w.if-output-eq1.true; carries = w.write_body.ensures; counted = refl })
-      | else-output-eq1 w ↦
-          rw (← c.self.view_is, w.result-is) (record { output = output; next = next; other = w.if-output-eq1.false; counted = refl })
-    ]
+    let seated = c.self.invariant.0 in
+    let held = c.self.invariant.1 in
+    let some : c.take_output-take.result ≢ Nothing = λ is. (let yes : c.eq.result ≡ true = search rules in cc) in
+    let w = c.take_output-take.new.seat.seat.me.0 in
+    let took = took_one _ _ d.gateway.seat.me.0 w d.marshaller.seat.seat.me.0 _ held _ _ _ (c.take_output-take.ensures.taken some) in
+    hands_on _ _ c.self.view_is (person w) _ seated.first _ _ took
 
-pub returns-clause-tells : goal.returns-clause-tells
-returns-clause-tells g c =
+pub returns-else-eq-clause-tells : goal.returns-else-eq-clause-tells
+returns-else-eq-clause-tells g c =
     let d = c.self.inside in
-    let held = c.self.invariant in
-    let output = c.in-Some.output in
-    let at = sym c.output_at.ensures ∙ c.in-Some.is in
-    let small = is_small d.processor d.given d.count held.counted held.from held.to output at in
-    elim c.if-output-eq1.branch [
-      | then-output-eq1 w ↦
-          let told = taken_mine d.processor d.given d.count held.counted held.from held.to output at w.if-output-eq1.true in
-          rw (← c.self.view_is, w.result-is, w.body-is) (text output d.count, w.write_body.ensures, small, retold _ _ told)
-      | else-output-eq1 w ↦
-          let told = taken_other d.processor d.given d.count held.counted held.from held.to output at w.if-output-eq1.false in
-          rw (← c.self.view_is, w.result-is) (small, retold _ _ told)
-    ]
+    let seated = c.self.invariant.0 in
+    let held = c.self.invariant.1 in
+    let some : c.take_output-take.result ≢ Nothing = λ is. (let yes : c.eq.result ≡ true = search rules in cc) in
+    let w = c.take_output-take.new.seat.seat.me.0 in
+    let took = took_one _ _ d.gateway.seat.me.0 w d.marshaller.seat.seat.me.0 _ held _ _ _ (c.take_output-take.ensures.taken some) in
+    take_tells _ _ c.self.view_is (person w) _ seated.first held.from held.to _ _ took

@@ -1,0 +1,99 @@
+//! Outputs on their way through the marshaller: it reads each one out of its row, and writes its text beside it.
+ghost use Rattle.std.specs.Prelude.{Some, ◌≡◌, ℕ, suc, ◌+◌, ◌<◌, ◌≤◌, List, ◌++◌, length};
+ghost use mathlib.Core.Option.{some};
+ghost use lib.ListN.{get_elem?};
+ghost use Rattle.venue_model.specs.History.{Message};
+ghost use Rattle.venue_model.specs.declared.outputs.Output.{Output};
+ghost use Rattle.ring_words.specs.OutputPacking.{output_words};
+ghost use Rattle.ring_words.specs.Texts.{text_words, IsPackableText};
+ghost use Rattle.ring_words.specs.Places.{published};
+ghost use Rattle.ring_words.specs.Seats.{person, alone, looked, knowing, wrote, moved};
+ghost use Rattle.ring_words.specs.Steps.{Shows, WroteText};
+ghost use Rattle.barrier.specs.Outputs.{after_output};
+
+use ring_words::{
+    MarshalSeat, OUTPUT_WORDS, Rings, TextHead, output_words_of, unpack_output, word_at,
+};
+use venue_model::{Logic, Output, OutputType};
+
+/// How many outputs are published: the marshaller may read those from its own word on. Loads published; the marshaller then knows a history that has
+/// so many outputs.
+pub fn outputs_available<L: Logic, const N: usize, const M: usize, const G: usize>(
+    rings: &Rings<L, N, M, G>,
+    seat: &mut MarshalSeat<L>,
+) -> u64
+    requires table { seat.old.seat.table_id ≡ rings.now.table.shared.table_id }
+    ensures table { seat.new.seat.table_id ≡ seat.old.seat.table_id }
+    ensures view { (rest : List Message) × (seat.new.seat.me.0 ≡ alone seat.old.seat.me.0 (knowing (looked (person seat.old.seat.me.0) published result) rest))
+        × ((logic : L) → seat.old.seat.me.0.logic ≡ Some logic → result ≤ length (L.outputs logic ((person seat.old.seat.me.0).seen ++ rest))) }
+    ensures own { (person seat.old.seat.me.0).own ≤ result }
+{
+    rings.load_published(seat)
+}
+
+/// Reads an output that is published and that the marshaller hasn't released.
+pub fn read_output<L: Logic, const N: usize, const M: usize, const G: usize>(
+    rings: &Rings<L, N, M, G>,
+    seat: &mut MarshalSeat<L>,
+    place: u64,
+) -> Output
+    requires table { seat.old.seat.table_id ≡ rings.now.table.shared.table_id }
+    requires from { (person seat.old.seat.me.0).own ≤ place }
+    requires to { Shows published (person seat.old.seat.me.0) place }
+    ensures table { seat.new.seat.table_id ≡ seat.old.seat.table_id }
+    ensures output { (logic : L) (o : Output) → seat.old.seat.me.0.logic ≡ Some logic → get_elem? (L.outputs logic (person seat.old.seat.me.0).seen) place ≡ some o → result ≡ o }
+    ensures view { (logic : L) (o : Output) → seat.old.seat.me.0.logic ≡ Some logic → get_elem? (L.outputs logic (person seat.old.seat.me.0).seen) place ≡ some o
+        → seat.new.seat.me.0 ≡ alone seat.old.seat.me.0 (after_output N M (person seat.old.seat.me.0) place (output_words o)) }
+{
+    let mut words = [0; OUTPUT_WORDS];
+    for index in 0..4 {
+        words[index] = rings.load_output(seat, place, index);
+    }
+    let count = output_words_of(words[3]);
+    for index in 4..count {
+        words[index] = rings.load_output(seat, place, index);
+    }
+    unpack_output(&words[..count])
+}
+
+/// Writes the text of an output that is published and not released into its row: MsgType, SendingTime and the body, at most 320 bytes.
+pub fn write_text<L: Logic, const N: usize, const M: usize, const G: usize>(
+    rings: &Rings<L, N, M, G>,
+    seat: &mut MarshalSeat<L>,
+    place: u64,
+    msg_type: OutputType,
+    sending_time: u64,
+    body: &[u8],
+)
+    requires table { seat.old.seat.table_id ≡ rings.now.table.shared.table_id }
+    requires from { (person seat.old.seat.me.0).own ≤ place }
+    requires to { Shows published (person seat.old.seat.me.0) place }
+    requires most { length body.now ≤ 320 }
+    ensures table { seat.new.seat.table_id ≡ seat.old.seat.table_id }
+    ensures view { seat.new.seat.me.0 ≡ alone seat.old.seat.me.0 (wrote (person seat.old.seat.me.0) place (text_words (record { msg_type = msg_type; sending_time = sending_time; body = body.now }))) }
+    ensures packable { IsPackableText (record { msg_type = msg_type; sending_time = sending_time; body = body.now }) }
+{
+    let head = TextHead {
+        msg_type,
+        len: body.len(),
+    };
+    rings.store_text(seat, place, 0, head.to_word());
+    rings.store_text(seat, place, 1, sending_time);
+    for index in 0..body.len().div_ceil(8) {
+        rings.store_text(seat, place, index + 2, word_at(body, index));
+    }
+}
+
+/// Hands the next output on to the gateways, when its text is written.
+pub fn release_marshalled<L: Logic, const N: usize, const M: usize, const G: usize>(
+    rings: &Rings<L, N, M, G>,
+    seat: &mut MarshalSeat<L>,
+)
+    requires table { seat.old.seat.table_id ≡ rings.now.table.shared.table_id }
+    requires small { (person seat.old.seat.me.0).own + 1 < 18446744073709551616 }
+    requires text { (logic : L) × ((o : Output) × WroteText L.outputs L.text seat.old.seat.me.0 logic o) }
+    ensures table { seat.new.seat.table_id ≡ seat.old.seat.table_id }
+    ensures view { seat.new.seat.me.0 ≡ alone seat.old.seat.me.0 (moved (person seat.old.seat.me.0) (suc (person seat.old.seat.me.0).own)) }
+{
+    rings.store_marshalled(seat);
+}

@@ -1,0 +1,254 @@
+-- Seats that come together and part keep the rule, and what their persons learn then.
+use Rattle.std.proofs.Common.{◌≡◌, ◌≢◌, ℕ, zero, suc, ◌+◌, ◌≤◌, Bool, true, false, List, [], ◌∷◌, ◌++◌, ◌⊎◌, inl, inr, ⊎_elim, cond, eqb, leb, length, get_or, set, take, drop, refl, ap, sym, subst, ◌∙◌, arith, le_refl}
+use Rattle.std.proofs.lemmas.Bool.{cond-true, cond-false, eq-eqb, ne_eqb, le-leb, leb-true}
+use mathlib.Core.Option.{none, some, some-injective, some-ne-none}
+use lib.ListN.{get_elem?}
+use Rattle.atomic_table.specs.Table.{State, step, keeps, Allows, Splits}
+use Rattle.std.proofs.lemmas.List.{set-get_or, take-append-le, length-take-le}
+use Rattle.std.proofs.Math.Seq.{take-length}
+use mathlib.Core.Logic.{dite}
+use native.Mathlib.Decide.{ℕ_discrete, dec_le}
+use Rattle.atomic_table.proofs.Lists.{at_set, at_snoc}
+use Rattle.venue_model.specs.History.{Message}
+use Rattle.ring_words.specs.declared.view.Role.{Role}
+use Rattle.ring_words.specs.declared.view.Role.TheVariants.{Journal, Gateway}
+use Rattle.ring_words.specs.declared.view.Person.{Person}
+use Rattle.ring_words.specs.declared.view.View.{View}
+use Rattle.ring_words.specs.Places.{processed, journalled, taken, place_of, number_of}
+use Rattle.ring_words.specs.Log.{Log, Status, unclaimed, old, claimed, sent, sends_of, sent_at, IsFront}
+use Rattle.ring_words.specs.Terms.{Terms}
+use Rattle.ring_words.specs.Rule.{Depth, Knows, owners, all_owners, words_of, Lawful}
+use Rattle.ring_words.specs.Seats.{person, together}
+use Rattle.ring_words.specs.Steps.{Seated}
+use Rattle.ring_words.specs.Meeting.{longer, met, AreMet, MeetsJournal, sees_meeting, sees_journal, nobody_else, first_alone, second_alone}
+use Rattle.ring_words.proofs.Owners.{one_of, same_owners, owners_snoc, changed_owners}
+use Rattle.ring_words.proofs.Logs.{knows_looked}
+use Rattle.ring_words.proofs.Outputs.{begins, front_taken}
+use Rattle.ring_words.proofs.Keeps.{one_owner_each}
+use Rattle.ring_words.proofs.Taking.{legal_front}
+use Rattle.ring_words.proofs.Loads.{Goes}
+
+-- the first two of a list of two
+in_two : (p q o : Person) (ps : List Person) (j : ℕ) → ps ≡ p ∷ q ∷ [] → get_elem? ps j ≡ some o → (p ≡ o) ⊎ (q ≡ o)
+in_two p q o ps zero is at = inl (some-injective p o (subst (λ (l : List Person). get_elem? l zero ≡ some o) is at))
+in_two p q o ps (suc zero) is at = inr (some-injective q o (subst (λ (l : List Person). get_elem? l 1 ≡ some o) is at))
+in_two p q o ps (suc (suc j)) is at = absurd (some-ne-none o (sym (subst (λ (l : List Person). get_elem? l (suc (suc j)) ≡ some o) is at)))
+
+-- two persons own what each owns
+owners_two : (k : ℕ) (p q : Person) → owners k (p ∷ q ∷ []) ≡ owners k (p ∷ []) + owners k (q ∷ [])
+owners_two k p q = by_case (eqb (place_of p.role) k) where
+  by_case : (b : Bool) → cond b (suc (owners k (q ∷ []))) (owners k (q ∷ [])) ≡ cond b 1 0 + owners k (q ∷ [])
+  by_case true = omega arith
+  by_case false = omega arith
+
+module _ {L : Type 0} (S : Type 0) (terms : Terms L) where
+  -- a seat of nobody may be split off any seat
+  pub spares : (id : ℕ) (v : View L) → Splits (Lawful S terms) id v v (nobody_else v)
+  spares id v s r at = record {
+    log = r.log;
+    some_row = r.some_row;
+    some_output_row = r.some_output_row;
+    some_gateway = r.some_gateway;
+    few = r.few;
+    wide = r.wide;
+    order = r.order;
+    logged = r.logged;
+    rows = r.rows;
+    outgoing = r.outgoing;
+    people = λ i j u o there in_it. ⊎_elim
+        (λ within_set. ⊎_elim
+        (λ (t : (i ≡ id) × (v ≡ u)). r.people id j u o (subst (λ (x : View L). get_elem? s.views id ≡ some x) t.1 at) in_it)
+        (λ (t : (i ≢ id) × (get_elem? s.views i ≡ some u)). r.people i j u o t.1 in_it)
+        (at_set s.views id i v u within_set))
+        (λ (new : nobody_else v ≡ u). absurd (some-ne-none o (sym (subst (λ (x : View L). get_elem? x.people j ≡ some o) (sym new) in_it))))
+        (at_snoc (set s.views id v) (nobody_else v) u i there);
+    once = λ k. (let same = same_owners k s.views id v v at refl in let more = owners_snoc k (set s.views id v) (nobody_else v) in let was = r.once k in
+        let x : ℕ = all_owners k (set s.views id v) in let y : ℕ = all_owners k s.views in omega arith);
+  }
+
+  -- of two persons each gets a seat of its own
+  pub parts : (id : ℕ) (v : View L) (p q : Person) → v.people ≡ p ∷ q ∷ [] → Splits (Lawful S terms) id v (first_alone v) (second_alone v)
+  parts id v p q two s r at = record {
+    log = r.log;
+    some_row = r.some_row;
+    some_output_row = r.some_output_row;
+    some_gateway = r.some_gateway;
+    few = r.few;
+    wide = r.wide;
+    order = r.order;
+    logged = r.logged;
+    rows = r.rows;
+    outgoing = r.outgoing;
+    people = λ i j u o there in_it. ⊎_elim
+        (λ within_set. ⊎_elim
+        (λ (t : (i ≡ id) × (first_alone v ≡ u)). let own = r.people id 0 v p at (ap (λ (l : List Person). get_elem? l 0) two) in
+        let is : p ≡ o = only_one p o (take 1 v.people) j (ap (take 1) two) (subst (λ (x : View L). get_elem? x.people j ≡ some o) (sym t.1) in_it) in
+        (ap (λ (x : View L). x.logic) (sym t.1) ∙ own.0, ap (λ (x : View L). x.base) (sym t.1) ∙ own.1, subst (Knows terms (words_of s) r.log) is own.2))
+        (λ (t : (i ≢ id) × (get_elem? s.views i ≡ some u)). r.people i j u o t.1 in_it)
+        (at_set s.views id i (first_alone v) u within_set))
+        (λ (new : second_alone v ≡ u). let own = r.people id 1 v q at (ap (λ (l : List Person). get_elem? l 1) two) in
+        let is : q ≡ o = only_one q o (drop 1 v.people) j (ap (drop 1) two) (subst (λ (x : View L). get_elem? x.people j ≡ some o) (sym new) in_it) in
+        (ap (λ (x : View L). x.logic) (sym new) ∙ own.0, ap (λ (x : View L). x.base) (sym new) ∙ own.1, subst (Knows terms (words_of s) r.log) is own.2))
+        (at_snoc (set s.views id (first_alone v)) (second_alone v) u i there);
+    once = λ k. (let sum = changed_owners k s.views id v (first_alone v) at in let more = owners_snoc k (set s.views id (first_alone v)) (second_alone v) in let was = r.once k in
+        let all : owners k v.people ≡ owners k (p ∷ []) + owners k (q ∷ []) = ap (owners k) two ∙ owners_two k p q in
+        let one : owners k (first_alone v).people ≡ owners k (p ∷ []) = ap (λ (l : List Person). owners k (take 1 l)) two in
+        let other : owners k (second_alone v).people ≡ owners k (q ∷ []) = ap (λ (l : List Person). owners k (drop 1 l)) two in
+        let x : ℕ = all_owners k (set s.views id (first_alone v)) in let y : ℕ = all_owners k s.views in omega arith);
+  } where
+    only_one : (p o : Person) (ps : List Person) (j : ℕ) → ps ≡ p ∷ [] → get_elem? ps j ≡ some o → p ≡ o
+    only_one p o ps zero is at = some-injective p o (subst (λ (l : List Person). get_elem? l zero ≡ some o) is at)
+    only_one p o ps (suc j) is at = absurd (some-ne-none o (sym (subst (λ (l : List Person). get_elem? l (suc j) ≡ some o) is at)))
+
+  -- a load after which the seat's two persons are p' and q'
+  pub looks_two : (s : State S (View L)) (r : Lawful S terms s) (k id : ℕ) (me : Seated S L) (p q p' q' : Person) (then : ℕ → Seated S L → Type 0) → get_elem? s.views id ≡ some me.0
+      → me.0.people ≡ p ∷ q ∷ [] → p'.role ≡ p.role → q'.role ≡ q.role → Knows terms (words_of s) r.log p' → Knows terms (words_of s) r.log q'
+      → then (get_or s.words k 0) (record me.0 { people = p' ∷ q' ∷ [] }, me.1) → Goes S terms s k id me then (get_or s.words k 0)
+  looks_two s r k id me p q p' q' then at two role_p role_q knows_p knows_q told = let w : View L = record me.0 { people = p' ∷ q' ∷ [] } in (
+    w,
+    keeps,
+    tt,
+    subst (λ (ws : List ℕ). Lawful S terms record { words = ws; homes = s.homes; views = set s.views id w }) (sym (set-get_or s.words k 0)) record {
+      log = r.log;
+      some_row = r.some_row;
+      some_output_row = r.some_output_row;
+      some_gateway = r.some_gateway;
+      few = r.few;
+      wide = r.wide;
+      order = r.order;
+      logged = r.logged;
+      rows = r.rows;
+      outgoing = r.outgoing;
+      people = λ i j u o there in_it. ⊎_elim
+          (λ (t : (i ≡ id) × (w ≡ u)). let own = r.people id 0 me.0 p at (ap (λ (l : List Person). get_elem? l 0) two) in (
+            ap (λ (x : View L). x.logic) (sym t.1) ∙ own.0,
+            ap (λ (x : View L). x.base) (sym t.1) ∙ own.1,
+            ⊎_elim (λ is. subst (Knows terms (words_of s) r.log) is knows_p) (λ is. subst (Knows terms (words_of s) r.log) is knows_q)
+                (in_two p' q' o u.people j (ap (λ (x : View L). x.people) (sym t.1)) in_it),
+          ))
+          (λ (t : (i ≢ id) × (get_elem? s.views i ≡ some u)). r.people i j u o t.1 in_it)
+          (at_set s.views id i w u there);
+      once = λ k. same_owners k s.views id me.0 w at
+          (owners_two k p' q' ∙ ap (λ (z : Role). owners k (record p { role = z } ∷ []) + owners k (q' ∷ [])) role_p ∙ ap (λ (z : Role). owners k (p ∷ []) + owners k (record q { role = z } ∷ [])) role_q
+          ∙ sym (owners_two k p q) ∙ ap (owners k) (sym two)) ∙ r.once k;
+    },
+    told,
+  )
+
+  -- two gateways have different numbers
+  pub two_numbers : (s : State S (View L)) (r : Lawful S terms s) (id : ℕ) (v : View L) (p q : Person) (j k : ℕ) → get_elem? s.views id ≡ some v → v.people ≡ p ∷ q ∷ [] → p.role ≡ Gateway j → q.role ≡ Gateway k → j ≢ k
+  two_numbers s r id v p q j k at two role_p role_q same =
+      let few = one_owner_each S terms s r (taken j) in let there = one_of (taken j) s.views id v at in
+      let all : owners (taken j) v.people ≡ owners (taken j) (p ∷ []) + owners (taken j) (q ∷ []) = ap (owners (taken j)) two ∙ owners_two (taken j) p q in
+      let one : owners (taken j) (p ∷ []) ≡ 1 = cond-true (eqb (place_of p.role) (taken j)) 1 0 (eq-eqb (place_of p.role) (taken j) (ap place_of role_p)) in
+      let other : owners (taken j) (q ∷ []) ≡ 1 = cond-true (eqb (place_of q.role) (taken j)) 1 0 (eq-eqb (place_of q.role) (taken j) (ap place_of role_q ∙ ap taken (sym same))) in
+      let x : ℕ = owners (taken j) v.people in omega arith
+
+not_leb : (a b : ℕ) → ¬ (a ≤ b) → leb a b ≡ false
+not_leb a b gt = by_case (leb a b) refl where
+  by_case : (c : Bool) → leb a b ≡ c → c ≡ false
+  by_case false e = refl
+  by_case true e = absurd (gt (leb-true a b e))
+
+-- a beginning of the log that isn't longer begins another
+begun : (status : ℕ → Status) (h g : List Message) → IsFront status h → IsFront status g → length h ≤ length g → h ≡ take (length h) g
+begun status h g front_h front_g short = let more = begins status g h front_g front_h short in
+    sym (take-length h) ∙ sym (take-append-le (length h) h more.0 (le_refl (length h))) ∙ ap (take (length h)) (sym more.1)
+
+-- of two beginnings of the log the longer goes on from both
+of_longer : (status : ℕ → Status) (h g : List Message) → IsFront status h → IsFront status g → (h ≡ take (length h) (longer h g)) × (g ≡ take (length g) (longer h g)) × IsFront status (longer h g)
+of_longer status h g front_h front_g = by_length (dec_le (length h) (length g)) where
+  by_length : Dec (length h ≤ length g) → (h ≡ take (length h) (longer h g)) × (g ≡ take (length g) (longer h g)) × IsFront status (longer h g)
+  by_length (yes le) = let is : g ≡ longer h g = sym (cond-true (leb (length h) (length g)) g h (le-leb (length h) (length g) le)) in
+      subst (λ (l : List Message). (h ≡ take (length h) l) × (g ≡ take (length g) l) × IsFront status l) is (begun status h g front_h front_g le, sym (take-length g), front_g)
+  by_length (no gt) = let is : h ≡ longer h g = sym (cond-false (leb (length h) (length g)) g h (not_leb (length h) (length g) gt)) in
+      subst (λ (l : List Message). (h ≡ take (length h) l) × (g ≡ take (length g) l) × IsFront status l) is (sym (take-length h), begun status g h front_g front_h (omega arith), front_h)
+
+-- it is no longer than both may be
+longer_most : (h g : List Message) (x : ℕ) → length h ≤ x → length g ≤ x → length (longer h g) ≤ x
+longer_most h g x a b = by_choice (leb (length h) (length g)) where
+  by_choice : (c : Bool) → length (cond c g h) ≤ x
+  by_choice true = b
+  by_choice false = a
+
+-- no entry is two gateways'
+apart_at : (j k : ℕ) (x : Status) → j ≢ k → (sends_of j x ≡ []) ⊎ (sends_of k x ≡ [])
+apart_at j k unclaimed ne = inl refl
+apart_at j k (old e) ne = inl refl
+apart_at j k (claimed i) ne = inl refl
+apart_at j k (sent e) ne = dite (ℕ_discrete e.gateway j)
+    (λ is. inr (cond-false (eqb e.gateway k) (e ∷ []) [] (ne_eqb e.gateway k (λ z. ne (sym is ∙ z)))))
+    (λ other. inl (cond-false (eqb e.gateway j) (e ∷ []) [] (ne_eqb e.gateway j other)))
+
+module _ {L : Type 0} (terms : Terms L) (w : ℕ → ℕ) (log : Log) where
+  -- what a person knows after it loaded processed and saw a beginning of the log that it may see
+  knows_met : (p : Person) (x : ℕ) (h : List Message) → x ≤ w processed → IsFront log.status h → Depth w p.role (length h) → Knows terms w log p → Knows terms w log (met p x h)
+  knows_met p x h low front deep r = let k = knows_looked terms w log p processed x (λ _. low) r in record {
+    role = k.role;
+    front = front;
+    depth = deep;
+    own = k.own;
+    mine = k.mine;
+    claims = k.claims;
+    loads = k.loads;
+    part = k.part;
+  }
+
+  -- two gateways published nothing at one sequence
+  mine_apart : (p q : Person) (j k : ℕ) → p.role ≡ Gateway j → q.role ≡ Gateway k → j ≢ k → Knows terms w log p → Knows terms w log q → (s : ℕ) → (sent_at s p.mine ≡ []) ⊎ (sent_at s q.mine ≡ [])
+  mine_apart p q j k role_p role_q ne knows_p knows_q s = ⊎_elim
+      (λ none. inl (knows_p.mine s ∙ ap (λ (z : Role). sends_of (number_of z) (log.status s)) role_p ∙ none))
+      (λ none. inr (knows_q.mine s ∙ ap (λ (z : Role). sends_of (number_of z) (log.status s)) role_q ∙ none))
+      (apart_at j k (log.status s) ne)
+
+module _ {L : Type 0} (S : Type 0) (terms : Terms L) where
+  -- two gateways whose seats came together load processed: both then know the longer history
+  pub loads_meeting : (slots id : ℕ) (me : Seated S L) (p q : Person) (j k : ℕ) → me.0.people ≡ p ∷ q ∷ [] → p.role ≡ Gateway j → q.role ≡ Gateway k
+      → Allows (Lawful S terms) slots id me processed (λ x. x) (sees_meeting (step slots processed 0 0 none) me)
+  loads_meeting slots id me p q j k two role_p role_q s r wide at _ =
+      let w = words_of s in let x : ℕ = w processed in let status = r.log.status in
+      let own_p = r.people id 0 me.0 p at (ap (λ (l : List Person). get_elem? l 0) two) in let own_q = r.people id 1 me.0 q at (ap (λ (l : List Person). get_elem? l 1) two) in
+      let knows_p = own_p.2 in let knows_q = own_q.2 in
+      let low_p : length p.seen ≤ w journalled = subst (λ (z : Role). Depth w z (length p.seen)) role_p knows_p.depth in
+      let low_q : length q.seen ≤ w journalled = subst (λ (z : Role). Depth w z (length q.seen)) role_q knows_q.depth in
+      let h : List Message = longer p.seen q.seen in let is = of_longer status p.seen q.seen knows_p.front knows_q.front in let low = longer_most p.seen q.seen (w journalled) low_p low_q in
+      let learned : AreMet (length terms.base) p q = record {
+        one = is.0;
+        other = is.1;
+        apart = mine_apart terms w r.log p q j k role_p role_q (two_numbers S terms s r id me.0 p q j k at two role_p role_q) knows_p knows_q;
+        legal_one = legal_front terms w r.log p h r.logged knows_p is.2;
+        legal_other = legal_front terms w r.log q h r.logged knows_q is.2;
+      } in
+      looks_two S terms s r processed id me p q (met p x h) (met q x h) (sees_meeting (step slots processed 0 0 none) me) at two refl refl
+      (knows_met terms w r.log p x h (le_refl x) is.2 (subst (λ (z : Role). Depth w z (length h)) (sym role_p) low) knows_p)
+      (knows_met terms w r.log q x h (le_refl x) is.2 (subst (λ (z : Role). Depth w z (length h)) (sym role_q) low) knows_q)
+      (λ a b _ _ both _ _. (
+      let a_is : p ≡ a = some-injective p a (ap (λ (l : List Person). get_elem? l 0) (sym two ∙ both)) in let b_is : q ≡ b = some-injective q b (ap (λ (l : List Person). get_elem? l 1) (sym two ∙ both)) in
+      let told : (z : Person × Person) → Type 0 = λ (z : Person × Person). (◌≡◌ {A = Seated S L} (record me.0 { people = met p x h ∷ met q x h ∷ [] }, me.1)
+      (record me.0 { people = met z.0 x (longer z.0.seen z.1.seen) ∷ met z.1 x (longer z.0.seen z.1.seen) ∷ [] }, me.1)) × AreMet (length me.0.base) z.0 z.1 in
+      subst told (λ i. (a_is i, b_is i)) (refl, subst (λ (l : List Message). AreMet (length l) p q) (sym own_p.1) learned)))
+
+  -- a gateway and the journaller whose seats came together load processed: the gateway then knows all that the journaller has released
+  pub loads_journal : (slots id : ℕ) (me : Seated S L) (p q : Person) (j : ℕ) → me.0.people ≡ p ∷ q ∷ [] → p.role ≡ Gateway j → q.role ≡ Journal → q.own ≤ length q.seen
+      → Allows (Lawful S terms) slots id me processed (λ x. x) (sees_journal (step slots processed 0 0 none) me)
+  loads_journal slots id me p q j two role_p role_q within_seen s r wide at _ =
+      let w = words_of s in let x : ℕ = w processed in let status = r.log.status in
+      let own_p = r.people id 0 me.0 p at (ap (λ (l : List Person). get_elem? l 0) two) in let own_q = r.people id 1 me.0 q at (ap (λ (l : List Person). get_elem? l 1) two) in
+      let knows_p = own_p.2 in let knows_q = own_q.2 in
+      let low_p : length p.seen ≤ w journalled = subst (λ (z : Role). Depth w z (length p.seen)) role_p knows_p.depth in
+      let own_is : w journalled ≡ q.own = subst (λ (z : Role). w (place_of z) ≡ q.own) role_q knows_q.own in
+      let h : List Message = take q.own q.seen in let long : length h ≡ q.own = length-take-le q.own q.seen within_seen in
+      let front : IsFront status h = front_taken status q.own q.seen knows_q.front in
+      let learned : MeetsJournal (length terms.base) p q = record { begins = begun status p.seen h knows_p.front front (omega arith); legal = legal_front terms w r.log p h r.logged knows_p front } in
+      looks_two S terms s r processed id me p q (met p x h) (met q x q.seen) (sees_journal (step slots processed 0 0 none) me) at two refl refl
+      (knows_met terms w r.log p x h (le_refl x) front (subst (λ (z : Role). Depth w z (length h)) (sym role_p) (let low : length h ≤ w journalled = omega arith in low)) knows_p)
+      (knows_met terms w r.log q x q.seen (le_refl x) knows_q.front knows_q.depth knows_q)
+      (λ a b _ both _ _ _. (
+      let a_is : p ≡ a = some-injective p a (ap (λ (l : List Person). get_elem? l 0) (sym two ∙ both)) in let b_is : q ≡ b = some-injective q b (ap (λ (l : List Person). get_elem? l 1) (sym two ∙ both)) in
+      let told : (z : Person × Person) → Type 0 = λ (z : Person × Person). (◌≡◌ {A = Seated S L} (record me.0 { people = met p x h ∷ met q x q.seen ∷ [] }, me.1)
+      (record me.0 { people = met z.0 x (take z.1.own z.1.seen) ∷ met z.1 x z.1.seen ∷ [] }, me.1)) × MeetsJournal (length me.0.base) z.0 z.1 in
+      subst told (λ i. (a_is i, b_is i)) (refl, subst (λ (l : List Message). MeetsJournal (length l) p q) (sym own_p.1) learned)))
+
+-- the seat that took in another has both persons
+pub both_people : {S L : Type 0} (v w : View L) (both : Seated S L) → v.people ≡ person v ∷ [] → w.people ≡ person w ∷ [] → both ≡ (together v w, []) → both.0.people ≡ person v ∷ person w ∷ []
+both_people v w both one other is = ap (λ (z : Seated _ _). z.0.people) is ∙ ap (λ (ps : List Person). ps ++ w.people) one ∙ ap (λ (ps : List Person). person v ∷ ps) other

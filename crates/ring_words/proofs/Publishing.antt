@@ -1,0 +1,156 @@
+-- The store of published keeps the rule: the next output stands whole in its row, and it is one of the entries processed or of the next one.
+use Rattle.std.proofs.Common.{◌≡◌, ◌≢◌, ℕ, suc, ◌+◌, ◌*◌, ◌<◌, ◌≤◌, List, [], length, length-set, take, drop, get_or, set, refl, ap, sym, subst, ◌∙◌, arith, take-append-drop}
+use mathlib.Core.Option.{none, some, some-injective, some-ne-none}
+use mathlib.Core.Logic.{dite}
+use native.Mathlib.Decide.{ℕ_discrete}
+use lib.ListN.{get_elem?}
+use Rattle.std.specs.Prelude.{Some}
+use Rattle.atomic_table.specs.Table.{step, keeps, Allows}
+use Rattle.venue_model.specs.History.{Message}
+use Rattle.venue_model.specs.declared.outputs.Output.{Output}
+use Rattle.ring_words.specs.declared.view.Role.{Role}
+use Rattle.ring_words.specs.declared.view.Role.TheVariants.{Process, Unmarshal, Journal, Marshal, Gateway}
+use Rattle.ring_words.specs.Places.{processed, journalled, taken, published, first_row, in_row, out_row, place_of}
+use Rattle.ring_words.specs.Log.{Log}
+use Rattle.ring_words.specs.OutputPacking.{output_words, IsPackableOutput}
+use Rattle.ring_words.specs.Terms.{Terms, outputs_of}
+use Rattle.ring_words.specs.Rule.{IsGateway, IsRole, Depth, PartOf, Outgoing, words_of, at_place, Lawful}
+use Rattle.ring_words.specs.Seats.{person, IsAlone, alone}
+use Rattle.ring_words.specs.Steps.{Seated, HasOutputRoom, publishes}
+use Rattle.ring_words.proofs.Windows.{no_control}
+use Rattle.ring_words.proofs.Puts.{word_here, word_else}
+use Rattle.ring_words.proofs.Logs.{within, depth_risen, knows_risen}
+use Rattle.ring_words.proofs.Keeps.{mine, after}
+use Rattle.ring_words.proofs.Outputs.{begins, take_longer, output_stays}
+use Rattle.ring_words.proofs.Outgoings.{no_output}
+use Rattle.ring_words.proofs.Loads.{some_is}
+use Rattle.ring_words.proofs.Stores.{risen}
+use Rattle.ring_words.proofs.Putting.{at_published, has_room}
+
+-- published is no role's own word
+pub not_published : (g : ℕ) (role : Role) → g ≤ 8 → IsRole g role → place_of role ≢ published
+not_published g Process few h e = omega arith
+not_published g Unmarshal few h e = omega arith
+not_published g Journal few h e = omega arith
+not_published g Marshal few h e = omega arith
+not_published g (Gateway k) few h e = let is : 32 + 8 * k ≡ 104 = e in let most : k ≤ g = h.1 in omega arith
+
+module _ {L : Type 0} (terms : Terms L) where
+  -- the output ring's part of the rule stays where published rises by one: the output at its place, which is one of the entries processed or of the
+  -- next one, stands in its row, and every gateway has passed that row
+  pub outgoing_published : (w w' : ℕ → ℕ) (log : Log) (o : Output) → terms.gateways ≤ 8 → w' published ≡ suc (w published) → ((k : ℕ) → k < published → w' k ≡ w k)
+      → ((q i : ℕ) → w' (out_row terms.rows terms.output_rows q i) ≡ w (out_row terms.rows terms.output_rows q i))
+      → ((k : ℕ) → IsGateway terms.gateways k → w published < w (taken k) + terms.output_rows)
+      → get_elem? (outputs_of terms (take (suc (w processed)) log.history)) (w published) ≡ some o
+      → ((i y : ℕ) → get_elem? (output_words o) i ≡ some y → w (out_row terms.rows terms.output_rows (w published) i) ≡ y) → IsPackableOutput o → Outgoing terms w log → Outgoing terms w' log
+  outgoing_published w w' log o few next control rows room at words packed r =
+      let h = log.history in let zero_is : w' 0 ≡ w 0 = control 0 (omega arith) in let m : w' 32 ≡ w 32 = control 32 (omega arith) in
+      let gate : (k : ℕ) → IsGateway terms.gateways k → w' (taken k) ≡ w (taken k) = λ k g. (let hi : k ≤ terms.gateways = g.1 in control (taken k) (omega arith)) in
+      let below : w 32 ≤ w 104 = r.marshalled_published in
+      let whole : get_elem? (outputs_of terms h) (w 104) ≡ some o = subst (λ (l : List Message). get_elem? (outputs_of terms l) (w 104) ≡ some o) (take-append-drop (suc (w 0)) h)
+      (output_stays terms (take (suc (w 0)) h) (drop (suc (w 0)) h) (w 104) o at) in
+      let is_it : (q : ℕ) (d : Output) → q ≡ w 104 → get_elem? (outputs_of terms h) q ≡ some d → o ≡ d =
+      λ q d here there. some-injective o d (sym whole ∙ subst (λ (j : ℕ). get_elem? (outputs_of terms h) j ≡ some d) here there) in record {
+        kept = r.kept ∙ sym (control journalled (omega arith));
+        front = r.front;
+        marshalled_published = omega arith;
+        taken_marshalled = λ k g. (let e = gate k g in let a : w (taken k) ≤ w 32 = r.taken_marshalled k g in omega arith);
+        free = λ k g. (let e = gate k g in let a : w 104 < w (taken k) + terms.output_rows = room k g in omega arith);
+        least = (let is : length (outputs_of terms (take (w' 0) h)) ≡ length (outputs_of terms (take (w 0) h)) = ap (λ (y : ℕ). length (outputs_of terms (take y h))) zero_is in
+            let a : length (outputs_of terms (take (w 0) h)) ≤ w 104 = r.least in omega arith);
+        most = (let is : length (outputs_of terms (take (suc (w' 0)) h)) ≡ length (outputs_of terms (take (suc (w 0)) h)) = ap (λ (y : ℕ). length (outputs_of terms (take (suc y) h))) zero_is in
+            let a = within (outputs_of terms (take (suc (w 0)) h)) (w 104) o at in omega arith);
+        outputs = λ k q d g from to there i y word. (let e = gate k g in rows q i ∙ dite (ℕ_discrete q (w 104))
+            (λ here. ap (λ (j : ℕ). w (out_row terms.rows terms.output_rows j i)) here ∙ words i y (subst (λ (z : Output). get_elem? (output_words z) i ≡ some y) (sym (is_it q d here there)) word))
+            (λ ne. r.outputs k q d g (omega arith) (omega arith) there i y word));
+        packable = λ k q d g from to there. (let e = gate k g in dite (ℕ_discrete q (w 104)) (λ here. subst IsPackableOutput (is_it q d here there) packed) (λ ne. r.packable k q d g (omega arith) (omega arith) there));
+        texts = λ k q d g from to there i y word. (let e = gate k g in rows q (i + 64) ∙ r.texts k q d g (omega arith) (omega arith) there i y word);
+        readable = λ k q d g from to there. (let e = gate k g in r.readable k q d g (omega arith) (omega arith) there);
+      }
+
+module _ {L : Type 0} (S : Type 0) (terms : Terms L) where
+  -- the processor publishes the next output, which it wrote whole
+  pub stores_published : (slots id : ℕ) (me : Seated S L) (x : ℕ) (lg : L) (o : Output) → me.0.logic ≡ Some lg → IsAlone me.0 → (person me.0).role ≡ Process → x ≡ suc (person me.0).part.sequence
+      → HasOutputRoom terms.gateways terms.output_rows (person me.0) (person me.0).part.sequence
+      → get_elem? (terms.outputs lg (take (suc (person me.0).own) (person me.0).seen)) (person me.0).part.sequence ≡ some o → (person me.0).part.words ≡ output_words o → IsPackableOutput o
+      → Allows (Lawful S terms) slots id me published (λ _. x) (λ _. publishes (step slots published x 0 none) me x)
+  stores_published slots id me x lg o view_is one role next room at_by whole packed s r wide at _ =
+      let p = person me.0 in let n : ℕ = terms.rows in let m : ℕ = terms.output_rows in let h = r.log.history in
+      let ws = s.words in let w = words_of s in let ws' = set ws 104 x in let w' : ℕ → ℕ = λ (j : ℕ). get_or ws' j 0 in
+      let own = mine S terms s r id me.0 p at one in let knows = own.2 in let own_is : w 0 ≡ p.own = subst (λ (z : Role). w (place_of z) ≡ p.own) role knows.own in
+      let deep = subst (λ (z : Role). Depth w z (length p.seen)) role knows.depth in let deep_1 : length p.seen ≤ w 24 = deep.1 in
+      let part = at_published S terms s r id me at one role in let place_is : p.part.sequence ≡ w 104 = part.0 in
+      let logic_is : lg ≡ terms.logic = some_is lg terms.logic (sym view_is ∙ own.0) in
+      let inside : 104 < length ws = (let v = r.wide in omega arith) in let here : w' 104 ≡ x = word_here ws 104 x inside in
+      let else : (k : ℕ) → k ≢ 104 → w' k ≡ w k = λ k ne. word_else ws 104 k x ne in
+      let zero_is : w' 0 ≡ w 0 = else 0 (λ (e : 0 ≡ 104). omega arith) in let claim_is : w' 8 ≡ w 8 = else 8 (λ (e : 8 ≡ 104). omega arith) in
+      let unmarshalled_is : w' 16 ≡ w 16 = else 16 (λ (e : 16 ≡ 104). omega arith) in let journalled_is : w' 24 ≡ w 24 = else 24 (λ (e : 24 ≡ 104). omega arith) in
+      let same : (t i : ℕ) → w' (in_row n t i) ≡ w (in_row n t i) = λ t i. else (in_row n t i) (no_control n t i 104 (omega arith)) in
+      let same_out : (q i : ℕ) → w' (out_row n m q i) ≡ w (out_row n m q i) = λ q i. else (out_row n m q i) (no_output n m q i 104 (omega arith)) in
+      let rises : (j : ℕ) → j < first_row → w j ≤ w' j = λ j _. risen ws 104 x j inside (let up : w 104 ≤ x = omega arith in up) in
+      let kept_now : length h ≡ w 24 = r.outgoing.kept in let longer = begins r.log.status h p.seen r.outgoing.front knows.front (omega arith) in
+      let more = take_longer (suc p.own) p.seen longer.0 in
+      let first : get_elem? (outputs_of terms (take (suc p.own) p.seen)) p.part.sequence ≡ some o = subst (λ (l : L). get_elem? (terms.outputs l (take (suc p.own) p.seen)) p.part.sequence ≡ some o) logic_is at_by in
+      let grown : get_elem? (outputs_of terms (take (suc p.own) h)) p.part.sequence ≡ some o = subst (λ (l : List Message). get_elem? (outputs_of terms l) p.part.sequence ≡ some o) (sym (ap (take (suc p.own)) longer.1 ∙ more.1))
+      (output_stays terms (take (suc p.own) p.seen) more.0 p.part.sequence o first) in
+      let in_history : get_elem? (outputs_of terms (take (suc (w 0)) h)) (w 104) ≡ some o = subst (λ (k : ℕ). get_elem? (outputs_of terms (take (suc k) h)) (w 104) ≡ some o) (sym own_is)
+      (subst (λ (q : ℕ). get_elem? (outputs_of terms (take (suc p.own) h)) q ≡ some o) place_is grown) in
+      let words : (i y : ℕ) → get_elem? (output_words o) i ≡ some y → w (out_row n m (w 104) i) ≡ y =
+      λ i y there. ap (λ (q : ℕ). w (out_row n m q i)) (sym place_is) ∙ (part.1 i y (ap (λ (l : List ℕ). get_elem? l i) whole ∙ there)).1 in
+      let order = r.order in let first_is = order.processed_unmarshalled in let second = order.processed_journalled in let third = order.unmarshalled_claimed in let fourth = order.journalled_claimed in let free = order.room in
+      let most = order.most in let start = r.logged.start in (
+        alone me.0 (at_place p x),
+        keeps,
+        tt,
+        after S terms s r ws' id me.0 p (at_place p x) at one refl (length-set ws 104 x) r.log
+            record {
+              processed_unmarshalled = omega arith;
+              processed_journalled = omega arith;
+              unmarshalled_claimed = omega arith;
+              journalled_claimed = omega arith;
+              room = omega arith;
+              most = omega arith;
+            }
+            record {
+              start = omega arith;
+              based = r.logged.based;
+              older = r.logged.older;
+              holder = r.logged.holder;
+              sender = r.logged.sender;
+              ahead = λ t le. r.logged.ahead t (subst (λ (y : ℕ). y ≤ t) claim_is le);
+              somebodys = λ t lt. r.logged.somebodys t (subst (λ (y : ℕ). t < y) claim_is lt);
+              done = λ t lt. r.logged.done t (subst (λ (y : ℕ). t < y) unmarshalled_is lt);
+              kept = λ t lt. r.logged.kept t (subst (λ (y : ℕ). t < y) journalled_is lt);
+            }
+            record {
+              marks = λ t y is. r.rows.marks t y (sym (same t 0) ∙ is);
+              shown = λ t e is le. same t 0 ∙ r.rows.shown t e is (subst (λ (y : ℕ). y ≤ t + n) claim_is le);
+              raw = λ t e is le i few. same t (i + 1) ∙ r.rows.raw t e is (subst (λ (y : ℕ). y ≤ t + n) claim_is le) i few;
+              packable = λ t e is below. r.rows.packable t e is (subst (λ (y : ℕ). t < y) unmarshalled_is below);
+              commands = λ t e is below le i y there. same t (i + 48) ∙ r.rows.commands t e is (subst (λ (y : ℕ). t < y) unmarshalled_is below) (subst (λ (z : ℕ). z ≤ t + n) claim_is le) i y there;
+            }
+            (outgoing_published terms w w' r.log o r.few (here ∙ next ∙ ap suc place_is) (λ k low. else k (λ (e : k ≡ 104). let lt : k < 104 = low in omega arith)) same_out
+            (λ k g. (let lt = has_room S terms s r id me p.part.sequence at one room k g in omega arith)) in_history words packed r.outgoing)
+            record {
+              role = knows.role;
+              front = knows.front;
+              depth = depth_risen w w' rises p.role (length p.seen) knows.depth;
+              own = else (place_of p.role) (not_published terms.gateways p.role r.few knows.role) ∙ knows.own;
+              mine = knows.mine;
+              claims = knows.claims;
+              loads = λ i l there low. (let a = knows.loads i l there low in let b = rises l.place low in omega arith);
+              part = subst (λ (z : Role). PartOf n m w' r.log z record { sequence = x; words = [] }) (sym role) (sym here, λ i y there. absurd (some-ne-none y (sym there)));
+            }
+            (λ d other known. knows_risen terms w r.log w' d d.own rises same same_out (λ (is : d.role ≡ Process). absurd (other (ap place_of is ∙ sym (ap place_of role))))
+            (else (place_of d.role) (not_published terms.gateways d.role r.few known.role) ∙ known.own) known),
+        refl,
+      )
+
+  -- the same, where the code's numbers of output rows and gateways are the key's
+  pub stores_published_in : (m g : ℕ) → terms.output_rows ≡ m → terms.gateways ≡ g → (slots id : ℕ) (me : Seated S L) (x : ℕ) (lg : L) (o : Output) → me.0.logic ≡ Some lg → IsAlone me.0 → (person me.0).role ≡ Process
+      → x ≡ suc (person me.0).part.sequence → HasOutputRoom g m (person me.0) (person me.0).part.sequence
+      → get_elem? (terms.outputs lg (take (suc (person me.0).own) (person me.0).seen)) (person me.0).part.sequence ≡ some o → (person me.0).part.words ≡ output_words o → IsPackableOutput o
+      → Allows (Lawful S terms) slots id me published (λ _. x) (λ _. publishes (step slots published x 0 none) me x)
+  stores_published_in m g is many slots id me x lg o view_is one role next room =
+      stores_published slots id me x lg o view_is one role next
+      (subst (λ (j : ℕ). HasOutputRoom j terms.output_rows (person me.0) (person me.0).part.sequence) (sym many) (subst (λ (j : ℕ). HasOutputRoom g j (person me.0) (person me.0).part.sequence) (sym is) room))

@@ -1,0 +1,8 @@
+use Rattle.std.proofs.Common.{rules}
+use Rattle.ring_words.specs.Terms.{terms_of}
+use Rattle.ring_words.proofs.Taking.{loads_marshalled}
+use Rattle.ring_words.proofs.rings.Rings.load_marshalled.Goals as goal
+
+pub load-requires : goal.load-requires
+load-requires g c = let key = c.args.self.now.table.shared.key in
+    (search rules, search rules, loads_marshalled (Unit {0}) (terms_of g.L.Logic.reads g.L.Logic.outputs g.L.Logic.text g.L.Logic.nothing g.L.Logic.grows key) _ _ _ _ c.args.seat.now.alone c.args.seat.now.role)

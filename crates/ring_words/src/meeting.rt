@@ -1,0 +1,60 @@
+//! Meetings: two seats learn what either knew, so that what their holders saw is of one history. No word changes.
+ghost use Rattle.std.specs.Prelude.{◌≡◌, ℕ, [], length, take};
+ghost use Rattle.ring_words.specs.Seats.{person, alone, IsAlone, together};
+ghost use Rattle.ring_words.specs.Meeting.{longer, met, AreMet, MeetsJournal};
+
+use crate::places::PROCESSED;
+use crate::plays::{Meet, MeetJournal, Parted, Spare, Together};
+use crate::reader_seat::JournalSeat;
+use crate::rings::Rings;
+use crate::seats::GatewaySeat;
+use crate::view::View;
+use atomic_table::Seat;
+use std::mem;
+use venue_model::Logic;
+
+impl<L: Logic, const N: usize, const M: usize, const G: usize> Rings<L, N, M, G> {
+    /// The first seat takes in the persons of the second, which is then a seat of nobody.
+    fn bring_together(&self, first: &mut Seat<(), View<L>>, second: &mut Seat<(), View<L>>)
+        requires first { (first.old.table_id ≡ self.now.table.shared.table_id) × (first.old.me.1 ≡ []) × IsAlone first.old.me.0 }
+        requires second { (second.old.table_id ≡ self.now.table.shared.table_id) × (second.old.me.1 ≡ []) }
+        ensures first { (first.new.table_id ≡ first.old.table_id) × (first.new.me ≡ (together first.old.me.0 second.old.me.0, [])) }
+        ensures second { (second.new.table_id ≡ second.old.table_id) × (second.new.me.1 ≡ []) }
+    {
+        let spare = self.table.shared.split_seat::<Spare>(first);
+        let persons = mem::replace(second, spare);
+        self.table.shared.join_seat::<Together>(first, persons);
+    }
+
+    /// Two gateways meet: of what they had seen one history begins the other, and afterwards both have seen the longer, which is legal
+    /// for both. The processed word is loaded by both at once; the table's own moves, which join the two seats and split them again, load it too.
+    pub fn meet(&self, one: &mut GatewaySeat<L>, other: &mut GatewaySeat<L>)
+        requires one { one.old.seat.table_id ≡ self.now.table.shared.table_id }
+        requires other { other.old.seat.table_id ≡ self.now.table.shared.table_id }
+        ensures tables { (one.new.seat.table_id ≡ one.old.seat.table_id) × (other.new.seat.table_id ≡ other.old.seat.table_id) }
+        ensures met { AreMet (length one.old.seat.me.0.base) (person one.old.seat.me.0) (person other.old.seat.me.0) }
+        ensures view { (r : ℕ) × (one.new.seat.me.0 ≡ alone one.old.seat.me.0 (met (person one.old.seat.me.0) r (longer (person one.old.seat.me.0).seen (person other.old.seat.me.0).seen)))
+            × (person other.new.seat.me.0 ≡ met (person other.old.seat.me.0) r (longer (person one.old.seat.me.0).seen (person other.old.seat.me.0).seen)) }
+    {
+        self.bring_together(&mut one.seat, &mut other.seat);
+        self.table.shared.load::<Meet>(&mut one.seat, PROCESSED);
+        other.seat = self.table.shared.split_seat::<Parted>(&mut one.seat);
+    }
+
+    /// A gateway meets the journaller: what it had seen begins what the journaller has released, and afterwards it has seen all of that,
+    /// which is legal for it.
+    pub fn meet_journal(&self, gateway: &mut GatewaySeat<L>, journal: &mut JournalSeat<L>)
+        requires gateway { gateway.old.seat.table_id ≡ self.now.table.shared.table_id }
+        requires journal { journal.old.seat.table_id ≡ self.now.table.shared.table_id }
+        ensures tables { (gateway.new.seat.table_id ≡ gateway.old.seat.table_id) × (journal.new.seat.table_id ≡ journal.old.seat.table_id) }
+        ensures met { MeetsJournal (length gateway.old.seat.me.0.base) (person gateway.old.seat.me.0) (person journal.old.seat.me.0) }
+        ensures view { (r : ℕ) × (gateway.new.seat.me.0 ≡ alone gateway.old.seat.me.0 (met (person gateway.old.seat.me.0) r (take (person journal.old.seat.me.0).own (person journal.old.seat.me.0).seen)))
+            × (person journal.new.seat.me.0 ≡ met (person journal.old.seat.me.0) r (person journal.old.seat.me.0).seen) }
+    {
+        self.bring_together(&mut gateway.seat, &mut journal.seat);
+        self.table
+            .shared
+            .load::<MeetJournal>(&mut gateway.seat, PROCESSED);
+        journal.seat = self.table.shared.split_seat::<Parted>(&mut gateway.seat);
+    }
+}

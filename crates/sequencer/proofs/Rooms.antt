@@ -1,0 +1,114 @@
+-- The look for room: the taken words are loaded one after another, and the least of them is kept.
+use Rattle.std.proofs.Common.{◌≡◌, ℕ, zero, suc, ◌+◌, ◌<◌, ◌≤◌, List, [], ◌∷◌, ◌++◌, length, min, refl, ap, sym, subst, ◌∙◌, arith, append_assoc, length-append}
+use mathlib.Core.Option.{some, some-injective, some-ne-none}
+use lib.ListN.{get_elem?}
+use Rattle.ring_words.specs.declared.view.Load.{Load}
+use Rattle.ring_words.specs.declared.view.Person.{Person}
+use Rattle.ring_words.specs.declared.view.View.{View}
+use Rattle.ring_words.specs.Places.{taken}
+use Rattle.ring_words.specs.Seats.{person, alone, load_of, looked}
+use Rattle.ring_words.specs.Steps.{HasOutputRoom}
+use Rattle.ring_words.proofs.Logs.{stands, at_behind}
+use Rattle.sequencer.specs.Outputs.{taken_loads, least_from, least, HasLooked}
+
+-- one value more is one load more, of the next gateway's word
+taken_more : (k : ℕ) (xs : List ℕ) (x : ℕ) → taken_loads k (xs ++ x ∷ []) ≡ taken_loads k xs ++ load_of (taken (k + length xs)) x ∷ []
+taken_more k [] x = let g : k ≡ k + 0 = omega arith in λ i. load_of (taken (g i)) x ∷ []
+taken_more k (y ∷ ys) x = let g : suc k + length ys ≡ k + suc (length ys) = omega arith in
+    ap (λ (ls : List Load). load_of (taken k) y ∷ ls) (taken_more (suc k) ys x ∙ (λ i. taken_loads (suc k) ys ++ load_of (taken (g i)) x ∷ []))
+
+-- the least of a number and these, with one value more
+least_from_more : (a : ℕ) (xs : List ℕ) (x : ℕ) → least_from a (xs ++ x ∷ []) ≡ min (least_from a xs) x
+least_from_more a [] x = refl
+least_from_more a (y ∷ ys) x = least_from_more (min a y) ys x
+
+-- the least with one value more
+least_more : (xs : List ℕ) (x : ℕ) → 1 ≤ length xs → least (xs ++ x ∷ []) ≡ min (least xs) x
+least_more [] x some_there = absurd (omega arith)
+least_more (y ∷ ys) x some_there = least_from_more y ys x
+
+-- the least is no more than the number
+least_from_low : (a : ℕ) (xs : List ℕ) → least_from a xs ≤ a
+least_from_low a [] = omega arith
+least_from_low a (y ∷ ys) = let low = least_from_low (min a y) ys in omega arith
+
+-- nor than any of the values
+least_from_below : (a : ℕ) (xs : List ℕ) (i x : ℕ) → get_elem? xs i ≡ some x → least_from a xs ≤ x
+least_from_below a [] i x at = absurd (some-ne-none x (sym at))
+least_from_below a (y ∷ ys) zero x at = let low = least_from_low (min a y) ys in let same : y ≡ x = some-injective y x at in omega arith
+least_from_below a (y ∷ ys) (suc i) x at = least_from_below (min a y) ys i x at
+
+-- the least is no more than any of the values
+least_below : (xs : List ℕ) (i x : ℕ) → get_elem? xs i ≡ some x → least xs ≤ x
+least_below [] i x at = absurd (some-ne-none x (sym at))
+least_below (y ∷ ys) zero x at = let low = least_from_low y ys in let same : y ≡ x = some-injective y x at in omega arith
+least_below (y ∷ ys) (suc i) x at = least_from_below y ys i x at
+
+-- each value was loaded of its gateway's word
+taken_at : (k : ℕ) (xs : List ℕ) (i x : ℕ) → get_elem? xs i ≡ some x → get_elem? (taken_loads k xs) i ≡ some (load_of (taken (k + i)) x)
+taken_at k [] i x at = absurd (some-ne-none x (sym at))
+taken_at k (y ∷ ys) zero x at = let place : k ≡ k + 0 = omega arith in let same : y ≡ x = some-injective y x at in λ i. some (load_of (taken (place i)) (same i))
+taken_at k (y ∷ ys) (suc i) x at = let place : suc k + i ≡ k + suc i = omega arith in taken_at (suc k) ys i x at ∙ (λ j. some (load_of (taken (place j)) x))
+
+-- where all taken words were loaded, there is room for each place below the least of them and the number of rows
+room_for : (g m : ℕ) (p : Person) (values : List ℕ) (place : ℕ) → length values ≡ g → place < least values + m
+    → HasOutputRoom g m (record p { loads = p.loads ++ taken_loads 1 values }) place
+room_for g m p values place count free zero inside = let from : 1 ≤ 0 = inside.0 in absurd (omega arith)
+room_for g m p values place count free (suc i) inside = let to : suc i ≤ g = inside.1 in let at = stands values i (omega arith) in let low = least_below values i at.0 at.1 in
+    let number : 1 + i ≡ suc i = omega arith in
+    (length p.loads + i, (load_of (taken (1 + i)) at.0, at_behind p.loads (taken_loads 1 values) i (length p.loads + i) _ refl (taken_at 1 values i at.0 at.1), ap taken number, omega arith))
+
+-- the taken words of all gateways below k were loaded, and `low` is the least of them
+pub record LookedBelow {L : Type 0} (m : ℕ) (v u : View L) (k low : ℕ) : Type 0 where
+  pub values : List ℕ
+  pub count : 1 + length values ≡ k
+  pub some_there : 1 ≤ length values
+  pub view : u ≡ alone v (record (person v) { loads = (person v).loads ++ taken_loads 1 values })
+  pub low_is : least values ≡ low
+  pub below : low ≤ (person v).part.sequence
+  pub near : (person v).part.sequence ≤ low + m
+
+module _ {L : Type 0} (m : ℕ) (v : View L) where
+  -- the first gateway's word was loaded
+  pub looks_first : (w : View L) (x : ℕ) → w ≡ alone v (looked (person v) (taken 1) x) → x ≤ (person v).part.sequence → (person v).part.sequence ≤ x + m → LookedBelow m v w 2 x
+  looks_first w x view most near = record { values = x ∷ []; count = refl; some_there = omega arith; view = view; low_is = refl; below = most; near = near }
+
+  -- the next one's was loaded
+  pub looks_next : (u w : View L) (k low x after : ℕ) → LookedBelow m v u k low → w ≡ alone u (looked (person u) (taken k) x)
+      → x ≤ (person u).part.sequence → (person u).part.sequence ≤ x + m → after ≡ min low x → LookedBelow m v w (k + 1) after
+  looks_next u w k low x after r view most near is =
+      let p = person v in let place : (person u).part.sequence ≡ p.part.sequence = ap (λ (y : View L). (person y).part.sequence) r.view in
+      let more = least_more r.values x r.some_there in let low_is = r.low_is in let below = r.below in let close = r.near in
+      let long = length-append r.values (x ∷ []) in let count = r.count in record {
+        values = r.values ++ x ∷ [];
+        count = omega arith;
+        some_there = omega arith;
+        view = subst (λ (y : View L). w ≡ alone y (looked (person y) (taken k) x)) r.view view
+            ∙ ap (λ (l : List Load). alone v (record p { loads = l })) (append_assoc p.loads (taken_loads 1 r.values) (load_of (taken k) x ∷ [])
+            ∙ ap (λ (l : List Load). p.loads ++ l) (sym (taken_more 1 r.values x ∙ (λ i. taken_loads 1 r.values ++ load_of (taken (count i)) x ∷ []))));
+        low_is = more ∙ (λ i. min (low_is i) x) ∙ sym is;
+        below = omega arith;
+        near = omega arith;
+      }
+
+  -- all were loaded
+  pub has_looked : (u : View L) (k low g answer : ℕ) → LookedBelow m v u k low → k ≡ g + 1 → answer + (person v).part.sequence ≡ low + m → HasLooked g m (person v) answer (person u)
+  has_looked u k low g answer r all is =
+      let p = person v in let at : person u ≡ record p { loads = p.loads ++ taken_loads 1 r.values } = ap (λ (y : View L). person y) r.view in
+      let count = r.count in let low_is = r.low_is in let below = r.below in let long : length r.values ≡ g = omega arith in record {
+        values = r.values;
+        count = long;
+        loads = at;
+        below = omega arith;
+        room = omega arith;
+      }
+
+  -- so there is room for the places that the answer counts
+  pub has_free : (g answer : ℕ) (q : Person) → HasLooked g m (person v) answer q → (i : ℕ) → i < answer → HasOutputRoom g m q ((person v).part.sequence + i)
+  has_free g answer q looked i below = let count = looked.count in let room = looked.room in
+      subst (λ (p : Person). HasOutputRoom g m p ((person v).part.sequence + i)) (sym looked.loads)
+      (room_for g m (person v) looked.values ((person v).part.sequence + i) count (omega (arith, room, below)))
+
+  -- published is as before
+  pub place_kept : (u : View L) (k low : ℕ) → LookedBelow m v u k low → (person u).part.sequence ≡ (person v).part.sequence
+  place_kept u k low r = ap (λ (y : View L). (person y).part.sequence) r.view

@@ -1,0 +1,112 @@
+//! Outputs on their way to a client: its gateway takes the next one, or passes it over where it goes to another's.
+ghost use Rattle.std.specs.Prelude.{Some, ◌≡◌, ◌≢◌, ◌≤◌, List, length};
+ghost use mathlib.Core.Option.{some};
+ghost use lib.ListN.{get_elem?};
+ghost use Rattle.venue_model.specs.History.{Message};
+ghost use Rattle.venue_model.specs.declared.outputs.Output.{Output};
+ghost use Rattle.ring_words.specs.declared.view.Load.{Load};
+ghost use Rattle.ring_words.specs.Places.{marshalled};
+ghost use Rattle.ring_words.specs.Seats.{person, alone, looked};
+ghost use Rattle.ring_words.specs.Steps.{Shows};
+ghost use Rattle.sequencer.specs.Outputs.{loading, IsHead, Carries, Says, TakesNext};
+
+use ring_words::{GatewaySeat, Rings, TextHead};
+use venue_model::{Logic, OutputType};
+
+/// What stands in front of an output's body: MsgType (35), SendingTime (52) as the number of its 14 digits, and how many bytes the body
+/// has, at most 320.
+#[derive(Clone, Copy, Debug, PartialEq, Eq)]
+pub struct Head {
+    pub msg_type: OutputType,
+    pub sending_time: u64,
+    pub len: usize,
+}
+
+/// What came of a look at the next output.
+#[derive(Clone, Copy, Debug, PartialEq, Eq)]
+pub enum Take {
+    /// It goes to this gateway's client; its body stands at the buffer's front.
+    Mine(Head),
+    /// It goes to another's client, and is passed over.
+    Passed,
+    /// There is none yet: the marshalled word that was loaded in this call showed none.
+    Nothing,
+}
+
+/// Loads the words in front of the body. A length above 320 isn't one of a text, and is cut.
+fn read_head<L: Logic, const N: usize, const M: usize, const G: usize>(
+    rings: &Rings<L, N, M, G>,
+    seat: &mut GatewaySeat<L>,
+    place: u64,
+) -> Head
+    requires table { seat.old.seat.table_id ≡ rings.now.table.shared.table_id }
+    requires from { (person seat.old.seat.me.0).own ≤ place }
+    requires to { Shows marshalled (person seat.old.seat.me.0) place }
+    ensures table { seat.new.seat.table_id ≡ seat.old.seat.table_id }
+    ensures view { (loads : List Load) × (seat.new.seat.me.0 ≡ alone seat.old.seat.me.0 (loading (person seat.old.seat.me.0) loads)) }
+    ensures most { result.len ≤ 320 }
+    ensures head { (logic : L) (o : Output) → seat.old.seat.me.0.logic ≡ Some logic → get_elem? (L.outputs logic (person seat.old.seat.me.0).seen) place ≡ some o
+        → IsHead result (L.text logic o place) }
+{
+    let TextHead { msg_type, len } = TextHead::from_word(rings.load_text(seat, place, 0));
+    let sending_time = rings.load_text(seat, place, 1);
+    Head {
+        msg_type,
+        sending_time,
+        len: len.min(320),
+    }
+}
+
+/// Reads the text of an output that is marshalled and that the gateway hasn't taken: its body into the front of the buffer. What stands
+/// behind the body is unspecified.
+fn read_text<L: Logic, const N: usize, const M: usize, const G: usize>(
+    rings: &Rings<L, N, M, G>,
+    seat: &mut GatewaySeat<L>,
+    place: u64,
+    buf: &mut [u8; 320],
+) -> Head
+    requires table { seat.old.seat.table_id ≡ rings.now.table.shared.table_id }
+    requires from { (person seat.old.seat.me.0).own ≤ place }
+    requires to { Shows marshalled (person seat.old.seat.me.0) place }
+    ensures table { seat.new.seat.table_id ≡ seat.old.seat.table_id }
+    ensures view { (loads : List Load) × (seat.new.seat.me.0 ≡ alone seat.old.seat.me.0 (loading (person seat.old.seat.me.0) loads)) }
+    ensures text { (logic : L) (o : Output) → seat.old.seat.me.0.logic ≡ Some logic → get_elem? (L.outputs logic (person seat.old.seat.me.0).seen) place ≡ some o
+        → Carries result buf.new (L.text logic o place) }
+{
+    let head = read_head(rings, seat, place);
+    for index in 0..head.len.div_ceil(8) {
+        let word = rings.load_text(seat, place, index + 2);
+        buf[8 * index..8 * index + 8].copy_from_slice(&word.to_be_bytes());
+    }
+    head
+}
+
+/// Takes the next output. Of one history, legal for this gateway, that begins with what it had seen and that it has seen afterwards, it is the output at
+/// the place that the gateway's count says; the count then rises by one. Where the marshalled word shows none, that load is all. Behind the body the buffer's
+/// bytes are unspecified. Takes no memory and never waits.
+pub fn take_output<L: Logic, const N: usize, const M: usize, const G: usize>(
+    rings: &Rings<L, N, M, G>,
+    seat: &mut GatewaySeat<L>,
+    buf: &mut [u8; 320],
+) -> Take
+    requires table { seat.old.seat.table_id ≡ rings.now.table.shared.table_id }
+    ensures table { seat.new.seat.table_id ≡ seat.old.seat.table_id }
+    ensures number { seat.new.number ≡ seat.old.number }
+    ensures nothing { result ≡ Take.Nothing → seat.new.seat.me.0 ≡ alone seat.old.seat.me.0 (looked (person seat.old.seat.me.0) marshalled (person seat.old.seat.me.0).own) }
+    ensures view { seat.new.seat.me.0 ≡ alone seat.old.seat.me.0 (person seat.new.seat.me.0) }
+    ensures taken { result ≢ Take.Nothing → (history : List Message) × TakesNext (length seat.old.seat.me.0.base) (person seat.old.seat.me.0) history (person seat.new.seat.me.0)
+        × ((logic : L) → seat.old.seat.me.0.logic ≡ Some logic → (o : Output) × (get_elem? (L.outputs logic history) (person seat.old.seat.me.0).own ≡ some o)
+        × Says seat.old.number o (L.text logic o (person seat.old.seat.me.0).own) result buf.new) }
+{
+    let place = seat.taken();
+    if rings.load_marshalled(seat) <= place {
+        return Take::Nothing;
+    }
+    let take = if rings.load_address(seat, place) == seat.number() {
+        Take::Mine(read_text(rings, seat, place, buf))
+    } else {
+        Take::Passed
+    };
+    rings.store_taken(seat);
+    take
+}

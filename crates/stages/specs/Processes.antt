@@ -1,0 +1,55 @@
+-- What one poll of the processor does, by what it answers: of its person, and of how many entries its book has, before and after it.
+use Rattle.std.specs.Prelude.{◌≡◌, ◌≢◌, ◌⊎◌, ℕ, zero, suc, min, ◌<◌, List, [], length, take, drop}
+use mathlib.Core.Option.{some}
+use lib.ListN.{get_elem?}
+use Rattle.venue_model.specs.History.{Message}
+use Rattle.venue_model.specs.Requests.{Symbols}
+use Rattle.venue_model.specs.declared.outputs.Output.{Output}
+use Rattle.ring_words.specs.declared.view.Person.{Person}
+use Rattle.ring_words.specs.Places.{unmarshalled, journalled}
+use Rattle.ring_words.specs.Rule.{at_place}
+use Rattle.ring_words.specs.Seats.{looked}
+use Rattle.ring_words.specs.Steps.{lesser}
+use Rattle.barrier.specs.Availability.{Gated}
+use Rattle.sequencer.specs.Outputs.{HasLooked}
+use Rattle.stages.specs.Processed.{outputs_of}
+use Rattle.stages.specs.Turns.{done, after_reading}
+use Rattle.stages.specs.declared.turn.Turn.{Turn}
+use Rattle.stages.specs.declared.turn.Turn.TheVariants.{Did, Idle, OutFull, JournalFailed}
+
+-- the lesser of unmarshalled and journalled, loaded in this order, was the stage's own word, and it knows nothing beyond that
+abbrev pub NothingHandedOn : Person → Person → Type 0
+NothingHandedOn v w =
+    (length v.seen ≡ v.own) × ((u j : ℕ) × (lesser u j ≡ v.own) × (w ≡ looked (looked v unmarshalled u) journalled j))
+
+-- the outputs of the entries that are done and of the next one, but for those that are published
+abbrev pub to_put : Symbols → Person → List Output
+to_put symbols p = drop p.part.sequence (outputs_of symbols (take (suc p.own) p.seen))
+
+-- Where the book has no entry but those that are done, a command is taken up: that of the next sequence was read, which a look for new ones had left
+-- known. Else one is under way.
+abbrev pub TakesUp : ℕ → ℕ → Person → Person → Type 0
+TakesUp n applied v u =
+    ((applied ≡ v.own) × ((q : Person) × Gated v q × ((e : Message) × (get_elem? q.seen q.own ≡ some e) × (u ≡ after_reading n q e))))
+    ⊎ ((v.own < applied) × (u ≡ v))
+
+-- so many outputs more are published, one after another
+abbrev pub ahead : Person → ℕ → Person
+ahead p zero = p
+ahead p (suc k) = at_place (ahead p k) (suc (ahead p k).part.sequence)
+
+-- of these outputs as many were put as one look for room left room for; where there are none, nobody looks
+abbrev pub Puts : ℕ → ℕ → Person → List Output → Person → Type 0
+Puts m g u outputs w =
+    ((outputs ≡ []) × (w ≡ u))
+    ⊎ ((0 < length outputs) × ((room : ℕ) × ((q : Person) × HasLooked g m u room q × (w ≡ ahead q (min room (length outputs))))))
+
+-- A command's outputs were put, and it is done when all of them are; or some are left, for which there was no room; or there was no command, which
+-- the look for one showed.
+abbrev pub Processes : ℕ → ℕ → ℕ → Symbols → Turn → Person → ℕ → Person → ℕ → Type 0
+Processes n m g symbols (Did k) v applied w after =
+    (k ≡ 1) × ((u q : Person) × TakesUp n applied v u × Puts m g u (to_put symbols u) q × (to_put symbols q ≡ []) × (w ≡ done q) × (after ≡ w.own))
+Processes n m g symbols Idle v applied w after = (applied ≡ v.own) × NothingHandedOn v w × (after ≡ applied)
+Processes n m g symbols OutFull v applied w after =
+    (u : Person) × TakesUp n applied v u × Puts m g u (to_put symbols u) w × (to_put symbols w ≢ []) × (after ≡ suc w.own)
+Processes n m g symbols JournalFailed v applied w after = ⊥
