@@ -56,7 +56,7 @@ test_verdict _ = Refuse BadTest
 abbrev pub is_order : Header → Bool
 is_order h = is_type h (codes "D") || is_type h (codes "F") || is_type h (codes "G")
 
--- a message behind the Logon, by its type
+-- a message behind the Logon that is no Logon, by its type
 abbrev pub typed_verdict : Header → Verdict
 typed_verdict h =
     if is_type h (codes "1") then test_verdict h.rest
@@ -65,17 +65,10 @@ typed_verdict h =
     else (if is_order h then Hold
     else Refuse BadType)))
 
--- What this release serves behind the Logon: the order messages. When the venue serves all messages this test goes,
--- and nothing else changes here.
-abbrev pub is_served : Header → Bool
-is_served h = is_order h
-
 -- a message behind the Logon
 abbrev pub later_verdict : Header → Verdict
 later_verdict h =
-    if is_type h (codes "A") then Refuse BadLogon
-    else (if not (is_served h) then Refuse BadType
-    else typed_verdict h)
+    if is_type h (codes "A") then Refuse BadLogon else typed_verdict h
 
 -- the first message
 abbrev pub first_verdict : Header → Verdict

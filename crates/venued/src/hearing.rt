@@ -1,12 +1,12 @@
 //! A whole frame, judged: what the session does with it.
-ghost use Rattle.std.specs.Prelude.{◌≡◌, ◌≤◌, ℕ, List, drop};
+ghost use Rattle.std.specs.Prelude.{◌≡◌, ◌≤◌, ℕ, List, length, drop};
 ghost use Rattle.fix_frame.specs.Borrowed.{body_fields, fields_left};
 ghost use Rattle.fix_frame.specs.Grammar.{frame_text};
 ghost use Rattle.fix_orders.specs.Formats.{time_text};
 ghost use Rattle.fix_orders.specs.Header.{header as as_header};
-ghost use Rattle.venued.specs.Verdict.{verdict, header_verdict, first_verdict, later_verdict, is_party, is_type, is_order, is_logon_body};
+ghost use Rattle.venued.specs.Verdict.{verdict, header_verdict, first_verdict, later_verdict, test_verdict, is_party, is_type, is_order, is_logon_body};
 ghost use Rattle.venued.specs.Answers.{time_after};
-ghost use Rattle.venued.specs.Hears.{verdict_of, IsOfMessage, CanCount};
+ghost use Rattle.venued.specs.Hears.{verdict_of, IsOfMessage, CanCount, CanEcho};
 ghost use Rattle.venued.specs.Logons.{begins_with};
 
 use crate::names::{client_name, venue_name};
@@ -20,6 +20,12 @@ use fix_orders::{Header, number_of_time, read_header};
 pub enum Judged {
     /// Answers the Logon.
     Welcome,
+    /// Answers the TestRequest with its TestReqID (112), 1 to 32 bytes.
+    Beat(ArrayVec<u8, 32>),
+    /// Takes note of a Heartbeat or a Reject.
+    Pass,
+    /// Answers the Logout, and ends.
+    Leave,
     /// Holds this message until it is published.
     Hold(ArrayVec<u8, 320>),
     /// Sends a Logout, and ends.
@@ -39,6 +45,7 @@ pub fn hear(frame: &Frame, gateway: u8, accepted: u32, last: u64) -> Heard
     ensures time { time_text result.time ≡ time_after (time_text last) (body_fields frame.now) }
     ensures message { IsOfMessage (frame_text (body_fields frame.now)) result.verdict }
     ensures counts { CanCount accepted result.verdict }
+    ensures echo { CanEcho result.verdict }
 {
     let Some(header) = read_header(frame.fields()) else {
         return Heard {
@@ -59,6 +66,7 @@ fn judge(header: &Header, frame: &Frame, gateway: u8, accepted: u32) -> Judged
     ensures verdict { verdict_of result ≡ header_verdict gateway accepted (as_header header.now) }
     ensures message { IsOfMessage (frame_text (body_fields frame.now)) result }
     ensures counts { CanCount accepted result }
+    ensures echo { CanEcho result }
 {
     if !is_party(header, gateway) {
         Judged::Refuse(Refusal::WrongParty)
@@ -106,18 +114,50 @@ fn judge_first(header: &Header) -> Judged
     }
 }
 
-/// Judges a message behind the Logon. An order message is held, whatever it asks for.
+/// Judges a message behind the Logon, by its type. An order message is held, whatever it asks for.
 fn judge_later(header: &Header, frame: &Frame) -> Judged
     ensures verdict { verdict_of result ≡ later_verdict (as_header header.now) }
     ensures message { IsOfMessage (frame_text (body_fields frame.now)) result }
+    ensures echo { CanEcho result }
 {
     if is_type(header, b"A") {
         Judged::Refuse(Refusal::BadLogon)
+    } else if is_type(header, b"1") {
+        judge_test(header.rest)
+    } else if is_type(header, b"0") || is_type(header, b"3") {
+        Judged::Pass
+    } else if is_type(header, b"5") {
+        Judged::Leave
     } else if is_order(header) {
         Judged::Hold(message_of(frame))
     } else {
         Judged::Refuse(Refusal::BadType)
     }
+}
+
+/// Judges a TestRequest, which has one TestReqID (112) of 1 to 32 bytes.
+fn judge_test(mut fields: Fields) -> Judged
+    ensures verdict { verdict_of result ≡ test_verdict (fields_left fields.entry) }
+    ensures message { (message : List ℕ) → IsOfMessage message result }
+    ensures echo { CanEcho result }
+{
+    let Some(field) = fields.next() else {
+        return Judged::Refuse(Refusal::BadTest);
+    };
+    if fields.next().is_some() || field.tag != 112 || field.value.len() > 32 {
+        return Judged::Refuse(Refusal::BadTest);
+    }
+    Judged::Beat(echo_of(field.value))
+}
+
+/// A TestReqID (112), to be said again.
+fn echo_of(value: &[u8]) -> ArrayVec<u8, 32>
+    requires { length value.now ≤ 32 }
+    ensures { result.items ≡ value.now }
+{
+    let mut echo = ArrayVec::new();
+    let _ = echo.try_extend_from_slice(value);
+    echo
 }
 
 /// Whether the fields are EncryptMethod (98) none, HeartBtInt (108) none and ResetSeqNumFlag (141), and no other.

@@ -46,13 +46,15 @@ impl Model for Session {
 
 impl Session {
     ghost use Rattle.std.specs.Prelude.{List, ℕ};
+    ghost use Rattle.fix_frame.specs.Grammar.{IsField};
     ghost use Rattle.fix_orders.specs.Formats.{time_text};
-    ghost use Rattle.venued.specs.Answers.{Logon, Logout};
+    ghost use Rattle.fix_orders.specs.Text.{field};
+    ghost use Rattle.venued.specs.Answers.{Logon, Heartbeat, Logout};
     ghost use Rattle.venued.specs.Moves.{fresh, saying, replying, heard};
     ghost use Rattle.std.specs.Prelude.{IfSome};
     ghost use Rattle.venued.specs.Sessions.{ClosesItself};
     ghost use Rattle.venued.specs.Parts.{Listens, Tries};
-    ghost use Rattle.venued.specs.Hears.{verdict_of, IsOfMessage, CanCount, CanHold};
+    ghost use Rattle.venued.specs.Hears.{verdict_of, IsOfMessage, CanCount, CanHold, CanEcho};
     ghost use Rattle.venued.specs.Messages.{IsTypeText, AreFields, Spells, IsRefusalText};
     ghost use Rattle.venued.specs.Desks.{Carries};
 
@@ -163,6 +165,7 @@ impl Session {
         requires number { self.old.number < 2 ^ 63 }
         requires counts { CanCount self.old.accepted frame.verdict }
         requires message { CanHold frame.verdict }
+        requires echo { CanEcho frame.verdict }
         ensures new { (message : List ℕ) → IsOfMessage message frame.verdict →
             self.new ≡ heard (time_text frame.time) message (verdict_of frame.verdict) self.old }
         ensures room { length self.new.outgoing ≤ length self.old.outgoing + 412 }
@@ -174,6 +177,19 @@ impl Session {
                 self.time = time;
                 self.logged_on = true;
                 self.say_logon(time);
+            }
+            Judged::Beat(echo) => {
+                self.accepted += 1;
+                self.time = time;
+                self.say_heartbeat(time, echo.as_slice());
+            }
+            Judged::Pass => {
+                self.accepted += 1;
+                self.time = time;
+            }
+            Judged::Leave => {
+                self.closing = Some(Reason::LoggedOut);
+                self.return_logout(time);
             }
             Judged::Hold(message) => {
                 self.accepted += 1;
@@ -195,6 +211,30 @@ impl Session {
         ensures room { length self.new.outgoing ≤ length self.old.outgoing + 412 }
     {
         self.say(b"A", time, b"98=0\x01108=0\x01141=Y\x01");
+    }
+
+    /// Says the Heartbeat that a TestRequest asks for, with its TestReqID (112).
+    fn say_heartbeat(&mut self, time: u64, echo: &[u8])
+        requires room { length self.old.outgoing ≤ 512 }
+        requires number { self.old.number < 2 ^ 63 }
+        requires echo { IsField (field 112 echo.now) }
+        requires most { length echo.now ≤ 32 }
+        ensures new { self.new ≡ replying (Heartbeat (time_text time) echo.now) self.old }
+        ensures room { length self.new.outgoing ≤ length self.old.outgoing + 412 }
+    {
+        let mut body = [0; 64];
+        let end = put_field(&mut body, 0, 112, echo);
+        self.say(b"0", time, &body[..end]);
+    }
+
+    /// Says the Logout that answers the client's, without a text.
+    fn return_logout(&mut self, time: u64)
+        requires room { length self.old.outgoing ≤ 512 }
+        requires number { self.old.number < 2 ^ 63 }
+        ensures new { self.new ≡ replying (Logout (time_text time) []) self.old }
+        ensures room { length self.new.outgoing ≤ length self.old.outgoing + 412 }
+    {
+        self.say(b"5", time, &[]);
     }
 
     /// Says the Logout, with a text of 1 to 20 bytes.

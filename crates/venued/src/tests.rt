@@ -1,5 +1,6 @@
 //! Whole sessions over a wire in memory: the bytes in and the bytes out, with lengths and checksums computed outside.
 
+mod answered;
 mod failing;
 mod journalled;
 mod opened;
@@ -9,6 +10,7 @@ mod served;
 use crate::serve::serve;
 use crate::wire::MemWire;
 use crate::words::Words;
+use answered::ANSWERED;
 use journal::MemDisk;
 use refused::REFUSED;
 use served::SERVED;
@@ -78,6 +80,11 @@ fn refusals_are_said(rt: HostRuntime) -> Result<(), Fail> {
 #[test]
 fn orders_are_served(rt: HostRuntime) -> Result<(), Fail> {
     sessions(&rt, SERVED)
+}
+
+#[test]
+fn the_session_answers(rt: HostRuntime) -> Result<(), Fail> {
+    sessions(&rt, ANSWERED)
 }
 
 #[test]
