@@ -32,6 +32,7 @@ impl<L: Logic, const N: usize, const M: usize, const G: usize> Rings<L, N, M, G>
         requires one { one.old.seat.table_id ≡ self.now.table.shared.table_id }
         requires other { other.old.seat.table_id ≡ self.now.table.shared.table_id }
         ensures tables { (one.new.seat.table_id ≡ one.old.seat.table_id) × (other.new.seat.table_id ≡ other.old.seat.table_id) }
+        ensures numbers { (one.new.number ≡ one.old.number) × (other.new.number ≡ other.old.number) }
         ensures met { AreMet (length one.old.seat.me.0.base) (person one.old.seat.me.0) (person other.old.seat.me.0) }
         ensures view { (r : ℕ) × (one.new.seat.me.0 ≡ alone one.old.seat.me.0 (met (person one.old.seat.me.0) r (longer (person one.old.seat.me.0).seen (person other.old.seat.me.0).seen)))
             × (person other.new.seat.me.0 ≡ met (person other.old.seat.me.0) r (longer (person one.old.seat.me.0).seen (person other.old.seat.me.0).seen)) }
@@ -47,6 +48,7 @@ impl<L: Logic, const N: usize, const M: usize, const G: usize> Rings<L, N, M, G>
         requires gateway { gateway.old.seat.table_id ≡ self.now.table.shared.table_id }
         requires journal { journal.old.seat.table_id ≡ self.now.table.shared.table_id }
         ensures tables { (gateway.new.seat.table_id ≡ gateway.old.seat.table_id) × (journal.new.seat.table_id ≡ journal.old.seat.table_id) }
+        ensures number { gateway.new.number ≡ gateway.old.number }
         ensures met { MeetsJournal (length gateway.old.seat.me.0.base) (person gateway.old.seat.me.0) (person journal.old.seat.me.0) }
         ensures view { (r : ℕ) × (gateway.new.seat.me.0 ≡ alone gateway.old.seat.me.0 (met (person gateway.old.seat.me.0) r (take (person journal.old.seat.me.0).own (person journal.old.seat.me.0).seen)))
             × (person journal.new.seat.me.0 ≡ met (person journal.old.seat.me.0) r (person journal.old.seat.me.0).seen) }

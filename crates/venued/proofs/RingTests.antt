@@ -1,7 +1,13 @@
 -- Gateways' seats, for the tests over rings: what holds of a list of seats and of one more behind them, and back.
-use Rattle.std.proofs.Common.{◌≡◌, ℕ, zero, suc, ◌+◌, List, [], ◌∷◌, ◌++◌, length, refl, sym, subst, ⊎_elim}
+use Rattle.std.proofs.Common.{◌≡◌, ℕ, zero, suc, ◌+◌, List, [], ◌∷◌, ◌++◌, length, refl, ap, sym, subst, ◌∙◌, ⊎_elim}
 use mathlib.Core.Option.{some, some-ne-none}
 use lib.ListN.{get_elem?}
+use Rattle.venue_model.specs.History.{Message}
+use Rattle.ring_words.specs.declared.seats.GatewaySeat.{GatewaySeat}
+use Rattle.ring_words.specs.declared.view.Person.{Person}
+use Rattle.ring_words.specs.Seats.{person}
+use Rattle.ring_words.specs.Ending.{IsSpent}
+use Rattle.ring_words.specs.Meeting.{met}
 use Rattle.ring_words.proofs.Logs.{at_end}
 
 pub stays : {A : Type 0} (l m : List A) (i : ℕ) (a : A) → get_elem? l i ≡ some a → get_elem? (l ++ m) i ≡ some a
@@ -18,3 +24,12 @@ pub one_more : {A : Type 0} (P : ℕ → A → Type 0) (l : List A) (a : A) → 
     → (i : ℕ) (x : A) → get_elem? (l ++ a ∷ []) i ≡ some x → P (i + 1) x
 one_more P l a each last i x there = ⊎_elim (λ was. each i x was)
     (λ (end : (i ≡ length l) × (a ≡ x)). subst (λ y. P (i + 1) y) end.1 (subst (λ (j : ℕ). P (j + 1) a) (sym end.0) last)) (at_end l a x i there)
+
+-- a gateway that met another has no claim left that it hadn't before
+pub met_spent : {L : Type 0} (table : _) (k : ℕ) (s t : GatewaySeat L) (r : ℕ) (h : List Message) → t.seat.table_id ≡ s.seat.table_id → t.number ≡ s.number
+    → person t.seat.me.0 ≡ met (person s.seat.me.0) r h → IsSpent table k s → IsSpent table k t
+met_spent table k s t r h at number view spent = record {
+  at = at ∙ spent.at;
+  number = number ∙ spent.number;
+  claims = ap (λ (p : Person). p.claims) view ∙ spent.claims;
+}

@@ -25,3 +25,4 @@ pub mod VenueDesks
 pub mod Serving
 pub mod VenueInsides
 pub mod Requests
+pub mod RingTests

@@ -2,7 +2,9 @@
 //! of them at once.
 mod acknowledged;
 mod crew;
+mod gateways_meet;
 mod member;
+mod one_gateway_ring;
 mod openings;
 mod output_ring_of_two;
 mod refused;

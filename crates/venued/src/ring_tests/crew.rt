@@ -7,7 +7,7 @@ ghost use Rattle.ring_words.specs.declared.view.Role.TheVariants as role;
 use super::venue::TestRings;
 use book::{Book, BookLogic};
 use journal::{Journal, NullDisk};
-use ring_words::{GatewaySeat, ProcessSeat, Seats};
+use ring_words::{GatewaySeat, JournalSeat, MarshalSeat, ProcessSeat, Seats, UnmarshalSeat};
 use stages::{Journaller, Marshaller, Processor, Turn, Unmarshaller};
 use std::alloc::Global;
 use std::test::Fail;
@@ -70,13 +70,9 @@ impl<'a, const N: usize, const M: usize, const G: usize> Stages<'a, N, M, G> {
         [unmarshaller, journaller, processor, marshaller]
     }
 
-    /// All seats, the gateways' too.
-    pub fn end(self, gateways: Vec<GatewaySeat<BookLogic>>) -> Seats<BookLogic>
-        ensures gateways { result.gateways ≡ gateways }
-        ensures unmarshal { result.unmarshal.seat.table_id ≡ self.entry.rings.now.table.shared.table_id }
-        ensures journal { result.journal.seat.table_id ≡ self.entry.rings.now.table.shared.table_id }
-        ensures process { result.process.seat.table_id ≡ self.entry.rings.now.table.shared.table_id }
-        ensures marshal { result.marshal.seat.table_id ≡ self.entry.rings.now.table.shared.table_id }
+    /// The stages' seats.
+    pub fn end(self) -> StageSeats
+        ensures { result.unmarshal.seat.table_id ≡ self.entry.rings.now.table.shared.table_id }
     {
         let Stages {
             unmarshaller,
@@ -87,12 +83,48 @@ impl<'a, const N: usize, const M: usize, const G: usize> Stages<'a, N, M, G> {
         } = self;
         let (journal, _) = journaller.end();
         let (process, _) = processor.end();
-        Seats {
-            gateways,
+        StageSeats {
             unmarshal: unmarshaller.end(),
             journal,
             process,
             marshal: marshaller.end(),
+        }
+    }
+}
+
+/// The stages' seats, all of one table.
+#[derive(Drop)]
+pub struct StageSeats {
+    unmarshal: UnmarshalSeat<BookLogic>,
+    journal: JournalSeat<BookLogic>,
+    process: ProcessSeat<BookLogic>,
+    marshal: MarshalSeat<BookLogic>,
+    ghost journals: { journal.seat.table_id ≡ unmarshal.seat.table_id },
+    ghost processes: { process.seat.table_id ≡ unmarshal.seat.table_id },
+    ghost marshals: { marshal.seat.table_id ≡ unmarshal.seat.table_id },
+}
+
+impl StageSeats {
+    /// All seats, with those of the gateways.
+    pub fn with(self, gateways: Vec<GatewaySeat<BookLogic>>) -> Seats<BookLogic>
+        ensures gateways { result.gateways ≡ gateways }
+        ensures unmarshal { result.unmarshal.seat.table_id ≡ self.unmarshal.seat.table_id }
+        ensures journal { result.journal.seat.table_id ≡ self.unmarshal.seat.table_id }
+        ensures process { result.process.seat.table_id ≡ self.unmarshal.seat.table_id }
+        ensures marshal { result.marshal.seat.table_id ≡ self.unmarshal.seat.table_id }
+    {
+        let StageSeats {
+            unmarshal,
+            journal,
+            process,
+            marshal,
+        } = self;
+        Seats {
+            gateways,
+            unmarshal,
+            journal,
+            process,
+            marshal,
         }
     }
 }

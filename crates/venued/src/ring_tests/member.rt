@@ -1,6 +1,7 @@
 //! The gateways of a venue in small rings, each with the rings that it calls, and what they take.
-ghost use Rattle.std.specs.Prelude.{◌≡◌, ◌+◌, ◌≤◌, ℕ, length, vec_len, IfSome};
+ghost use Rattle.std.specs.Prelude.{◌≡◌, ◌+◌, ◌≤◌, length, vec_len, IfSome};
 ghost use Rattle.ring_words.specs.Ending.{IsSpent, AreSpent};
+ghost use Rattle.venued.specs.RingTests.{StaysSpent};
 
 use super::requests::{Request, write_request};
 use super::venue::TestRings;
@@ -45,7 +46,7 @@ impl<'a, const N: usize, const M: usize, const G: usize> Member<'a, N, M, G> {
     /// Tries once to publish the message, and answers its sequence.
     pub fn publish(&mut self, message: &[u8]) -> Result<u64, ClaimRefusal>
         requires { (1 ≤ length message.now) × (length message.now ≤ 320) }
-        ensures { (table : _) (k : ℕ) → IsSpent table k self.old.seat → IsSpent table k self.new.seat }
+        ensures { StaysSpent self.old.seat self.new.seat }
     {
         let claim = try_claim(self.rings, &mut self.seat)?;
         Ok(claim.publish(self.rings, &mut self.seat, message))
@@ -55,7 +56,7 @@ impl<'a, const N: usize, const M: usize, const G: usize> Member<'a, N, M, G> {
     pub fn ask(&mut self, request: &Request) -> Result<u64, ClaimRefusal>
         requires client { request.now.client ≤ 8 }
         requires side { 2 ≤ request.now.side }
-        ensures { (table : _) (k : ℕ) → IsSpent table k self.old.seat → IsSpent table k self.new.seat }
+        ensures { StaysSpent self.old.seat self.new.seat }
     {
         let mut message = [0; 320];
         let len = write_request(&mut message, request);
@@ -64,7 +65,7 @@ impl<'a, const N: usize, const M: usize, const G: usize> Member<'a, N, M, G> {
 
     /// Takes the next output, or passes it over. A body of its own stands at the buffer's front.
     pub fn take(&mut self, buf: &mut [u8; 320]) -> Take
-        ensures { (table : _) (k : ℕ) → IsSpent table k self.old.seat → IsSpent table k self.new.seat }
+        ensures { StaysSpent self.old.seat self.new.seat }
     {
         take_output(self.rings, &mut self.seat, buf)
     }
