@@ -18,7 +18,7 @@ pub enum Fault {
     /// A worker found nothing to do for too long.
     #[error("bench_stages: gave up")]
     GaveUp,
-    /// Not all commands were processed, or the outputs aren't theirs.
+    /// What a gateway was answered isn't what is due to it.
     #[error("bench_stages: wrong outputs")]
     Wrong,
 }

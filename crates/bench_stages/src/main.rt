@@ -15,7 +15,6 @@ mod words;
 mod worker;
 
 ghost use Rattle.std.specs.Prelude.{◌≡◌, IfOk};
-ghost use Rattle.ring_words.specs.Seats.{person};
 
 use crate::fault::Fault;
 use crate::figures::{Cost, Rate};
@@ -23,23 +22,11 @@ use crate::path::Path;
 use crate::rings::open;
 use crate::runs::{run_on_one_thread, run_on_threads};
 use crate::words::Task;
-use stages::Processor;
 use std::env;
 use std::process::ExitCode;
 use std::rt::{Clock, Env};
 use std::thread::Threads;
 use std::time::{Duration, Instant};
-
-/// How many commands were processed, if they are all.
-fn processed(processor: &Processor, task: &Task) -> Result<u64, Fault>
-    ensures count { IfOk result (λ n. n ≡ (person processor.now.seat.seat.me.0).own) }
-    ensures whole { IfOk result (λ n. n ≡ task.now.commands) }
-{
-    if processor.next_seq() != task.commands {
-        return Err(Fault::Wrong);
-    }
-    Ok(processor.next_seq())
-}
 
 /// How long the task takes with a thread for each worker, and how many commands were processed.
 fn time_threads<R: Clock + AllocGlobal + Threads + Sync, const G: usize>(
@@ -54,7 +41,7 @@ fn time_threads<R: Clock + AllocGlobal + Threads + Sync, const G: usize>(
     let begun = Instant::now(rt)?;
     let processor = run_on_threads(rt, path, task)?;
     let took = begun.elapsed(rt)?;
-    Ok((processed(&processor, task)?, took))
+    Ok((processor.next_seq(), took))
 }
 
 /// How long the task takes on one thread, and how many commands were processed.
@@ -70,7 +57,7 @@ fn time_one_thread<R: Clock + AllocGlobal, const G: usize>(
     let begun = Instant::now(rt)?;
     let processor = run_on_one_thread(path, task)?;
     let took = begun.elapsed(rt)?;
-    Ok((processed(&processor, task)?, took))
+    Ok((processor.next_seq(), took))
 }
 
 /// Measures what the words ask for.

@@ -67,45 +67,46 @@ fn process<const G: usize>(processing: Processing<'_, G>, commands: u64) -> Resu
     Ok(stage)
 }
 
-/// Lets the processor do so many commands and the marshaller as many outputs, each on a thread of its own, and gives the processor back.
-fn answer<'a, R: Threads + Sync, const G: usize>(
+/// Lets these three stages do so many sequences and outputs, each on a thread of its own.
+fn run_beside<'a, R: Threads + Sync, const G: usize>(
     rt: &R,
-    processing: Processing<'a, G>,
+    unmarshalling: Unmarshalling<'a, G>,
+    journalling: Journalling<'a, G>,
     marshalling: Marshalling<'a, G>,
     commands: u64,
-) -> Result<Processor, Fault> {
-    let (marshalled, processed) = join(
-        rt,
-        move || work(marshalling, commands),
-        move || process(processing, commands),
-    );
-    marshalled?;
-    processed
-}
-
-/// Lets all stages do so many commands, each on a thread of its own, and gives the processor back.
-fn run_stages<'a, R: Threads + Sync, const G: usize>(
-    rt: &R,
-    stages: Stages<'a, G>,
-    commands: u64,
-) -> Result<Processor, Fault> {
-    let Stages {
-        unmarshalling,
-        journalling,
-        processing,
-        marshalling,
-    } = stages;
-    let (were_read, answered) = join(
+) -> Result<(), Fault> {
+    let (were_read, marshalled) = join(
         rt,
         move || -> Result<(), Fault>
             requires { IsSync R.row }
         { read(rt, unmarshalling, journalling, commands) },
-        move || -> Result<Processor, Fault>
-            requires { IsSync R.row }
-        { answer(rt, processing, marshalling, commands) },
+        move || work(marshalling, commands),
     );
     were_read?;
-    answered
+    marshalled?;
+    Ok(())
+}
+
+/// Lets all workers but the processor do the task, each on a thread of its own.
+fn run_others<'a, R: Threads + Sync, const G: usize>(
+    rt: &R,
+    gateways: Vec<Gateway<'a, G>>,
+    unmarshalling: Unmarshalling<'a, G>,
+    journalling: Journalling<'a, G>,
+    marshalling: Marshalling<'a, G>,
+    task: Task,
+) -> Result<(), Fault> {
+    let (served, beside) = join(
+        rt,
+        move || -> Result<(), Fault>
+            requires { IsSync R.row }
+        { serve(rt, gateways, task) },
+        move || -> Result<(), Fault>
+            requires { IsSync R.row }
+        { run_beside(rt, unmarshalling, journalling, marshalling, task.commands) },
+    );
+    served?;
+    beside
 }
 
 /// Lets all workers of the path do the task, each on a thread of its own, and gives the processor back.
@@ -113,19 +114,30 @@ pub fn run_on_threads<R: Threads + Sync, const G: usize>(
     rt: &R,
     path: Path<'_, G>,
     task: &Task,
-) -> Result<Processor, Fault> {
+) -> Result<Processor, Fault>
+    ensures { IfOk result (λ p. (person p.seat.seat.me.0).own ≡ (person path.entry.stages.processing.stage.seat.seat.me.0).own + task.now.commands) }
+{
     let Path { gateways, stages } = path;
+    let Stages {
+        unmarshalling,
+        journalling,
+        processing,
+        marshalling,
+    } = stages;
+    // A closure that captures a struct with a borrow tells nothing of what it gives back, so the processor goes to its thread beside its rings.
+    let Processing { rings, stage } = processing;
     let task = *task;
-    let (served, processed) = join(
+    let (others, processed) = join(
         rt,
         move || -> Result<(), Fault>
             requires { IsSync R.row }
-        { serve(rt, gateways, task) },
+        { run_others(rt, gateways, unmarshalling, journalling, marshalling, task) },
         move || -> Result<Processor, Fault>
-            requires { IsSync R.row }
-        { run_stages(rt, stages, task.commands) },
+            requires { stage.seat.seat.table_id ≡ rings.now.table.shared.table_id }
+            ensures { IfOk result (λ p. (person p.seat.seat.me.0).own ≡ (person stage.seat.seat.me.0).own + task.commands) }
+        { process(Processing { rings, stage }, task.commands) },
     );
-    served?;
+    others?;
     processed
 }
 

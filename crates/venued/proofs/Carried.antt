@@ -18,7 +18,7 @@ use Rattle.venue_model.specs.declared.outputs.Report.TheVariants.{Exec, CancelRe
 use Rattle.venue_model.specs.Spelling.{IsSpelling}
 use Rattle.sequencer.specs.declared.take.Head.{Head}
 use Rattle.sequencer.specs.Outputs as outputs
-use Rattle.venued.specs.Desks.{Carries, type_text}
+use Rattle.gateway.specs.Desks.{Carries, type_text}
 use Rattle.venued.proofs.OutputSymbols.{TellsSpelled}
 
 -- NUMBERS

@@ -1,21 +1,3 @@
-pub mod Lists
-pub mod Speaking
-pub mod Opening
-pub mod Standings
-pub mod WireLemmas
-pub mod FlushLemmas
-pub mod SessionLemmas
-pub mod MessageLemmas
-pub mod FeedLemmas
-pub mod StepLemmas
-pub mod HearLemmas
-pub mod HandLemmas
-pub mod TurnLemmas
-mod MemWireLemmas
-pub mod NameLemmas
-pub mod FrameBytes
-pub mod HeaderLemmas
-pub mod HearingLemmas
 pub mod OpenedLemmas
 pub mod OutputSymbols
 pub mod Carried
@@ -23,5 +5,3 @@ pub mod TakenLemmas
 pub mod JournallerLemmas
 pub mod VenueLemmas
 pub mod ServingLemmas
-pub mod Requests
-pub mod RingTests

@@ -6,8 +6,8 @@ use Rattle.venue_model.proofs.Growth.{few-told-by}
 use Rattle.fix_orders.specs.Reading.{reads}
 use Rattle.journal.specs.Disk.{Told, LeavesOnly}
 use Rattle.journal.proofs.Moments.{started, joined, weaker}
-use Rattle.venued.specs.Gateways.{begun}
-use Rattle.venued.specs.Turns.{Front, GoesWith}
+use Rattle.gateway.specs.Gateways.{begun}
+use Rattle.gateway.specs.Turns.{Front, GoesWith}
 use Rattle.venued.specs.VenueDesks.{OneVenue, IsJournalBehind, ledger_of, opened}
 
 -- a file that a crash might have left at the start, or the journal of a history that begins with this one

@@ -14,7 +14,7 @@ use Rattle.sequencer.specs.declared.take.Take.TheVariants.{Mine, Passed, Nothing
 use Rattle.sequencer.specs.Outputs.{TakesNext, Says}
 use Rattle.stages.specs.declared.processor.Processor.{Processor}
 use Rattle.stages.specs.Processed.{outputs_of}
-use Rattle.venued.specs.Desks.{Ledger, TakeTells}
+use Rattle.gateway.specs.Desks.{Ledger, TakeTells}
 use Rattle.venued.specs.VenueDesks.{OneVenue, messages_of, ledger_of, HandsOn}
 use Rattle.venued.specs.VenueInsides.{KeepsVenue}
 use Rattle.venued.proofs.Carried.{carried}

@@ -5,7 +5,7 @@ use Rattle.venue_model.specs.History.{History}
 use Rattle.journal.specs.Disk as disks
 use Rattle.journal.specs.Disk.{LeavesOnly}
 use Rattle.journal.specs.Format.{IsJournal}
-use Rattle.venued.specs.Wires.{Told}
+use Rattle.gateway.specs.Wires.{Told}
 use Rattle.venued.specs.VenueDesks.{IsJournalBehind}
 
 -- of the wire before and after, and of how many calls of the disk had failed: at 0 none failed; at 1 no byte moved; at 2 one failed

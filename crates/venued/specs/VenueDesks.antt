@@ -22,8 +22,8 @@ use Rattle.stages.specs.Processed.{outputs_of}
 use Rattle.stages.specs.Turns.{Unmarshals, Journals}
 use Rattle.stages.specs.Processes.{Processes}
 use Rattle.stages.specs.Marshals.{Marshals}
-use Rattle.venued.specs.declared.desk.TryPublish.{TryPublish}
-use Rattle.venued.specs.Desks.{Ledger, Carries}
+use Rattle.gateway.specs.declared.desk.TryPublish.{TryPublish}
+use Rattle.gateway.specs.Desks.{Ledger, Carries}
 use Rattle.venued.specs.declared.polled.Polled.{Polled}
 use Rattle.venued.specs.declared.polled.Polled.TheVariants as polls
 use Rattle.venued.specs.VenueRings.{new_gateway, new_stage, Enters}

@@ -10,8 +10,8 @@ use Rattle.ring_words.specs.Seats.{marked}
 use Rattle.sequencer.specs.Claims as claims
 use Rattle.sequencer.specs.Claims.{Claimed}
 use Rattle.sequencer.specs.declared.claim.ClaimRefusal.TheVariants as refusal
-use Rattle.venued.specs.declared.desk.TryPublish.{TryPublish}
-use Rattle.venued.specs.declared.desk.TryPublish.TheVariants.{Done, Refused, Exhausted}
+use Rattle.gateway.specs.declared.desk.TryPublish.{TryPublish}
+use Rattle.gateway.specs.declared.desk.TryPublish.TheVariants.{Done, Refused, Exhausted}
 
 -- gateway 1 of rings that were opened behind a history with so many outputs
 abbrev pub new_gateway : History → ℕ → Person

@@ -4,34 +4,21 @@
 ghost use Rattle.std.specs.Prelude.{◌≡◌, ◌↔◌};
 ghost use Rattle.std.specs.IoError.{error_kind};
 
-mod desk;
-mod ending;
 mod fault;
-mod flushing;
-mod gateway;
-mod hearing;
-mod input;
 mod journal_file;
-mod message;
-mod names;
 mod polled;
 mod recovered;
-mod refusal;
-#[cfg(test)]
-mod ring_tests;
 mod rings;
 mod serve;
-mod session;
 #[cfg(test)]
 mod tests;
 mod venue_desk;
-mod wire;
 mod words;
 
 use crate::journal_file::open_journal;
 use crate::serve::{refuse, serve};
-use crate::wire::StdWire;
 use crate::words::{Words, WordsFault};
+use gateway::StdWire;
 use std::io::{ErrorKind, Stderr};
 use std::process::ExitCode;
 use std::rt::Env;

@@ -3,8 +3,8 @@ ghost use Rattle.std.specs.Prelude.{◌≡◌, ◌^◌, ◌≤◌, IfOk, length}
 ghost use Rattle.ring_words.specs.Seats.{person, alone};
 ghost use Rattle.venued.specs.VenueRings.{Enters};
 
-use crate::desk::TryPublish;
 use book::BookLogic;
+use gateway::TryPublish;
 use ring_words::{
     GatewaySeat, JournalSeat, MarshalSeat, OpenError, ProcessSeat, Rings, Seats, UnmarshalSeat,
 };

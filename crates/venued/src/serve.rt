@@ -3,16 +3,14 @@ ghost use Rattle.std.specs.Prelude.{◌≡◌, ◌≢◌, ◌⊎◌, true, false
 ghost use Rattle.venue_model.specs.Counts.{Rose};
 ghost use Rattle.journal.specs.Disk.{Both, LeavesOnly};
 ghost use Rattle.venued.specs.Serving.{LeavesFrom, Serves};
-ghost use Rattle.venued.specs.Turns.{GoesWith};
+ghost use Rattle.gateway.specs.Turns.{GoesWith};
 ghost use Rattle.venued.specs.VenueDesks.{ledger_of, IsJournalBehind};
 
-use crate::ending::Turned;
 use crate::fault::ServeFault;
-use crate::gateway::Gateway;
 use crate::polled::Polled;
 use crate::venue_desk::VenueDesk;
-use crate::wire::Wire;
 use crate::words::{Words, WordsFault};
+use gateway::{Gateway, Turned, Wire};
 use journal::JournalDisk;
 use std::alloc::{AllocError, Global};
 use std::io::Write;

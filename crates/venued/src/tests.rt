@@ -8,9 +8,9 @@ mod refused;
 mod served;
 
 use crate::serve::serve;
-use crate::wire::MemWire;
 use crate::words::Words;
 use answered::ANSWERED;
+use gateway::MemWire;
 use journal::MemDisk;
 use refused::REFUSED;
 use served::SERVED;

@@ -7,11 +7,11 @@ ghost use Rattle.journal.specs.Format.{IsJournal};
 ghost use Rattle.journal.specs.Journals.{Explains};
 ghost use Rattle.venued.specs.VenueDesks.{IsSaid};
 
-use crate::desk::{Desk, TryPublish};
 use crate::polled::Polled;
 use crate::recovered::{Recovered, recover};
 use crate::rings::{VenueRings, publish};
 use book::BookLogic;
+use gateway::{Desk, TryPublish};
 use journal::{Journal, JournalDisk, JournalFault};
 use ring_words::GatewaySeat;
 use sequencer::{Take, take_output};
@@ -122,7 +122,7 @@ impl<D: JournalDisk> VenueDesk<D> {
 }
 
 impl<D: JournalDisk> Desk for VenueDesk<D> {
-    ghost use Rattle.venued.specs.Desks.{PublishTells, TakeTells};
+    ghost use Rattle.gateway.specs.Desks.{PublishTells, TakeTells};
     ghost use Rattle.std.specs.Prelude.{Bool};
     ghost use Rattle.venue_model.specs.History.{History};
     ghost use Rattle.venued.specs.VenueDesks.{ledger_of, Publishes, HandsOn};

@@ -3,7 +3,7 @@ ghost use Rattle.std.specs.Prelude.{◌≡◌, ◌≤◌, length, IfOk};
 
 use super::{FIRST_ACKNOWLEDGEMENT, FIRST_ORDER, words};
 use crate::serve::serve;
-use crate::wire::MemWire;
+use gateway::MemWire;
 use journal::{DiskFailed, JournalDisk, NullDisk};
 use std::test::Fail;
 

@@ -2,7 +2,7 @@
 
 use super::{EMPTY, FIRST_ACKNOWLEDGEMENT, FIRST_ORDER, words};
 use crate::serve::serve;
-use crate::wire::MemWire;
+use gateway::MemWire;
 use journal::{Journal, MemDisk};
 use std::alloc::Global;
 use std::test::Fail;

@@ -3,7 +3,7 @@
 use Rattle.std.proofs.Common.{◌≡◌, true, false}
 use Rattle.journal.specs.Disk.{Both, LeavesOnly}
 use Rattle.venued.specs.VenueDesks.{ledger_of}
-use Rattle.venued.specs.Turns.{GoesWith}
+use Rattle.gateway.specs.Turns.{GoesWith}
 use Rattle.venued.proofs.ServingLemmas.{LeftOrBehind}
 use Rattle.venued.proofs.serve.take_turns.Given as goal
 

@@ -1,0 +1,77 @@
+-- What a feed of the session comes to, from what the framer and the judgement tell.
+use Rattle.std.proofs.Common.{◌≡◌, ℕ, zero, suc, ◌≤◌, List, [], ◌++◌, length, take, ap, refl, sym, ◌∙◌, subst, inl, inr, arith, append-nil, Some, None}
+use Rattle.std.proofs.lemmas.List.{take_all}
+use Rattle.fix_frame.specs.Grammar.{Field, IsBody, frame_text, most_in}
+use Rattle.fix_frame.specs.Framing.{Framing, HasFault}
+use Rattle.fix_frame.specs.Stream.{BeginsNoFrame, Faults}
+use Rattle.fix_frame.specs.declared.FrameFault.{FrameFault}
+use Rattle.gateway.specs.declared.ending.Reason.TheVariants.{Refused}
+use Rattle.gateway.specs.declared.refusal.Refusal.{Refusal}
+use Rattle.gateway.specs.declared.refusal.Refusal.TheVariants as refusal
+use Rattle.gateway.specs.Verdict.{Verdict, Welcome, Beat, Hold, Pass, Leave, Refuse, verdict, refusal_text}
+use Rattle.gateway.specs.Answers.{time_after, Logout}
+use Rattle.gateway.specs.Session.{Standing}
+use Rattle.gateway.specs.Moves.{heard, refusing, replying}
+use Rattle.gateway.specs.Parts.{Listens}
+
+-- bytes that end a frame are some, where no frame stood before
+some_fed : (under_way piece : List ℕ) (n : ℕ) (frame : List Field) → BeginsNoFrame under_way → IsBody most_in frame →
+    under_way ++ take n piece ≡ frame_text frame → 1 ≤ n
+some_fed under_way piece zero frame partial body whole =
+    absurd (partial frame [] body (sym (append-nil under_way) ∙ whole ∙ sym (append-nil (frame_text frame))))
+some_fed under_way piece (suc n) frame partial body whole = omega arith
+
+-- what was under way doesn't matter to what is made of a frame
+under_way_gone : (time message : List ℕ) (v : Verdict) (s : Standing) (rest : List ℕ) → heard time message v (record s { under_way = rest }) ≡ heard time message v s
+under_way_gone time message Welcome s rest = refl
+under_way_gone time message (Beat echo) s rest = refl
+under_way_gone time message Hold s rest = refl
+under_way_gone time message Pass s rest = refl
+under_way_gone time message Leave s rest = refl
+under_way_gone time message (Refuse r) s rest = refl
+
+pub listens-frame : (old new : Standing) (piece : List ℕ) (n : ℕ) (frame : List Field) (rest time : List ℕ) (v : Verdict) →
+    BeginsNoFrame old.under_way → n ≤ length piece → IsBody most_in frame → old.under_way ++ take n piece ≡ frame_text frame →
+    time ≡ time_after old.time frame → v ≡ verdict old.gateway old.accepted frame →
+    new ≡ heard time (frame_text frame) v (record old { under_way = rest }) →
+    Listens old new piece n
+listens-frame old new piece n frame rest time v partial within body whole time_is v_is new_is = record {
+  some = some_fed old.under_way piece n frame partial body whole;
+  within = within;
+  hears = inl (inr (record {
+    frame = frame;
+    body = body;
+    whole = whole;
+    new_is = new_is ∙ under_way_gone time (frame_text frame) v old rest
+        ∙ ap (λ t. heard t (frame_text frame) v old) time_is
+        ∙ ap (λ w. heard (time_after old.time frame) (frame_text frame) w old) v_is;
+  }));
+}
+
+pub listens-fault : (old new : Standing) (piece left : List ℕ) (at : ℕ) (fault : FrameFault) →
+    1 ≤ length piece → Faults (old.under_way ++ piece) at fault →
+    new ≡ refusing old.time (refusal.Frame fault) (record old { under_way = left }) →
+    Listens old new piece (length piece)
+listens-fault old new piece left at fault some faults new_is = record {
+  some = some;
+  within = omega arith;
+  hears = inr (record {
+    fault = fault;
+    left = left;
+    at = at;
+    faults = subst (λ fed. Faults (old.under_way ++ fed) at fault) (sym (take_all (length piece) piece (omega arith))) faults;
+    new_is = new_is;
+  });
+}
+
+-- the Logout has the refusal's text
+pub refused_is : (s new : Standing) (left time text : List ℕ) (r : Refusal) → text ≡ refusal_text r →
+    new ≡ replying (Logout time text) (record s { under_way = left; closing = Some Refused }) → new ≡ refusing time r (record s { under_way = left })
+refused_is s new left time text r text_is new_is =
+    new_is ∙ ap (λ t. replying (Logout time t) (record s { under_way = left; closing = Some Refused })) text_is
+
+-- a framer that had no fault has found one
+pub fault_now : (framer : Framing) (piece : List ℕ) (fault : FrameFault) → framer.fault ≡ None → HasFault framer piece fault →
+    (at : ℕ) × Faults (framer.held ++ piece) at fault
+fault_now framer piece fault none (inl before) = cc
+fault_now framer piece fault none (inr (right, at, faults)) = (at, faults)

@@ -1,0 +1,266 @@
+-- What the parts that hear come to.
+use Rattle.std.proofs.Common.{◌≡◌, ◌≢◌, ◌⊎◌, inl, inr, ℕ, zero, suc, ◌+◌, ◌≤◌, false, List, [], ◌∷◌, ◌++◌, length, take, drop, refl, ap, sym, subst, ◌∙◌, arith, append-nil, take-append-drop, Option, Some, None, is_some}
+use Rattle.fix_orders.specs.Text.{Said}
+use Rattle.gateway.specs.declared.desk.TryPublish.{TryPublish}
+use Rattle.gateway.specs.declared.desk.TryPublish.TheVariants.{Done, Refused, Exhausted}
+use Rattle.gateway.specs.declared.gateway.Heard.{Heard}
+use Rattle.gateway.specs.declared.gateway.Heard.TheVariants.{Something, Nothing, Failed}
+use Rattle.gateway.specs.Wires.{Told}
+use Rattle.gateway.specs.Desks.{Ledger}
+use Rattle.gateway.specs.Verdict.{Verdict, Welcome, Beat, Hold, Pass, Leave, Refuse, verdict}
+use Rattle.gateway.specs.Session.{Standing, At}
+use Rattle.gateway.specs.Moves.{heard}
+use Rattle.gateway.specs.Turns.{Front, Moved, nothing_moved, Moves, Counts, farewell}
+use Rattle.gateway.specs.Parts.{Tries, Listens, Unheard, HeardFrame, HeardFault}
+use Rattle.gateway.specs.HeardOf.{heard_of}
+use Rattle.gateway.specs.Gateways.{Hears, HeardSo, Reads, ReadSo}
+use Rattle.gateway.proofs.Opening.{opened}
+use Rattle.gateway.proofs.Standings.{at-published, at-exhausted, at-fed, at-heard, at-faulted}
+use Rattle.gateway.proofs.StepLemmas.{at-same, moves-nothing}
+use Rattle.gateway.proofs.WireLemmas.{grown-nil}
+
+-- a session that is held something of isn't held nothing
+held_is_some : (s : Standing) (message : List ℕ) → s.held ≡ Some message → s.held ≢ None
+held_is_some s message holds none = cc
+
+module _ (old new : Front) (desk desk' : Ledger) (is_open : old.session.closing ≡ None) (silent : old.session.outgoing ≡ [])
+    (room : length new.session.outgoing ≤ length old.session.outgoing + 412)
+    (others : new ≡ record old { session = new.session }) where
+  room_left : length new.session.outgoing ≤ 512
+  room_left = let none : length old.session.outgoing ≡ 0 = ap length silent in omega arith
+
+  waiting_stays : new.waiting ≡ old.waiting
+  waiting_stays = ap (λ (f : Front). f.waiting) others
+
+  others_full : new ≡ record old { session = new.session; waiting = new.waiting; closed = new.closed }
+  others_full = others ∙ ap (λ w. record old { session = new.session; waiting = w }) (sym waiting_stays)
+      ∙ ap (λ c. record old { session = new.session; waiting = new.waiting; closed = c }) (sym (ap (λ (f : Front). f.closed) others))
+
+  -- the message held went to the desk
+  pub publish-hears : (answer : TryPublish) → Tries old.session new.session desk desk' answer →
+      (wire : Told) → Hears old new wire wire desk desk' (heard_of answer)
+  publish-hears Done tries wire = record {
+    moved = record nothing_moved { messages = tries.message ∷ [] };
+    step = record {
+      moves = λ input messages outs written at.
+          at-same new.session input (input ++ []) (messages ++ tries.message ∷ []) (messages ++ tries.message ∷ []) outs (outs ++ []) written (written ++ [])
+          (sym (append-nil input)) refl (sym (append-nil outs)) (sym (append-nil written))
+          (subst (λ (s : Standing). At s input (messages ++ tries.message ∷ []) outs written) (sym tries.publishes)
+          (at-published old.session input messages outs written tries.message tries.holds is_open at));
+      input = waiting_stays ∙ sym (append-nil old.waiting);
+      gave = sym (grown-nil wire.gave);
+      took = sym (grown-nil wire.took);
+      published = ap (λ (l : Ledger). l.published) tries.tells;
+      gateway = ap (λ (s : Standing). s.gateway) tries.publishes;
+    };
+    others = others_full;
+    ledger = tries.tells ∙ ap (λ ps. record desk { published = ps }) (sym (ap (λ (l : Ledger). l.published) tries.tells))
+        ∙ ap (λ n. record desk { published = desk'.published; refusals = n }) (sym (ap (λ (l : Ledger). l.refusals) tries.tells));
+    unwritten = refl;
+    unhanded = refl;
+    counts = λ count counts. subst (λ (s : Standing). Counts s count) (sym tries.publishes) counts;
+    room = room_left;
+    next = let number : new.session.number ≡ old.session.number = ap (λ (s : Standing). s.number) tries.publishes in omega arith;
+    so = λ same. let none = ap (λ (m : Moved). m.messages) same in cc;
+  }
+  publish-hears Refused tries wire = record {
+    moved = nothing_moved;
+    step = record {
+      moves = subst (λ (s : Standing). Moves old.session s nothing_moved) (sym tries.publishes) (moves-nothing old.session);
+      input = waiting_stays ∙ sym (append-nil old.waiting);
+      gave = sym (grown-nil wire.gave);
+      took = sym (grown-nil wire.took);
+      published = ap (λ (l : Ledger). l.published) tries.tells.1 ∙ sym (append-nil desk.published);
+      gateway = ap (λ (s : Standing). s.gateway) tries.publishes;
+    };
+    others = others_full;
+    ledger = tries.tells.1 ∙ ap (λ ps. record desk { published = ps; refusals = desk'.refusals }) (sym (ap (λ (l : Ledger). l.published) tries.tells.1));
+    unwritten = refl;
+    unhanded = refl;
+    counts = λ count counts. subst (λ (s : Standing). Counts s count) (sym tries.publishes) counts;
+    room = room_left;
+    next = let number : new.session.number ≡ old.session.number = ap (λ (s : Standing). s.number) tries.publishes in omega arith;
+    so = (refl, inl (held_is_some old.session tries.message tries.holds, tries.tells.0));
+  }
+  publish-hears Exhausted tries wire = record {
+    moved = nothing_moved;
+    step = record {
+      moves = λ input messages outs written at.
+          at-same new.session input (input ++ []) messages (messages ++ []) outs (outs ++ []) written (written ++ [])
+          (sym (append-nil input)) (sym (append-nil messages)) (sym (append-nil outs)) (sym (append-nil written))
+          (subst (λ (s : Standing). At s input messages outs written) (sym tries.publishes)
+          (at-exhausted old.session input messages outs written tries.message tries.holds is_open at));
+      input = waiting_stays ∙ sym (append-nil old.waiting);
+      gave = sym (grown-nil wire.gave);
+      took = sym (grown-nil wire.took);
+      published = ap (λ (l : Ledger). l.published) tries.tells.1 ∙ sym (append-nil desk.published);
+      gateway = ap (λ (s : Standing). s.gateway) tries.publishes;
+    };
+    others = others_full;
+    ledger = tries.tells.1 ∙ ap (λ ps. record desk { published = ps; refusals = desk'.refusals }) (sym (ap (λ (l : Ledger). l.published) tries.tells.1));
+    unwritten = refl;
+    unhanded = refl;
+    counts = λ count counts. subst (λ (s : Standing). Counts s count) (sym tries.publishes)
+        (let none : farewell old.session.closing ≡ 0 = ap farewell is_open in omega arith);
+    room = room_left;
+    next = let number : new.session.number ≡ old.session.number + 1 = ap (λ (s : Standing). s.number) tries.publishes in omega arith;
+    so = (refl, inl (held_is_some old.session tries.message tries.holds, tries.tells.0));
+  }
+
+-- a frame heard counts what it says
+heard-counts : (time message : List ℕ) (v : Verdict) (s : Standing) → s.closing ≡ None → (count : ℕ) → Counts s count → Counts (heard time message v s) count
+heard-counts time message Welcome s is_open count counts = omega arith
+heard-counts time message (Beat echo) s is_open count counts = omega arith
+heard-counts time message Hold s is_open count counts = omega arith
+heard-counts time message Pass s is_open count counts = omega arith
+heard-counts time message Leave s is_open count counts = let none : farewell s.closing ≡ 0 = ap farewell is_open in omega arith
+heard-counts time message (Refuse r) s is_open count counts = let none : farewell s.closing ≡ 0 = ap farewell is_open in omega arith
+
+heard-next : (time message : List ℕ) (v : Verdict) (s : Standing) → (heard time message v s).number ≤ s.number + 1
+heard-next time message Welcome s = omega arith
+heard-next time message (Beat echo) s = omega arith
+heard-next time message Hold s = omega arith
+heard-next time message Pass s = omega arith
+heard-next time message Leave s = omega arith
+heard-next time message (Refuse r) s = omega arith
+
+heard-gateway : (time message : List ℕ) (v : Verdict) (s : Standing) → (heard time message v s).gateway ≡ s.gateway
+heard-gateway time message Welcome s = refl
+heard-gateway time message (Beat echo) s = refl
+heard-gateway time message Hold s = refl
+heard-gateway time message Pass s = refl
+heard-gateway time message Leave s = refl
+heard-gateway time message (Refuse r) s = refl
+
+-- what a feed does to a session that is open and holds nothing
+record Fed (old new : Standing) (fed : List ℕ) : Type 0 where
+  moves : (input : List ℕ) (messages : List (List ℕ)) (outs : List Said) (written : List ℕ) →
+      At old input messages outs written → At new (input ++ fed) messages outs written
+  counts : (count : ℕ) → Counts old count → Counts new count
+  next : new.number ≤ old.number + 1
+  gateway : new.gateway ≡ old.gateway
+
+module _ (old new : Standing) (fed : List ℕ) (is_open : old.closing ≡ None) (free : old.held ≡ None) where
+  fed-unheard : Unheard old new fed → Fed old new fed
+  fed-unheard u = subst (λ (s : Standing). Fed old s fed) (sym u.new_is) (record {
+    moves = λ input messages outs written at. at-fed old input messages outs written fed is_open u.partial at;
+    counts = λ count counts. counts;
+    next = omega arith;
+    gateway = refl;
+  })
+
+  fed-frame : HeardFrame old new fed → Fed old new fed
+  fed-frame h =
+      let v = verdict old.gateway old.accepted h.frame in
+      subst (λ (s : Standing). Fed old s fed) (sym h.new_is) (record {
+        moves = λ input messages outs written at.
+            at-heard old input messages outs written (opened old input messages outs written is_open at) free
+            h.frame fed h.body h.whole v refl is_open;
+        counts = heard-counts _ _ v old is_open;
+        next = heard-next _ _ v old;
+        gateway = heard-gateway _ _ v old;
+      })
+
+  fed-fault : HeardFault old new fed → Fed old new fed
+  fed-fault h = subst (λ (s : Standing). Fed old s fed) (sym h.new_is) (record {
+    moves = λ input messages outs written at.
+        at-faulted old input messages outs written (opened old input messages outs written is_open at) free fed h.left h.at h.fault h.faults;
+    counts = λ count counts. let none : farewell old.closing ≡ 0 = ap farewell is_open in omega arith;
+    next = omega arith;
+    gateway = refl;
+  })
+
+  fed-so : (Unheard old new fed ⊎ HeardFrame old new fed) ⊎ HeardFault old new fed → Fed old new fed
+  fed-so (inl (inl u)) = fed-unheard u
+  fed-so (inl (inr h)) = fed-frame h
+  fed-so (inr h) = fed-fault h
+
+-- a front of bytes that aren't none isn't none
+front_is_some : (bytes : List ℕ) (n : ℕ) → 1 ≤ n → n ≤ length bytes → take n bytes ≢ []
+front_is_some bytes zero some within = absurd (omega arith)
+front_is_some [] (suc n) some within = absurd (omega arith)
+front_is_some (b ∷ bytes) (suc n) some within = λ none. cc
+
+module _ (old mid : Front) (wire wire' : Told) (desk : Ledger) (is_open : old.session.closing ≡ None) (free : old.session.held ≡ None)
+    (silent : old.session.outgoing ≡ []) (answer : Heard) (reads : Reads old mid wire wire' answer) where
+  session_stays : mid.session ≡ old.session
+  session_stays = ap (λ (f : Front). f.session) reads.others
+
+  session_free : mid.session.held ≡ None
+  session_free = ap (λ (s : Standing). s.held) session_stays ∙ free
+
+  read-so : (a : Heard) → ReadSo old mid wire wire' reads.got a → (a ≡ Failed) ⊎ (mid.waiting ≡ []) →
+      HeardSo old mid wire wire' desk desk (record nothing_moved { got = reads.got }) a
+  read-so Something so why = λ same. so (ap (λ (m : Moved). m.got) same)
+  read-so Nothing so (inl failed) = cc
+  read-so Nothing (none, inl stood) (inr empty) =
+      absurd (stood (sym (append-nil old.waiting) ∙ ap (λ g. old.waiting ++ g) (sym none) ∙ sym reads.waiting ∙ empty))
+  read-so Nothing (none, inr quiet) (inr empty) = (ap (λ g. record nothing_moved { got = g }) none, inr (session_free, empty, quiet))
+  read-so Failed so why = so.1
+
+  -- the wire failed, or nothing stands to be fed
+  pub read-hears : (answer ≡ Failed) ⊎ (mid.waiting ≡ []) → Hears old mid wire wire' desk desk answer
+  read-hears why = record {
+    moved = record nothing_moved { got = reads.got };
+    step = record {
+      moves = subst (λ (s : Standing). Moves old.session s nothing_moved) (sym session_stays) (moves-nothing old.session);
+      input = reads.waiting;
+      gave = reads.gave;
+      took = reads.took ∙ sym (grown-nil wire.took);
+      published = sym (append-nil desk.published);
+      gateway = ap (λ (s : Standing). s.gateway) session_stays;
+    };
+    others = reads.others ∙ ap (λ s. record old { session = s; waiting = mid.waiting; closed = mid.closed }) (sym session_stays);
+    ledger = refl;
+    unwritten = refl;
+    unhanded = refl;
+    counts = λ count counts. subst (λ (s : Standing). Counts s count) (sym session_stays) counts;
+    room = let none : length mid.session.outgoing ≡ 0 = ap (λ (s : Standing). length s.outgoing) session_stays ∙ ap length silent in omega arith;
+    next = let number : mid.session.number ≡ old.session.number = ap (λ (s : Standing). s.number) session_stays in omega arith;
+    so = read-so answer reads.so why;
+  }
+
+  -- what was read is fed
+  pub feed-hears : (new : Front) (n : ℕ) → Listens mid.session new.session mid.waiting n →
+      new ≡ record mid { session = new.session; waiting = new.waiting } → new.waiting ≡ drop n mid.waiting →
+      length new.session.outgoing ≤ length mid.session.outgoing + 412 →
+      Hears old new wire wire' desk desk Something
+  feed-hears new n listens others rest room =
+      let fed = fed-so old.session new.session (take n mid.waiting) is_open free
+      (subst (λ (s : Standing). (Unheard s new.session (take n mid.waiting) ⊎ HeardFrame s new.session (take n mid.waiting)) ⊎ HeardFault s new.session (take n mid.waiting)) session_stays listens.hears) in
+      record {
+        moved = record nothing_moved { fed = take n mid.waiting; got = reads.got };
+        step = record {
+          moves = λ input messages outs written at.
+              at-same new.session (input ++ take n mid.waiting) (input ++ take n mid.waiting) messages (messages ++ []) outs (outs ++ []) written (written ++ [])
+              refl (sym (append-nil messages)) (sym (append-nil outs)) (sym (append-nil written)) (fed.moves input messages outs written at);
+          input = ap (λ r. take n mid.waiting ++ r) rest ∙ take-append-drop n mid.waiting ∙ reads.waiting;
+          gave = reads.gave;
+          took = reads.took ∙ sym (grown-nil wire.took);
+          published = sym (append-nil desk.published);
+          gateway = fed.gateway;
+        };
+        others = others ∙ ap (λ (f : Front). record f { session = new.session; waiting = new.waiting }) reads.others
+            ∙ ap (λ c. record old { session = new.session; waiting = new.waiting; closed = c }) (sym (ap (λ (f : Front). f.closed) others));
+        ledger = refl;
+        unwritten = refl;
+        unhanded = refl;
+        counts = fed.counts;
+        room = let none : length mid.session.outgoing ≡ 0 = ap (λ (s : Standing). length s.outgoing) session_stays ∙ ap length silent in omega arith;
+        next = fed.next;
+        so = λ same. front_is_some mid.waiting n listens.some listens.within (ap (λ (m : Moved). m.fed) same);
+      }
+
+  -- the same, as the code hands on what was read
+  pub fed-hears : (piece : List ℕ) (new : Front) (n : ℕ) → piece ≡ mid.waiting →
+      Listens mid.session new.session piece n →
+      new ≡ record mid { session = new.session; waiting = new.waiting } → new.waiting ≡ drop n mid.waiting →
+      length new.session.outgoing ≤ length mid.session.outgoing + 412 →
+      Hears old new wire wire' desk desk Something
+  fed-hears piece new n piece_is listens =
+      feed-hears new n (subst (λ p. Listens mid.session new.session p n) piece_is listens)
+
+-- what is not there is nothing
+pub is_free : {A : Type 0} (held : Option A) → is_some held ≡ false → held ≡ None
+is_free None e = refl
+is_free (Some message) e = cc

@@ -1,0 +1,18 @@
+pub mod Lists
+pub mod Speaking
+pub mod Opening
+pub mod Standings
+pub mod WireLemmas
+pub mod FlushLemmas
+pub mod SessionLemmas
+pub mod MessageLemmas
+pub mod FeedLemmas
+pub mod StepLemmas
+pub mod HearLemmas
+pub mod HandLemmas
+pub mod TurnLemmas
+mod MemWireLemmas
+pub mod NameLemmas
+pub mod FrameBytes
+pub mod HeaderLemmas
+pub mod HearingLemmas

@@ -1,0 +1,310 @@
+-- What the parts of a turn come to, one behind the other.
+use Rattle.std.proofs.Common.{◌≡◌, ◌≢◌, ◌⊎◌, inl, inr, ℕ, suc, nat_lt, ◌+◌, ◌≤◌, ◌<◌, ◌^◌, Bool, true, false, if◌then◌else◌, List, [], ◌∷◌, ◌++◌, length, refl, ap, sym, subst, ◌∙◌, arith, append-nil, length-append, Some, None}
+use borrow.Author.Tests.{ltb-true, ltb-false}
+use Rattle.fix_orders.specs.Text.{Said}
+use Rattle.gateway.specs.declared.ending.Reason.{Reason}
+use Rattle.gateway.specs.declared.ending.Reason.TheVariants.{Closed, WireFailed, LoggedOut, Refused, Stalled, Exhausted}
+use Rattle.gateway.specs.declared.ending.Turned.{Turned}
+use Rattle.gateway.specs.declared.ending.Turned.TheVariants.{Worked, Quiet, Ended}
+use Rattle.gateway.specs.declared.flushing.Flushed.TheVariants as flushed
+use Rattle.gateway.specs.declared.gateway.Heard.{Heard}
+use Rattle.gateway.specs.declared.gateway.Heard.TheVariants.{Something, Nothing, Failed}
+use Rattle.venue_model.specs.Counts.{Rose}
+use Rattle.gateway.specs.Wires.{Told, grown}
+use Rattle.gateway.specs.Desks.{Ledger}
+use Rattle.gateway.specs.Flushing.{Flushes}
+use Rattle.gateway.specs.Session.{Standing}
+use Rattle.gateway.specs.Sessions.{ClosesItself}
+use Rattle.gateway.specs.Turns.{Front, Moved, nothing_moved, Step, Takes, IsQuiet, EndedBy, Means, Turn, Counts, GoesWith}
+use Rattle.gateway.specs.Gateways.{Hears, HeardSo, HandsOn, TookSo, Rests, RestsSo, Stuck, StuckSo}
+use Rattle.gateway.proofs.StepLemmas.{both, step-then, flush-step}
+use Rattle.gateway.proofs.WireLemmas.{grown-nil}
+
+-- no outputs are taken
+no_takes : (on : Bool) (old new : Front) (desk desk' : Ledger) → desk'.taken ≡ desk.taken → new.passed ≡ old.passed → Takes on old new desk desk' []
+no_takes true old new desk desk' none same = record { these = []; taken = none ∙ sym (append-nil desk.taken); given = refl; passed = omega arith }
+no_takes false old new desk desk' none same = record { these = []; taken = none ∙ sym (append-nil desk.taken); given = refl; passed = omega arith }
+
+-- what was written is nothing only if nothing was written
+no_front : (put rest : List ℕ) → put ++ rest ≡ [] → put ≡ []
+no_front [] rest e = refl
+no_front (b ∷ put) rest e = cc
+
+no_end : (put rest : List ℕ) → put ++ rest ≡ [] → rest ≡ []
+no_end [] rest e = e
+no_end (b ∷ put) rest e = cc
+
+-- fewer bytes stand where some were written, and no fewer where none was
+wrote_some : (stood put rest : List ℕ) → stood ≡ put ++ rest → nat_lt (length rest) (length stood) ≡ true → put ≢ []
+wrote_some stood put rest split wrote none =
+    let long : length stood ≡ length put + length rest = ap length split ∙ length-append put rest in
+    let empty : length put ≡ 0 = ap length none in
+    let less : length rest < length stood = ltb-true _ _ wrote in
+    omega arith
+
+wrote_none : (stood put rest : List ℕ) → stood ≡ put ++ rest → nat_lt (length rest) (length stood) ≡ false → put ≡ []
+wrote_none stood [] rest split wrote = refl
+wrote_none stood (b ∷ put) rest split wrote =
+    let long : length stood ≡ suc (length put) + length rest = ap length split ∙ length-append (b ∷ put) rest in
+    let most : length stood ≤ length rest = ltb-false _ _ wrote in
+    absurd (omega arith)
+
+-- Bytes went out, or none could; the gateway ends or goes on without hearing.
+module _ (old : Front) (session : Standing) (wire wire' : Told) (desk : Ledger) (put : List ℕ)
+    (split : old.session.outgoing ≡ put ++ session.outgoing)
+    (session_is : session ≡ record old.session { outgoing = session.outgoing })
+    (gave : wire'.gave ≡ wire.gave) (took : wire'.took ≡ grown wire.took put) (deaf : ℕ) (live : Bool) where
+  flushed-turn : (answer : Turned) → Means old (record old { session = session; deaf = deaf; live = live }) wire wire' desk desk (record nothing_moved { put = put }) answer →
+      Turn old (record old { session = session; deaf = deaf; live = live }) wire wire' desk desk answer
+  flushed-turn answer means = record {
+    moved = record nothing_moved { put = put };
+    step = flush-step old.session session old.waiting put wire wire' desk split session_is gave took;
+    takes = no_takes session.logged_on old (record old { session = session; deaf = deaf; live = live }) desk desk refl refl;
+    means = means;
+  }
+
+-- the wire failed in the flush
+pub turn-failed : (old : Front) (session : Standing) (wire wire' : Told) (desk : Ledger) →
+    session ≡ record old.session { outgoing = session.outgoing } →
+    Flushes old.session.outgoing session.outgoing wire wire' flushed.Failed →
+    Turn old (record old { session = session; live = false }) wire wire' desk desk (Ended WireFailed)
+turn-failed old session wire wire' desk session_is (put, split, (rose, tells)) =
+    flushed-turn old session wire wire' desk put split session_is (ap (λ (t : Told). t.gave) tells) (ap (λ (t : Told). t.took) tells)
+    old.deaf false (Ended WireFailed) (rose, refl)
+
+-- the wire took no more in the flush
+stuck-means : (old new : Front) (wire wire' : Told) (desk : Ledger) (put : List ℕ) (wrote : Bool) (answer : Turned) →
+    old.session.outgoing ≡ put ++ new.session.outgoing → new.session.outgoing ≢ [] → old.live ≡ true →
+    wrote ≡ nat_lt (length new.session.outgoing) (length old.session.outgoing) → Rose wire.full_writes wire'.full_writes →
+    StuckSo old new wrote answer → Means old new wire wire' desk desk (record nothing_moved { put = put }) answer
+stuck-means old new wire wire' desk put wrote Worked split left live wrote_is rose so = (
+  inl (λ same. wrote_some old.session.outgoing put new.session.outgoing split (sym wrote_is ∙ so.1) (ap (λ (m : Moved). m.put) same)),
+  so.0 ∙ live,
+)
+stuck-means old new wire wire' desk put wrote Quiet split left live wrote_is rose so = (
+  record {
+    still = ap (λ p. record nothing_moved { put = p }) (wrote_none old.session.outgoing put new.session.outgoing split (sym wrote_is ∙ so.1));
+    stuck = λ stood. rose;
+    unheard = λ silent. absurd (left (no_end put new.session.outgoing (sym split ∙ silent)));
+    unhanded = λ silent. absurd (left (no_end put new.session.outgoing (sym split ∙ silent)));
+  },
+  so.0 ∙ live,
+)
+stuck-means old new wire wire' desk put wrote (Ended reason) split left live wrote_is rose so =
+    subst (λ (r : Reason). EndedBy new wire wire' r × (new.live ≡ false)) (sym so.1) (so.2, so.0)
+
+pub turn-stuck : (old : Front) (session : Standing) (new : Front) (wire wire' : Told) (desk : Ledger) (wrote : Bool) (answer : Turned) →
+    session ≡ record old.session { outgoing = session.outgoing } → old.live ≡ true →
+    Flushes old.session.outgoing session.outgoing wire wire' flushed.Full →
+    wrote ≡ nat_lt (length session.outgoing) (length old.session.outgoing) →
+    Stuck (record old { session = session }) new wrote answer →
+    Turn old new wire wire' desk desk answer
+turn-stuck old session new wire wire' desk wrote answer session_is live (put, split, (left, rose, tells)) wrote_is stuck =
+    let end = record old { session = session; deaf = new.deaf; live = new.live } in
+    subst (λ (f : Front). Turn old f wire wire' desk desk answer) (sym stuck.others)
+    (flushed-turn old session wire wire' desk put split session_is (ap (λ (t : Told). t.gave) tells) (ap (λ (t : Told). t.took) tells)
+    new.deaf new.live answer (stuck-means old end wire wire' desk put wrote answer split left live wrote_is rose stuck.so))
+
+-- the session was closing, and all is written
+closed-by : (new : Front) (wire wire' : Told) (reason : Reason) → ClosesItself reason → new.session.closing ≡ Some reason → new.session.outgoing ≡ [] →
+    EndedBy new wire wire' reason
+closed-by new wire wire' LoggedOut own closing none = (closing, none)
+closed-by new wire wire' Refused own closing none = (closing, none)
+closed-by new wire wire' Exhausted own closing none = (closing, none)
+closed-by new wire wire' Closed own closing none = absurd own
+closed-by new wire wire' WireFailed own closing none = absurd own
+closed-by new wire wire' Stalled own closing none = absurd own
+
+pub turn-closed : (old : Front) (session : Standing) (wire wire' : Told) (desk : Ledger) (reason : Reason) →
+    session ≡ record old.session { outgoing = session.outgoing } →
+    Flushes old.session.outgoing session.outgoing wire wire' flushed.All →
+    ClosesItself reason → session.closing ≡ Some reason →
+    Turn old (record old { session = session; deaf = 0; live = false }) wire wire' desk desk (Ended reason)
+turn-closed old session wire wire' desk reason session_is (put, split, (none, tells)) own closing =
+    flushed-turn old session wire wire' desk put split session_is (ap (λ (t : Told). t.gave) tells) (ap (λ (t : Told). t.took) tells)
+    0 false (Ended reason) (closed-by (record old { session = session; deaf = 0; live = false }) wire wire' reason own closing none, refl)
+
+-- nothing fed, read, written, published or handed on is nothing moved
+is_still : (m : Moved) → m.fed ≡ [] → m.got ≡ [] → m.put ≡ [] → m.messages ≡ [] → m.handed ≡ [] → m ≡ nothing_moved
+is_still m fed got put messages handed =
+    ap (λ x. record m { fed = x }) fed ∙ ap (λ x. record m { fed = []; got = x }) got
+    ∙ ap (λ x. record m { fed = []; got = []; put = x }) put
+    ∙ ap (λ x. record m { fed = []; got = []; put = []; messages = x }) messages
+    ∙ ap (λ x. record m { fed = []; got = []; put = []; messages = []; handed = x }) handed
+
+-- the held message and the counts are those of before the flush
+module _ (old h : Front) (session : Standing) (wire wire' wire'' : Told) (desk desk' : Ledger) (put : List ℕ) (answer : Heard)
+    (split : old.session.outgoing ≡ put ++ session.outgoing)
+    (session_is : session ≡ record old.session { outgoing = session.outgoing })
+    (none : session.outgoing ≡ []) (tells : wire' ≡ record wire { took = grown wire.took put })
+    (hears : Hears (record old { session = session; deaf = 0 }) h wire' wire'' desk desk' answer) where
+  flush_step : Step old.session session old.waiting old.waiting wire wire' desk desk (record nothing_moved { put = put })
+  flush_step = flush-step old.session session old.waiting put wire wire' desk split session_is (ap (λ (t : Told). t.gave) tells) (ap (λ (t : Told). t.took) tells)
+
+  abbrev heard-moved : Moved
+  heard-moved = both (record nothing_moved { put = put }) hears.moved
+
+  heard-step : Step old.session h.session old.waiting h.waiting wire wire'' desk desk' heard-moved
+  heard-step = step-then old.session session h.session old.waiting old.waiting h.waiting wire wire' wire'' desk desk desk'
+      (record nothing_moved { put = put }) hears.moved flush_step hears.step
+
+  heard_counts : Counts old.session desk.count → Counts h.session desk'.count
+  heard_counts counts =
+      let same : desk'.count ≡ desk.count = ap (λ (l : Ledger). l.count) hears.ledger in
+      subst (λ n. Counts h.session n) (sym same) (hears.counts desk.count (subst (λ (s : Standing). Counts s desk.count) (sym session_is) counts))
+
+  -- the wire failed in the read
+  pub turn-unheard : answer ≡ Failed → Turn old (record h { live = false }) wire wire'' desk desk' (Ended WireFailed)
+  turn-unheard failed =
+      let rose : Rose wire'.failures wire''.failures = subst (λ (a : Heard). HeardSo (record old { session = session; deaf = 0 }) h wire' wire'' desk desk' hears.moved a) failed hears.so in
+      record {
+        moved = heard-moved;
+        step = heard-step;
+        takes = subst (λ (t : List Said). Takes h.session.logged_on old (record h { live = false }) desk desk' t) (sym hears.unhanded)
+            (no_takes h.session.logged_on old (record h { live = false }) desk desk' (ap (λ (l : Ledger). l.taken) hears.ledger) (ap (λ (f : Front). f.passed) hears.others));
+        means = (subst (λ n. Rose n wire''.failures) (ap (λ (t : Told). t.failures) tells) rose, refl);
+      }
+
+  pub mate-unheard : GoesWith old.session old.passed desk → GoesWith h.session h.passed desk'
+  mate-unheard mate =
+      let same : desk'.count ≡ desk.count = ap (λ (l : Ledger). l.count) hears.ledger in
+      let passed : h.passed ≡ old.passed = ap (λ (f : Front). f.passed) hears.others in
+      record { number = heard_counts mate.number; passed_over = omega (arith, mate.passed_over); few = omega (arith, mate.few) }
+
+  -- all was written, and an output was looked for
+  module _ (desk'' : Ledger) (t : Front) (took : Bool) (hands : HandsOn h t desk' desk'' took) where
+    abbrev given-moved : Moved
+    given-moved = record nothing_moved { handed = hands.handed }
+
+    abbrev all-moved : Moved
+    all-moved = both heard-moved given-moved
+
+    hand-step : Step h.session t.session h.waiting t.waiting wire'' wire'' desk' desk'' given-moved
+    hand-step = record {
+      moves = hands.moves;
+      input = ap (λ (f : Front). f.waiting) hands.others ∙ sym (append-nil h.waiting);
+      gave = sym (grown-nil wire''.gave);
+      took = sym (grown-nil wire''.took);
+      published = ap (λ (l : Ledger). l.published) hands.ledger ∙ sym (append-nil desk'.published);
+      gateway = hands.gateway;
+    }
+
+    all-step : Step old.session t.session old.waiting t.waiting wire wire'' desk desk'' all-moved
+    all-step = step-then old.session h.session t.session old.waiting h.waiting t.waiting wire wire'' wire'' desk desk' desk''
+        heard-moved given-moved heard-step hand-step
+
+    all-takes : Takes t.session.logged_on old t desk desk'' all-moved.handed
+    all-takes =
+        let handed_is : all-moved.handed ≡ hands.handed = ap (λ x. x ++ hands.handed) hears.unhanded in
+        let passed : h.passed ≡ old.passed = ap (λ (f : Front). f.passed) hears.others in
+        subst (λ (x : List Said). Takes t.session.logged_on old t desk desk'' x) (sym handed_is) (record {
+          these = hands.takes.these;
+          taken = hands.takes.taken ∙ ap (λ x. x ++ hands.takes.these) (ap (λ (l : Ledger). l.taken) hears.ledger);
+          given = hands.takes.given;
+          passed = hands.takes.passed ∙ ap (λ n. n + (if t.session.logged_on then 0 else length hands.takes.these)) passed;
+        })
+
+    count_same : desk'.count ≡ desk.count
+    count_same = ap (λ (l : Ledger). l.count) hears.ledger
+
+    -- if nothing moved in all, nothing was heard
+    unheard_all : all-moved ≡ nothing_moved → hears.moved ≡ nothing_moved
+    unheard_all same =
+        let fed : hears.moved.fed ≡ [] = sym (append-nil hears.moved.fed) ∙ ap (λ (m : Moved). m.fed) same in
+        let got : hears.moved.got ≡ [] = sym (append-nil hears.moved.got) ∙ ap (λ (m : Moved). m.got) same in
+        let messages : hears.moved.messages ≡ [] = sym (append-nil hears.moved.messages) ∙ ap (λ (m : Moved). m.messages) same in
+        is_still hears.moved fed got hears.unwritten messages hears.unhanded
+
+    -- and nothing was written
+    unwritten_all : all-moved ≡ nothing_moved → put ≡ []
+    unwritten_all same = no_front put hears.moved.put (sym (append-nil (put ++ hears.moved.put)) ∙ ap (λ (m : Moved). m.put) same)
+
+    -- nothing was written, heard or handed on
+    still_all : put ≡ [] → hears.moved ≡ nothing_moved → hands.handed ≡ [] → all-moved ≡ nothing_moved
+    still_all written heard handed =
+        ap (λ p. both (both (record nothing_moved { put = p }) hears.moved) given-moved) written
+        ∙ ap (λ m. both (both nothing_moved m) given-moved) heard
+        ∙ ap (λ x. both (both nothing_moved nothing_moved) (record nothing_moved { handed = x })) handed
+
+    quiet-all : (end : Front) → put ≡ [] → hears.moved ≡ nothing_moved → (hands.handed ≡ []) × (t ≡ h) × (h.session.closing ≡ None → Rose desk'.nothings desk''.nothings) →
+        (((old.session.held ≢ None) × Rose desk.refusals desk'.refusals)
+        ⊎ ((h.session.held ≡ None) × (h.waiting ≡ []) × (Rose wire.empty_reads wire''.empty_reads ⊎ (h.closed ≡ true)))) →
+        end.session ≡ t.session → end.waiting ≡ t.waiting → end.closed ≡ t.closed →
+        IsQuiet old end wire wire'' desk desk'' all-moved
+    quiet-all end written heard (handed, stays, looked) silence session_end waiting_end closed_end = record {
+      still = still_all written heard handed;
+      stuck = λ stood. absurd (stood (split ∙ ap (λ p. p ++ session.outgoing) written ∙ none));
+      unheard = λ silent. elim silence [
+        | inl (held, rose) ↦ inl (held, subst (λ n. Rose desk.refusals n) (sym (ap (λ (l : Ledger). l.refusals) hands.ledger)) rose)
+        | inr (free, fed, why) ↦ inr (
+          ap (λ (s : Standing). s.held) session_end ∙ ap (λ (f : Front). f.session.held) stays ∙ free,
+          waiting_end ∙ ap (λ (f : Front). f.waiting) stays ∙ fed,
+          elim why [ inl rose ↦ inl rose | inr closed ↦ inr (closed_end ∙ ap (λ (f : Front). f.closed) stays ∙ closed) ],
+        )
+      ];
+      unhanded = λ silent is_open.
+          subst (λ n. Rose n desk''.nothings) (ap (λ (l : Ledger). l.nothings) hears.ledger)
+          (looked (sym (ap (λ (f : Front). f.session.closing) stays) ∙ sym (ap (λ (s : Standing). s.closing) session_end) ∙ is_open));
+    }
+
+    -- what was heard, if it wasn't something and the wire didn't fail
+    heard-nothing : (a : Heard) → a ≢ Something → a ≢ Failed → HeardSo (record old { session = session; deaf = 0 }) h wire' wire'' desk desk' hears.moved a →
+        (hears.moved ≡ nothing_moved) × (((old.session.held ≢ None) × Rose desk.refusals desk'.refusals)
+        ⊎ ((h.session.held ≡ None) × (h.waiting ≡ []) × (Rose wire.empty_reads wire''.empty_reads ⊎ (h.closed ≡ true))))
+    heard-nothing Something other alive so = absurd (other refl)
+    heard-nothing Failed other alive so = absurd (alive refl)
+    heard-nothing Nothing other alive (still, inl (held, rose)) =
+        (still, inl ((λ free. held (ap (λ (s : Standing). s.held) session_is ∙ free)), rose))
+    heard-nothing Nothing other alive (still, inr (free, fed, inl rose)) =
+        (still, inr (free, fed, inl (subst (λ n. Rose n wire''.empty_reads) (ap (λ (w : Told). w.empty_reads) tells) rose)))
+    heard-nothing Nothing other alive (still, inr (free, fed, inr closed)) = (still, inr (free, fed, inr closed))
+
+    all-means : (end : Front) (wrote : Bool) (turned : Turned) →
+        wrote ≡ nat_lt (length session.outgoing) (length old.session.outgoing) → answer ≢ Failed → t.live ≡ true →
+        end ≡ record t { idle = end.idle; live = end.live } → RestsSo t end wrote answer took turned →
+        Means old end wire wire'' desk desk'' all-moved turned
+    all-means end wrote Worked wrote_is alive live end_is (same, inl did) =
+        (inl (λ still. wrote_some old.session.outgoing put session.outgoing split (sym wrote_is ∙ did) (unwritten_all still)), same ∙ live)
+    all-means end wrote Worked wrote_is alive live end_is (same, inr (inl did)) =
+        (inr (subst (λ n. n < desk''.count) count_same (subst (λ (b : Bool). TookSo h t desk' desk'' hands.handed b) did hands.so)), same ∙ live)
+    all-means end wrote Worked wrote_is alive live end_is (same, inr (inr did)) =
+        (inl (λ still. (subst (λ (a : Heard). HeardSo (record old { session = session; deaf = 0 }) h wire' wire'' desk desk' hears.moved a) did hears.so) (unheard_all still)), same ∙ live)
+    all-means end wrote Quiet wrote_is alive live end_is (same, no_bytes, no_output, no_news) =
+        let silent = heard-nothing answer no_news alive hears.so in (
+          quiet-all end (wrote_none old.session.outgoing put session.outgoing split (sym wrote_is ∙ no_bytes)) silent.0
+              (subst (λ (b : Bool). TookSo h t desk' desk'' hands.handed b) no_output hands.so) silent.1
+              (ap (λ (f : Front). f.session) end_is) (ap (λ (f : Front). f.waiting) end_is) (ap (λ (f : Front). f.closed) end_is),
+          same ∙ live,
+        )
+    all-means end wrote (Ended reason) wrote_is alive live end_is (same, why, closed, last) =
+        (subst (λ (r : Reason). EndedBy end wire wire'' r) (sym why) (ap (λ (f : Front). f.closed) end_is ∙ closed, last), same)
+
+    pub turn-rested : (end : Front) (wrote : Bool) (turned : Turned) →
+        wrote ≡ nat_lt (length session.outgoing) (length old.session.outgoing) → answer ≢ Failed → old.live ≡ true →
+        Rests t end wrote answer took turned → Turn old end wire wire'' desk desk'' turned
+    turn-rested end wrote turned wrote_is alive live rests =
+        let session_end = ap (λ (f : Front). f.session) rests.others in
+        let t_live : t.live ≡ true = ap (λ (f : Front). f.live) hands.others ∙ ap (λ (f : Front). f.live) hears.others ∙ live in
+        record {
+          moved = all-moved;
+          step = subst (λ (s : Standing). Step old.session s old.waiting end.waiting wire wire'' desk desk'' all-moved) (sym session_end)
+              (subst (λ w. Step old.session t.session old.waiting w wire wire'' desk desk'' all-moved) (sym (ap (λ (f : Front). f.waiting) rests.others)) all-step);
+          takes = subst (λ (s : Standing). Takes s.logged_on old end desk desk'' all-moved.handed) (sym session_end) (record {
+            these = all-takes.these;
+            taken = all-takes.taken;
+            given = all-takes.given;
+            passed = ap (λ (f : Front). f.passed) rests.others ∙ all-takes.passed;
+          });
+          means = all-means end wrote turned wrote_is alive t_live rests.others rests.so;
+        }
+
+    pub mate-rested : (end : Front) → end ≡ record t { idle = end.idle; live = end.live } → GoesWith old.session old.passed desk → GoesWith end.session end.passed desk''
+    mate-rested end end_is mate =
+        let passed : h.passed ≡ old.passed = ap (λ (f : Front). f.passed) hears.others in
+        let least : h.passed ≤ desk'.count = omega (arith, mate.passed_over, count_same) in
+        let few : desk'.count ≤ 2 ^ 62 = omega (arith, mate.few, count_same) in
+        record {
+          number = subst (λ (s : Standing). Counts s desk''.count) (sym (ap (λ (f : Front). f.session) end_is)) (hands.counts (heard_counts mate.number));
+          passed_over = subst (λ n. n ≤ desk''.count) (sym (ap (λ (f : Front). f.passed) end_is)) (hands.passed_over least);
+          few = hands.few few;
+        }

@@ -1,0 +1,51 @@
+-- What each part of a turn does to where a session stands.
+use Rattle.std.specs.Prelude.{ℕ, ◌+◌, true, false, List, [], ◌++◌, Some, None}
+use Rattle.fix_orders.specs.Text.{Said}
+use Rattle.gateway.specs.declared.ending.Reason.{Reason}
+use Rattle.gateway.specs.declared.ending.Reason.TheVariants.{LoggedOut, Refused}
+use Rattle.gateway.specs.declared.refusal.Refusal.{Refusal}
+use Rattle.gateway.specs.Verdict.{Verdict, Welcome, Beat, Hold, Pass, Leave, Refuse, refusal_text}
+use Rattle.gateway.specs.Answers.{Reply, Logon, Heartbeat, Logout, no_time}
+use Rattle.gateway.specs.Session.{Standing, message_text, said_by}
+
+-- a new session of a gateway
+abbrev pub fresh : ℕ → Standing
+fresh gateway = record {
+  gateway = gateway;
+  under_way = [];
+  held = None;
+  accepted = 0;
+  time = no_time;
+  outgoing = [];
+  number = 1;
+  logged_on = false;
+  closing = None;
+}
+
+-- one more message stands in the outgoing bytes
+abbrev pub saying : Said → Standing → Standing
+saying said s = record s { outgoing = s.outgoing ++ message_text s.gateway s.number said; number = s.number + 1 }
+
+abbrev pub replying : Reply → Standing → Standing
+replying reply s = saying (said_by reply) s
+
+-- a Logout is said, and the session closes
+abbrev pub closing_by : Reason → List ℕ → List ℕ → Standing → Standing
+closing_by reason time text s = record (replying (Logout time text) s) { closing = Some reason }
+
+-- the session refuses what it got
+abbrev pub refusing : List ℕ → Refusal → Standing → Standing
+refusing time r s = closing_by Refused time (refusal_text r) s
+
+-- a frame is accepted
+abbrev pub accepting : List ℕ → Standing → Standing
+accepting time s = record s { under_way = []; accepted = s.accepted + 1; time = time }
+
+-- a frame is heard: its time (or the last one), its bytes and its verdict decide
+abbrev pub heard : List ℕ → List ℕ → Verdict → Standing → Standing
+heard time message Welcome s = record (replying (Logon time) (accepting time s)) { logged_on = true }
+heard time message (Beat echo) s = replying (Heartbeat time echo) (accepting time s)
+heard time message Hold s = record (accepting time s) { held = Some message }
+heard time message Pass s = accepting time s
+heard time message Leave s = closing_by LoggedOut time [] (record s { under_way = [] })
+heard time message (Refuse r) s = refusing time r (record s { under_way = [] })

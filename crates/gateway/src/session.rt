@@ -1,0 +1,310 @@
+//! The pure session: it hears a client's frames one by one, answers them, holds an order message until it is published, and
+//! numbers all that is written. It knows no wire and no ring.
+ghost use Rattle.std.specs.Prelude.{◌≡◌, ◌≢◌, ◌+◌, ◌≤◌, ◌<◌, ◌^◌, [], Some, None, IfOk, IsTrue, ◌↔◌, length, is_some};
+ghost use Rattle.gateway.specs.Flushing.{Flushes};
+ghost use Rattle.fix_orders.specs.Text.{Said};
+
+use crate::desk::{Desk, TryPublish, type_text};
+use crate::ending::Reason;
+use crate::flushing::{Flushed, flush};
+use crate::hearing::{Heard, Judged, hear};
+use crate::message::write_message;
+use crate::refusal::Refusal;
+use crate::wire::Wire;
+use arrayvec::ArrayVec;
+use fix_frame::Framer;
+use fix_orders::put_field;
+use sequencer::Head;
+use std::alloc::{AllocError, Global};
+use std::marker::Model;
+
+/// One session of a gateway's client. Contracts see a `Standing`.
+#[derive(Drop)]
+pub struct Session {
+    gateway: u8,
+    framer: Framer,
+    held: Option<ArrayVec<u8, 320>>,
+    accepted: u32,
+    time: u64,
+    outgoing: ArrayVec<u8, 1024>,
+    number: u64,
+    logged_on: bool,
+    closing: Option<Reason>,
+}
+
+impl Model for Session {
+    ghost use Rattle.gateway.specs.Session.{Standing};
+
+    ghost Value = { Standing };
+
+    ghost use Rattle.gateway.specs.Sessions.{standing, KeepsSession};
+
+    ghost view = { standing };
+
+    ghost invariant = { KeepsSession };
+}
+
+impl Session {
+    ghost use Rattle.std.specs.Prelude.{List, ℕ};
+    ghost use Rattle.fix_frame.specs.Grammar.{IsField};
+    ghost use Rattle.fix_orders.specs.Formats.{time_text};
+    ghost use Rattle.fix_orders.specs.Text.{field};
+    ghost use Rattle.gateway.specs.Answers.{Logon, Heartbeat, Logout};
+    ghost use Rattle.gateway.specs.Moves.{fresh, saying, replying, heard};
+    ghost use Rattle.std.specs.Prelude.{IfSome};
+    ghost use Rattle.gateway.specs.Sessions.{ClosesItself};
+    ghost use Rattle.gateway.specs.Parts.{Listens, Tries};
+    ghost use Rattle.gateway.specs.Hears.{verdict_of, IsOfMessage, CanCount, CanHold, CanEcho};
+    ghost use Rattle.gateway.specs.Messages.{IsTypeText, AreFields, Spells, IsRefusalText};
+    ghost use Rattle.gateway.specs.Desks.{Carries};
+
+    /// A session of this gateway's client, begun.
+    pub fn new(alloc: Global, gateway: u8) -> Result<Session, AllocError>
+        requires from { 1 ≤ gateway }
+        requires to { gateway ≤ 8 }
+        ensures { IfOk result (λ session. session ≡ fresh gateway) }
+    {
+        Ok(Session {
+            gateway,
+            framer: Framer::new(alloc)?,
+            held: None,
+            accepted: 0,
+            time: 0,
+            outgoing: ArrayVec::new(),
+            number: 1,
+            logged_on: false,
+            closing: None,
+        })
+    }
+
+    /// Why the session closes, where it has said its Logout.
+    pub fn closing(&self) -> Option<Reason>
+        ensures value { result ≡ self.now.closing }
+        ensures own { IfSome result ClosesItself }
+        ensures few { self.now.accepted ≤ 999999999 }
+    {
+        self.closing
+    }
+
+    /// Whether a message waits to be published.
+    pub fn is_holding(&self) -> bool
+        ensures { result ≡ is_some self.now.held }
+    {
+        self.held.is_some()
+    }
+
+    /// Whether the client is logged on.
+    pub fn is_logged_on(&self) -> bool
+        ensures { result ≡ self.now.logged_on }
+    {
+        self.logged_on
+    }
+
+    /// How many bytes stand to be written.
+    pub fn unsent(&self) -> usize
+        ensures { result ≡ length self.now.outgoing }
+    {
+        self.outgoing.len()
+    }
+
+    /// Writes what stands to be written, as far as the wire takes it.
+    pub fn flush<W: Wire>(&mut self, wire: &mut W) -> Flushed
+        ensures bytes { Flushes self.old.outgoing self.new.outgoing (W.tells wire.old) (W.tells wire.new) result }
+        ensures others { self.new ≡ record self.old { outgoing = self.new.outgoing } }
+    {
+        flush(&mut self.outgoing, wire)
+    }
+
+    /// Begins a new session of the same client.
+    pub fn begin(&mut self)
+        ensures { self.new ≡ fresh self.old.gateway }
+    {
+        self.framer.reset();
+        self.held = None;
+        self.accepted = 0;
+        self.time = 0;
+        self.outgoing.clear();
+        self.number = 1;
+        self.logged_on = false;
+        self.closing = None;
+    }
+
+    /// Feeds bytes up to the end of the message under way, and does what the session does with a frame that they end
+    /// or a fault that they have. Answers how many were fed.
+    pub fn feed(&mut self, bytes: &[u8]) -> usize
+        requires open { self.old.closing ≡ None }
+        requires free { self.old.held ≡ None }
+        requires some { 0 < length bytes.now }
+        requires room { length self.old.outgoing ≤ 512 }
+        requires number { self.old.number < 2 ^ 63 }
+        ensures hears { Listens self.old self.new bytes.now result }
+        ensures room { length self.new.outgoing ≤ length self.old.outgoing + 412 }
+    {
+        let fed = match self.framer.feed(bytes) {
+            Ok(fed) => fed,
+            Err(fault) => {
+                self.closing = Some(Reason::Refused);
+                let time = self.time;
+                self.say_logout(time, Refusal::Frame(fault).text());
+                return bytes.len();
+            }
+        };
+        let heard = match self.framer.next() {
+            Some(frame) => hear(&frame, self.gateway, self.accepted, self.time),
+            None => return fed,
+        };
+        self.answer(heard);
+        fed
+    }
+
+    /// Does what the session does with a judged frame.
+    fn answer(&mut self, frame: Heard)
+        requires open { self.old.closing ≡ None }
+        requires given { self.old.under_way ≡ [] }
+        requires room { length self.old.outgoing ≤ 512 }
+        requires number { self.old.number < 2 ^ 63 }
+        requires counts { CanCount self.old.accepted frame.verdict }
+        requires message { CanHold frame.verdict }
+        requires echo { CanEcho frame.verdict }
+        ensures new { (message : List ℕ) → IsOfMessage message frame.verdict →
+            self.new ≡ heard (time_text frame.time) message (verdict_of frame.verdict) self.old }
+        ensures room { length self.new.outgoing ≤ length self.old.outgoing + 412 }
+    {
+        let Heard { verdict, time } = frame;
+        match verdict {
+            Judged::Welcome => {
+                self.accepted += 1;
+                self.time = time;
+                self.logged_on = true;
+                self.say_logon(time);
+            }
+            Judged::Beat(echo) => {
+                self.accepted += 1;
+                self.time = time;
+                self.say_heartbeat(time, echo.as_slice());
+            }
+            Judged::Pass => {
+                self.accepted += 1;
+                self.time = time;
+            }
+            Judged::Leave => {
+                self.closing = Some(Reason::LoggedOut);
+                self.return_logout(time);
+            }
+            Judged::Hold(message) => {
+                self.accepted += 1;
+                self.time = time;
+                self.held = Some(message);
+            }
+            Judged::Refuse(refusal) => {
+                self.closing = Some(Reason::Refused);
+                self.say_logout(time, refusal.text());
+            }
+        }
+    }
+
+    /// Says the Logon.
+    fn say_logon(&mut self, time: u64)
+        requires room { length self.old.outgoing ≤ 512 }
+        requires number { self.old.number < 2 ^ 63 }
+        ensures new { self.new ≡ replying (Logon (time_text time)) self.old }
+        ensures room { length self.new.outgoing ≤ length self.old.outgoing + 412 }
+    {
+        self.say(b"A", time, b"98=0\x01108=0\x01141=Y\x01");
+    }
+
+    /// Says the Heartbeat that a TestRequest asks for, with its TestReqID (112).
+    fn say_heartbeat(&mut self, time: u64, echo: &[u8])
+        requires room { length self.old.outgoing ≤ 512 }
+        requires number { self.old.number < 2 ^ 63 }
+        requires echo { IsField (field 112 echo.now) }
+        requires most { length echo.now ≤ 32 }
+        ensures new { self.new ≡ replying (Heartbeat (time_text time) echo.now) self.old }
+        ensures room { length self.new.outgoing ≤ length self.old.outgoing + 412 }
+    {
+        let mut body = [0; 64];
+        let end = put_field(&mut body, 0, 112, echo);
+        self.say(b"0", time, &body[..end]);
+    }
+
+    /// Says the Logout that answers the client's, without a text.
+    fn return_logout(&mut self, time: u64)
+        requires room { length self.old.outgoing ≤ 512 }
+        requires number { self.old.number < 2 ^ 63 }
+        ensures new { self.new ≡ replying (Logout (time_text time) []) self.old }
+        ensures room { length self.new.outgoing ≤ length self.old.outgoing + 412 }
+    {
+        self.say(b"5", time, &[]);
+    }
+
+    /// Says the Logout, with a text of 1 to 20 bytes.
+    fn say_logout(&mut self, time: u64, text: &[u8])
+        requires room { length self.old.outgoing ≤ 512 }
+        requires number { self.old.number < 2 ^ 63 }
+        requires text { IsRefusalText text.now }
+        ensures new { self.new ≡ replying (Logout (time_text time) text.now) self.old }
+        ensures room { length self.new.outgoing ≤ length self.old.outgoing + 412 }
+    {
+        let mut body = [0; 32];
+        let end = put_field(&mut body, 0, 58, text);
+        self.say(b"5", time, &body[..end]);
+    }
+
+    /// Says a message: its MsgType (35), SendingTime (52) and body.
+    fn say(&mut self, msg_type: &[u8], time: u64, body: &[u8])
+        requires kind { IsTypeText msg_type.now }
+        requires fields { AreFields body.now }
+        requires most { length body.now ≤ 320 }
+        requires room { length self.old.outgoing ≤ 512 }
+        requires number { self.old.number < 2 ^ 63 }
+        ensures new { (said : Said) → Spells msg_type.now time body.now said → self.new ≡ saying said self.old }
+        ensures room { length self.new.outgoing ≤ length self.old.outgoing + 412 }
+    {
+        let mut text = [0; 512];
+        let len = write_message(&mut text, self.gateway, self.number, msg_type, time, body);
+        let _ = self.outgoing.try_extend_from_slice(&text[..len]);
+        self.number += 1;
+    }
+
+    /// Publishes the message held.
+    pub fn publish<D: Desk>(&mut self, desk: &mut D) -> TryPublish
+        requires open { self.old.closing ≡ None }
+        requires held { self.old.held ≢ None }
+        requires room { length self.old.outgoing ≤ 512 }
+        requires number { self.old.number < 2 ^ 63 }
+        ensures tries { Tries self.old self.new (D.ledger desk.old) (D.ledger desk.new) result }
+        ensures fixed { D.fixed desk.new ≡ D.fixed desk.old }
+        ensures room { length self.new.outgoing ≤ length self.old.outgoing + 412 }
+    {
+        let Some(message) = &self.held else {
+            unreachable!()
+        };
+        let published = desk.try_publish(message.as_slice());
+        match published {
+            TryPublish::Done => self.held = None,
+            TryPublish::Refused => {}
+            TryPublish::Exhausted => {
+                self.held = None;
+                self.closing = Some(Reason::Exhausted);
+                let time = self.time;
+                self.say_logout(time, Refusal::Exhausted.text());
+            }
+        }
+        published
+    }
+
+    /// Hands an output to the client, who is logged on.
+    pub fn hand_on(&mut self, head: Head, body: &[u8; 320])
+        requires carries { (said : Said) × Carries head body.now said }
+        requires room { length self.old.outgoing ≤ 512 }
+        requires number { self.old.number < 2 ^ 63 }
+        ensures { (said : Said) → Carries head body.now said → self.new ≡ saying said self.old }
+    {
+        let body = &body[..];
+        self.say(
+            type_text(head.msg_type),
+            head.sending_time,
+            &body[..head.len],
+        );
+    }
+}

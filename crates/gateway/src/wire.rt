@@ -1,0 +1,66 @@
+//! The wire: where a client's bytes come in and where its messages go out, one session at a time.
+//! A session knows no more of it than this trait; `MemWire` stands in for it in tests, `StdWire` is the program's.
+ghost use Rattle.std.specs.Prelude.{◌≡◌, ◌<◌, length};
+ghost use Rattle.gateway.specs.Wires.{Told, ReadTells, WriteTells};
+
+mod counts;
+mod mem;
+mod standard;
+#[cfg(test)]
+mod tests;
+
+pub use mem::MemWire;
+pub use standard::StdWire;
+
+/// What a read found. `Failed` is an error of the wire, `End` the end of what the client sends.
+#[derive(Clone, Copy, Debug, PartialEq, Eq)]
+pub enum TryRead {
+    /// So many bytes, at least one, stand at the buffer's front.
+    Got(usize),
+    /// There is nothing yet.
+    Nothing,
+    End,
+    Failed,
+}
+
+/// What a write came to. `Failed` is an error of the wire.
+#[derive(Clone, Copy, Debug, PartialEq, Eq)]
+pub enum TryWrite {
+    /// So many bytes, at least one, were taken from the front.
+    Put(usize),
+    /// There is no room yet.
+    Nothing,
+    Failed,
+}
+
+/// How many reads and how many writes answered `Nothing`.
+#[derive(Clone, Copy, Debug, PartialEq, Eq)]
+pub struct Nothings {
+    pub reads: u64,
+    pub writes: u64,
+}
+
+/// A client's bytes in both directions. A call may move fewer bytes than there is room for, or none.
+pub trait Wire {
+    /// The bytes that it gave and took, as far as it tells them, and its counts.
+    ghost tells: { Self → Told };
+
+    /// Moves some bytes into the buffer's front. What stands behind them in the buffer is unspecified.
+    fn try_read(&mut self, buf: &mut [u8]) -> TryRead
+        requires { 0 < length buf.old }
+        ensures { ReadTells (tells self.old) (tells self.new) buf.new result };
+
+    /// Sends a front of the bytes.
+    fn try_write(&mut self, bytes: &[u8]) -> TryWrite
+        requires { 0 < length bytes.now }
+        ensures { WriteTells (tells self.old) (tells self.new) bytes.now result };
+
+    /// How many calls answered `Failed`. The count stays at `u64::MAX`.
+    fn failures(&self) -> u64
+        ensures { result ≡ (tells self.now).failures };
+
+    /// The counts of calls that answered `Nothing`. Each stays at `u64::MAX`.
+    fn nothings(&self) -> Nothings
+        ensures reads { result.reads ≡ (tells self.now).empty_reads }
+        ensures writes { result.writes ≡ (tells self.now).full_writes };
+}
