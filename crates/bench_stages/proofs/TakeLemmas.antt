@@ -18,7 +18,7 @@ use Rattle.ring_words.specs.declared.view.View.{View}
 use Rattle.ring_words.specs.Seats.{person, alone}
 use Rattle.ring_words.proofs.Logs.{within}
 use Rattle.sequencer.specs.Outputs.{TakesNext}
-use Rattle.stages.specs.Processed.{outputs_of}
+use Rattle.book.specs.Histories.{outputs_of}
 use Rattle.stages.proofs.Processing.{take_next}
 use Rattle.bench_stages.specs.declared.answers.Answers.{Answers}
 use Rattle.bench_stages.specs.Answers.{is_accepted, is_canceled, mine, Counted}

@@ -12,7 +12,7 @@ use Rattle.fix_orders.specs.Text.{exec_code, text_bytes}
 use Rattle.ring_words.specs.declared.view.View.{View}
 use Rattle.ring_words.specs.Seats.{person}
 use Rattle.sequencer.specs.declared.take.Head.{Head}
-use Rattle.stages.specs.Processed.{outputs_of}
+use Rattle.book.specs.Histories.{outputs_of}
 use Rattle.bench_stages.specs.declared.answers.Answers.{Answers}
 
 -- an order was accepted

@@ -6,3 +6,4 @@ pub mod Books
 pub mod Laws
 pub mod Listing
 pub mod Next
+pub mod Histories

@@ -1,11 +1,14 @@
 -- What the part that takes an output comes to.
 use Rattle.std.proofs.Common.{◌≡◌, ℕ, ◌+◌, ◌^◌, ◌≤◌, Bool, true, false, if◌then◌else◌, List, [], ◌∷◌, ◌++◌, length, refl, ap, sym, subst, ◌∙◌, arith, append-nil, None}
 use Rattle.fix_orders.specs.Text.{Said}
-use Rattle.gateway.specs.Desks.{Ledger}
+use Rattle.ring_words.specs.declared.view.Load.{Load}
+use Rattle.ring_words.specs.Places.{marshalled}
+use Rattle.ring_words.specs.Seats.{load_of}
+use Rattle.gateway.specs.Ledgers.{Ledger, loading}
 use Rattle.gateway.specs.Session.{Standing, At}
 use Rattle.gateway.specs.Moves.{saying}
 use Rattle.gateway.specs.Turns.{Front, nothing_moved, Moves, Takes, Counts}
-use Rattle.gateway.specs.Gateways.{HandsOn}
+use Rattle.gateway.specs.Gateways.{HandsOn, PassesOver}
 use Rattle.gateway.proofs.Standings.{at-handed}
 use Rattle.gateway.proofs.StepLemmas.{at-same, moves-nothing}
 
@@ -19,10 +22,10 @@ said-moves old new said on is_open new_is input messages outs written at =
     (at-handed old.session input messages outs written said on is_open at))
 
 -- the output goes to a client that is logged on
-pub hands-said : (old new : Front) (desk desk' : Ledger) (said : Said) → old.session.logged_on ≡ true → old.session.closing ≡ None →
+pub hands-said : (old new : Front) (desk desk' : Ledger) (said : Said) (ls : List Load) → old.session.logged_on ≡ true → old.session.closing ≡ None →
     new.session ≡ saying said old.session → new ≡ record old { session = new.session } → desk.count + 1 ≤ 2 ^ 62 →
-    desk' ≡ record desk { taken = desk.taken ++ said ∷ []; count = desk.count + 1 } → HandsOn old new desk desk' true
-hands-said old new desk desk' said on is_open new_is others few tells = record {
+    desk' ≡ record (loading desk ls) { taken = desk.taken ++ said ∷ []; count = desk.count + 1 } → HandsOn old new desk desk' true
+hands-said old new desk desk' said ls on is_open new_is others few tells = record {
   handed = said ∷ [];
   moves = said-moves old new.session said on is_open new_is;
   others = others ∙ ap (λ p. record old { session = new.session; passed = p }) (sym (ap (λ (f : Front). f.passed) others));
@@ -37,9 +40,9 @@ hands-said old new desk desk' said on is_open new_is others few tells = record {
         given = refl;
         passed = let same : new.passed ≡ old.passed = ap (λ (f : Front). f.passed) others in omega arith;
       });
-  ledger = tells ∙ ap (λ t. record desk { taken = t; count = desk.count + 1 }) (sym (ap (λ (l : Ledger). l.taken) tells))
-      ∙ ap (λ n. record desk { taken = desk'.taken; count = n }) (sym (ap (λ (l : Ledger). l.count) tells))
-      ∙ ap (λ n. record desk { taken = desk'.taken; count = desk'.count; nothings = n }) (sym (ap (λ (l : Ledger). l.nothings) tells));
+  loaded = ls;
+  ledger = tells ∙ ap (λ t. record (loading desk ls) { taken = t; count = desk.count + 1 }) (sym (ap (λ (l : Ledger). l.taken) tells))
+      ∙ ap (λ n. record (loading desk ls) { taken = desk'.taken; count = n }) (sym (ap (λ (l : Ledger). l.count) tells));
   counts = λ counts. subst (λ (t : Standing). Counts t desk'.count) (sym new_is)
       (let more : desk'.count ≡ desk.count + 1 = ap (λ (l : Ledger). l.count) tells in omega arith);
   passed_over = λ least.
@@ -51,9 +54,9 @@ hands-said old new desk desk' said on is_open new_is others few tells = record {
 }
 
 -- an output, or none, changes no session
-module _ (old new : Front) (desk desk' : Ledger) (these : List Said) (stays : new.session ≡ old.session)
+module _ (old new : Front) (desk desk' : Ledger) (these : List Said) (ls : List Load) (stays : new.session ≡ old.session)
     (others : new ≡ record old { passed = new.passed }) (more : desk'.count ≡ desk.count + 1) (small : desk.count + 1 ≤ 2 ^ 62)
-    (tells : desk' ≡ record desk { taken = desk.taken ++ these; count = desk'.count })
+    (tells : desk' ≡ record (loading desk ls) { taken = desk.taken ++ these; count = desk'.count })
     (given : [] ≡ (if old.session.logged_on then these else []))
     (passed : new.passed ≡ old.passed + (if old.session.logged_on then 0 else length these)) (one : length these ≤ 1) where
   pub hands-over : HandsOn old new desk desk' true
@@ -66,8 +69,8 @@ module _ (old new : Front) (desk desk' : Ledger) (these : List Said) (stays : ne
     held = ap (λ (s : Standing). s.held) stays;
     takes = subst (λ (s : Standing). Takes s.logged_on old new desk desk' []) (sym stays)
         (record { these = these; taken = ap (λ (l : Ledger). l.taken) tells; given = given; passed = passed });
-    ledger = tells ∙ ap (λ t. record desk { taken = t; count = desk'.count }) (sym (ap (λ (l : Ledger). l.taken) tells))
-        ∙ ap (λ n. record desk { taken = desk'.taken; count = desk'.count; nothings = n }) (sym (ap (λ (l : Ledger). l.nothings) tells));
+    loaded = ls;
+    ledger = tells ∙ ap (λ t. record (loading desk ls) { taken = t; count = desk'.count }) (sym (ap (λ (l : Ledger). l.taken) tells));
     counts = λ counts. subst (λ (s : Standing). Counts s desk'.count) (sym stays) (omega arith);
     passed_over = λ least. passes (old.session.logged_on) passed least;
     few = λ most. omega arith;
@@ -79,14 +82,14 @@ module _ (old new : Front) (desk desk' : Ledger) (these : List Said) (stays : ne
       passes false h least = omega arith
 
 -- the output goes to a client that isn't logged on
-pub hands-unsaid : (old new : Front) (desk desk' : Ledger) (said : Said) → old.session.logged_on ≡ false →
+pub hands-unsaid : (old new : Front) (desk desk' : Ledger) (said : Said) (ls : List Load) → old.session.logged_on ≡ false →
     new ≡ record old { passed = old.passed + 1 } → desk.count + 1 ≤ 2 ^ 62 →
-    desk' ≡ record desk { taken = desk.taken ++ said ∷ []; count = desk.count + 1 } → HandsOn old new desk desk' true
-hands-unsaid old new desk desk' said off new_is few tells =
+    desk' ≡ record (loading desk ls) { taken = desk.taken ++ said ∷ []; count = desk.count + 1 } → HandsOn old new desk desk' true
+hands-unsaid old new desk desk' said ls off new_is few tells =
     let count = ap (λ (l : Ledger). l.count) tells in
-    hands-over old new desk desk' (said ∷ []) (ap (λ (f : Front). f.session) new_is)
+    hands-over old new desk desk' (said ∷ []) ls (ap (λ (f : Front). f.session) new_is)
     (new_is ∙ ap (λ p. record old { passed = p }) (sym (ap (λ (f : Front). f.passed) new_is))) count few
-    (tells ∙ ap (λ n. record desk { taken = desk.taken ++ said ∷ []; count = n }) (sym count))
+    (tells ∙ ap (λ n. record (loading desk ls) { taken = desk.taken ++ said ∷ []; count = n }) (sym count))
     (sym (ap (λ (b : Bool). if b then said ∷ [] else []) off))
     (ap (λ (f : Front). f.passed) new_is ∙ sym (ap (λ (b : Bool). old.passed + (if b then 0 else 1)) off)) (omega arith)
 
@@ -99,10 +102,46 @@ none_passed true n = omega arith
 none_passed false n = omega arith
 
 -- the output goes to another's client
-pub hands-other : (old : Front) (desk desk' : Ledger) → desk.count + 1 ≤ 2 ^ 62 →
-    desk' ≡ record desk { count = desk.count + 1 } → HandsOn old old desk desk' true
-hands-other old desk desk' few tells =
+pub hands-other : (old : Front) (desk desk' : Ledger) (ls : List Load) → desk.count + 1 ≤ 2 ^ 62 →
+    desk' ≡ record (loading desk ls) { count = desk.count + 1 } → HandsOn old old desk desk' true
+hands-other old desk desk' ls few tells =
     let count = ap (λ (l : Ledger). l.count) tells in
-    hands-over old old desk desk' [] refl refl count few
-    (tells ∙ ap (λ n. record desk { count = n }) (sym count) ∙ ap (λ t. record desk { taken = t; count = desk'.count }) (sym (append-nil desk.taken)))
+    hands-over old old desk desk' [] ls refl refl count few
+    (tells ∙ ap (λ n. record (loading desk ls) { count = n }) (sym count)
+    ∙ ap (λ t. record (loading desk ls) { taken = t; count = desk'.count }) (sym (append-nil desk.taken)))
     (none_given old.session.logged_on [] refl) (none_passed old.session.logged_on old.passed) (omega arith)
+
+-- PASSING OVER
+
+still : (old : Front) → old ≡ record old { passed = old.passed + 0 }
+still old = let same : old.passed ≡ old.passed + 0 = omega arith in ap (λ n. record old { passed = n }) same
+
+-- the output goes to another's client
+pub passes-other : (old : Front) (desk desk' : Ledger) (ls : List Load) → desk' ≡ record (loading desk ls) { count = desk.count + 1 }
+    → PassesOver old old desk desk' true
+passes-other old desk desk' ls tells =
+    let count : desk'.count ≡ desk.count + 1 = ap (λ (l : Ledger). l.count) tells in
+    let taken = ap (λ (l : Ledger). l.taken) tells in record {
+      these = [];
+      taken = taken ∙ sym (append-nil desk.taken);
+      passed = still old;
+      loaded = ls;
+      ledger = tells ∙ ap (λ n. record (loading desk ls) { count = n }) (sym count)
+          ∙ ap (λ t. record (loading desk ls) { taken = t; count = desk'.count }) (sym taken);
+      so = count;
+    }
+
+-- there was none
+pub passes-none : (old : Front) (desk desk' : Ledger) → desk' ≡ loading desk (load_of marshalled desk.count ∷ []) → PassesOver old old desk desk' false
+passes-none old desk desk' tells =
+    let count : desk'.count ≡ desk.count = ap (λ (l : Ledger). l.count) tells in
+    let taken = ap (λ (l : Ledger). l.taken) tells in
+    let ls : List Load = load_of marshalled desk.count ∷ [] in record {
+      these = [];
+      taken = taken ∙ sym (append-nil desk.taken);
+      passed = still old;
+      loaded = ls;
+      ledger = tells ∙ ap (λ n. record (loading desk ls) { count = n }) (sym count)
+          ∙ ap (λ t. record (loading desk ls) { taken = t; count = desk'.count }) (sym taken);
+      so = tells;
+    }

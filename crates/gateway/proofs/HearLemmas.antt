@@ -1,12 +1,14 @@
 -- What the parts that hear come to.
 use Rattle.std.proofs.Common.{◌≡◌, ◌≢◌, ◌⊎◌, inl, inr, ℕ, zero, suc, ◌+◌, ◌≤◌, false, List, [], ◌∷◌, ◌++◌, length, take, drop, refl, ap, sym, subst, ◌∙◌, arith, append-nil, take-append-drop, Option, Some, None, is_some}
 use Rattle.fix_orders.specs.Text.{Said}
-use Rattle.gateway.specs.declared.desk.TryPublish.{TryPublish}
-use Rattle.gateway.specs.declared.desk.TryPublish.TheVariants.{Done, Refused, Exhausted}
-use Rattle.gateway.specs.declared.gateway.Heard.{Heard}
-use Rattle.gateway.specs.declared.gateway.Heard.TheVariants.{Something, Nothing, Failed}
+use Rattle.ring_words.specs.declared.view.Load.{Load}
+use Rattle.gateway.specs.declared.ending.Reason.TheVariants as reason
+use Rattle.gateway.specs.declared.seat.TryPublish.{TryPublish}
+use Rattle.gateway.specs.declared.seat.TryPublish.TheVariants.{Done, Refused, Exhausted}
+use Rattle.gateway.specs.declared.client_side.Heard.{Heard}
+use Rattle.gateway.specs.declared.client_side.Heard.TheVariants.{Something, Nothing, Failed}
 use Rattle.gateway.specs.Wires.{Told}
-use Rattle.gateway.specs.Desks.{Ledger}
+use Rattle.gateway.specs.Ledgers.{Ledger, loading}
 use Rattle.gateway.specs.Verdict.{Verdict, Welcome, Beat, Hold, Pass, Leave, Refuse, verdict}
 use Rattle.gateway.specs.Session.{Standing, At}
 use Rattle.gateway.specs.Moves.{heard}
@@ -18,6 +20,14 @@ use Rattle.gateway.proofs.Opening.{opened}
 use Rattle.gateway.proofs.Standings.{at-published, at-exhausted, at-fed, at-heard, at-faulted}
 use Rattle.gateway.proofs.StepLemmas.{at-same, moves-nothing}
 use Rattle.gateway.proofs.WireLemmas.{grown-nil}
+
+-- nothing was loaded
+unloaded : (l : Ledger) → l ≡ record (loading l []) { published = l.published }
+unloaded l = ap (λ ls. record l { loads = ls }) (sym (append-nil l.loads))
+
+-- no more than these words were loaded
+all_loads : (desk desk' : Ledger) (ls : List Load) → desk'.loads ≡ desk.loads ++ ls → desk'.loads ≡ desk.loads ++ (ls ++ [])
+all_loads desk desk' ls loads = loads ∙ ap (λ x. desk.loads ++ x) (sym (append-nil ls))
 
 -- a session that is held something of isn't held nothing
 held_is_some : (s : Standing) (message : List ℕ) → s.held ≡ Some message → s.held ≢ None
@@ -45,42 +55,45 @@ module _ (old new : Front) (desk desk' : Ledger) (is_open : old.session.closing 
       moves = λ input messages outs written at.
           at-same new.session input (input ++ []) (messages ++ tries.message ∷ []) (messages ++ tries.message ∷ []) outs (outs ++ []) written (written ++ [])
           (sym (append-nil input)) refl (sym (append-nil outs)) (sym (append-nil written))
-          (subst (λ (s : Standing). At s input (messages ++ tries.message ∷ []) outs written) (sym tries.publishes)
+          (subst (λ (s : Standing). At s input (messages ++ tries.message ∷ []) outs written) (sym tries.settles)
           (at-published old.session input messages outs written tries.message tries.holds is_open at));
       input = waiting_stays ∙ sym (append-nil old.waiting);
       gave = sym (grown-nil wire.gave);
       took = sym (grown-nil wire.took);
-      published = ap (λ (l : Ledger). l.published) tries.tells;
-      gateway = ap (λ (s : Standing). s.gateway) tries.publishes;
+      published = ap (λ (l : Ledger). l.published) tries.tells.1;
+      gateway = ap (λ (s : Standing). s.gateway) tries.settles;
     };
     others = others_full;
-    ledger = tries.tells ∙ ap (λ ps. record desk { published = ps }) (sym (ap (λ (l : Ledger). l.published) tries.tells))
-        ∙ ap (λ n. record desk { published = desk'.published; refusals = n }) (sym (ap (λ (l : Ledger). l.refusals) tries.tells));
+    loaded = tries.tells.0;
+    ledger = tries.tells.1 ∙ ap (λ ps. record (loading desk tries.tells.0) { published = ps }) (sym (ap (λ (l : Ledger). l.published) tries.tells.1));
     unwritten = refl;
     unhanded = refl;
-    counts = λ count counts. subst (λ (s : Standing). Counts s count) (sym tries.publishes) counts;
+    counts = λ count counts. subst (λ (s : Standing). Counts s count) (sym tries.settles) counts;
     room = room_left;
-    next = let number : new.session.number ≡ old.session.number = ap (λ (s : Standing). s.number) tries.publishes in omega arith;
+    next = let number : new.session.number ≡ old.session.number = ap (λ (s : Standing). s.number) tries.settles in omega arith;
+    lost = λ is. absurd (let stays = ap (λ (s : Standing). s.closing) tries.settles in cc);
     so = λ same. let none = ap (λ (m : Moved). m.messages) same in cc;
   }
   publish-hears Refused tries wire = record {
     moved = nothing_moved;
     step = record {
-      moves = subst (λ (s : Standing). Moves old.session s nothing_moved) (sym tries.publishes) (moves-nothing old.session);
+      moves = subst (λ (s : Standing). Moves old.session s nothing_moved) (sym tries.settles) (moves-nothing old.session);
       input = waiting_stays ∙ sym (append-nil old.waiting);
       gave = sym (grown-nil wire.gave);
       took = sym (grown-nil wire.took);
-      published = ap (λ (l : Ledger). l.published) tries.tells.1 ∙ sym (append-nil desk.published);
-      gateway = ap (λ (s : Standing). s.gateway) tries.publishes;
+      published = ap (λ (l : Ledger). l.published) tries.tells.2 ∙ sym (append-nil desk.published);
+      gateway = ap (λ (s : Standing). s.gateway) tries.settles;
     };
     others = others_full;
-    ledger = tries.tells.1 ∙ ap (λ ps. record desk { published = ps; refusals = desk'.refusals }) (sym (ap (λ (l : Ledger). l.published) tries.tells.1));
+    loaded = tries.tells.0;
+    ledger = tries.tells.2 ∙ ap (λ ps. record (loading desk tries.tells.0) { published = ps }) (sym (ap (λ (l : Ledger). l.published) tries.tells.2));
     unwritten = refl;
     unhanded = refl;
-    counts = λ count counts. subst (λ (s : Standing). Counts s count) (sym tries.publishes) counts;
+    counts = λ count counts. subst (λ (s : Standing). Counts s count) (sym tries.settles) counts;
     room = room_left;
-    next = let number : new.session.number ≡ old.session.number = ap (λ (s : Standing). s.number) tries.publishes in omega arith;
-    so = (refl, inl (held_is_some old.session tries.message tries.holds, tries.tells.0));
+    next = let number : new.session.number ≡ old.session.number = ap (λ (s : Standing). s.number) tries.settles in omega arith;
+    lost = λ is. absurd (let stays = ap (λ (s : Standing). s.closing) tries.settles in cc);
+    so = (refl, inl (held_is_some old.session tries.message tries.holds, (tries.tells.0, inl tries.tells.1, [], all_loads desk desk' tries.tells.0 (ap (λ (l : Ledger). l.loads) tries.tells.2))));
   }
   publish-hears Exhausted tries wire = record {
     moved = nothing_moved;
@@ -88,23 +101,26 @@ module _ (old new : Front) (desk desk' : Ledger) (is_open : old.session.closing 
       moves = λ input messages outs written at.
           at-same new.session input (input ++ []) messages (messages ++ []) outs (outs ++ []) written (written ++ [])
           (sym (append-nil input)) (sym (append-nil messages)) (sym (append-nil outs)) (sym (append-nil written))
-          (subst (λ (s : Standing). At s input messages outs written) (sym tries.publishes)
+          (subst (λ (s : Standing). At s input messages outs written) (sym tries.settles)
           (at-exhausted old.session input messages outs written tries.message tries.holds is_open at));
       input = waiting_stays ∙ sym (append-nil old.waiting);
       gave = sym (grown-nil wire.gave);
       took = sym (grown-nil wire.took);
-      published = ap (λ (l : Ledger). l.published) tries.tells.1 ∙ sym (append-nil desk.published);
-      gateway = ap (λ (s : Standing). s.gateway) tries.publishes;
+      published = ap (λ (l : Ledger). l.published) tries.tells.2 ∙ sym (append-nil desk.published);
+      gateway = ap (λ (s : Standing). s.gateway) tries.settles;
     };
     others = others_full;
-    ledger = tries.tells.1 ∙ ap (λ ps. record desk { published = ps; refusals = desk'.refusals }) (sym (ap (λ (l : Ledger). l.published) tries.tells.1));
+    loaded = tries.tells.0;
+    ledger = tries.tells.2 ∙ ap (λ ps. record (loading desk tries.tells.0) { published = ps }) (sym (ap (λ (l : Ledger). l.published) tries.tells.2));
     unwritten = refl;
     unhanded = refl;
-    counts = λ count counts. subst (λ (s : Standing). Counts s count) (sym tries.publishes)
+    counts = λ count counts. subst (λ (s : Standing). Counts s count) (sym tries.settles)
         (let none : farewell old.session.closing ≡ 0 = ap farewell is_open in omega arith);
     room = room_left;
-    next = let number : new.session.number ≡ old.session.number + 1 = ap (λ (s : Standing). s.number) tries.publishes in omega arith;
-    so = (refl, inl (held_is_some old.session tries.message tries.holds, tries.tells.0));
+    next = let number : new.session.number ≡ old.session.number + 1 = ap (λ (s : Standing). s.number) tries.settles in omega arith;
+    lost = λ is.
+        (held_is_some old.session tries.message tries.holds, (tries.tells.0, tries.tells.1, [], all_loads desk desk' tries.tells.0 (ap (λ (l : Ledger). l.loads) tries.tells.2)));
+    so = (refl, inl (held_is_some old.session tries.message tries.holds, (tries.tells.0, inr tries.tells.1, [], all_loads desk desk' tries.tells.0 (ap (λ (l : Ledger). l.loads) tries.tells.2))));
   }
 
 -- a frame heard counts what it says
@@ -132,6 +148,15 @@ heard-gateway time message Pass s = refl
 heard-gateway time message Leave s = refl
 heard-gateway time message (Refuse r) s = refl
 
+-- no frame is why a session closes that is exhausted
+heard-unlost : (time message : List ℕ) (v : Verdict) (s : Standing) → s.closing ≡ None → (heard time message v s).closing ≢ Some reason.Exhausted
+heard-unlost time message Welcome s is_open is = cc
+heard-unlost time message (Beat echo) s is_open is = cc
+heard-unlost time message Hold s is_open is = cc
+heard-unlost time message Pass s is_open is = cc
+heard-unlost time message Leave s is_open is = cc
+heard-unlost time message (Refuse r) s is_open is = cc
+
 -- what a feed does to a session that is open and holds nothing
 record Fed (old new : Standing) (fed : List ℕ) : Type 0 where
   moves : (input : List ℕ) (messages : List (List ℕ)) (outs : List Said) (written : List ℕ) →
@@ -139,6 +164,7 @@ record Fed (old new : Standing) (fed : List ℕ) : Type 0 where
   counts : (count : ℕ) → Counts old count → Counts new count
   next : new.number ≤ old.number + 1
   gateway : new.gateway ≡ old.gateway
+  unlost : new.closing ≢ Some reason.Exhausted
 
 module _ (old new : Standing) (fed : List ℕ) (is_open : old.closing ≡ None) (free : old.held ≡ None) where
   fed-unheard : Unheard old new fed → Fed old new fed
@@ -147,6 +173,7 @@ module _ (old new : Standing) (fed : List ℕ) (is_open : old.closing ≡ None) 
     counts = λ count counts. counts;
     next = omega arith;
     gateway = refl;
+    unlost = λ is. cc;
   })
 
   fed-frame : HeardFrame old new fed → Fed old new fed
@@ -159,6 +186,7 @@ module _ (old new : Standing) (fed : List ℕ) (is_open : old.closing ≡ None) 
         counts = heard-counts _ _ v old is_open;
         next = heard-next _ _ v old;
         gateway = heard-gateway _ _ v old;
+        unlost = heard-unlost _ _ v old is_open;
       })
 
   fed-fault : HeardFault old new fed → Fed old new fed
@@ -168,6 +196,7 @@ module _ (old new : Standing) (fed : List ℕ) (is_open : old.closing ≡ None) 
     counts = λ count counts. let none : farewell old.closing ≡ 0 = ap farewell is_open in omega arith;
     next = omega arith;
     gateway = refl;
+    unlost = λ is. cc;
   })
 
   fed-so : (Unheard old new fed ⊎ HeardFrame old new fed) ⊎ HeardFault old new fed → Fed old new fed
@@ -186,16 +215,13 @@ module _ (old mid : Front) (wire wire' : Told) (desk : Ledger) (is_open : old.se
   session_stays : mid.session ≡ old.session
   session_stays = ap (λ (f : Front). f.session) reads.others
 
-  session_free : mid.session.held ≡ None
-  session_free = ap (λ (s : Standing). s.held) session_stays ∙ free
-
   read-so : (a : Heard) → ReadSo old mid wire wire' reads.got a → (a ≡ Failed) ⊎ (mid.waiting ≡ []) →
       HeardSo old mid wire wire' desk desk (record nothing_moved { got = reads.got }) a
   read-so Something so why = λ same. so (ap (λ (m : Moved). m.got) same)
   read-so Nothing so (inl failed) = cc
   read-so Nothing (none, inl stood) (inr empty) =
       absurd (stood (sym (append-nil old.waiting) ∙ ap (λ g. old.waiting ++ g) (sym none) ∙ sym reads.waiting ∙ empty))
-  read-so Nothing (none, inr quiet) (inr empty) = (ap (λ g. record nothing_moved { got = g }) none, inr (session_free, empty, quiet))
+  read-so Nothing (none, inr quiet) (inr empty) = (ap (λ g. record nothing_moved { got = g }) none, inr (free, empty, quiet))
   read-so Failed so why = so.1
 
   -- the wire failed, or nothing stands to be fed
@@ -211,12 +237,14 @@ module _ (old mid : Front) (wire wire' : Told) (desk : Ledger) (is_open : old.se
       gateway = ap (λ (s : Standing). s.gateway) session_stays;
     };
     others = reads.others ∙ ap (λ s. record old { session = s; waiting = mid.waiting; closed = mid.closed }) (sym session_stays);
-    ledger = refl;
+    loaded = [];
+    ledger = unloaded desk;
     unwritten = refl;
     unhanded = refl;
     counts = λ count counts. subst (λ (s : Standing). Counts s count) (sym session_stays) counts;
     room = let none : length mid.session.outgoing ≡ 0 = ap (λ (s : Standing). length s.outgoing) session_stays ∙ ap length silent in omega arith;
     next = let number : mid.session.number ≡ old.session.number = ap (λ (s : Standing). s.number) session_stays in omega arith;
+    lost = λ is. absurd (let stays = ap (λ (s : Standing). s.closing) session_stays in cc);
     so = read-so answer reads.so why;
   }
 
@@ -242,12 +270,14 @@ module _ (old mid : Front) (wire wire' : Told) (desk : Ledger) (is_open : old.se
         };
         others = others ∙ ap (λ (f : Front). record f { session = new.session; waiting = new.waiting }) reads.others
             ∙ ap (λ c. record old { session = new.session; waiting = new.waiting; closed = c }) (sym (ap (λ (f : Front). f.closed) others));
-        ledger = refl;
+        loaded = [];
+        ledger = unloaded desk;
         unwritten = refl;
         unhanded = refl;
         counts = fed.counts;
         room = let none : length mid.session.outgoing ≡ 0 = ap (λ (s : Standing). length s.outgoing) session_stays ∙ ap length silent in omega arith;
         next = fed.next;
+        lost = λ is. absurd (fed.unlost is);
         so = λ same. front_is_some mid.waiting n listens.some listens.within (ap (λ (m : Moved). m.fed) same);
       }
 

@@ -1,5 +1,7 @@
 -- Lists with one more at the end.
-use Rattle.std.proofs.Common.{◌≡◌, ◌+◌, Bool, true, false, ◌&&◌, ◌||◌, List, [], ◌∷◌, ◌++◌, length, refl, ap, ◌∙◌, append-nil, length-append}
+use Rattle.std.proofs.Common.{◌≡◌, ℕ, zero, suc, ◌+◌, Bool, true, false, ◌&&◌, ◌||◌, List, [], ◌∷◌, ◌++◌, length, take, refl, ap, sym, ◌∙◌, append-nil, length-append}
+use mathlib.Core.Option.{some, some-ne-none, some-injective}
+use lib.ListN.{get_elem?}
 use Rattle.std.specs.List.{flat_map, list_all, list_any, AllByRecursion}
 use Rattle.std.specs.Cmp.Derive.{both_true}
 use Rattle.std.proofs.lemmas.Grind.{flat_map-append}
@@ -30,3 +32,9 @@ module _ {X : Type 0} where
 
   pub length-push : (xs : List X) (x : X) → length (xs ++ x ∷ []) ≡ length xs + 1
   length-push xs x = length-append xs (x ∷ [])
+
+  -- the first ones and the one behind them
+  pub take_next : (l : List X) (i : ℕ) (x : X) → get_elem? l i ≡ some x → take (suc i) l ≡ take i l ++ x ∷ []
+  take_next [] i x at = absurd (some-ne-none x (sym at))
+  take_next (y ∷ l) zero x at = ap (λ z. z ∷ []) (some-injective y x at)
+  take_next (y ∷ l) (suc i) x at = ap (λ m. y ∷ m) (take_next l i x at)

@@ -2,7 +2,7 @@
 use Rattle.std.proofs.Common.{◌≡◌, ℕ, List, [], ◌++◌, refl, ap, sym, subst, ◌∙◌, append_assoc, append-nil}
 use Rattle.fix_orders.specs.Text.{Said}
 use Rattle.gateway.specs.Wires.{Told, grown}
-use Rattle.gateway.specs.Desks.{Ledger}
+use Rattle.gateway.specs.Ledgers.{Ledger}
 use Rattle.gateway.specs.Session.{Standing, At}
 use Rattle.gateway.specs.Turns.{Moved, nothing_moved, Moves, Step}
 use Rattle.gateway.proofs.Standings.{at-flushed}

@@ -1,5 +1,5 @@
 -- What the parts of a turn come to, one behind the other.
-use Rattle.std.proofs.Common.{◌≡◌, ◌≢◌, ◌⊎◌, inl, inr, ℕ, suc, nat_lt, ◌+◌, ◌≤◌, ◌<◌, ◌^◌, Bool, true, false, if◌then◌else◌, List, [], ◌∷◌, ◌++◌, length, refl, ap, sym, subst, ◌∙◌, arith, append-nil, length-append, Some, None}
+use Rattle.std.proofs.Common.{◌≡◌, ◌≢◌, ◌⊎◌, inl, inr, ℕ, suc, nat_lt, ◌+◌, ◌≤◌, ◌<◌, ◌^◌, Bool, true, false, true≢false, if◌then◌else◌, List, [], ◌∷◌, ◌++◌, length, refl, ap, sym, subst, ◌∙◌, arith, append-nil, append_assoc, length-append, Some, None}
 use borrow.Author.Tests.{ltb-true, ltb-false}
 use Rattle.fix_orders.specs.Text.{Said}
 use Rattle.gateway.specs.declared.ending.Reason.{Reason}
@@ -7,16 +7,19 @@ use Rattle.gateway.specs.declared.ending.Reason.TheVariants.{Closed, WireFailed,
 use Rattle.gateway.specs.declared.ending.Turned.{Turned}
 use Rattle.gateway.specs.declared.ending.Turned.TheVariants.{Worked, Quiet, Ended}
 use Rattle.gateway.specs.declared.flushing.Flushed.TheVariants as flushed
-use Rattle.gateway.specs.declared.gateway.Heard.{Heard}
-use Rattle.gateway.specs.declared.gateway.Heard.TheVariants.{Something, Nothing, Failed}
+use Rattle.gateway.specs.declared.client_side.Heard.{Heard}
+use Rattle.gateway.specs.declared.client_side.Heard.TheVariants.{Something, Nothing, Failed}
 use Rattle.venue_model.specs.Counts.{Rose}
 use Rattle.gateway.specs.Wires.{Told, grown}
-use Rattle.gateway.specs.Desks.{Ledger}
+use Rattle.ring_words.specs.declared.view.Load.{Load}
+use Rattle.ring_words.specs.Places.{marshalled}
+use Rattle.ring_words.specs.Seats.{load_of}
+use Rattle.gateway.specs.Ledgers.{Ledger, loading}
 use Rattle.gateway.specs.Flushing.{Flushes}
 use Rattle.gateway.specs.Session.{Standing}
 use Rattle.gateway.specs.Sessions.{ClosesItself}
-use Rattle.gateway.specs.Turns.{Front, Moved, nothing_moved, Step, Takes, IsQuiet, EndedBy, Means, Turn, Counts, GoesWith}
-use Rattle.gateway.specs.Gateways.{Hears, HeardSo, HandsOn, TookSo, Rests, RestsSo, Stuck, StuckSo}
+use Rattle.gateway.specs.Turns.{Front, Moved, nothing_moved, Step, Takes, WasRefused, WasExhausted, FoundNone, IsQuiet, GoesOn, EndedBy, Means, CountsTurns, Turn, Counts, GoesWith}
+use Rattle.gateway.specs.Gateways.{Hears, HeardSo, HandsOn, TookSo, Waits, Rests, RestsSo, Stuck, StuckSo}
 use Rattle.gateway.proofs.StepLemmas.{both, step-then, flush-step}
 use Rattle.gateway.proofs.WireLemmas.{grown-nil}
 
@@ -55,13 +58,31 @@ module _ (old : Front) (session : Standing) (wire wire' : Told) (desk : Ledger) 
     (session_is : session ≡ record old.session { outgoing = session.outgoing })
     (gave : wire'.gave ≡ wire.gave) (took : wire'.took ≡ grown wire.took put) (deaf : ℕ) (live : Bool) where
   flushed-turn : (answer : Turned) → Means old (record old { session = session; deaf = deaf; live = live }) wire wire' desk desk (record nothing_moved { put = put }) answer →
+      CountsTurns old (record old { session = session; deaf = deaf; live = live }) wire wire' desk desk (record nothing_moved { put = put }) →
       Turn old (record old { session = session; deaf = deaf; live = live }) wire wire' desk desk answer
-  flushed-turn answer means = record {
+  flushed-turn answer means counts = record {
     moved = record nothing_moved { put = put };
     step = flush-step old.session session old.waiting put wire wire' desk split session_is gave took;
     takes = no_takes session.logged_on old (record old { session = session; deaf = deaf; live = live }) desk desk refl refl;
     means = means;
+    counts = counts;
+    lost = λ is_open is. absurd (let stays = ap (λ (s : Standing). s.closing) session_is in cc);
   }
+
+-- a count that didn't rise rose by nothing
+no_more : (desk : Ledger) (A : Type 0) → desk.count < desk.count → A
+no_more desk A more = absurd (omega (arith, more))
+
+-- a session is over: its counts are as they were, or the first began again
+over-counts : (old new : Front) (wire wire' : Told) (desk desk' : Ledger) (m : Moved) → new.live ≡ false → (new.deaf ≡ 0) ⊎ (new.deaf ≡ old.deaf) →
+    new.idle ≡ old.idle → CountsTurns old new wire wire' desk desk' m
+over-counts old new wire wire' desk desk' m over deaf idle = record {
+  deaf = elim deaf [ inl zero ↦ inl zero | inr same ↦ inr (inl same) ];
+  idle = inr (inl idle);
+  wrote = λ live. absurd (true≢false (sym live ∙ over));
+  wrote_all = λ live. absurd (true≢false (sym live ∙ over));
+  took = λ live. absurd (true≢false (sym live ∙ over));
+}
 
 -- the wire failed in the flush
 pub turn-failed : (old : Front) (session : Standing) (wire wire' : Told) (desk : Ledger) →
@@ -71,6 +92,7 @@ pub turn-failed : (old : Front) (session : Standing) (wire wire' : Told) (desk :
 turn-failed old session wire wire' desk session_is (put, split, (rose, tells)) =
     flushed-turn old session wire wire' desk put split session_is (ap (λ (t : Told). t.gave) tells) (ap (λ (t : Told). t.took) tells)
     old.deaf false (Ended WireFailed) (rose, refl)
+    (over-counts old (record old { session = session; live = false }) wire wire' desk desk (record nothing_moved { put = put }) refl (inr refl) refl)
 
 -- the wire took no more in the flush
 stuck-means : (old new : Front) (wire wire' : Told) (desk : Ledger) (put : List ℕ) (wrote : Bool) (answer : Turned) →
@@ -79,19 +101,56 @@ stuck-means : (old new : Front) (wire wire' : Told) (desk : Ledger) (put : List 
     StuckSo old new wrote answer → Means old new wire wire' desk desk (record nothing_moved { put = put }) answer
 stuck-means old new wire wire' desk put wrote Worked split left live wrote_is rose so = (
   inl (λ same. wrote_some old.session.outgoing put new.session.outgoing split (sym wrote_is ∙ so.1) (ap (λ (m : Moved). m.put) same)),
-  so.0 ∙ live,
+  record { live = so.0 ∙ live; unsaid = λ closing. left },
 )
 stuck-means old new wire wire' desk put wrote Quiet split left live wrote_is rose so = (
   record {
     still = ap (λ p. record nothing_moved { put = p }) (wrote_none old.session.outgoing put new.session.outgoing split (sym wrote_is ∙ so.1));
     stuck = λ stood. rose;
     unheard = λ silent. absurd (left (no_end put new.session.outgoing (sym split ∙ silent)));
+    untaken = refl;
     unhanded = λ silent. absurd (left (no_end put new.session.outgoing (sym split ∙ silent)));
   },
-  so.0 ∙ live,
+  record { live = so.0 ∙ live; unsaid = λ closing. left },
 )
 stuck-means old new wire wire' desk put wrote (Ended reason) split left live wrote_is rose so =
     subst (λ (r : Reason). EndedBy new wire wire' r × (new.live ≡ false)) (sym so.1) (so.2, so.0)
+
+-- what the stuck part says of the gateway before the flush, and of its end
+stuck-so : (old : Front) (session : Standing) (new : Front) (wrote : Bool) (answer : Turned) → Stuck (record old { session = session }) new wrote answer →
+    StuckSo old (record old { session = session; deaf = new.deaf; live = new.live }) wrote answer
+stuck-so old session new wrote Worked stuck = stuck.so
+stuck-so old session new wrote Quiet stuck = stuck.so
+stuck-so old session new wrote (Ended reason) stuck = stuck.so
+
+-- the counts of a turn that couldn't write all
+stuck-counts : (old new : Front) (wire wire' : Told) (desk : Ledger) (put : List ℕ) (wrote : Bool) (answer : Turned) →
+    old.session.outgoing ≡ put ++ new.session.outgoing → new.session.outgoing ≢ [] → new.idle ≡ old.idle →
+    wrote ≡ nat_lt (length new.session.outgoing) (length old.session.outgoing) → Rose wire.full_writes wire'.full_writes →
+    StuckSo old new wrote answer → CountsTurns old new wire wire' desk desk (record nothing_moved { put = put })
+stuck-counts old new wire wire' desk put wrote Worked split left idle wrote_is rose so = record {
+  deaf = inl so.2;
+  idle = inr (inl idle);
+  wrote = λ live some. so.2;
+  wrote_all = λ live some none. absurd (left none);
+  took = λ live more. no_more desk _ more;
+}
+stuck-counts old new wire wire' desk put wrote Quiet split left idle wrote_is rose so =
+    let none = wrote_none old.session.outgoing put new.session.outgoing split (sym wrote_is ∙ so.1) in record {
+      deaf = inr (inr (so.2, (λ silent. left (no_end put new.session.outgoing (sym split ∙ silent))), none, rose));
+      idle = inr (inl idle);
+      wrote = λ live some. absurd (some none);
+      wrote_all = λ live some silent. absurd (left silent);
+      took = λ live more. no_more desk _ more;
+    }
+stuck-counts old new wire wire' desk put wrote (Ended reason) split left idle wrote_is rose so =
+    let none = wrote_none old.session.outgoing put new.session.outgoing split (sym wrote_is ∙ so.3) in record {
+      deaf = inr (inr (so.4, (λ silent. left (no_end put new.session.outgoing (sym split ∙ silent))), none, rose));
+      idle = inr (inl idle);
+      wrote = λ live some. absurd (some none);
+      wrote_all = λ live some silent. absurd (left silent);
+      took = λ live more. no_more desk _ more;
+    }
 
 pub turn-stuck : (old : Front) (session : Standing) (new : Front) (wire wire' : Told) (desk : Ledger) (wrote : Bool) (answer : Turned) →
     session ≡ record old.session { outgoing = session.outgoing } → old.live ≡ true →
@@ -103,7 +162,8 @@ turn-stuck old session new wire wire' desk wrote answer session_is live (put, sp
     let end = record old { session = session; deaf = new.deaf; live = new.live } in
     subst (λ (f : Front). Turn old f wire wire' desk desk answer) (sym stuck.others)
     (flushed-turn old session wire wire' desk put split session_is (ap (λ (t : Told). t.gave) tells) (ap (λ (t : Told). t.took) tells)
-    new.deaf new.live answer (stuck-means old end wire wire' desk put wrote answer split left live wrote_is rose stuck.so))
+    new.deaf new.live answer (stuck-means old end wire wire' desk put wrote answer split left live wrote_is rose (stuck-so old session new wrote answer stuck))
+    (stuck-counts old end wire wire' desk put wrote answer split left refl wrote_is rose (stuck-so old session new wrote answer stuck)))
 
 -- the session was closing, and all is written
 closed-by : (new : Front) (wire wire' : Told) (reason : Reason) → ClosesItself reason → new.session.closing ≡ Some reason → new.session.outgoing ≡ [] →
@@ -123,6 +183,7 @@ pub turn-closed : (old : Front) (session : Standing) (wire wire' : Told) (desk :
 turn-closed old session wire wire' desk reason session_is (put, split, (none, tells)) own closing =
     flushed-turn old session wire wire' desk put split session_is (ap (λ (t : Told). t.gave) tells) (ap (λ (t : Told). t.took) tells)
     0 false (Ended reason) (closed-by (record old { session = session; deaf = 0; live = false }) wire wire' reason own closing none, refl)
+    (over-counts old (record old { session = session; deaf = 0; live = false }) wire wire' desk desk (record nothing_moved { put = put }) refl (inl refl) refl)
 
 -- nothing fed, read, written, published or handed on is nothing moved
 is_still : (m : Moved) → m.fed ≡ [] → m.got ≡ [] → m.put ≡ [] → m.messages ≡ [] → m.handed ≡ [] → m ≡ nothing_moved
@@ -131,6 +192,15 @@ is_still m fed got put messages handed =
     ∙ ap (λ x. record m { fed = []; got = []; put = x }) put
     ∙ ap (λ x. record m { fed = []; got = []; put = []; messages = x }) messages
     ∙ ap (λ x. record m { fed = []; got = []; put = []; messages = []; handed = x }) handed
+
+-- a claim that was refused, and what was loaded behind it
+later-refused : (desk desk' desk'' : Ledger) (more : List Load) → desk''.loads ≡ desk'.loads ++ more → WasRefused desk desk' → WasRefused desk desk''
+later-refused desk desk' desk'' more grown (ls, why, rest, loads) =
+    (ls, why, rest ++ more, grown ∙ ap (λ x. x ++ more) loads ∙ append_assoc desk.loads (ls ++ rest) more ∙ ap (λ x. desk.loads ++ x) (append_assoc ls rest more))
+
+later-exhausted : (desk desk' desk'' : Ledger) (more : List Load) → desk''.loads ≡ desk'.loads ++ more → WasExhausted desk desk' → WasExhausted desk desk''
+later-exhausted desk desk' desk'' more grown (ls, why, rest, loads) =
+    (ls, why, rest ++ more, grown ∙ ap (λ x. x ++ more) loads ∙ append_assoc desk.loads (ls ++ rest) more ∙ ap (λ x. desk.loads ++ x) (append_assoc ls rest more))
 
 -- the held message and the counts are those of before the flush
 module _ (old h : Front) (session : Standing) (wire wire' wire'' : Told) (desk desk' : Ledger) (put : List ℕ) (answer : Heard)
@@ -153,6 +223,10 @@ module _ (old h : Front) (session : Standing) (wire wire' wire'' : Told) (desk d
       let same : desk'.count ≡ desk.count = ap (λ (l : Ledger). l.count) hears.ledger in
       subst (λ n. Counts h.session n) (sym same) (hears.counts desk.count (subst (λ (s : Standing). Counts s desk.count) (sym session_is) counts))
 
+  -- the message held was lost since no sequence was left
+  lost_heard : h.session.closing ≡ Some Exhausted → (old.session.held ≢ None) × WasExhausted desk desk'
+  lost_heard is = let lost = hears.lost is in ((λ none. lost.0 (ap (λ (s : Standing). s.held) session_is ∙ none)), lost.1)
+
   -- the wire failed in the read
   pub turn-unheard : answer ≡ Failed → Turn old (record h { live = false }) wire wire'' desk desk' (Ended WireFailed)
   turn-unheard failed =
@@ -163,9 +237,11 @@ module _ (old h : Front) (session : Standing) (wire wire' wire'' : Told) (desk d
         takes = subst (λ (t : List Said). Takes h.session.logged_on old (record h { live = false }) desk desk' t) (sym hears.unhanded)
             (no_takes h.session.logged_on old (record h { live = false }) desk desk' (ap (λ (l : Ledger). l.taken) hears.ledger) (ap (λ (f : Front). f.passed) hears.others));
         means = (subst (λ n. Rose n wire''.failures) (ap (λ (t : Told). t.failures) tells) rose, refl);
+        counts = over-counts old (record h { live = false }) wire wire'' desk desk' heard-moved refl (inl (ap (λ (f : Front). f.deaf) hears.others)) (ap (λ (f : Front). f.idle) hears.others);
+        lost = λ is_open is. lost_heard is;
       }
 
-  pub mate-unheard : GoesWith old.session old.passed desk → GoesWith h.session h.passed desk'
+  pub mate-unheard : GoesWith old.session old.passed desk.count → GoesWith h.session h.passed desk'.count
   mate-unheard mate =
       let same : desk'.count ≡ desk.count = ap (λ (l : Ledger). l.count) hears.ledger in
       let passed : h.passed ≡ old.passed = ap (λ (f : Front). f.passed) hears.others in
@@ -226,63 +302,122 @@ module _ (old h : Front) (session : Standing) (wire wire' wire'' : Told) (desk d
         ∙ ap (λ m. both (both nothing_moved m) given-moved) heard
         ∙ ap (λ x. both (both nothing_moved nothing_moved) (record nothing_moved { handed = x })) handed
 
-    quiet-all : (end : Front) → put ≡ [] → hears.moved ≡ nothing_moved → (hands.handed ≡ []) × (t ≡ h) × (h.session.closing ≡ None → Rose desk'.nothings desk''.nothings) →
-        (((old.session.held ≢ None) × Rose desk.refusals desk'.refusals)
-        ⊎ ((h.session.held ≡ None) × (h.waiting ≡ []) × (Rose wire.empty_reads wire''.empty_reads ⊎ (h.closed ≡ true)))) →
+    -- where none was found, that is why
+    found : (hands.handed ≡ []) × (t ≡ h) × (desk''.count ≡ desk'.count) × (h.session.closing ≡ None → desk'' ≡ loading desk' (load_of marshalled desk'.count ∷ [])) →
+        t.session.closing ≡ None → FoundNone desk desk''
+    found (handed, stays, uncounted, looked) is_open =
+        let at_end = looked (sym (ap (λ (f : Front). f.session.closing) stays) ∙ is_open) in (
+          hears.loaded,
+          ap (λ (l : Ledger). l.loads) at_end
+              ∙ ap (λ ls. ls ++ load_of marshalled desk'.count ∷ []) (ap (λ (l : Ledger). l.loads) hears.ledger)
+              ∙ append_assoc desk.loads hears.loaded (load_of marshalled desk'.count ∷ [])
+              ∙ ap (λ n. desk.loads ++ (hears.loaded ++ load_of marshalled n ∷ [])) (sym (ap (λ (l : Ledger). l.count) at_end)),
+        )
+
+    quiet-all : (end : Front) → put ≡ [] → hears.moved ≡ nothing_moved → (hands.handed ≡ []) × (t ≡ h) × (desk''.count ≡ desk'.count) × (h.session.closing ≡ None → desk'' ≡ loading desk' (load_of marshalled desk'.count ∷ [])) →
+        (((old.session.held ≢ None) × WasRefused desk desk')
+        ⊎ ((old.session.held ≡ None) × (h.waiting ≡ []) × (Rose wire.empty_reads wire''.empty_reads ⊎ (h.closed ≡ true)))) →
         end.session ≡ t.session → end.waiting ≡ t.waiting → end.closed ≡ t.closed →
         IsQuiet old end wire wire'' desk desk'' all-moved
-    quiet-all end written heard (handed, stays, looked) silence session_end waiting_end closed_end = record {
+    quiet-all end written heard (handed, stays, uncounted, looked) silence session_end waiting_end closed_end = record {
       still = still_all written heard handed;
       stuck = λ stood. absurd (stood (split ∙ ap (λ p. p ++ session.outgoing) written ∙ none));
       unheard = λ silent. elim silence [
-        | inl (held, rose) ↦ inl (held, subst (λ n. Rose desk.refusals n) (sym (ap (λ (l : Ledger). l.refusals) hands.ledger)) rose)
+        | inl (held, refused) ↦ inl (held, later-refused desk desk' desk'' hands.loaded (ap (λ (l : Ledger). l.loads) hands.ledger) refused)
         | inr (free, fed, why) ↦ inr (
-          ap (λ (s : Standing). s.held) session_end ∙ ap (λ (f : Front). f.session.held) stays ∙ free,
+          free,
           waiting_end ∙ ap (λ (f : Front). f.waiting) stays ∙ fed,
           elim why [ inl rose ↦ inl rose | inr closed ↦ inr (closed_end ∙ ap (λ (f : Front). f.closed) stays ∙ closed) ],
         )
       ];
+      untaken = uncounted ∙ count_same;
       unhanded = λ silent is_open.
-          subst (λ n. Rose n desk''.nothings) (ap (λ (l : Ledger). l.nothings) hears.ledger)
-          (looked (sym (ap (λ (f : Front). f.session.closing) stays) ∙ sym (ap (λ (s : Standing). s.closing) session_end) ∙ is_open));
+          found (handed, stays, uncounted, looked) (sym (ap (λ (s : Standing). s.closing) session_end) ∙ is_open);
     }
 
     -- what was heard, if it wasn't something and the wire didn't fail
     heard-nothing : (a : Heard) → a ≢ Something → a ≢ Failed → HeardSo (record old { session = session; deaf = 0 }) h wire' wire'' desk desk' hears.moved a →
-        (hears.moved ≡ nothing_moved) × (((old.session.held ≢ None) × Rose desk.refusals desk'.refusals)
-        ⊎ ((h.session.held ≡ None) × (h.waiting ≡ []) × (Rose wire.empty_reads wire''.empty_reads ⊎ (h.closed ≡ true))))
+        (hears.moved ≡ nothing_moved) × (((old.session.held ≢ None) × WasRefused desk desk')
+        ⊎ ((old.session.held ≡ None) × (h.waiting ≡ []) × (Rose wire.empty_reads wire''.empty_reads ⊎ (h.closed ≡ true))))
     heard-nothing Something other alive so = absurd (other refl)
     heard-nothing Failed other alive so = absurd (alive refl)
     heard-nothing Nothing other alive (still, inl (held, rose)) =
         (still, inl ((λ free. held (ap (λ (s : Standing). s.held) session_is ∙ free)), rose))
     heard-nothing Nothing other alive (still, inr (free, fed, inl rose)) =
-        (still, inr (free, fed, inl (subst (λ n. Rose n wire''.empty_reads) (ap (λ (w : Told). w.empty_reads) tells) rose)))
-    heard-nothing Nothing other alive (still, inr (free, fed, inr closed)) = (still, inr (free, fed, inr closed))
+        (still, inr (sym (ap (λ (s : Standing). s.held) session_is) ∙ free, fed, inl (subst (λ n. Rose n wire''.empty_reads) (ap (λ (w : Told). w.empty_reads) tells) rose)))
+    heard-nothing Nothing other alive (still, inr (free, fed, inr closed)) =
+        (still, inr (sym (ap (λ (s : Standing). s.held) session_is) ∙ free, fed, inr closed))
+
+    -- nothing was written in all, if nothing was flushed
+    unput_all : put ≡ [] → all-moved.put ≡ []
+    unput_all written = append-nil (put ++ hears.moved.put) ∙ ap (λ p. p ++ hears.moved.put) written ∙ hears.unwritten
+
+    -- the first count begins again in a turn that wrote all
+    end_deaf : (end : Front) → end ≡ record t { idle = end.idle; live = end.live } → end.deaf ≡ 0
+    end_deaf end end_is = ap (λ (f : Front). f.deaf) end_is ∙ ap (λ (f : Front). f.deaf) hands.others ∙ ap (λ (f : Front). f.deaf) hears.others
+
+    -- the counts of a turn that wrote all
+    all-counts : (end : Front) (wrote : Bool) (b : Bool) → took ≡ b → wrote ≡ nat_lt (length session.outgoing) (length old.session.outgoing) →
+        end ≡ record t { idle = end.idle; live = end.live } → Waits t end wrote b → CountsTurns old end wire wire'' desk desk'' all-moved
+    all-counts end true b took_is wrote_is end_is waits = record {
+      deaf = inl (end_deaf end end_is);
+      idle = inl waits;
+      wrote = λ live some. end_deaf end end_is;
+      wrote_all = λ live some silent. waits;
+      took = λ live more. waits;
+    }
+    all-counts end false true took_is wrote_is end_is waits = record {
+      deaf = inl (end_deaf end end_is);
+      idle = inl waits;
+      wrote = λ live some. end_deaf end end_is;
+      wrote_all = λ live some silent. waits;
+      took = λ live more. waits;
+    }
+    all-counts end false false took_is wrote_is end_is waits =
+        let none = unput_all (wrote_none old.session.outgoing put session.outgoing split (sym wrote_is)) in
+        let nothing = subst (λ (b : Bool). TookSo h t desk' desk'' hands.handed b) took_is hands.so in record {
+          deaf = inl (end_deaf end end_is);
+          idle = elim waits [
+            | inl same ↦ inr (inl (same ∙ ap (λ (f : Front). f.idle) hands.others ∙ ap (λ (f : Front). f.idle) hears.others))
+            | inr (more, closed, is_open) ↦ inr (inr (
+              more ∙ ap (λ n. n + 1) (ap (λ (f : Front). f.idle) hands.others ∙ ap (λ (f : Front). f.idle) hears.others),
+              ap (λ (f : Front). f.closed) end_is ∙ closed,
+              none,
+              found nothing is_open,
+            ))
+          ];
+          wrote = λ live some. end_deaf end end_is;
+          wrote_all = λ live some silent. absurd (some none);
+          took = λ live more. let same = nothing.2 in absurd (omega (arith, more, same, count_same));
+        }
+
+    goes-on : (end : Front) → end.live ≡ true → old.session.closing ≡ None → GoesOn old end
+    goes-on end live is_open = record { live = live; unsaid = λ closes. absurd (closes is_open) }
 
     all-means : (end : Front) (wrote : Bool) (turned : Turned) →
-        wrote ≡ nat_lt (length session.outgoing) (length old.session.outgoing) → answer ≢ Failed → t.live ≡ true →
+        wrote ≡ nat_lt (length session.outgoing) (length old.session.outgoing) → answer ≢ Failed → t.live ≡ true → old.session.closing ≡ None →
         end ≡ record t { idle = end.idle; live = end.live } → RestsSo t end wrote answer took turned →
         Means old end wire wire'' desk desk'' all-moved turned
-    all-means end wrote Worked wrote_is alive live end_is (same, inl did) =
-        (inl (λ still. wrote_some old.session.outgoing put session.outgoing split (sym wrote_is ∙ did) (unwritten_all still)), same ∙ live)
-    all-means end wrote Worked wrote_is alive live end_is (same, inr (inl did)) =
-        (inr (subst (λ n. n < desk''.count) count_same (subst (λ (b : Bool). TookSo h t desk' desk'' hands.handed b) did hands.so)), same ∙ live)
-    all-means end wrote Worked wrote_is alive live end_is (same, inr (inr did)) =
-        (inl (λ still. (subst (λ (a : Heard). HeardSo (record old { session = session; deaf = 0 }) h wire' wire'' desk desk' hears.moved a) did hears.so) (unheard_all still)), same ∙ live)
-    all-means end wrote Quiet wrote_is alive live end_is (same, no_bytes, no_output, no_news) =
+    all-means end wrote Worked wrote_is alive live is_open end_is (same, inl did) =
+        (inl (λ still. wrote_some old.session.outgoing put session.outgoing split (sym wrote_is ∙ did) (unwritten_all still)), goes-on end (same ∙ live) is_open)
+    all-means end wrote Worked wrote_is alive live is_open end_is (same, inr (inl did)) =
+        (inr (subst (λ n. n < desk''.count) count_same (subst (λ (b : Bool). TookSo h t desk' desk'' hands.handed b) did hands.so)), goes-on end (same ∙ live) is_open)
+    all-means end wrote Worked wrote_is alive live is_open end_is (same, inr (inr did)) =
+        (inl (λ still. (subst (λ (a : Heard). HeardSo (record old { session = session; deaf = 0 }) h wire' wire'' desk desk' hears.moved a) did hears.so) (unheard_all still)), goes-on end (same ∙ live) is_open)
+    all-means end wrote Quiet wrote_is alive live is_open end_is (same, no_bytes, no_output, no_news) =
         let silent = heard-nothing answer no_news alive hears.so in (
           quiet-all end (wrote_none old.session.outgoing put session.outgoing split (sym wrote_is ∙ no_bytes)) silent.0
               (subst (λ (b : Bool). TookSo h t desk' desk'' hands.handed b) no_output hands.so) silent.1
               (ap (λ (f : Front). f.session) end_is) (ap (λ (f : Front). f.waiting) end_is) (ap (λ (f : Front). f.closed) end_is),
-          same ∙ live,
+          goes-on end (same ∙ live) is_open,
         )
-    all-means end wrote (Ended reason) wrote_is alive live end_is (same, why, closed, last) =
+    all-means end wrote (Ended reason) wrote_is alive live is_open end_is (same, why, closed, last) =
         (subst (λ (r : Reason). EndedBy end wire wire'' r) (sym why) (ap (λ (f : Front). f.closed) end_is ∙ closed, last), same)
 
     pub turn-rested : (end : Front) (wrote : Bool) (turned : Turned) →
-        wrote ≡ nat_lt (length session.outgoing) (length old.session.outgoing) → answer ≢ Failed → old.live ≡ true →
+        wrote ≡ nat_lt (length session.outgoing) (length old.session.outgoing) → answer ≢ Failed → old.live ≡ true → session.closing ≡ None →
         Rests t end wrote answer took turned → Turn old end wire wire'' desk desk'' turned
-    turn-rested end wrote turned wrote_is alive live rests =
+    turn-rested end wrote turned wrote_is alive live is_open rests =
         let session_end = ap (λ (f : Front). f.session) rests.others in
         let t_live : t.live ≡ true = ap (λ (f : Front). f.live) hands.others ∙ ap (λ (f : Front). f.live) hears.others ∙ live in
         record {
@@ -295,10 +430,14 @@ module _ (old h : Front) (session : Standing) (wire wire' wire'' : Told) (desk d
             given = all-takes.given;
             passed = ap (λ (f : Front). f.passed) rests.others ∙ all-takes.passed;
           });
-          means = all-means end wrote turned wrote_is alive t_live rests.others rests.so;
+          means = all-means end wrote turned wrote_is alive t_live (sym (ap (λ (s : Standing). s.closing) session_is) ∙ is_open) rests.others rests.so;
+          counts = all-counts end wrote took refl wrote_is rests.others rests.waits;
+          lost = λ open_before is.
+              let lost = lost_heard (sym hands.closing ∙ sym (ap (λ (s : Standing). s.closing) session_end) ∙ is) in
+              (lost.0, later-exhausted desk desk' desk'' hands.loaded (ap (λ (l : Ledger). l.loads) hands.ledger) lost.1);
         }
 
-    pub mate-rested : (end : Front) → end ≡ record t { idle = end.idle; live = end.live } → GoesWith old.session old.passed desk → GoesWith end.session end.passed desk''
+    pub mate-rested : (end : Front) → end ≡ record t { idle = end.idle; live = end.live } → GoesWith old.session old.passed desk.count → GoesWith end.session end.passed desk''.count
     mate-rested end end_is mate =
         let passed : h.passed ≡ old.passed = ap (λ (f : Front). f.passed) hears.others in
         let least : h.passed ≤ desk'.count = omega (arith, mate.passed_over, count_same) in

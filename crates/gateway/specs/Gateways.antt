@@ -1,16 +1,19 @@
--- What the fields of a gateway stand for, and what its parts tell.
-use Rattle.std.specs.Prelude.{◌≡◌, ◌≢◌, ◌⊎◌, ℕ, ◌+◌, ◌≤◌, ◌<◌, ◌^◌, Bool, true, false, List, [], ◌++◌, length, None}
+-- What the fields of a gateway's side towards its client stand for, and what its parts tell.
+use Rattle.std.specs.Prelude.{◌≡◌, ◌≢◌, ◌⊎◌, ℕ, ◌+◌, ◌≤◌, ◌<◌, ◌^◌, Bool, true, false, List, [], ◌∷◌, ◌++◌, length, Some, None}
 use Rattle.fix_orders.specs.Text.{Said}
-use Rattle.gateway.specs.declared.ending.Reason.TheVariants.{Closed, Stalled}
+use Rattle.gateway.specs.declared.ending.Reason.TheVariants.{Closed, Stalled, Exhausted}
 use Rattle.gateway.specs.declared.ending.Turned.{Turned}
 use Rattle.gateway.specs.declared.ending.Turned.TheVariants.{Worked, Quiet, Ended}
-use Rattle.gateway.specs.declared.gateway.Heard.{Heard}
-use Rattle.gateway.specs.declared.gateway.Heard.TheVariants.{Something, Nothing, Failed}
-use Rattle.gateway.specs.declared.gateway.Gateway.TheInside.{Inside}
+use Rattle.gateway.specs.declared.client_side.Heard.{Heard}
+use Rattle.gateway.specs.declared.client_side.Heard.TheVariants.{Something, Nothing, Failed}
+use Rattle.gateway.specs.declared.client_side.ClientSide.TheInside.{Inside}
 use Rattle.venue_model.specs.Counts.{Rose}
 use Rattle.gateway.specs.Wires.{Told, grown}
-use Rattle.gateway.specs.Desks.{Ledger}
-use Rattle.gateway.specs.Turns.{Front, Moved, nothing_moved, Moves, Step, Takes, Counts}
+use Rattle.ring_words.specs.declared.view.Load.{Load}
+use Rattle.ring_words.specs.Places.{marshalled}
+use Rattle.ring_words.specs.Seats.{load_of}
+use Rattle.gateway.specs.Ledgers.{Ledger, loading}
+use Rattle.gateway.specs.Turns.{Front, Moved, nothing_moved, Moves, Step, Takes, Counts, WasRefused, WasExhausted}
 use Rattle.gateway.specs.Moves.{fresh}
 
 abbrev pub front : Inside → Front
@@ -24,7 +27,7 @@ front g = record {
   live = g.live;
 }
 
--- the counts of a live session haven't reached their ends
+-- the counts of turns of a live session haven't reached their ends
 pub record KeepsGateway (g : Inside) : Type 0 where
   pub deaf : g.live ≡ true → g.deaf < 100000
   pub idle : g.live ≡ true → g.idle < 1000
@@ -44,8 +47,8 @@ begun gateway passed = record {
 -- why nothing was heard
 abbrev pub Silence : Front → Front → Told → Told → Ledger → Ledger → Type 0
 Silence old new wire wire_after desk desk_after =
-    ((old.session.held ≢ None) × Rose desk.refusals desk_after.refusals)
-    ⊎ ((new.session.held ≡ None) × (new.waiting ≡ []) × (Rose wire.empty_reads wire_after.empty_reads ⊎ (new.closed ≡ true)))
+    ((old.session.held ≢ None) × WasRefused desk desk_after)
+    ⊎ ((old.session.held ≡ None) × (new.waiting ≡ []) × (Rose wire.empty_reads wire_after.empty_reads ⊎ (new.closed ≡ true)))
 
 -- what was heard
 abbrev pub HeardSo : Front → Front → Told → Told → Ledger → Ledger → Moved → Heard → Type 0
@@ -58,12 +61,14 @@ pub record Hears (old new : Front) (wire wire_after : Told) (desk desk_after : L
   pub moved : Moved
   pub step : Step old.session new.session old.waiting new.waiting wire wire_after desk desk_after moved
   pub others : new ≡ record old { session = new.session; waiting = new.waiting; closed = new.closed }
-  pub ledger : desk_after ≡ record desk { published = desk_after.published; refusals = desk_after.refusals }
+  pub loaded : List Load
+  pub ledger : desk_after ≡ record (loading desk loaded) { published = desk_after.published }
   pub unwritten : moved.put ≡ []
   pub unhanded : moved.handed ≡ []
   pub counts : (count : ℕ) → Counts old.session count → Counts new.session count
   pub room : length new.session.outgoing ≤ 512
   pub next : new.session.number ≤ old.session.number + 1
+  pub lost : new.session.closing ≡ Some Exhausted → (old.session.held ≢ None) × WasExhausted desk desk_after
   pub so : HeardSo old new wire wire_after desk desk_after moved answer
 
 -- the message held was tried to publish, and the wire wasn't touched
@@ -90,7 +95,7 @@ pub record Reads (old new : Front) (wire wire_after : Told) (answer : Heard) : T
 abbrev pub TookSo : Front → Front → Ledger → Ledger → List Said → Bool → Type 0
 TookSo old new desk desk_after handed true = desk.count < desk_after.count
 TookSo old new desk desk_after handed false =
-    (handed ≡ []) × (new ≡ old) × (old.session.closing ≡ None → Rose desk.nothings desk_after.nothings)
+    (handed ≡ []) × (new ≡ old) × (desk_after.count ≡ desk.count) × (old.session.closing ≡ None → desk_after ≡ loading desk (load_of marshalled desk.count ∷ []))
 
 -- the part of a turn that takes an output
 pub record HandsOn (old new : Front) (desk desk_after : Ledger) (took : Bool) : Type 0 where
@@ -101,11 +106,26 @@ pub record HandsOn (old new : Front) (desk desk_after : Ledger) (took : Bool) : 
   pub closing : new.session.closing ≡ old.session.closing
   pub held : new.session.held ≡ old.session.held
   pub takes : Takes new.session.logged_on old new desk desk_after handed
-  pub ledger : desk_after ≡ record desk { taken = desk_after.taken; count = desk_after.count; nothings = desk_after.nothings }
+  pub loaded : List Load
+  pub ledger : desk_after ≡ record (loading desk loaded) { taken = desk_after.taken; count = desk_after.count }
   pub counts : Counts old.session desk.count → Counts new.session desk_after.count
   pub passed_over : old.passed ≤ desk.count → new.passed ≤ desk_after.count
   pub few : desk.count ≤ 2 ^ 62 → desk_after.count ≤ 2 ^ 62
   pub so : TookSo old new desk desk_after handed took
+
+-- an output was passed over, whoever it goes to, or there was none
+abbrev pub PassedSo : Ledger → Ledger → Bool → Type 0
+PassedSo desk desk_after true = desk_after.count ≡ desk.count + 1
+PassedSo desk desk_after false = desk_after ≡ loading desk (load_of marshalled desk.count ∷ [])
+
+-- a look of a gateway without a session; outputs that go to its client are counted
+pub record PassesOver (old new : Front) (desk desk_after : Ledger) (took : Bool) : Type 0 where
+  pub these : List Said
+  pub taken : desk_after.taken ≡ desk.taken ++ these
+  pub passed : new ≡ record old { passed = old.passed + length these }
+  pub loaded : List Load
+  pub ledger : desk_after ≡ record (loading desk loaded) { taken = desk_after.taken; count = desk_after.count }
+  pub so : PassedSo desk desk_after took
 
 -- what a turn comes to that wrote all: it worked, or rested, or rested once too often behind the client's end
 abbrev pub RestsSo : Front → Front → Bool → Heard → Bool → Turned → Type 0
@@ -113,15 +133,22 @@ RestsSo old new wrote heard took Worked = (new.live ≡ old.live) × ((wrote ≡
 RestsSo old new wrote heard took Quiet = (new.live ≡ old.live) × (wrote ≡ false) × (took ≡ false) × (heard ≢ Something)
 RestsSo old new wrote heard took (Ended reason) = (new.live ≡ false) × (reason ≡ Closed) × (old.closed ≡ true) × (new.idle ≡ 1000)
 
+-- how it counts turns behind the client's end
+abbrev pub Waits : Front → Front → Bool → Bool → Type 0
+Waits old new true took = new.idle ≡ 0
+Waits old new false true = new.idle ≡ 0
+Waits old new false false = (new.idle ≡ old.idle) ⊎ ((new.idle ≡ old.idle + 1) × (old.closed ≡ true) × (old.session.closing ≡ None))
+
 pub record Rests (old new : Front) (wrote : Bool) (heard : Heard) (took : Bool) (answer : Turned) : Type 0 where
+  pub waits : Waits old new wrote took
   pub others : new ≡ record old { idle = new.idle; live = new.live }
   pub so : RestsSo old new wrote heard took answer
 
 -- what a turn comes to that couldn't write all
 abbrev pub StuckSo : Front → Front → Bool → Turned → Type 0
-StuckSo old new wrote Worked = (new.live ≡ old.live) × (wrote ≡ true)
-StuckSo old new wrote Quiet = (new.live ≡ old.live) × (wrote ≡ false)
-StuckSo old new wrote (Ended reason) = (new.live ≡ false) × (reason ≡ Stalled) × (new.deaf ≡ 100000)
+StuckSo old new wrote Worked = (new.live ≡ old.live) × (wrote ≡ true) × (new.deaf ≡ 0)
+StuckSo old new wrote Quiet = (new.live ≡ old.live) × (wrote ≡ false) × (new.deaf ≡ old.deaf + 1)
+StuckSo old new wrote (Ended reason) = (new.live ≡ false) × (reason ≡ Stalled) × (new.deaf ≡ 100000) × (wrote ≡ false) × (new.deaf ≡ old.deaf + 1)
 
 pub record Stuck (old new : Front) (wrote : Bool) (answer : Turned) : Type 0 where
   pub others : new ≡ record old { deaf = new.deaf; live = new.live }

@@ -1,8 +1,8 @@
 -- What a try to publish means for a turn.
-use Rattle.gateway.specs.declared.desk.TryPublish.{TryPublish}
-use Rattle.gateway.specs.declared.desk.TryPublish.TheVariants.{Done, Refused, Exhausted}
-use Rattle.gateway.specs.declared.gateway.Heard.{Heard}
-use Rattle.gateway.specs.declared.gateway.Heard.TheVariants.{Something, Nothing}
+use Rattle.gateway.specs.declared.seat.TryPublish.{TryPublish}
+use Rattle.gateway.specs.declared.seat.TryPublish.TheVariants.{Done, Refused, Exhausted}
+use Rattle.gateway.specs.declared.client_side.Heard.{Heard}
+use Rattle.gateway.specs.declared.client_side.Heard.TheVariants.{Something, Nothing}
 
 -- what a try to publish comes to
 abbrev pub heard_of : TryPublish → Heard

@@ -5,7 +5,7 @@ pub mod Moves
 pub mod Wires
 pub mod MemWires
 pub mod StdWires
-pub mod Desks
+pub mod Ledgers
 pub mod Turns
 pub mod Parts
 pub mod HeardOf
@@ -17,3 +17,5 @@ pub mod Hears
 pub mod Messages
 pub mod Logons
 pub mod Headings
+pub mod Seats
+pub mod AtRings

@@ -3,15 +3,15 @@ use Rattle.std.specs.Prelude.{◌≡◌, ◌⊎◌, ℕ, ◌≤◌, List, ◌++�
 use Rattle.fix_frame.specs.Grammar.{Field, IsBody, frame_text, most_in}
 use Rattle.fix_frame.specs.Stream.{BeginsNoFrame, Faults}
 use Rattle.fix_frame.specs.declared.FrameFault.{FrameFault}
-use Rattle.gateway.specs.declared.desk.TryPublish.{TryPublish}
-use Rattle.gateway.specs.declared.desk.TryPublish.TheVariants.{Done, Refused, Exhausted}
+use Rattle.gateway.specs.declared.seat.TryPublish.{TryPublish}
+use Rattle.gateway.specs.declared.seat.TryPublish.TheVariants.{Done, Refused, Exhausted}
 use Rattle.gateway.specs.declared.ending.Reason.TheVariants as reason
 use Rattle.gateway.specs.declared.refusal.Refusal.TheVariants as refusal
 use Rattle.gateway.specs.Verdict.{verdict, refusal_text}
 use Rattle.gateway.specs.Answers.{time_after}
 use Rattle.gateway.specs.Session.{Standing}
 use Rattle.gateway.specs.Moves.{heard, refusing, closing_by}
-use Rattle.gateway.specs.Desks.{Ledger, PublishTells}
+use Rattle.gateway.specs.Ledgers.{Ledger, PublishTells}
 
 -- the bytes fed end no frame
 pub record Unheard (old new : Standing) (fed : List ℕ) : Type 0 where
@@ -40,15 +40,15 @@ pub record Listens (old new : Standing) (piece : List ℕ) (n : ℕ) : Type 0 wh
   pub hears : (Unheard old new (take n piece) ⊎ HeardFrame old new (take n piece)) ⊎ HeardFault old new (take n piece)
 
 -- the held message is published, or stays held, or is lost because no sequence is left
-abbrev pub Publishes : Standing → Standing → List ℕ → TryPublish → Type 0
-Publishes old new message Done = new ≡ record old { held = None }
-Publishes old new message Refused = new ≡ old
-Publishes old new message Exhausted =
+abbrev pub Settles : Standing → Standing → TryPublish → Type 0
+Settles old new Done = new ≡ record old { held = None }
+Settles old new Refused = new ≡ old
+Settles old new Exhausted =
     new ≡ record (closing_by reason.Exhausted old.time (refusal_text refusal.Exhausted) old) { held = None }
 
--- the message held goes to the desk
+-- it was tried to publish the message held
 pub record Tries (old new : Standing) (desk desk_after : Ledger) (answer : TryPublish) : Type 0 where
   pub message : List ℕ
   pub holds : old.held ≡ Some message
   pub tells : PublishTells desk desk_after message answer
-  pub publishes : Publishes old new message answer
+  pub settles : Settles old new answer

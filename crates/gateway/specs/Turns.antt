@@ -1,5 +1,5 @@
 -- What a turn of a gateway does: the bytes and messages that move in it, and where they leave the session.
-use Rattle.std.specs.Prelude.{◌≡◌, ◌≢◌, ◌⊎◌, ℕ, ◌+◌, ◌^◌, ◌<◌, ◌≤◌, Bool, true, false, if◌then◌else◌, List, [], ◌++◌, length, Option, Some, None}
+use Rattle.std.specs.Prelude.{◌≡◌, ◌≢◌, ◌⊎◌, ℕ, ◌+◌, ◌^◌, ◌<◌, ◌≤◌, Bool, true, false, if◌then◌else◌, List, [], ◌∷◌, ◌++◌, length, Option, Some, None}
 use Rattle.fix_orders.specs.Text.{Said}
 use Rattle.gateway.specs.declared.ending.Reason.{Reason}
 use Rattle.gateway.specs.declared.ending.Reason.TheVariants.{Closed, WireFailed, LoggedOut, Refused, Stalled, Exhausted}
@@ -7,12 +7,15 @@ use Rattle.gateway.specs.declared.ending.Turned.{Turned}
 use Rattle.gateway.specs.declared.ending.Turned.TheVariants.{Worked, Quiet, Ended}
 use Rattle.venue_model.specs.Counts.{Rose}
 use Rattle.gateway.specs.Wires.{Told, grown}
-use Rattle.gateway.specs.Desks.{Ledger}
+use Rattle.ring_words.specs.declared.view.Load.{Load}
+use Rattle.ring_words.specs.Places.{marshalled}
+use Rattle.ring_words.specs.Seats.{load_of}
+use Rattle.gateway.specs.Ledgers.{Ledger, IsRefused, IsExhausted}
 use Rattle.gateway.specs.Session.{Standing, At}
 
--- A gateway: its session; the bytes read and not yet fed; whether the client has closed its side; how many turns in a
--- row wrote nothing though bytes stood to be written, and, since the client closed, did nothing at all; how many
--- outputs were passed over; and whether a session is begun and not ended.
+-- A gateway's side towards its client: the session; the bytes read and not yet fed; whether the client has closed its side; how many turns in
+-- a row wrote nothing though bytes stood to be written; how many, since the client closed, wrote nothing and took no output, but for those that
+-- couldn't write all; how many outputs were passed over; and whether a session is begun and not ended.
 pub record Front : Type 0 where
   pub session : Standing
   pub waiting : List ℕ
@@ -58,15 +61,31 @@ pub record Takes (on : Bool) (old new : Front) (desk desk_after : Ledger) (hande
   pub given : handed ≡ (if on then these else [])
   pub passed : new.passed ≡ old.passed + (if on then 0 else length these)
 
+-- the first words loaded since then show that a claim was refused, or that no sequence was left
+abbrev pub WasRefused : Ledger → Ledger → Type 0
+WasRefused desk desk_after =
+    (ls : List Load) × (IsRefused desk.rows ls ⊎ IsExhausted ls) × (rest : List Load) × (desk_after.loads ≡ desk.loads ++ (ls ++ rest))
+
+-- the first word loaded since then is the claim word, and no sequence was left
+abbrev pub WasExhausted : Ledger → Ledger → Type 0
+WasExhausted desk desk_after =
+    (ls : List Load) × IsExhausted ls × (rest : List Load) × (desk_after.loads ≡ desk.loads ++ (ls ++ rest))
+
+-- the last word loaded since then is the marshalled word, and it showed no output at the count
+abbrev pub FoundNone : Ledger → Ledger → Type 0
+FoundNone desk desk_after =
+    (before : List Load) × (desk_after.loads ≡ desk.loads ++ (before ++ load_of marshalled desk_after.count ∷ []))
+
 -- Nothing moved in the turn, and this is why. Bytes stood to be written, and a write answered Nothing. Or a message
--- is held that the desk refused; or none is, nothing is left of what was read, and a read answered Nothing or the
+-- is held whose claim was refused; or none is, nothing is left of what was read, and a read answered Nothing or the
 -- client has closed its side; and, unless the session closes, there was no output.
 pub record IsQuiet (old new : Front) (wire wire_after : Told) (desk desk_after : Ledger) (m : Moved) : Type 0 where
   pub still : m ≡ nothing_moved
   pub stuck : old.session.outgoing ≢ [] → Rose wire.full_writes wire_after.full_writes
-  pub unheard : old.session.outgoing ≡ [] → ((old.session.held ≢ None) × Rose desk.refusals desk_after.refusals)
-      ⊎ ((new.session.held ≡ None) × (new.waiting ≡ []) × (Rose wire.empty_reads wire_after.empty_reads ⊎ (new.closed ≡ true)))
-  pub unhanded : old.session.outgoing ≡ [] → new.session.closing ≡ None → Rose desk.nothings desk_after.nothings
+  pub unheard : old.session.outgoing ≡ [] → ((old.session.held ≢ None) × WasRefused desk desk_after)
+      ⊎ ((old.session.held ≡ None) × (new.waiting ≡ []) × (Rose wire.empty_reads wire_after.empty_reads ⊎ (new.closed ≡ true)))
+  pub untaken : desk_after.count ≡ desk.count
+  pub unhanded : old.session.outgoing ≡ [] → new.session.closing ≡ None → FoundNone desk desk_after
 
 -- something moved: a byte was read, fed or written, a message published, an output taken or passed over
 abbrev pub Moving : Moved → Ledger → Ledger → Type 0
@@ -81,11 +100,28 @@ EndedBy new wire wire_after Refused = (new.session.closing ≡ Some Refused) × 
 EndedBy new wire wire_after Stalled = new.deaf ≡ 100000
 EndedBy new wire wire_after Exhausted = (new.session.closing ≡ Some Exhausted) × (new.session.outgoing ≡ [])
 
+-- the session goes on: one that closes does so only while bytes stand to be written
+pub record GoesOn (old new : Front) : Type 0 where
+  pub live : new.live ≡ true
+  pub unsaid : old.session.closing ≢ None → new.session.outgoing ≢ []
+
 -- what the answer of a turn means
 abbrev pub Means : Front → Front → Told → Told → Ledger → Ledger → Moved → Turned → Type 0
-Means old new wire wire_after desk desk_after m Worked = Moving m desk desk_after × (new.live ≡ true)
-Means old new wire wire_after desk desk_after m Quiet = IsQuiet old new wire wire_after desk desk_after m × (new.live ≡ true)
+Means old new wire wire_after desk desk_after m Worked = Moving m desk desk_after × GoesOn old new
+Means old new wire wire_after desk desk_after m Quiet = IsQuiet old new wire wire_after desk desk_after m × GoesOn old new
 Means old new wire wire_after desk desk_after m (Ended reason) = EndedBy new wire wire_after reason × (new.live ≡ false)
+
+-- How the counts of turns in a row move. The one that ends a session with 55 rises where no byte of those that stand to be written goes out, and begins
+-- again where one does; the one that ends it with 51 rises, once the client has closed its side, where nothing was written and no output was there, and
+-- begins again where all that stood to be written was, or an output was taken or passed over.
+pub record CountsTurns (old new : Front) (wire wire_after : Told) (desk desk_after : Ledger) (m : Moved) : Type 0 where
+  pub deaf : (new.deaf ≡ 0) ⊎ ((new.deaf ≡ old.deaf)
+      ⊎ ((new.deaf ≡ old.deaf + 1) × (old.session.outgoing ≢ []) × (m.put ≡ []) × Rose wire.full_writes wire_after.full_writes))
+  pub idle : (new.idle ≡ 0) ⊎ ((new.idle ≡ old.idle)
+      ⊎ ((new.idle ≡ old.idle + 1) × (new.closed ≡ true) × (m.put ≡ []) × FoundNone desk desk_after))
+  pub wrote : new.live ≡ true → m.put ≢ [] → new.deaf ≡ 0
+  pub wrote_all : new.live ≡ true → m.put ≢ [] → new.session.outgoing ≡ [] → new.idle ≡ 0
+  pub took : new.live ≡ true → desk.count < desk_after.count → new.idle ≡ 0
 
 -- a whole turn
 pub record Turn (old new : Front) (wire wire_after : Told) (desk desk_after : Ledger) (answer : Turned) : Type 0 where
@@ -93,6 +129,8 @@ pub record Turn (old new : Front) (wire wire_after : Told) (desk desk_after : Le
   pub step : Step old.session new.session old.waiting new.waiting wire wire_after desk desk_after moved
   pub takes : Takes new.session.logged_on old new desk desk_after moved.handed
   pub means : Means old new wire wire_after desk desk_after moved answer
+  pub counts : CountsTurns old new wire wire_after desk desk_after moved
+  pub lost : old.session.closing ≡ None → new.session.closing ≡ Some Exhausted → (old.session.held ≢ None) × WasExhausted desk desk_after
 
 -- a closing session has said one message more
 abbrev pub farewell : Option Reason → ℕ
@@ -103,9 +141,9 @@ farewell (Some reason) = 1
 abbrev pub Counts : Standing → ℕ → Type 0
 Counts s count = s.number ≤ 1 + s.accepted + count + farewell s.closing
 
--- The desk is the one that the session was begun with, so it has given all the outputs that the session has said. So
+-- The seat that counts so many outputs is the one that the session was begun with, so it has given all the outputs that the session has said. So
 -- the next MsgSeqNum, and the count of outputs passed over, are numbers that the machine has.
-pub record GoesWith (s : Standing) (passed : ℕ) (desk : Ledger) : Type 0 where
-  pub number : Counts s desk.count
-  pub passed_over : passed ≤ desk.count
-  pub few : desk.count ≤ 2 ^ 62
+pub record GoesWith (s : Standing) (passed count : ℕ) : Type 0 where
+  pub number : Counts s count
+  pub passed_over : passed ≤ count
+  pub few : count ≤ 2 ^ 62

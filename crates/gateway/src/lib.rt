@@ -1,9 +1,9 @@
 //! A client's sessions between its wire and the venue: bytes are read, cut into frames and judged; what is to be answered is answered, an
-//! order is held until it is published, and the venue's outputs are handed on. No call of a gateway waits for another
-//! thread, and none but `new` takes memory.
+//! order is held until it is published, and the venue's outputs are handed on. No call of a gateway waits for another thread, and
+//! none but `new` takes memory.
 #![tactic(auto)]
 
-mod desk;
+mod client_side;
 mod ending;
 mod flushing;
 mod gateway;
@@ -12,10 +12,10 @@ mod input;
 mod message;
 mod names;
 mod refusal;
+mod seat;
 mod session;
 mod wire;
 
-pub use desk::{Desk, TryPublish};
 pub use ending::{Reason, Turned};
 pub use gateway::Gateway;
 pub use wire::{MemWire, Nothings, StdWire, TryRead, TryWrite, Wire};

@@ -4,12 +4,12 @@ ghost use Rattle.std.specs.Prelude.{◌≡◌, ◌≢◌, ◌+◌, ◌≤◌, �
 ghost use Rattle.gateway.specs.Flushing.{Flushes};
 ghost use Rattle.fix_orders.specs.Text.{Said};
 
-use crate::desk::{Desk, TryPublish, type_text};
 use crate::ending::Reason;
 use crate::flushing::{Flushed, flush};
 use crate::hearing::{Heard, Judged, hear};
 use crate::message::write_message;
 use crate::refusal::Refusal;
+use crate::seat::{TryPublish, type_text};
 use crate::wire::Wire;
 use arrayvec::ArrayVec;
 use fix_frame::Framer;
@@ -53,10 +53,10 @@ impl Session {
     ghost use Rattle.gateway.specs.Moves.{fresh, saying, replying, heard};
     ghost use Rattle.std.specs.Prelude.{IfSome};
     ghost use Rattle.gateway.specs.Sessions.{ClosesItself};
-    ghost use Rattle.gateway.specs.Parts.{Listens, Tries};
+    ghost use Rattle.gateway.specs.Parts.{Listens, Settles};
     ghost use Rattle.gateway.specs.Hears.{verdict_of, IsOfMessage, CanCount, CanHold, CanEcho};
     ghost use Rattle.gateway.specs.Messages.{IsTypeText, AreFields, Spells, IsRefusalText};
-    ghost use Rattle.gateway.specs.Desks.{Carries};
+    ghost use Rattle.gateway.specs.Ledgers.{Carries};
 
     /// A session of this gateway's client, begun.
     pub fn new(alloc: Global, gateway: u8) -> Result<Session, AllocError>
@@ -266,21 +266,30 @@ impl Session {
         self.number += 1;
     }
 
-    /// Publishes the message held.
-    pub fn publish<D: Desk>(&mut self, desk: &mut D) -> TryPublish
-        requires open { self.old.closing ≡ None }
-        requires held { self.old.held ≢ None }
-        requires room { length self.old.outgoing ≤ 512 }
-        requires number { self.old.number < 2 ^ 63 }
-        ensures tries { Tries self.old self.new (D.ledger desk.old) (D.ledger desk.new) result }
-        ensures fixed { D.fixed desk.new ≡ D.fixed desk.old }
-        ensures room { length self.new.outgoing ≤ length self.old.outgoing + 412 }
+    /// The message held.
+    pub fn message(&self) -> &[u8]
+        requires { self.now.held ≢ None }
+        ensures value { self.now.held ≡ Some result.now }
+        ensures some { 1 ≤ length result.now }
+        ensures most { length result.now ≤ 320 }
     {
         let Some(message) = &self.held else {
             unreachable!()
         };
-        let published = desk.try_publish(message.as_slice());
-        match published {
+        message.as_slice()
+    }
+
+    /// Does what the session does when it was tried to publish the message held: it lets go of one that is published, keeps one that was
+    /// refused, and says so where no sequence is left.
+    pub fn settle(&mut self, answer: TryPublish)
+        requires open { self.old.closing ≡ None }
+        requires held { self.old.held ≢ None }
+        requires room { length self.old.outgoing ≤ 512 }
+        requires number { self.old.number < 2 ^ 63 }
+        ensures settles { Settles self.old self.new answer }
+        ensures room { length self.new.outgoing ≤ length self.old.outgoing + 412 }
+    {
+        match answer {
             TryPublish::Done => self.held = None,
             TryPublish::Refused => {}
             TryPublish::Exhausted => {
@@ -290,7 +299,6 @@ impl Session {
                 self.say_logout(time, Refusal::Exhausted.text());
             }
         }
-        published
     }
 
     /// Hands an output to the client, who is logged on.

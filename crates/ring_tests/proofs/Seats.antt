@@ -2,10 +2,12 @@
 use Rattle.std.proofs.Common.{◌≡◌, ℕ, zero, suc, ◌+◌, List, [], ◌∷◌, ◌++◌, length, refl, ap, sym, subst, ◌∙◌, ⊎_elim}
 use mathlib.Core.Option.{some, some-ne-none}
 use lib.ListN.{get_elem?}
+use Rattle.atomic_table.specs.Seated.{TableId}
 use Rattle.venue_model.specs.History.{Message}
 use Rattle.ring_words.specs.declared.seats.GatewaySeat.{GatewaySeat}
 use Rattle.ring_words.specs.declared.view.Person.{Person}
 use Rattle.ring_words.specs.Seats.{person}
+use Rattle.ring_words.specs.Crew.{IsFresh, AreFresh}
 use Rattle.ring_words.specs.Ending.{IsSpent}
 use Rattle.ring_words.specs.Meeting.{met}
 use Rattle.ring_words.proofs.Logs.{at_end}
@@ -33,3 +35,14 @@ met_spent table k s t r h at number view spent = record {
   number = number ∙ spent.number;
   claims = ap (λ (p : Person). p.claims) view ∙ spent.claims;
 }
+
+-- the last of new seats is new, and so are those before it
+module _ {L : Type 0} (table : TableId) (logic : L) (base : List Message) (given : ℕ) (all front : List (GatewaySeat L)) (s : GatewaySeat L)
+    (is : all ≡ front ++ s ∷ []) (fresh : AreFresh table logic base given all) where
+  pub fresh_last : IsFresh table logic base given s.number s
+  fresh_last =
+      let last = fresh (length front) s (subst (λ (l : List (GatewaySeat L)). get_elem? l (length front) ≡ some s) (sym is) (last_one front s)) in
+      subst (λ (k : ℕ). IsFresh table logic base given k s) (sym last.number) last
+
+  pub fresh_front : AreFresh table logic base given front
+  fresh_front i x at = fresh i x (subst (λ (l : List (GatewaySeat L)). get_elem? l i ≡ some x) (sym is) (stays front (s ∷ []) i x at))

@@ -11,6 +11,7 @@ mod refused;
 mod reports;
 mod requests;
 mod ring_of_two;
+mod sessions;
 mod venue;
 mod whole_bytes;
 mod worked_days;

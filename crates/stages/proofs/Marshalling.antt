@@ -17,7 +17,7 @@ use Rattle.ring_words.specs.Seats.{person, alone, load_of, looked, knowing, wrot
 use Rattle.ring_words.specs.Steps.{Shows, WroteText}
 use Rattle.ring_words.proofs.Logs.{stands, at_longer, at_behind}
 use Rattle.barrier.specs.Outputs.{after_output}
-use Rattle.stages.specs.Processed.{outputs_of}
+use Rattle.book.specs.Histories.{outputs_of}
 use Rattle.stages.specs.Marshals.{after_marshalling, Marshals}
 use Rattle.stages.specs.declared.turn.Turn.TheVariants.{Did, Idle}
 

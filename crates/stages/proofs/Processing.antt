@@ -22,7 +22,8 @@ use Rattle.book.specs.Books.{Book}
 use Rattle.book.specs.Standing.{Below}
 use Rattle.book.proofs.LawStamps.{history-behind, length-requests}
 use Rattle.stages.specs.Turns.{after_reading}
-use Rattle.stages.specs.Processed.{entries_done, state_of, outputs_of}
+use Rattle.book.specs.Histories.{state_of, outputs_of}
+use Rattle.stages.specs.Processed.{entries_done}
 use Rattle.stages.specs.Processes.{to_put}
 
 -- HISTORIES

@@ -24,7 +24,7 @@ use Rattle.barrier.specs.Availability.{Gated}
 use Rattle.barrier.specs.Commands.{command_loads}
 use Rattle.sequencer.specs.Outputs.{taken_loads, HasLooked}
 use Rattle.book.specs.Books.{Book}
-use Rattle.stages.specs.Processed.{state_of, outputs_of}
+use Rattle.book.specs.Histories.{state_of, outputs_of}
 use Rattle.stages.specs.Turns.{after_reading}
 use Rattle.stages.specs.Processes.{to_put, TakesUp, ahead, Puts}
 use Rattle.stages.specs.declared.processor.Processor.{Processor}

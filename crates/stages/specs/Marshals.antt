@@ -12,7 +12,7 @@ use Rattle.ring_words.specs.OutputPacking.{output_words}
 use Rattle.ring_words.specs.Texts.{text_words}
 use Rattle.ring_words.specs.Seats.{looked, knowing, wrote}
 use Rattle.barrier.specs.Outputs.{after_output}
-use Rattle.stages.specs.Processed.{outputs_of}
+use Rattle.book.specs.Histories.{outputs_of}
 use Rattle.stages.specs.Turns.{done}
 use Rattle.stages.specs.declared.turn.Turn.{Turn}
 use Rattle.stages.specs.declared.turn.Turn.TheVariants.{Did, Idle, OutFull, JournalFailed}

@@ -12,7 +12,7 @@ use Rattle.ring_words.specs.Seats.{looked}
 use Rattle.ring_words.specs.Steps.{lesser}
 use Rattle.barrier.specs.Availability.{Gated}
 use Rattle.sequencer.specs.Outputs.{HasLooked}
-use Rattle.stages.specs.Processed.{outputs_of}
+use Rattle.book.specs.Histories.{outputs_of}
 use Rattle.stages.specs.Turns.{done, after_reading}
 use Rattle.stages.specs.declared.turn.Turn.{Turn}
 use Rattle.stages.specs.declared.turn.Turn.TheVariants.{Did, Idle, OutFull, JournalFailed}

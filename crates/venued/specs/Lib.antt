@@ -2,6 +2,6 @@ pub mod Words
 pub mod Faults
 pub mod VenueRings
 pub mod Opened
-pub mod VenueDesks
+pub mod Venues
 pub mod Serving
 pub mod VenueInsides

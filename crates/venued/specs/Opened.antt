@@ -5,7 +5,7 @@ use Rattle.venue_model.specs.Requests.{Symbols}
 use Rattle.ring_words.specs.Crew.{stage_view, process_view, marshal_view}
 use Rattle.ring_words.specs.Rule.{view_of}
 use Rattle.ring_words.specs.declared.view.Role.TheVariants.{Unmarshal, Journal}
-use Rattle.stages.specs.Processed.{outputs_of}
+use Rattle.book.specs.Histories.{outputs_of}
 use Rattle.venued.specs.declared.recovered.Recovered.{Recovered}
 use Rattle.venued.specs.declared.rings.Opened.{Opened}
 use Rattle.venued.specs.VenueRings.{new_gateway}

@@ -6,7 +6,7 @@ use Rattle.journal.specs.Disk as disks
 use Rattle.journal.specs.Disk.{LeavesOnly}
 use Rattle.journal.specs.Format.{IsJournal}
 use Rattle.gateway.specs.Wires.{Told}
-use Rattle.venued.specs.VenueDesks.{IsJournalBehind}
+use Rattle.venued.specs.Venues.{IsJournalBehind}
 
 -- of the wire before and after, and of how many calls of the disk had failed: at 0 none failed; at 1 no byte moved; at 2 one failed
 abbrev pub Serves : Told → Told → ℕ → ℕ → ℕ → Type 0

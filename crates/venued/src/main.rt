@@ -12,7 +12,7 @@ mod rings;
 mod serve;
 #[cfg(test)]
 mod tests;
-mod venue_desk;
+mod venue;
 mod words;
 
 use crate::journal_file::open_journal;

@@ -3,12 +3,11 @@ ghost use Rattle.std.specs.Prelude.{◌≡◌, ◌≢◌, ◌⊎◌, true, false
 ghost use Rattle.venue_model.specs.Counts.{Rose};
 ghost use Rattle.journal.specs.Disk.{Both, LeavesOnly};
 ghost use Rattle.venued.specs.Serving.{LeavesFrom, Serves};
-ghost use Rattle.gateway.specs.Turns.{GoesWith};
-ghost use Rattle.venued.specs.VenueDesks.{ledger_of, IsJournalBehind};
+ghost use Rattle.venued.specs.Venues.{IsJournalBehind};
 
 use crate::fault::ServeFault;
 use crate::polled::Polled;
-use crate::venue_desk::VenueDesk;
+use crate::venue::Venue;
 use crate::words::{Words, WordsFault};
 use gateway::{Gateway, Turned, Wire};
 use journal::JournalDisk;
@@ -29,19 +28,19 @@ pub fn serve<D: JournalDisk, W: Wire, E: Write>(
     ensures honest { Both (D.honest disk) (D.honest result.1) }
     ensures any_moment { D.honest disk → LeavesFrom (D.tells disk) (D.tells result.1) }
 {
-    let mut desk = match VenueDesk::open(alloc, &words.limits, disk) {
-        Ok(desk) => desk,
+    let (mut venue, seat) = match Venue::open(alloc, &words.limits, disk) {
+        Ok(opened) => opened,
         Err((fault, disk)) => return (ServeFault::from(fault).say(err), disk),
     };
-    let Ok(mut gateway) = Gateway::new(alloc, 1) else {
-        return (ServeFault::Memory.say(err), desk.end());
+    let Ok(mut gateway) = Gateway::new(alloc, seat) else {
+        return (ServeFault::Memory.say(err), venue.end());
     };
     gateway.begin();
-    let status = match take_turns(&mut gateway, &mut desk, wire) {
+    let status = match take_turns(&mut gateway, &mut venue, wire) {
         Polled::Went => 0,
         Polled::JournalFailed => ServeFault::JournalFailed.say(err),
     };
-    (status, desk.end())
+    (status, venue.end())
 }
 
 /// Prints the line for wrong words, and gives the status for it. A line that can't be printed is let go.
@@ -56,24 +55,24 @@ pub fn refuse<E: Write>(fault: WordsFault, err: &mut E) -> u8
 /// 2^64 - 1 turns.
 fn take_turns<D: JournalDisk, W: Wire>(
     gateway: &mut Gateway,
-    desk: &mut VenueDesk<D>,
+    venue: &mut Venue<D>,
     wire: &mut W,
 ) -> Polled
-    requires live { gateway.old.live ≡ true }
-    requires mate { GoesWith gateway.old.session gateway.old.passed (ledger_of desk.old) }
-    requires ready { desk.old.failed ≡ false }
-    ensures honest { Both (D.honest desk.old.disk) (D.honest desk.new.disk) }
-    ensures any_moment { D.honest desk.old.disk →
-        LeavesOnly (D.tells desk.old.disk) (D.tells desk.new.disk) (λ file. (D.tells desk.old.disk).may_leave file ⊎ IsJournalBehind desk.old.base file) }
-    ensures failed { result ≡ Polled.JournalFailed → Rose (D.failed desk.old.disk) (D.failed desk.new.disk) }
-    ensures counts { result ≡ Polled.Went → D.failed desk.new.disk ≡ D.failed desk.old.disk }
+    requires live { gateway.old.front.live ≡ true }
+    requires table { gateway.old.seat.seat.table_id ≡ venue.old.table }
+    requires ready { venue.old.failed ≡ false }
+    ensures honest { Both (D.honest venue.old.disk) (D.honest venue.new.disk) }
+    ensures any_moment { D.honest venue.old.disk →
+        LeavesOnly (D.tells venue.old.disk) (D.tells venue.new.disk) (λ file. (D.tells venue.old.disk).may_leave file ⊎ IsJournalBehind venue.old.base file) }
+    ensures failed { result ≡ Polled.JournalFailed → Rose (D.failed venue.old.disk) (D.failed venue.new.disk) }
+    ensures counts { result ≡ Polled.Went → D.failed venue.new.disk ≡ D.failed venue.old.disk }
 {
     'turns: for _ in 0..u64::MAX {
-        let turned = gateway.turn(desk, wire);
+        let turned = gateway.turn(venue.rings(), wire);
         if let Turned::Ended(_) = turned {
             return Polled::Went;
         }
-        if desk.poll() == Polled::JournalFailed {
+        if venue.poll() == Polled::JournalFailed {
             return Polled::JournalFailed;
         }
     }

@@ -1,7 +1,7 @@
 use Rattle.std.proofs.Common.{◌≡◌, ◌∙◌, refl, ap, arith}
 use Rattle.ring_words.specs.Seats.{person}
 use Rattle.ring_words.proofs.Logs.{stands}
-use Rattle.stages.specs.Processed.{outputs_of}
+use Rattle.book.specs.Histories.{outputs_of}
 use Rattle.stages.proofs.Polls.{has_person, some_logic, the_logic}
 use Rattle.stages.proofs.Marshalling.{no_longer, loaded_shown, is_its_text, text_written, may_hand_on, handed_on}
 use Rattle.stages.proofs.marshaller.Marshaller.marshal.Goals as goal

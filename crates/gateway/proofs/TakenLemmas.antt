@@ -1,0 +1,109 @@
+-- What a gateway has taken: the texts of outputs as their count grows.
+use Rattle.std.proofs.Common.{◌≡◌, ◌≢◌, ℕ, suc, ◌+◌, ◌^◌, ◌≤◌, Bool, true, false, List, [], ◌∷◌, ◌++◌, length, take, drop, ap, sym, ◌∙◌, arith, append-nil, length-drop, add-zero, take-append-drop}
+use Rattle.std.specs.Prelude.{◌==◌, if◌then◌else◌}
+use Rattle.std.proofs.lemmas.Bool.Decides.{nat_tests}
+use Rattle.std.proofs.lemmas.List.{length-take-le, take-append-le, drop-append-le}
+use mathlib.Core.Option.{some}
+use lib.ListN.{get_elem?}
+use Rattle.fix_orders.specs.Reading.{reads}
+use Rattle.fix_orders.specs.Text.{Said, text}
+use Rattle.venue_model.specs.History.{Message}
+use Rattle.venue_model.specs.Requests.{Symbols}
+use Rattle.venue_model.specs.declared.outputs.Output.{Output}
+use Rattle.venue_model.proofs.Growth.{grows-by, few-told-by}
+use Rattle.ring_words.specs.declared.view.Person.{Person}
+use Rattle.ring_words.proofs.Logs.{within}
+use Rattle.sequencer.specs.Outputs.{TakesNext}
+use Rattle.book.specs.Histories.{outputs_of}
+use Rattle.gateway.proofs.Lists.{take_next}
+use Rattle.gateway.specs.Seats.{texts_to, taken_by}
+
+-- TEXTS
+
+-- what one output more says, if it goes to this gateway
+abbrev one_text : ℕ → ℕ → Output → List Said
+one_text k place o = if o.to == k then text o place ∷ [] else []
+
+texts-one_more : (k place : ℕ) (xs : List Output) (o : Output) →
+    texts_to k place (xs ++ o ∷ []) ≡ texts_to k place xs ++ one_text k (place + length xs) o
+texts-one_more k place [] o = ap (λ (n : ℕ). one_text k n o) (sym (add-zero place))
+texts-one_more k place (x ∷ xs) o =
+    let number : place + 1 + length xs ≡ place + suc (length xs) = omega arith in
+    let behind : List Said = one_text k (place + suc (length xs)) o in
+    let rest : texts_to k (place + 1) (xs ++ o ∷ []) ≡ texts_to k (place + 1) xs ++ behind =
+    texts-one_more k (place + 1) xs o ∙ ap (λ (n : ℕ). texts_to k (place + 1) xs ++ one_text k n o) number in
+    elim (x.to == k) as (λ b.
+    (if b then text x place ∷ texts_to k (place + 1) (xs ++ o ∷ []) else texts_to k (place + 1) (xs ++ o ∷ []))
+    ≡ (if b then text x place ∷ texts_to k (place + 1) xs else texts_to k (place + 1) xs) ++ behind
+    ) [ true ↦ ap (λ l. text x place ∷ l) rest | false ↦ rest ]
+
+-- what is taken behind the outputs at the start when the count goes over one output more
+taken-one_more : (k given : ℕ) (all : List Output) (count : ℕ) (o : Output) → get_elem? all count ≡ some o → given ≤ count →
+    texts_to k given (drop given (take (suc count) all)) ≡ texts_to k given (drop given (take count all)) ++ one_text k count o
+taken-one_more k given all count o at from =
+    let there = within all count o at in
+    let front = length-take-le count all (omega (arith, there)) in
+    let rest : List Output = drop given (take count all) in
+    let behind = length-drop given (take count all) in
+    let long : given + length rest ≡ count = omega (arith, front, behind) in
+    ap (λ (l : List Output). texts_to k given (drop given l)) (take_next all count o at)
+    ∙ ap (texts_to k given) (drop-append-le given (take count all) (o ∷ []) (omega (arith, front)))
+    ∙ texts-one_more k given rest o ∙ ap (λ (n : ℕ). texts_to k given rest ++ one_text k n o) long
+
+-- what an output says that goes to gateway k, and one that goes to another
+is_same : (n k : ℕ) → n ≡ k → (n == k) ≡ true
+is_same n k same = grind (arith, nat_tests)
+
+mine : (k place : ℕ) (o : Output) → o.to ≡ k → one_text k place o ≡ text o place ∷ []
+mine k place o is = ap (λ (b : Bool). if b then text o place ∷ [] else []) (is_same o.to k is)
+
+is_other : (n k : ℕ) → n ≢ k → (n == k) ≡ false
+is_other n k other = grind (arith, nat_tests)
+
+others : (k place : ℕ) (o : Output) → o.to ≢ k → one_text k place o ≡ []
+others k place o other = ap (λ (b : Bool). if b then text o place ∷ [] else []) (is_other o.to k other)
+
+-- TAKING
+
+module _ (k : ℕ) (symbols : Symbols) (base history : List Message) (p q : Person) (o : Output) (start : ℕ) (takes : TakesNext start p history q)
+    (next : get_elem? (outputs_of symbols history) p.own ≡ some o) where
+  abbrev given : ℕ
+  given = length (outputs_of symbols base)
+
+  -- the count stays within the outputs of what the gateway has seen
+  pub still_within : q.own ≤ length (outputs_of symbols q.seen)
+  still_within =
+      let there = within (outputs_of symbols history) p.own o next in
+      let own : q.own ≡ suc p.own = ap (λ (w : Person). w.own) takes.taken in
+      let seen : length (outputs_of symbols q.seen) ≡ length (outputs_of symbols history)
+      = ap (λ (w : Person). length (outputs_of symbols w.seen)) takes.taken in
+      omega (arith, there, own, seen)
+
+  -- and is a small number, since the history is short
+  pub still_small : p.own + 1 ≤ 2 ^ 62
+  still_small =
+      let there = within (outputs_of symbols history) p.own o next in
+      let few = takes.few in
+      let told = few-told-by (λ sequence m. reads m.bytes) symbols history in
+      omega (arith, there, few, told)
+
+  module _ (from : given ≤ p.own) (to : p.own ≤ length (outputs_of symbols p.seen)) where
+    -- what was taken before stays as the history grows
+    stays : texts_to k given (drop given (take p.own (outputs_of symbols history))) ≡ taken_by k symbols base p
+    stays =
+        let rest : List Message = drop (length p.seen) history in
+        let grown : history ≡ p.seen ++ rest = sym (take-append-drop (length p.seen) history) ∙ ap (λ (h : List Message). h ++ rest) (sym takes.begins) in
+        let more = grows-by (λ sequence m. reads m.bytes) symbols p.seen rest in
+        ap (λ (h : List Message). texts_to k given (drop given (take p.own (outputs_of symbols h)))) grown
+        ∙ ap (λ (os : List Output). texts_to k given (drop given (take p.own os))) more.1
+        ∙ ap (λ (os : List Output). texts_to k given (drop given os)) (take-append-le p.own (outputs_of symbols p.seen) more.0 to)
+
+    one_more : taken_by k symbols base q ≡ taken_by k symbols base p ++ one_text k p.own o
+    one_more = ap (taken_by k symbols base) takes.taken ∙ taken-one_more k given (outputs_of symbols history) p.own o next from
+        ∙ ap (λ (ts : List Said). ts ++ one_text k p.own o) stays
+
+    pub taken_mine : o.to ≡ k → taken_by k symbols base q ≡ taken_by k symbols base p ++ text o p.own ∷ []
+    taken_mine is = one_more ∙ ap (λ (ts : List Said). taken_by k symbols base p ++ ts) (mine k p.own o is)
+
+    pub taken_other : o.to ≢ k → taken_by k symbols base q ≡ taken_by k symbols base p
+    taken_other other = one_more ∙ ap (λ (ts : List Said). taken_by k symbols base p ++ ts) (others k p.own o other) ∙ append-nil (taken_by k symbols base p)

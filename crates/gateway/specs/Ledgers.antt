@@ -1,0 +1,67 @@
+-- What a gateway's seat at the rings tells its session, and what each of the session's two calls tells.
+use Rattle.std.specs.Prelude.{◌≡◌, ◌⊎◌, ℕ, ◌+◌, ◌^◌, ◌<◌, ◌≤◌, List, [], ◌∷◌, ◌++◌, take, codes}
+use Rattle.std.specs.List.{AllByRecursion}
+use Rattle.fix_frame.specs.Grammar.{IsField, print_fields}
+use Rattle.fix_orders.specs.Formats.{time_text}
+use Rattle.fix_orders.specs.Text.{Said}
+use Rattle.venue_model.specs.declared.outputs.OutputType.{OutputType}
+use Rattle.venue_model.specs.declared.outputs.OutputType.TheVariants.{ExecutionReport, OrderCancelReject, Reject}
+use Rattle.ring_words.specs.declared.view.Load.{Load}
+use Rattle.ring_words.specs.Places.{claim, processed, marshalled}
+use Rattle.ring_words.specs.Seats.{load_of}
+use Rattle.sequencer.specs.declared.take.Head.{Head}
+use Rattle.sequencer.specs.declared.take.Take.{Take}
+use Rattle.sequencer.specs.declared.take.Take.TheVariants.{Mine, Passed, Nothing}
+use Rattle.gateway.specs.declared.seat.TryPublish.{TryPublish}
+use Rattle.gateway.specs.declared.seat.TryPublish.TheVariants.{Done, Refused, Exhausted}
+
+-- how many rows the input ring has; the messages published and the outputs taken, in order; how many outputs were taken or passed over, with
+-- those at the start; and the loads of the rings' words
+pub record Ledger : Type 0 where
+  pub rows : ℕ
+  pub published : List (List ℕ)
+  pub taken : List Said
+  pub count : ℕ
+  pub loads : List Load
+
+-- these words were loaded besides
+abbrev pub loading : Ledger → List Load → Ledger
+loading l ls = record l { loads = l.loads ++ ls }
+
+-- A claim in a ring of n rows came too early: the claim word was s, then the processed word was p, and all rows from p on were claimed. Or too late: there
+-- was room for s, but then the claim word was t, above s.
+abbrev pub IsRefused : ℕ → List Load → Type 0
+IsRefused n ls = ((s p : ℕ) × (ls ≡ load_of claim s ∷ load_of processed p ∷ []) × (s ≡ p + n))
+    ⊎ ((s p t : ℕ) × (ls ≡ load_of claim s ∷ load_of processed p ∷ load_of claim t ∷ []) × (s < p + n) × (s < t))
+
+-- no sequence was left to claim
+abbrev pub IsExhausted : List Load → Type 0
+IsExhausted ls = ls ≡ load_of claim (2 ^ 48) ∷ []
+
+-- what a try to publish with this answer tells
+abbrev pub PublishTells : Ledger → Ledger → List ℕ → TryPublish → Type 0
+PublishTells old new message Done = (ls : List Load) × (new ≡ record (loading old ls) { published = old.published ++ message ∷ [] })
+PublishTells old new message Refused = (ls : List Load) × IsRefused old.rows ls × (new ≡ loading old ls)
+PublishTells old new message Exhausted = (ls : List Load) × IsExhausted ls × (new ≡ loading old ls)
+
+-- MsgType (35)
+abbrev pub type_text : OutputType → List ℕ
+type_text ExecutionReport = codes "8"
+type_text OrderCancelReject = codes "9"
+type_text Reject = codes "3"
+
+-- a head and the bytes of a body say this
+pub record Carries (head : Head) (body : List ℕ) (said : Said) : Type 0 where
+  pub type : said.kind ≡ type_text head.msg_type
+  pub time : said.time ≡ time_text head.sending_time
+  pub bytes : print_fields said.body ≡ take head.len body
+  pub fields : AllByRecursion IsField said.body
+  pub most : head.len ≤ 320
+
+-- what a look with this answer tells. Outputs are fewer than 2 ^ 62. Where there is none, the marshalled word is loaded, and shows none at the count
+abbrev pub TakeTells : Ledger → Ledger → List ℕ → Take → Type 0
+TakeTells old new body (Mine head) =
+    (said : Said) × Carries head body said × (old.count + 1 ≤ 2 ^ 62)
+    × (ls : List Load) × (new ≡ record (loading old ls) { taken = old.taken ++ said ∷ []; count = old.count + 1 })
+TakeTells old new body Passed = (old.count + 1 ≤ 2 ^ 62) × (ls : List Load) × (new ≡ record (loading old ls) { count = old.count + 1 })
+TakeTells old new body Nothing = new ≡ loading old (load_of marshalled old.count ∷ [])

@@ -1,0 +1,75 @@
+//! A gateway's seat at the rings, as its session uses it: one call publishes what the client sent, the other looks for what the venue
+//! has for it. Behind them stand the input ring and the output ring.
+ghost use Rattle.std.specs.Prelude.{◌≡◌, ◌≤◌, length};
+ghost use Rattle.gateway.specs.Ledgers.{PublishTells, TakeTells, type_text};
+ghost use Rattle.gateway.specs.Messages.{IsTypeText};
+ghost use Rattle.gateway.specs.Seats.{HasSeen, StaysSeated, Enters, Looks, ledger_of};
+
+use book::BookLogic;
+use ring_words::{GatewaySeat, Rings};
+use sequencer::{ClaimRefusal, Take, take_output, try_claim};
+use venue_model::OutputType;
+
+/// What came of a message that was to be published.
+#[derive(Clone, Copy, Debug, PartialEq, Eq)]
+pub enum TryPublish {
+    /// It is published.
+    Done,
+    /// It isn't published: the ring was full, or another gateway was faster. It may be tried again.
+    Refused,
+    /// There is no sequence left for it, now and later.
+    Exhausted,
+}
+
+/// Tries once to publish a message (1 to 320 bytes). A full input ring and a lost race are refusals.
+pub fn try_publish<const N: usize, const M: usize, const G: usize>(
+    rings: &Rings<BookLogic, N, M, G>,
+    seat: &mut GatewaySeat<BookLogic>,
+    message: &[u8],
+) -> TryPublish
+    requires table { seat.old.seat.table_id ≡ rings.now.table.shared.table_id }
+    requires seen { HasSeen seat.old }
+    requires some { 1 ≤ length message.now }
+    requires most { length message.now ≤ 320 }
+    ensures stays { StaysSeated seat.old seat.new }
+    ensures seen { HasSeen seat.new }
+    ensures enters { Enters N seat.old.number seat.old.seat.me.0 seat.new.seat.me.0 message.now result }
+    ensures tells { PublishTells (ledger_of N seat.old) (ledger_of N seat.new) message.now result }
+{
+    match try_claim(rings, seat) {
+        Ok(claim) => {
+            claim.publish(rings, seat, message);
+            TryPublish::Done
+        }
+        Err(ClaimRefusal::Full | ClaimRefusal::Contended) => TryPublish::Refused,
+        Err(ClaimRefusal::Exhausted) => TryPublish::Exhausted,
+    }
+}
+
+/// Takes the next output, or passes it over where it goes to another's client.
+pub fn take<const N: usize, const M: usize, const G: usize>(
+    rings: &Rings<BookLogic, N, M, G>,
+    seat: &mut GatewaySeat<BookLogic>,
+    body: &mut [u8; 320],
+) -> Take
+    requires table { seat.old.seat.table_id ≡ rings.now.table.shared.table_id }
+    requires seen { HasSeen seat.old }
+    ensures stays { StaysSeated seat.old seat.new }
+    ensures seen { HasSeen seat.new }
+    ensures looks { Looks seat.old.number seat.old.seat.me.0 seat.new.seat.me.0 body.new result }
+    ensures tells { TakeTells (ledger_of N seat.old) (ledger_of N seat.new) body.new result }
+{
+    take_output(rings, seat, body)
+}
+
+/// The text of MsgType (35).
+pub fn type_text(msg_type: OutputType) -> &'static [u8]
+    ensures value { result.now ≡ type_text msg_type }
+    ensures valid { IsTypeText result.now }
+{
+    match msg_type {
+        OutputType::ExecutionReport => b"8",
+        OutputType::OrderCancelReject => b"9",
+        OutputType::Reject => b"3",
+    }
+}

@@ -1,0 +1,69 @@
+-- The venue behind its gateway: what contracts see of it, and what its polls do.
+use Rattle.std.specs.Prelude.{◌≡◌, ℕ, ◌↔◌, Bool, false, List, ◌++◌, length}
+use Rattle.atomic_table.specs.Seated.{TableId}
+use Rattle.venue_model.specs.History.{History}
+use Rattle.venue_model.specs.Requests.{Symbols}
+use Rattle.book.specs.Histories.{outputs_of}
+use Rattle.ring_words.specs.declared.view.Person.{Person}
+use Rattle.ring_words.specs.declared.view.Role.TheVariants.{Unmarshal, Journal, Marshal}
+use Rattle.ring_words.specs.Rule.{newcomer, processor}
+use Rattle.journal.specs.Format.{IsJournal}
+use Rattle.stages.specs.declared.turn.Turn.{Turn}
+use Rattle.stages.specs.declared.turn.Turn.TheVariants as turns
+use Rattle.stages.specs.Turns.{Unmarshals, Journals}
+use Rattle.stages.specs.Processes.{Processes}
+use Rattle.stages.specs.Marshals.{Marshals}
+use Rattle.venued.specs.declared.polled.Polled.{Polled}
+use Rattle.venued.specs.declared.polled.Polled.TheVariants as polls
+use Rattle.venued.specs.VenueRings.{new_stage}
+
+-- The table of the rings; the venue's symbols, and the history that it was opened with; the disk, and whether the journal on it failed; and what each
+-- stage knows of the rings, and how many entries the processor's book has.
+pub record OneVenue (D : Type 0) : Type 0 where
+  pub table : TableId
+  pub symbols : Symbols
+  pub base : History
+  pub disk : D
+  pub failed : Bool
+  pub unmarshaller : Person
+  pub journaller : Person
+  pub processor : Person
+  pub applied : ℕ
+  pub marshaller : Person
+
+-- the file is the journal of a history that begins with this one
+abbrev pub IsJournalBehind : History → List ℕ → Type 0
+IsJournalBehind base file = (more : History) × IsJournal file (base ++ more)
+
+-- what a poll says of the journaller's turn
+abbrev pub IsSaid : Turn → Polled → Type 0
+IsSaid journalled polled = (polled ≡ polls.JournalFailed) ↔ (journalled ≡ turns.JournalFailed)
+
+module _ {D : Type 0} where
+  -- the venue behind this history, and its disk: each seat as the rings were opened with it, and the outputs of the history counted
+  abbrev pub opened : Symbols → TableId → History → D → OneVenue D
+  opened symbols table base disk = record {
+    table = table;
+    symbols = symbols;
+    base = base;
+    disk = disk;
+    failed = false;
+    unmarshaller = new_stage Unmarshal base;
+    journaller = new_stage Journal base;
+    processor = processor base (length (outputs_of symbols base));
+    applied = length base;
+    marshaller = newcomer Marshal base (length (outputs_of symbols base));
+  }
+
+  -- each stage polled once, and nothing else moved; the answer says whether the journal failed
+  pub record Polls (old new : OneVenue D) (polled : Polled) : Type 0 where
+    pub unmarshalled : Turn
+    pub journalled : Turn
+    pub processed : Turn
+    pub marshalled : Turn
+    pub unmarshals : Unmarshals 1024 unmarshalled old.unmarshaller new.unmarshaller
+    pub journals : Journals 1024 journalled old.journaller new.journaller
+    pub processes : Processes 1024 1024 1 old.symbols processed old.processor old.applied new.processor new.applied
+    pub marshals : Marshals 1024 1024 old.symbols marshalled old.marshaller new.marshaller
+    pub answer : IsSaid journalled polled
+    pub others : new ≡ record old { disk = new.disk; failed = new.failed; unmarshaller = new.unmarshaller; journaller = new.journaller; processor = new.processor; applied = new.applied; marshaller = new.marshaller }
