@@ -1,12 +1,11 @@
 #!/usr/bin/env python3
 """Kills venued at random moments while orders flow, restarts it on the same journal, and checks what was kept.
 
-After each kill venue-replay has to print every report that the client had got, as it got it, at the place that its ExecID (17)
-says; and the next session's reports have to go on from there. It takes a minute at most.
+    scripts/kill-and-restart.py [KILLS]
 
-    scripts/kill-and-restart.py [ROUNDS]
-
-Build both programs first: `rt run` in crates/venued and in crates/venue_replay.
+After each kill venue-replay has to print every report that any session got until then, as it was told, at the place
+that its ExecID (17) says; and the reports of a session have to go on behind those that were kept before it. 20 kills,
+if left out, take about half a minute. Build both programs first, by scripts/build.
 """
 import os
 import random
@@ -16,17 +15,22 @@ import tempfile
 import threading
 import time
 
-HERE = os.path.dirname(os.path.dirname(os.path.abspath(__file__)))
-VENUED = os.path.join(HERE, "crates/venued/out/venued")
-REPLAY = os.path.join(HERE, "crates/venue_replay/out/venue_replay")
+ROOT = os.path.dirname(os.path.dirname(os.path.abspath(__file__)))
+VENUED = os.path.join(ROOT, "crates/venued/out/venued")
+REPLAY = os.path.join(ROOT, "crates/venue_replay/out/venue_replay")
 TIME = "20250102-09:30:00"
+
+
+def stop(why):
+    """Ends with these words, which say what went wrong."""
+    sys.exit(f"kill-and-restart: {why}")
 
 
 def frame(number, kind, body):
     """A whole message of C1."""
-    text = f"35={kind}|49=C1|56=VENUE|34={number}|52={TIME}|{body}".replace("|", "\x01")
-    text = f"8=FIX.4.4\x019={len(text)}\x01{text}"
-    return (text + f"10={sum(text.encode()) % 256:03}\x01").encode()
+    text = f"35={kind}|49=C1|56=VENUE|34={number}|52={TIME}|{body}"
+    text = f"8=FIX.4.4|9={len(text)}|{text}".replace("|", "\x01").encode()
+    return text + b"10=%03d\x01" % (sum(text) % 256)
 
 
 def order(number, name):
@@ -36,18 +40,19 @@ def order(number, name):
 
 
 def reports(got):
-    """The bodies of the whole reports among the bytes, from OrderID (37) on."""
-    found = []
-    for message in got.decode("ascii", "replace").split("8=FIX.4.4\x01")[1:]:
-        if "\x0135=8\x01" in "\x01" + message and "\x0110=" in message and message.endswith("\x01"):
-            body = message[message.index("37="):message.rindex("10=")]
-            found.append(body.replace("\x01", "|"))
+    """The bodies of the whole execution reports among the bytes, from OrderID (37) on, by ExecID (17)."""
+    found = {}
+    for message in got.decode("ascii", "replace").replace("\x01", "|").split("8=FIX.4.4|")[1:]:
+        if "|35=8|" in message and "|10=" in message and message.endswith("|"):
+            body = message[message.index("|37=") + 1 : message.rindex("10=")]
+            found[int(body.split("|17=")[1].split("|")[0])] = body
     return found
 
 
 def session(journal, first, length):
     """Sends orders from the given ClOrdID on, kills the venue after this time, and gives what it wrote."""
-    venue = subprocess.Popen([VENUED, "-", journal, "1", "ABC"], stdin=subprocess.PIPE, stdout=subprocess.PIPE, bufsize=0)
+    words = [VENUED, "-", journal, "1", "ABC"]
+    venue = subprocess.Popen(words, stdin=subprocess.PIPE, stdout=subprocess.PIPE, bufsize=0)
     got = bytearray()
 
     def read():
@@ -65,7 +70,7 @@ def session(journal, first, length):
             name, number = name + 1, number + 1
             time.sleep(random.random() * 0.002)
     except BrokenPipeError:
-        sys.exit(f"venued ended by itself, status {venue.wait()}")
+        stop(f"venued ended by itself, with status {venue.wait()}")
     venue.kill()
     venue.wait()
     reader.join()
@@ -74,29 +79,57 @@ def session(journal, first, length):
 
 
 def replayed(journal):
-    """All reports to C1 that the journal holds."""
-    printed = subprocess.run([REPLAY, journal, "C1", "ABC"], capture_output=True, text=True, check=True).stdout.split("\n")
-    return [line[line.index("37="):] for line in printed if line.startswith("35=8|")]
+    """The bodies of all execution reports to C1 that the journal holds, by ExecID (17)."""
+    ran = subprocess.run([REPLAY, journal, "C1", "ABC"], capture_output=True, text=True)
+    if ran.returncode:
+        stop(f"the journal can't be read after a kill: {ran.stderr.strip()}")
+    lines = [line for line in ran.stdout.split("\n") if line.startswith("35=8|")]
+    return {int(line.split("|17=")[1].split("|")[0]): line[line.index("37=") :] for line in lines}
+
+
+def check(told, new, before, kept):
+    """Stops where a report that was told isn't kept as it was told, or a new one stands where an older was kept."""
+    for place, report in told.items():
+        if kept.get(place) != report:
+            stop(f"lost, or told otherwise: {report}")
+    for place in new:
+        if place <= before:
+            stop(f"a second report has the place {place}: {new[place]}")
+
+
+def kills_of(words):
+    """How often to kill, as the command line says."""
+    if words in (["-h"], ["--help"]):
+        print(__doc__.strip())
+        sys.exit(0)
+    if len(words) > 1 or not all(word.isdecimal() and int(word) for word in words):
+        print("usage: scripts/kill-and-restart.py [KILLS]", file=sys.stderr)
+        sys.exit(2)
+    return int(words[0]) if words else 20
 
 
 def main():
-    rounds = int(sys.argv[1]) if len(sys.argv) > 1 else 20
+    kills = kills_of(sys.argv[1:])
     for program in (VENUED, REPLAY):
-        if not os.path.exists(program):
-            sys.exit(f"build {program} first")
+        if not os.access(program, os.X_OK):
+            stop(f"{os.path.relpath(program)} isn't built: scripts/build proves and builds it")
+    print(f"Killing venued {kills} times, each up to 1.5 seconds behind its start.", flush=True)
     with tempfile.TemporaryDirectory() as folder:
         journal = os.path.join(folder, "venue.journal")
-        name, stood, seen = 1, 0, 0
-        for _ in range(rounds):
-            got, name = session(journal, name, random.uniform(0.1, 1.5))
-            kept = replayed(journal)
-            for report in reports(got):
-                place = int(report.split("|17=")[1].split("|")[0])
-                if not stood < place <= len(kept) or kept[place - 1] != report:
-                    sys.exit(f"lost, or told otherwise: {report}")
-                seen += 1
-            stood = len(kept)
-        print(f"{rounds} kills, {seen} reports seen, {stood} kept: none lost, none told otherwise")
+        name, told, kept = 1, {}, {}
+        for kill in range(1, kills + 1):
+            before, first = max(kept, default=0), name
+            got, name = session(journal, first, random.uniform(0.1, 1.5))
+            new, kept = reports(got), replayed(journal)
+            check({**told, **new}, new, before, kept)
+            told.update(new)
+            print(f"kill {kill}: {name - first} orders sent, {len(new)} reports seen; {len(kept)} kept, "
+                  f"all {len(told)} seen so far among them", flush=True)
+    print(f"{kills} kills, {len(told)} reports seen, {len(kept)} kept: none lost, none told otherwise")
 
 
-main()
+if __name__ == "__main__":
+    try:
+        main()
+    except KeyboardInterrupt:
+        stop("interrupted")
