@@ -1,0 +1,494 @@
+#!/usr/bin/env python3
+"""Plants wrong bodies, many at once, and sees that the prover refuses each for what its function promises.
+
+An edit is a file of crates/NAME/edits, or of crates/NAME/must-fail: lines `file:`, `old:` and `new:`, where each old
+text stands just once in its file. `rt ci` tries those in must-fail one by one. This script tries those in edits, or
+with --must-fail those there, some at a time: edits of different functions, none of which calls another, go into one
+copy of the crate, and the check is asked for these functions alone, over work that it keeps in a temporary folder.
+
+An edit is refused where the line of a function that it changes says `not proved`, or `no proof: expected ..`. That
+the function calls one that isn't proved doesn't count: such an edit is tried again alone. And the reason counts. The
+first thing that is said of the function has to be of an open goal: what it ensures, what a call in it requires, an
+invariant, the end of a loop, an index or a sum in bounds. Where it is that the proof names something that is gone
+(`is not in scope`, `has no field`, an answer to a goal that isn't asked), or gives a term of another form (`expected
+type ..` at once, where of a false equation both sides are compared: `the two types differ only where ..`), the edit
+took the proof's shape and shows no promise: `refused for its shape alone` is a failure. So is an edit that doesn't
+apply, or that isn't read as code.
+
+Of an edit that changes a constant, the functions that name it are asked for. A check needs the libraries below its
+crate: one that is older than its sources is made first, by `rt lib`. Work that `rt check` left in a crate's folder
+out is used. RT_JOBS says how many crates are worked on side by side, 1 if it isn't set.
+"""
+import argparse
+import glob
+import hashlib
+import os
+import re
+import shutil
+import subprocess
+import sys
+import tempfile
+import threading
+
+ROOT = os.path.dirname(os.path.dirname(os.path.abspath(__file__)))
+
+# At most so many functions are asked for at once.
+MOST = 10
+
+# What is said of a proof that names what is gone, or that is of a form that isn't asked for any more.
+SHAPE = re.compile(r"^expected type|is not in scope|has no field|has no `|is no name|operand is missing")
+
+FUNCTION = re.compile(r"\s*(?:pub(?:\([a-z ]+\))? )?(?:const )?(?:unsafe )?fn (\w+)")
+IMPL = re.compile(r"impl\b(?:<[^{]*?>)? (?:(?:\w+::)*(?P<trait>[\w<>]+) for )?(?:\w+::)*(?P<type>\w+)")
+ERROR = re.compile(r"(\S+): error(?:\[[\w-]+\])?: (?:`([^`]*)`: )?(.*)")
+UNPROVED = re.compile(r"note: (src/\S+?):(\d+):\d+: it is not proved that .*\(`([^`]*)`\)")
+
+
+class BadEdit(Exception):
+    """Why an edit can't be applied."""
+
+
+class Function:
+    """A function as it stands in a file, on the lines from first to last."""
+
+    def __init__(self, module, owner, name, file, first, last, text):
+        self.module, self.name, self.file, self.first, self.last, self.text = module, name, file, first, last, text
+        # the end of its path as a check prints it: with its type and trait, or else its module
+        self.short = "::".join([*([owner] if owner else module[-1:]), name])
+
+    def stands_at(self, file, line):
+        return self.file == file and self.first <= line <= self.last
+
+
+def functions_of(texts):
+    """The functions of the sources, which are in rt fmt's layout: a block ends at the indentation that it began at."""
+    found = []
+    for file, text in texts.items():
+        if not file.startswith("src/") or not file.endswith(".rt"):
+            continue
+        module = [it for it in file[len("src/"):-len(".rt")].split("/") if it not in ("lib", "main")]
+        owner, lines, at = None, text.split("\n"), 0
+        while at < len(lines):
+            line = lines[at]
+            if kind := IMPL.match(line):
+                owner = kind["type"] + re.sub(r"\W", "", kind["trait"] or "")
+            elif line == "}":
+                owner = None
+            elif name := FUNCTION.match(line):
+                first, end = at, line[:len(line) - len(line.lstrip())] + "}"
+                while not line.endswith("}") and at + 1 < len(lines) and lines[at] != end:
+                    at += 1
+                found.append(Function(module, owner, name[1], file, first + 1, at + 1, "\n".join(lines[first:at + 1])))
+            at += 1
+    return found
+
+
+class Edit:
+    """An edit, and once its crate has looked, the functions that it changes: as they are then, and as they were."""
+
+    def __init__(self, path):
+        self.name, self.place = os.path.basename(path)[:-len(".edit")], os.path.basename(os.path.dirname(path))
+        with open(path, encoding="utf-8") as it:
+            self.lines = it.read().split("\n")
+        self.changed, self.before = set(), set()
+
+    def applied(self, texts):
+        """The texts with this edit in them."""
+        texts, file, old, pairs = dict(texts), None, None, 0
+        for line in self.lines:
+            if line.startswith("file: "):
+                file = line[len("file: "):].strip()
+            elif line.startswith("old: "):
+                old = line[len("old: "):]
+            elif line.startswith("new:"):
+                if file not in texts or not old:
+                    raise BadEdit("it names no file of the crate, or no old text")
+                if texts[file].count(old) != 1:
+                    raise BadEdit(f"an old text stands {texts[file].count(old)} times in {file}")
+                texts[file] = texts[file].replace(old, line[len("new:"):].removeprefix(" "))
+                old, pairs = None, pairs + 1
+        if not pairs:
+            raise BadEdit("it has no old and new text")
+        return texts
+
+
+class Crate:
+    """A crate, with its files, its edits and what it stands on: crates, and names of the kit's libraries."""
+
+    def __init__(self, name, deps, kit):
+        self.name, self.deps, self.kit, self.folder = name, deps, kit, f"{ROOT}/crates/{name}"
+        self.texts, self.calls = {}, {}
+        for part in ("src", "specs", "proofs"):
+            for path in glob.glob(f"{self.folder}/{part}/**/*.*t", recursive=True):
+                with open(path, encoding="utf-8") as it:
+                    self.texts[os.path.relpath(path, self.folder)] = it.read()
+        self.functions = functions_of(self.texts)
+        self.rlib = f"{self.folder}/out/rlib/{name}.rlib"
+
+    def edits(self, place):
+        return [Edit(it) for it in sorted(glob.glob(f"{self.folder}/{place}/*.edit"))]
+
+    def below(self):
+        """The crates that this one stands on, those at the bottom first."""
+        found = {}
+        for dep in self.deps:
+            if isinstance(dep, Crate):
+                found.update({it.name: it for it in [*dep.below(), dep]})
+        return list(found.values())
+
+    def words(self):
+        """What a check of a copy of the crate is told."""
+        root = "src/main.rt" if "src/main.rt" in self.texts else "src/lib.rt"
+        words = ["--crate-name", self.name, root, "--extern", f"std={self.kit}/rlibs/std.rlib"]
+        for dep in self.deps:
+            own = isinstance(dep, Crate)
+            words += ["--extern", f"{dep.name}={dep.rlib}" if own else f"{dep}={self.kit}/rlibs/{dep}.rlib"]
+        for folder in [f"{self.kit}/rlibs", *(os.path.dirname(it.rlib) for it in self.below())]:
+            words += ["-L", f"dependency={folder}"]
+        words += ["--antt-project", f"{self.kit}/rattle/logic/antt-project.json"]
+        return [*words, "--logic-built", f"{self.kit}/logic_built", "--links", f"{self.name}=", "--jobs", "1"]
+
+    def is_made(self):
+        """Whether the library is newer than its sources and those below."""
+        made = f"{self.rlib}/format"
+        files = [f"{it.folder}/{file}" for it in [*self.below(), self] for file in it.texts]
+        return os.path.isfile(made) and max(map(os.path.getmtime, files)) <= os.path.getmtime(made)
+
+    def reached(self, function):
+        """The functions that this one may call, at once or through others: those whose names its text has."""
+        if not self.calls:
+            named = {}
+            for it in self.functions:
+                named.setdefault(it.name, []).append(it)
+            for it in self.functions:
+                words = {*re.findall(r"\w+", re.sub(r"//.*", "", it.text))} & {*named}
+                self.calls[it] = {other for word in words for other in named[word]} - {it}
+        found, left = set(), [function]
+        while left:
+            new = self.calls.get(left.pop(), set()) - found
+            found |= new
+            left += new
+        return found
+
+    def look(self, edit):
+        """Finds the functions that an edit changes or adds, and those that name a constant that it changes."""
+        texts = edit.applied(self.texts)
+        before = {(it.file, it.short): it for it in self.functions}
+        after = {(it.file, it.short): it for it in functions_of(texts)}
+        for place, it in after.items():
+            if place not in before or before[place].text != it.text:
+                edit.changed.add(it)
+                edit.before.add(before.get(place, it))
+        for file in {file for file in texts if texts[file] != self.texts[file]}:
+            gone = {*outside(self.texts[file], before.values(), file)} - {*outside(texts[file], after.values(), file)}
+            for name in re.findall(r"\b(?:const|static) (\w+)", "\n".join(gone)):
+                named = {it for it in self.functions if re.search(rf"\b{name}\b", it.text)}
+                edit.changed |= named
+                edit.before |= named
+        if not edit.changed:
+            raise BadEdit("it changes no function, and no constant that a function names")
+
+
+def outside(text, functions, file):
+    """The lines of a file that stand in no function."""
+    lines = enumerate(text.split("\n"), 1)
+    return [line for at, line in lines if not any(it.stands_at(file, at) for it in functions)]
+
+
+class Check:
+    """What a check of a crate said."""
+
+    def __init__(self, crate, said):
+        self.crate, self.lines = crate, said.split("\n")
+        self.functions = dict(re.findall(r"^fn (\S+): (.*)", said, re.M))
+
+    def told(self, function):
+        """The path of a function, and what its line says."""
+        paths = [it for it in self.functions if it.endswith(f"::{function.short}")]
+        whole = "::".join([self.crate, *function.module, function.name])
+        path = paths[0] if len(paths) == 1 else whole
+        return path, self.functions.get(path, "no line")
+
+    def judge(self, edit):
+        """Whether an edit is refused, or None where that can't be told, and why."""
+        if not self.functions:
+            error = next((it for it in self.lines if ERROR.match(it)), " ".join(self.lines[-3:]))
+            return None, f"BAD EDIT: it isn't read as code: {error[:200]}"
+        shape, others = None, []
+        for function in sorted(edit.changed, key=lambda it: it.short):
+            path, words = self.told(function)
+            if words.startswith(("not proved", "no proof: expected")):
+                goals, bad = self.goals(function, path, words)
+                if goals:
+                    return True, f"{', '.join(f'`{it}`' for it in goals)} of {path.partition('::')[2]}"
+                shape = shape or bad
+            else:
+                others.append(f"{path}: {words}")
+        if shape:
+            return False, f"refused for its shape alone: {shape[:200]}"
+        is_proved = all(it.endswith(": proved") for it in others)
+        return (False if is_proved else None), f"not refused: {'; '.join(others)[:300]}"
+
+    def goals(self, function, path, words):
+        """The open goals of a function, where one is the first thing said of it, and else that first thing."""
+        folder, goals = "./proofs/" + "/".join(path.split("::")[1:]) + "/", []
+        for at, line in enumerate(self.lines):
+            error = ERROR.match(line)
+            if not error or not error[1].startswith(folder) or "which was rejected" in line:
+                continue
+            more = at + 1
+            while more < len(self.lines) and self.lines[more].startswith("  "):
+                more += 1
+            said = re.sub(r"`[^`]*`", "``", "\n".join([error[3], *self.lines[at + 1:more]]))
+            if error[2] and not SHAPE.search(said):
+                goals.append(error[2])
+            elif not goals:
+                return [], line
+        if "expected a measure" in words:
+            goals.append("the end of its loop")
+        for line in self.lines:
+            note = UNPROVED.match(line)
+            if note and function.stands_at(note[1], int(note[2])):
+                goals.append(note[3])
+        goals += re.findall(r"(?<=did not prove )`([^`]*)`", words)
+        return list(dict.fromkeys(goals))[:4], words
+
+
+class Budget:
+    """Runs commands, counts their processor seconds, and says whether more may be spent."""
+
+    def __init__(self, minutes):
+        self.most, self.spent, self.lock = 60 * minutes, 0.0, threading.Lock()
+
+    def is_left(self):
+        return self.spent < self.most
+
+    def run(self, words, folder):
+        """Runs a command, and gives what it said and its status."""
+        with tempfile.TemporaryFile("w+", errors="replace") as out:
+            run = subprocess.Popen(words, cwd=folder, stdin=subprocess.DEVNULL, stdout=out, stderr=subprocess.STDOUT)
+            _, status, used = os.wait4(run.pid, 0)
+            run.returncode = os.waitstatus_to_exitcode(status)
+            with self.lock:
+                self.spent += used.ru_utime + used.ru_stime
+            out.seek(0)
+            return out.read(), run.returncode
+
+
+def batches_of(crate, edits):
+    """Parts the edits so that no two of one batch change one function, or a caller and what it calls."""
+    batches = []
+    for edit in edits:
+        near = edit.before.union(*map(crate.reached, edit.before))
+        for batch, functions, reached in batches:
+            if len(functions) + len(edit.before) > MOST or near & functions or reached & edit.before:
+                continue
+            try:
+                all_in(crate, [*batch, edit])
+            except BadEdit:
+                continue
+            batch.append(edit)
+            functions |= edit.before
+            reached |= near
+            break
+        else:
+            batches.append(([edit], set(edit.before), near))
+    return [batch for batch, _, _ in batches]
+
+
+def all_in(crate, edits):
+    """The crate's texts with these edits in them."""
+    texts = crate.texts
+    for edit in edits:
+        texts = edit.applied(texts)
+    return texts
+
+
+class Work:
+    """The edits of one crate, tried in batches over one folder of kept work."""
+
+    def __init__(self, crate, edits, budget, log):
+        self.crate, self.edits, self.budget, self.log = crate, edits, budget, log
+        self.passed = self.failed = 0
+
+    def run(self):
+        good = []
+        for edit in self.edits:
+            try:
+                self.crate.look(edit)
+                good.append(edit)
+            except BadEdit as why:
+                self.tell(edit, False, f"BAD EDIT: {why}")
+        with tempfile.TemporaryDirectory(prefix="edits-kept-") as kept:
+            own = f"{self.crate.folder}/out/incremental"
+            if os.path.isdir(own):
+                shutil.copytree(own, kept, dirs_exist_ok=True)
+            for batch in batches_of(self.crate, good):
+                if not self.budget.is_left():
+                    return
+                check = self.check(kept, batch)
+                for edit in batch:
+                    is_refused, why = check.judge(edit)
+                    if is_refused is None and len(batch) > 1:
+                        is_refused, why = self.check(kept, [edit]).judge(edit)
+                    self.tell(edit, bool(is_refused), why)
+
+    def check(self, kept, batch):
+        """Checks a copy of the crate with these edits in it."""
+        words = [f"{self.crate.kit}/bin/rattle", "check", *self.crate.words(), "--incremental", kept]
+        for name in sorted({it.short for edit in batch for it in edit.changed}):
+            words += ["--only", name]
+        with tempfile.TemporaryDirectory(prefix="edits-") as room:
+            for path, text in all_in(self.crate, batch).items():
+                os.makedirs(os.path.dirname(f"{room}/{path}"), exist_ok=True)
+                with open(f"{room}/{path}", "w", encoding="utf-8") as it:
+                    it.write(text)
+            said, _ = self.budget.run(words, room)
+        if self.log:
+            os.makedirs(self.log, exist_ok=True)
+            with open(f"{self.log}/{self.crate.name}-{batch[0].name}-{len(batch)}.txt", "w", encoding="utf-8") as it:
+                it.write(f"{[edit.name for edit in batch]}\n{said}")
+        return Check(self.crate.name, said)
+
+    def tell(self, edit, is_refused, why):
+        self.passed += is_refused
+        self.failed += not is_refused
+        who = f"{edit.name} ({self.crate.name})"
+        print(f"refused {who} by {why}" if is_refused else f"FAILED {who}: {why}", flush=True)
+
+
+def crates_of(kit):
+    """The crates of crates.txt by name."""
+    lines, crates = {}, {}
+    with open(f"{ROOT}/crates.txt", encoding="utf-8") as it:
+        for line in it:
+            head, _, deps = line.partition("#")[0].partition(":")
+            if head.strip():
+                lines[head.split()[0]] = deps.split()
+
+    def made(name):
+        if name not in crates:
+            crates[name] = Crate(name, [made(it) if it in lines else it for it in lines[name]], kit)
+        return crates[name]
+
+    return {name: made(name) for name in lines}
+
+
+def chosen_of(crates, asked):
+    """The edits that are asked for, by crate."""
+    places = ["must-fail", "edits"] if asked.names else ["must-fail"] if asked.must_fail else ["edits"]
+    chosen = {crate: [edit for place in places for edit in crate.edits(place)] for crate in crates}
+    if asked.names:
+        found = {it for crate in chosen for edit in chosen[crate] for it in names_of(crate, edit)}
+        if unknown := {*asked.names} - found:
+            sys.exit(f"edits.py: there is no edit {', '.join(sorted(unknown))}")
+        for crate in chosen:
+            chosen[crate] = [it for it in chosen[crate] if names_of(crate, it) & {*asked.names}]
+    return {crate: edits for crate, edits in chosen.items() if edits}
+
+
+def names_of(crate, edit):
+    return {edit.name, f"{crate.name}/{edit.name}"}
+
+
+def drawn(chosen):
+    """The edits in an order that the commit decides: crate by crate, since a crate's first check takes longest."""
+    head = subprocess.run(["git", "rev-parse", "HEAD"], cwd=ROOT, stdout=subprocess.PIPE, text=True, check=True)
+    place = lambda *names: hashlib.sha256("/".join([head.stdout.strip(), *names]).encode()).digest()
+    order = sorted(chosen, key=lambda crate: place(crate.name))
+    return {crate: sorted(chosen[crate], key=lambda edit: place(crate.name, edit.name)) for crate in order}
+
+
+def tried(chosen, budget, log):
+    """Tries the edits, some crates side by side, and gives the status."""
+    for library in {it.name: it for crate in chosen for it in crate.below()}.values():
+        if not library.is_made():
+            said, status = budget.run(["rt", "lib", "--jobs", "1"], library.folder)
+            if status:
+                sys.exit(f"{said[-2000:]}\nedits.py: the library {library.name} isn't proved")
+    works = [Work(crate, edits, budget, log) for crate, edits in chosen.items()]
+    left, lock = iter(works), threading.Lock()
+
+    def lane():
+        while budget.is_left():
+            with lock:
+                work = next(left, None)
+            if not work:
+                return
+            work.run()
+
+    lanes = [threading.Thread(target=lane) for _ in range(int(os.environ.get("RT_JOBS") or 1))]
+    for it in lanes:
+        it.start()
+    for it in lanes:
+        it.join()
+    passed, failed = sum(it.passed for it in works), sum(it.failed for it in works)
+    print(f"{sum(map(len, chosen.values())) - passed - failed} not tried, {budget.spent:.0f} processor seconds")
+    print(f"{passed} passed, {failed} failed")
+    return 1 if failed else 0
+
+
+def listed(chosen):
+    """Prints the edits with their files and functions."""
+    for crate, edits in chosen.items():
+        for edit in edits:
+            try:
+                crate.look(edit)
+                files, names = {it.file for it in edit.before}, {it.short for it in edit.before}
+                print(f"{crate.name}/{edit.name}: {', '.join(sorted(files))}: {', '.join(sorted(names))}")
+            except BadEdit as why:
+                print(f"{crate.name}/{edit.name}: BAD EDIT: {why}")
+
+
+def promises(crates):
+    """Prints a Markdown list of all edits by crate and function, those in must-fail in bold type."""
+    for crate in crates:
+        rows = {}
+        for place, mark in ("must-fail", "**"), ("edits", ""):
+            for edit in crate.edits(place):
+                crate.look(edit)
+                first = min(edit.before & {*crate.functions}, key=lambda it: it.short)
+                rows.setdefault(first.short, []).append(f"{mark}`{edit.name}`{mark}")
+        if rows:
+            print(f"\n### {crate.name}\n")
+        for name in sorted(rows):
+            lines = [""]
+            for word in f"- `{name}`: {', '.join(rows[name])}".split(" "):
+                if len(lines[-1]) + len(word) > 119:
+                    lines.append(" ")
+                lines[-1] += f" {word}" if lines[-1] else word
+            print("\n".join(lines))
+
+
+def arguments():
+    parser = argparse.ArgumentParser(description=__doc__, formatter_class=argparse.RawDescriptionHelpFormatter)
+    parser.add_argument("names", nargs="*", metavar="NAME", help="an edit to try, or CRATE/NAME; all if there is none")
+    parser.add_argument("--crate", action="append", metavar="CRATE", help="the edits of this crate alone (repeatable)")
+    parser.add_argument("--must-fail", action="store_true", help="the edits in must-fail, and not those in edits")
+    parser.add_argument("--minutes", type=float, metavar="N",
+                        help="start no check once N processor minutes are spent; the commit says what comes first")
+    parser.add_argument("--list", action="store_true", help="print each edit with its file and functions, and try none")
+    parser.add_argument("--promises", action="store_true", help="print all edits as Markdown, by crate and function")
+    parser.add_argument("--log", metavar="FOLDER", help="write there what each check said")
+    return parser.parse_args()
+
+
+def main():
+    asked = arguments()
+    kit = os.path.dirname(subprocess.run(["rt", "doc"], stdout=subprocess.PIPE, text=True, check=True).stdout.strip())
+    crates = crates_of(kit)
+    if unknown := {*(asked.crate or [])} - {*crates}:
+        sys.exit(f"edits.py: crates.txt has no crate {', '.join(sorted(unknown))}")
+    taken = [it for it in crates.values() if not asked.crate or it.name in asked.crate]
+    if asked.promises:
+        return promises(taken)
+    chosen = chosen_of(taken, asked)
+    if asked.list:
+        return listed(chosen)
+    if asked.minutes:
+        chosen = drawn(chosen)
+    return tried(chosen, Budget(asked.minutes or float("inf")), asked.log)
+
+
+if __name__ == "__main__":
+    sys.exit(main())
