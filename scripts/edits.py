@@ -11,9 +11,9 @@ the function calls one that isn't proved doesn't count: such an edit is tried ag
 first thing that is said of the function has to be of an open goal: what it ensures, what a call in it requires, an
 invariant, the end of a loop, an index or a sum in bounds. Where it is that the proof names something that is gone
 (`is not in scope`, `has no field`, an answer to a goal that isn't asked), or gives a term of another form (`expected
-type ..` at once, where of a false equation both sides are compared: `the two types differ only where ..`), the edit
-took the proof's shape and shows no promise: `refused for its shape alone` is a failure. So is an edit that doesn't
-apply, or that isn't read as code.
+type` and `this has type` begin with different names), the edit took the proof's shape and shows no promise: `refused
+for its shape alone` is a failure. So is an edit that doesn't apply, or that isn't read as code. Where no edit of the
+code leaves a proof its shape, the edit mends the proof as far as that goes, so that the goal that it is about is open.
 
 Of an edit that changes a constant, the functions that name it are asked for. A check needs the libraries below its
 crate: one that is older than its sources is made first, by `rt lib`. Work that `rt check` left in a crate's folder
@@ -35,8 +35,9 @@ ROOT = os.path.dirname(os.path.dirname(os.path.abspath(__file__)))
 # At most so many functions are asked for at once.
 MOST = 10
 
-# What is said of a proof that names what is gone, or that is of a form that isn't asked for any more.
-SHAPE = re.compile(r"^expected type|is not in scope|has no field|has no `|is no name|operand is missing")
+# What is said of a proof that names what is gone, and of a term that isn't of the form that is asked for.
+GONE = re.compile(r"is not in scope|has no field|has no `|is no name|operand is missing")
+FORMS = re.compile(r"\Aexpected type `(?:[^\s`]*\.)?([^\s`.]*).*?but this has type `(?:[^\s`]*\.)?([^\s`.]*)", re.S)
 
 FUNCTION = re.compile(r"\s*(?:pub(?:\([a-z ]+\))? )?(?:const )?(?:unsafe )?fn (\w+)")
 IMPL = re.compile(r"impl\b(?:<[^{]*?>)? (?:(?:\w+::)*(?P<trait>[\w<>]+) for )?(?:\w+::)*(?P<type>\w+)")
@@ -52,9 +53,20 @@ class Function:
     """A function as it stands in a file, on the lines from first to last."""
 
     def __init__(self, module, owner, name, file, first, last, text):
-        self.module, self.name, self.file, self.first, self.last, self.text = module, name, file, first, last, text
+        self.module, self.owner, self.name, self.file = module, owner or "", name, file
+        self.first, self.last, self.text = first, last, text
         # the end of its path as a check prints it: with its type and trait, or else its module
         self.short = "::".join([*([owner] if owner else module[-1:]), name])
+
+    def body(self):
+        """Its text without its clauses, in front of a body's brace on a line of its own, and without comments."""
+        return re.sub(r"//.*", "", re.split(r"(?m)^ *\{$", self.text, 1)[-1])
+
+    def may_be(self, dot, owner):
+        """Whether a call of its name may mean it, as a method or with this word in front."""
+        if dot or owner == "Self":
+            return bool(self.owner)
+        return self.owner.startswith(owner) if owner[:1].isupper() else not self.owner
 
     def stands_at(self, file, line):
         return self.file == file and self.first <= line <= self.last
@@ -90,6 +102,7 @@ class Edit:
         self.name, self.place = os.path.basename(path)[:-len(".edit")], os.path.basename(os.path.dirname(path))
         with open(path, encoding="utf-8") as it:
             self.lines = it.read().split("\n")
+        self.proofs = {f"./{it[len('file: '):].strip()}" for it in self.lines if it.startswith("file: proofs/")}
         self.changed, self.before = set(), set()
 
     def applied(self, texts):
@@ -154,21 +167,19 @@ class Crate:
         files = [f"{it.folder}/{file}" for it in [*self.below(), self] for file in it.texts]
         return os.path.isfile(made) and max(map(os.path.getmtime, files)) <= os.path.getmtime(made)
 
-    def reached(self, function):
-        """The functions that this one may call, at once or through others: those whose names its text has."""
-        if not self.calls:
-            named = {}
-            for it in self.functions:
-                named.setdefault(it.name, []).append(it)
-            for it in self.functions:
-                words = {*re.findall(r"\w+", re.sub(r"//.*", "", it.text))} & {*named}
-                self.calls[it] = {other for word in words for other in named[word]} - {it}
-        found, left = set(), [function]
-        while left:
-            new = self.calls.get(left.pop(), set()) - found
-            found |= new
-            left += new
-        return found
+    def called(self, function):
+        """The functions that this one may call, going by the names in its body."""
+        if function not in self.calls:
+            found = set()
+            for dot, owner, name in re.findall(r"(\.)?(?:\b(\w+)::)?\b(\w+)(?:::<[^()]*>)?\(", function.body()):
+                found |= {it for it in self.functions if it.name == name and it.may_be(dot, owner)}
+            self.calls[function] = found - {function}
+        return self.calls[function]
+
+    def near(self, edit):
+        """The functions that an edit changes, what they call, and what that calls."""
+        calls = edit.before.union(*map(self.called, edit.before))
+        return calls.union(*map(self.called, calls))
 
     def look(self, edit):
         """Finds the functions that an edit changes or adds, and those that name a constant that it changes."""
@@ -218,7 +229,7 @@ class Check:
         for function in sorted(edit.changed, key=lambda it: it.short):
             path, words = self.told(function)
             if words.startswith(("not proved", "no proof: expected")):
-                goals, bad = self.goals(function, path, words)
+                goals, bad = self.goals(function, path, words, edit.proofs)
                 if goals:
                     return True, f"{', '.join(f'`{it}`' for it in goals)} of {path.partition('::')[2]}"
                 shape = shape or bad
@@ -229,8 +240,11 @@ class Check:
         is_proved = all(it.endswith(": proved") for it in others)
         return (False if is_proved else None), f"not refused: {'; '.join(others)[:300]}"
 
-    def goals(self, function, path, words):
-        """The open goals of a function, where one is the first thing said of it, and else that first thing."""
+    def goals(self, function, path, words, proofs):
+        """The open goals of a function, where one is the first thing said of it, and else that first thing.
+
+        In a proof file that the edit changed no name may be gone at all, as `rt ci` has it.
+        """
         folder, goals = "./proofs/" + "/".join(path.split("::")[1:]) + "/", []
         for at, line in enumerate(self.lines):
             error = ERROR.match(line)
@@ -239,10 +253,12 @@ class Check:
             more = at + 1
             while more < len(self.lines) and self.lines[more].startswith("  "):
                 more += 1
-            said = re.sub(r"`[^`]*`", "``", "\n".join([error[3], *self.lines[at + 1:more]]))
-            if error[2] and not SHAPE.search(said):
+            said = "\n".join([error[3], *self.lines[at + 1:more]])
+            forms = FORMS.match(said)
+            is_shape = GONE.search(re.sub(r"`[^`]*`", "``", said)) or forms and forms[1] != forms[2]
+            if error[2] and not is_shape:
                 goals.append(error[2])
-            elif not goals:
+            elif not goals or error[1].split(":")[0] in proofs:
                 return [], line
         if "expected a measure" in words:
             goals.append("the end of its loop")
@@ -276,12 +292,12 @@ class Budget:
 
 
 def batches_of(crate, edits):
-    """Parts the edits so that no two of one batch change one function, or a caller and what it calls."""
+    """Parts the edits so that no two of one batch change one function, or one that calls the other's."""
     batches = []
     for edit in edits:
-        near = edit.before.union(*map(crate.reached, edit.before))
-        for batch, functions, reached in batches:
-            if len(functions) + len(edit.before) > MOST or near & functions or reached & edit.before:
+        near = crate.near(edit)
+        for batch, functions, called in batches:
+            if len(functions) + len(edit.before) > MOST or near & functions or called & edit.before:
                 continue
             try:
                 all_in(crate, [*batch, edit])
@@ -289,7 +305,7 @@ def batches_of(crate, edits):
                 continue
             batch.append(edit)
             functions |= edit.before
-            reached |= near
+            called |= near
             break
         else:
             batches.append(([edit], set(edit.before), near))
@@ -450,7 +466,7 @@ def promises(crates):
                 first = min(edit.before & {*crate.functions}, key=lambda it: it.short)
                 rows.setdefault(first.short, []).append(f"{mark}`{edit.name}`{mark}")
         if rows:
-            print(f"\n### {crate.name}\n")
+            print(f"### {crate.name}\n")
         for name in sorted(rows):
             lines = [""]
             for word in f"- `{name}`: {', '.join(rows[name])}".split(" "):
@@ -458,6 +474,8 @@ def promises(crates):
                     lines.append(" ")
                 lines[-1] += f" {word}" if lines[-1] else word
             print("\n".join(lines))
+        if rows:
+            print()
 
 
 def arguments():
