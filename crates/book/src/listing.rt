@@ -11,8 +11,6 @@ ghost use Rattle.book.specs.Next.{number_of, stands_before, comes_before, comes_
 
 use crate::book::Book;
 use crate::orders::is_ahead;
-#[cfg(test)]
-use std::test::Fail;
 use venue_model::{Order, Side, Symbol};
 
 impl Book {
@@ -115,43 +113,4 @@ fn stands_before(order: &Order, other: &Order) -> bool
         (Side::Sell, Side::Buy) => false,
         _ => is_ahead(order, other),
     }
-}
-
-/// A resting order of this side, price and stamp.
-#[cfg(test)]
-fn resting(symbol: Symbol, side: Side, price: u64, stamp: u64) -> Order {
-    Order {
-        id: 1,
-        client: 1,
-        cl_ord_id: 1,
-        symbol,
-        side,
-        price,
-        total: 1,
-        cum: 0,
-        notional: 0,
-        stamp,
-    }
-}
-
-#[cfg(test)]
-#[test]
-fn one_by_one(rt: HostRuntime) -> Result<(), Fail> {
-    let abc = Symbol::new(b"ABC").ok_or("no symbol")?;
-    let xyz = Symbol::new(b"XYZ").ok_or("no symbol")?;
-    let orders = [
-        resting(abc, Side::Buy, 50, 1),
-        resting(xyz, Side::Sell, 7, 2),
-        resting(abc, Side::Sell, 52, 3),
-        resting(xyz, Side::Buy, 5, 4),
-        resting(abc, Side::Buy, 51, 5),
-        resting(abc, Side::Sell, 52, 6),
-    ];
-    let mut from = None;
-    for stamp in [4, 2, 5, 1, 3, 6] {
-        from = next(&[xyz, abc], &orders, &from);
-        assert_eq!(rt; from.map(|order| order.stamp), Some(stamp));
-    }
-    assert!(rt; next(&[xyz, abc], &orders, &from).is_none());
-    Ok(())
 }

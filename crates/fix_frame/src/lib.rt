@@ -21,6 +21,3 @@ pub use framer::Framer;
 pub use laws::{fields_are_spelled_once, frames_have_no_fault, streams_are_cut_once};
 pub use message::whole;
 pub use write::{OVERHEAD, write_frame};
-
-#[cfg(test)]
-mod tests;

@@ -21,6 +21,3 @@ pub use header::{Header, read_header};
 pub use laws::{exactly_one_frame, numbers_are_in_range, times_are_kept};
 pub use put::{put_bytes, put_field, put_number};
 pub use time::{number_of_time, time_text};
-
-#[cfg(test)]
-mod tests;

@@ -6,8 +6,6 @@ ghost use Rattle.gateway.specs.Wires.{Told, ReadTells, WriteTells};
 mod counts;
 mod mem;
 mod standard;
-#[cfg(test)]
-mod tests;
 
 pub use mem::MemWire;
 pub use standard::StdWire;

@@ -7,8 +7,6 @@ mod job;
 mod lines;
 mod replayed;
 mod reporting;
-#[cfg(test)]
-mod tests;
 
 pub use fault::{ReplayFault, refuse};
 pub use job::{Job, Subject};

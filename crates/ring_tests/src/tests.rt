@@ -1,20 +1,15 @@
-//! On one thread the worked days of trading, and on threads of their own gateways and stages all at once.
+//! On one thread small rings and all stages, on threads of their own gateways and stages all at once; and the wires.
 
-mod acknowledged;
 mod crew;
+mod four_gateways;
 mod gateways_meet;
 mod member;
+mod messages;
 mod one_gateway_ring;
 mod openings;
+mod orders;
 mod output_ring_of_two;
-mod refused;
-mod reports;
-mod requests;
 mod ring_of_two;
 mod sessions;
 mod venue;
-mod whole_bytes;
-mod worked_days;
-mod worked_replaces;
-mod worked_rows;
-mod writers;
+mod wires;

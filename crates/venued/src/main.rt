@@ -10,8 +10,6 @@ mod polled;
 mod recovered;
 mod rings;
 mod serve;
-#[cfg(test)]
-mod tests;
 mod venue;
 mod words;
 

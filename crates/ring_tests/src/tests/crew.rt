@@ -1,46 +1,43 @@
-//! The stages of a venue in small rings, at their places, with the rings that they call.
+//! The stages of a venue in small rings.
 ghost use Rattle.std.specs.Prelude.{◌≡◌, false, [], IfOk};
 ghost use Rattle.ring_words.specs.Crew.{stage_view, process_view, marshal_view};
 ghost use Rattle.ring_words.specs.declared.view.Role.TheVariants.{Unmarshal};
 ghost use Rattle.ring_words.specs.declared.view.Role.TheVariants as role;
-ghost use Rattle.ring_tests.specs.Seats.{StaysSpent};
 
 use super::venue::TestRings;
 use book::{Book, BookLogic};
 use journal::{Journal, NullDisk};
-use ring_words::{GatewaySeat, JournalSeat, MarshalSeat, ProcessSeat, Seats, UnmarshalSeat};
+use ring_words::{GatewaySeat, ProcessSeat, Seats};
 use stages::{Journaller, Marshaller, Processor, Turn, Unmarshaller};
 use std::alloc::Global;
 use std::test::Fail;
 use venue_model::Limits;
 
-/// The stages at their places.
+/// The stages.
 #[derive(Drop)]
-pub struct Stages<'a, const N: usize, const M: usize, const G: usize> {
-    pub rings: &'a TestRings<N, M, G>,
+pub struct Stages {
     pub unmarshaller: Unmarshaller,
     pub journaller: Journaller<NullDisk>,
     pub processor: Processor,
     pub marshaller: Marshaller,
-    ghost unmarshals: { unmarshaller.seat.seat.table_id ≡ rings.now.table.shared.table_id },
-    ghost journals: { journaller.seat.seat.table_id ≡ rings.now.table.shared.table_id },
-    ghost processes: { processor.seat.seat.table_id ≡ rings.now.table.shared.table_id },
-    ghost marshals: { marshaller.seat.seat.table_id ≡ rings.now.table.shared.table_id },
 }
 
-impl<'a, const N: usize, const M: usize, const G: usize> Stages<'a, N, M, G> {
+impl Stages {
     /// The stages of these symbols at the seats of rings that were opened behind an empty history, and the gateways' seats.
-    pub fn new(
+    pub fn new<const N: usize, const M: usize, const G: usize>(
         alloc: Global,
-        rings: &'a TestRings<N, M, G>,
+        rings: &TestRings<N, M, G>,
         seats: Seats<BookLogic>,
         limits: &Limits,
-    ) -> Result<(Stages<'a, N, M, G>, Vec<GatewaySeat<BookLogic>>), Fail>
+    ) -> Result<(Stages, Vec<GatewaySeat<BookLogic>>), Fail>
         requires unmarshal { (seats.unmarshal.seat.table_id ≡ rings.now.table.shared.table_id) × (seats.unmarshal.seat.me.0 ≡ stage_view limits.now [] Unmarshal) }
         requires journal { (seats.journal.seat.table_id ≡ rings.now.table.shared.table_id) × (seats.journal.seat.me.0 ≡ stage_view limits.now [] role.Journal) }
         requires process { (seats.process.seat.table_id ≡ rings.now.table.shared.table_id) × (seats.process.seat.me.0 ≡ process_view limits.now [] 0) }
         requires marshal { (seats.marshal.seat.table_id ≡ rings.now.table.shared.table_id) × (seats.marshal.seat.me.0 ≡ marshal_view limits.now [] 0) }
-        ensures rings { IfOk result (λ r. r.0.rings.now ≡ rings.now) }
+        ensures unmarshals { IfOk result (λ r. r.0.unmarshaller.seat.seat.table_id ≡ rings.now.table.shared.table_id) }
+        ensures journals { IfOk result (λ r. r.0.journaller.seat.seat.table_id ≡ rings.now.table.shared.table_id) }
+        ensures processes { IfOk result (λ r. r.0.processor.seat.seat.table_id ≡ rings.now.table.shared.table_id) }
+        ensures marshals { IfOk result (λ r. r.0.marshaller.seat.seat.table_id ≡ rings.now.table.shared.table_id) }
         ensures gateways { IfOk result (λ r. r.1 ≡ seats.gateways) }
     {
         let Seats {
@@ -51,7 +48,6 @@ impl<'a, const N: usize, const M: usize, const G: usize> Stages<'a, N, M, G> {
             marshal,
         } = seats;
         let stages = Stages {
-            rings,
             unmarshaller: Unmarshaller::new(unmarshal),
             journaller: Journaller::new(journal, empty_journal(alloc)?),
             processor: processor_of(alloc, process, limits)?,
@@ -61,85 +57,48 @@ impl<'a, const N: usize, const M: usize, const G: usize> Stages<'a, N, M, G> {
     }
 
     /// Lets each stage poll once, and says what each did.
-    pub fn poll(&mut self) -> [Turn; 4]
-        ensures { self.new.rings ≡ self.old.rings }
+    pub fn poll<const N: usize, const M: usize, const G: usize>(
+        &mut self,
+        rings: &TestRings<N, M, G>,
+    ) -> [Turn; 4]
+        requires unmarshals { self.old.unmarshaller.seat.seat.table_id ≡ rings.now.table.shared.table_id }
+        requires journals { self.old.journaller.seat.seat.table_id ≡ rings.now.table.shared.table_id }
+        requires processes { self.old.processor.seat.seat.table_id ≡ rings.now.table.shared.table_id }
+        requires marshals { self.old.marshaller.seat.seat.table_id ≡ rings.now.table.shared.table_id }
+        ensures unmarshals { self.new.unmarshaller.seat.seat.table_id ≡ rings.now.table.shared.table_id }
+        ensures journals { self.new.journaller.seat.seat.table_id ≡ rings.now.table.shared.table_id }
+        ensures processes { self.new.processor.seat.seat.table_id ≡ rings.now.table.shared.table_id }
+        ensures marshals { self.new.marshaller.seat.seat.table_id ≡ rings.now.table.shared.table_id }
     {
-        let unmarshaller = self.unmarshaller.poll(self.rings);
-        let journaller = self.journaller.poll(self.rings);
-        let processor = self.processor.poll(self.rings);
-        let marshaller = self.marshaller.poll(self.rings);
+        let unmarshaller = self.unmarshaller.poll(rings);
+        let journaller = self.journaller.poll(rings);
+        let processor = self.processor.poll(rings);
+        let marshaller = self.marshaller.poll(rings);
         [unmarshaller, journaller, processor, marshaller]
     }
 
-    /// The stages' seats.
-    pub fn end(self) -> StageSeats
-        ensures { result.unmarshal.seat.table_id ≡ self.entry.rings.now.table.shared.table_id }
+    /// The gateways' seats, and those of the stages.
+    pub fn end(self, gateways: Vec<GatewaySeat<BookLogic>>) -> Seats<BookLogic>
+        ensures gateways { result.gateways ≡ gateways }
+        ensures unmarshal { result.unmarshal ≡ self.unmarshaller.seat }
+        ensures journal { result.journal ≡ self.journaller.seat }
+        ensures process { result.process ≡ self.processor.seat }
+        ensures marshal { result.marshal ≡ self.marshaller.seat }
     {
         let Stages {
             unmarshaller,
             journaller,
             processor,
             marshaller,
-            ..
         } = self;
         let (journal, _) = journaller.end();
         let (process, _) = processor.end();
-        StageSeats {
+        Seats {
+            gateways,
             unmarshal: unmarshaller.end(),
             journal,
             process,
             marshal: marshaller.end(),
-        }
-    }
-}
-
-/// The stages' seats, all of one table.
-#[derive(Drop)]
-pub struct StageSeats {
-    unmarshal: UnmarshalSeat<BookLogic>,
-    journal: JournalSeat<BookLogic>,
-    process: ProcessSeat<BookLogic>,
-    marshal: MarshalSeat<BookLogic>,
-    ghost journals: { journal.seat.table_id ≡ unmarshal.seat.table_id },
-    ghost processes: { process.seat.table_id ≡ unmarshal.seat.table_id },
-    ghost marshals: { marshal.seat.table_id ≡ unmarshal.seat.table_id },
-}
-
-impl StageSeats {
-    /// A gateway meets the journaller.
-    pub fn meet_journal<const N: usize, const M: usize, const G: usize>(
-        &mut self,
-        rings: &TestRings<N, M, G>,
-        gateway: &mut GatewaySeat<BookLogic>,
-    )
-        requires stages { self.old.unmarshal.seat.table_id ≡ rings.now.table.shared.table_id }
-        requires gateway { gateway.old.seat.table_id ≡ rings.now.table.shared.table_id }
-        ensures stages { self.new.unmarshal ≡ self.old.unmarshal }
-        ensures gateway { StaysSpent gateway.old gateway.new }
-    {
-        rings.meet_journal(gateway, &mut self.journal);
-    }
-
-    /// All seats, with those of the gateways.
-    pub fn with(self, gateways: Vec<GatewaySeat<BookLogic>>) -> Seats<BookLogic>
-        ensures gateways { result.gateways ≡ gateways }
-        ensures unmarshal { result.unmarshal.seat.table_id ≡ self.unmarshal.seat.table_id }
-        ensures journal { result.journal.seat.table_id ≡ self.unmarshal.seat.table_id }
-        ensures process { result.process.seat.table_id ≡ self.unmarshal.seat.table_id }
-        ensures marshal { result.marshal.seat.table_id ≡ self.unmarshal.seat.table_id }
-    {
-        let StageSeats {
-            unmarshal,
-            journal,
-            process,
-            marshal,
-        } = self;
-        Seats {
-            gateways,
-            unmarshal,
-            journal,
-            process,
-            marshal,
         }
     }
 }

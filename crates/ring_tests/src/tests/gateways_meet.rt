@@ -1,13 +1,14 @@
-//! Two gateways publish an order each and take what comes of both, on threads of their own; then they meet, and the rings are closed behind them.
+//! Gateways and stages, each gateway and the stages on a thread of their own: each order comes through once and whole, and each gateway takes
+//! the acknowledgements of its own orders, in its order and word for word, and passes over those of the others. Two meet at the end, and the
+//! rings are closed behind them.
 ghost use Rattle.std.specs.Prelude.{◌≡◌, ◌≤◌, IfSome};
 ghost use Rattle.std.specs.Thread.{IsSync};
 ghost use Rattle.ring_tests.specs.Seats.{StaysSpent};
 
-use super::crew::{StageSeats, Stages};
+use super::crew::Stages;
 use super::member::{Member, next_member};
-use super::requests::Request;
-use super::venue::{TestRings, limits_of, open};
-use super::writers::TRIES;
+use super::orders::{Count, acknowledgement_of, next, order_of};
+use super::venue::{TestRings, abc, open};
 use book::BookLogic;
 use ring_words::{GatewaySeat, Summary};
 use sequencer::Take;
@@ -15,44 +16,86 @@ use std::alloc::Global;
 use std::test::Fail;
 use std::thread;
 use std::thread::{Threads, join};
-use venue_model::{Limits, Symbol};
+use venue_model::Limits;
 
-/// Rings of four input rows and two output rows, for two gateways.
-type PairRings = TestRings<4, 2, 2>;
+/// How often in a row a thread tries before it gives up: long enough for any machine, and no hang.
+const TRIES: u64 = 100_000_000;
 
-/// Publishes the client's order, and takes or passes over two outputs. Gives the seat back, where that was soon done.
-fn trade(
-    rings: &PairRings,
+/// What all gateways do: the count up to which each publishes its orders, and the number of all their outputs.
+#[derive(Clone, Copy)]
+pub struct Day {
+    pub each: Count,
+    pub outputs: u64,
+}
+
+/// Takes or passes over the next output, if there is one, and says whether that was right: one of its own acknowledges its next order.
+fn take_next<const N: usize, const M: usize, const G: usize>(
+    gateway: &mut Member<'_, N, M, G>,
+    client: u8,
+    told: &mut Count,
+) -> bool
+    ensures { StaysSpent gateway.old.seat gateway.new.seat }
+{
+    let mut buf = [0; 320];
+    match gateway.take(&mut buf) {
+        Take::Mine(head) => {
+            let due = acknowledgement_of(client, *told);
+            *told = next(*told);
+            head.len <= 320 && buf[..head.len].ends_with(&due)
+        }
+        Take::Passed => true,
+        Take::Nothing => {
+            thread::yield_now();
+            true
+        }
+    }
+}
+
+/// Whether all outputs are taken or passed over, and all of the gateway's own orders are acknowledged.
+fn is_over<const N: usize, const M: usize, const G: usize>(
+    gateway: &Member<'_, N, M, G>,
+    told: &Count,
+    day: &Day,
+) -> bool {
+    gateway.seat.taken() == day.outputs && *told == day.each
+}
+
+/// Publishes the client's orders, and takes or passes over all outputs. Gives the seat back, where that was soon done and right.
+fn trade<const N: usize, const M: usize, const G: usize>(
+    rings: &TestRings<N, M, G>,
     seat: GatewaySeat<BookLogic>,
-    order: Request,
+    client: u8,
+    day: Day,
 ) -> Option<GatewaySeat<BookLogic>>
-    requires table { seat.seat.table_id ≡ rings.now.table.shared.table_id }
-    requires client { order.client ≤ 8 }
-    requires side { 2 ≤ order.side }
+    requires { seat.seat.table_id ≡ rings.now.table.shared.table_id }
     ensures { IfSome result (StaysSpent seat) }
 {
     let mut gateway = Member { rings, seat };
-    let mut published = false;
+    let mut sent = *b"000";
+    let mut told = *b"000";
     for _ in 0..TRIES {
-        if gateway.seat.taken() == 2 {
+        if is_over(&gateway, &told, &day) {
             let Member { seat, .. } = gateway;
             return Some(seat);
         }
-        published = published || gateway.ask(&order).is_ok();
-        if let Take::Nothing = gateway.take(&mut [0; 320]) {
-            thread::yield_now();
+        if sent != day.each && gateway.publish(&order_of(client, sent)).is_ok() {
+            sent = next(sent);
+        }
+        if !take_next(&mut gateway, client, &mut told) {
+            return None;
         }
     }
     None
 }
 
-/// Lets both gateways trade, each on a thread of its own. Gives each seat back, where that was soon done.
-fn trade_both<R: Threads + Sync>(
+/// Lets two gateways trade, each on a thread of its own. Gives each seat back, where that was soon done.
+pub fn trade_both<R: Threads + Sync, const N: usize, const M: usize, const G: usize>(
     rt: &R,
-    rings: &PairRings,
+    rings: &TestRings<N, M, G>,
     one: GatewaySeat<BookLogic>,
     other: GatewaySeat<BookLogic>,
-    symbol: Symbol,
+    clients: [u8; 2],
+    day: Day,
 ) -> (
     Option<GatewaySeat<BookLogic>>,
     Option<GatewaySeat<BookLogic>>,
@@ -67,51 +110,64 @@ fn trade_both<R: Threads + Sync>(
         move || -> Option<GatewaySeat<BookLogic>>
             requires { one.seat.table_id ≡ rings.now.table.shared.table_id }
             ensures { IfSome result (StaysSpent one) }
-        { trade(rings, one, Request::buy(symbol, 1)) },
+        { trade(rings, one, clients[0], day) },
         move || -> Option<GatewaySeat<BookLogic>>
             requires { other.seat.table_id ≡ rings.now.table.shared.table_id }
             ensures { IfSome result (StaysSpent other) }
-        { trade(rings, other, Request::buy(symbol, 2)) },
+        { trade(rings, other, clients[1], day) },
     )
 }
 
-/// Polls until two outputs are marshalled. Gives the seats back, where that was soon done.
-fn process(mut stages: Stages<'_, 4, 2, 2>) -> Option<StageSeats>
-    ensures { IfSome result (λ seats. seats.unmarshal.seat.table_id ≡ stages.entry.rings.now.table.shared.table_id) }
+/// Polls until so many outputs are marshalled. Gives the stages back, where that was soon done.
+fn process<const N: usize, const M: usize, const G: usize>(
+    rings: &TestRings<N, M, G>,
+    mut stages: Stages,
+    outputs: u64,
+) -> Option<Stages>
+    requires unmarshals { stages.unmarshaller.seat.seat.table_id ≡ rings.now.table.shared.table_id }
+    requires journals { stages.journaller.seat.seat.table_id ≡ rings.now.table.shared.table_id }
+    requires processes { stages.processor.seat.seat.table_id ≡ rings.now.table.shared.table_id }
+    requires marshals { stages.marshaller.seat.seat.table_id ≡ rings.now.table.shared.table_id }
+    ensures unmarshals { IfSome result (λ s. s.unmarshaller.seat.seat.table_id ≡ rings.now.table.shared.table_id) }
+    ensures journals { IfSome result (λ s. s.journaller.seat.seat.table_id ≡ rings.now.table.shared.table_id) }
+    ensures processes { IfSome result (λ s. s.processor.seat.seat.table_id ≡ rings.now.table.shared.table_id) }
+    ensures marshals { IfSome result (λ s. s.marshaller.seat.seat.table_id ≡ rings.now.table.shared.table_id) }
 {
     for _ in 0..TRIES {
-        if stages.marshaller.next_seq() == 2 {
-            return Some(stages.end());
+        if stages.marshaller.next_seq() == outputs {
+            return Some(stages);
         }
-        stages.poll();
+        stages.poll(rings);
     }
     None
 }
 
-/// Lets the gateways trade and the stages work, each on a thread of its own. Gives all seats back, where that was soon done.
-fn run<R: Threads + Sync>(
+/// Two gateways' seats, and the stages.
+pub type Crew = (GatewaySeat<BookLogic>, GatewaySeat<BookLogic>, Stages);
+
+/// Lets two gateways trade and the stages work, each on a thread of its own. Gives all back, where that was soon done.
+pub fn run<R: Threads + Sync, const N: usize, const M: usize, const G: usize>(
     rt: &R,
-    rings: &PairRings,
-    one: GatewaySeat<BookLogic>,
-    other: GatewaySeat<BookLogic>,
-    stages: Stages<'_, 4, 2, 2>,
-    symbol: Symbol,
-) -> Option<(GatewaySeat<BookLogic>, GatewaySeat<BookLogic>, StageSeats)>
-    requires one { one.seat.table_id ≡ rings.now.table.shared.table_id }
-    requires other { other.seat.table_id ≡ rings.now.table.shared.table_id }
-    ensures one { IfSome result (λ r. StaysSpent one r.0) }
-    ensures other { IfSome result (λ r. StaysSpent other r.1) }
-    ensures stages { IfSome result (λ r. r.2.unmarshal.seat.table_id ≡ stages.entry.rings.now.table.shared.table_id) }
+    rings: &TestRings<N, M, G>,
+    crew: Crew,
+    clients: [u8; 2],
+    day: Day,
+) -> Option<Crew>
+    requires one { crew.0.seat.table_id ≡ rings.now.table.shared.table_id }
+    requires other { crew.1.seat.table_id ≡ rings.now.table.shared.table_id }
+    requires unmarshals { crew.2.unmarshaller.seat.seat.table_id ≡ rings.now.table.shared.table_id }
+    requires journals { crew.2.journaller.seat.seat.table_id ≡ rings.now.table.shared.table_id }
+    requires processes { crew.2.processor.seat.seat.table_id ≡ rings.now.table.shared.table_id }
+    requires marshals { crew.2.marshaller.seat.seat.table_id ≡ rings.now.table.shared.table_id }
+    ensures one { IfSome result (λ r. StaysSpent crew.0 r.0) }
+    ensures other { IfSome result (λ r. StaysSpent crew.1 r.1) }
+    ensures unmarshals { IfSome result (λ r. r.2.unmarshaller.seat.seat.table_id ≡ rings.now.table.shared.table_id) }
+    ensures journals { IfSome result (λ r. r.2.journaller.seat.seat.table_id ≡ rings.now.table.shared.table_id) }
+    ensures processes { IfSome result (λ r. r.2.processor.seat.seat.table_id ≡ rings.now.table.shared.table_id) }
+    ensures marshals { IfSome result (λ r. r.2.marshaller.seat.seat.table_id ≡ rings.now.table.shared.table_id) }
 {
-    // A closure that captures a struct with a borrow tells nothing of what it gives back, so the stages go to their thread one by one.
-    let Stages {
-        rings: polled,
-        unmarshaller,
-        journaller,
-        processor,
-        marshaller,
-    } = stages;
-    let ((one, other), seats) = join(
+    let (one, other, stages) = crew;
+    let ((one, other), stages) = join(
         rt,
         move || -> (
             Option<GatewaySeat<BookLogic>>,
@@ -120,31 +176,23 @@ fn run<R: Threads + Sync>(
             requires { IsSync R.row × (one.seat.table_id ≡ rings.now.table.shared.table_id) × (other.seat.table_id ≡ rings.now.table.shared.table_id) }
             ensures one { IfSome result.0 (StaysSpent one) }
             ensures other { IfSome result.1 (StaysSpent other) }
-        { trade_both(rt, rings, one, other, symbol) },
-        move || -> Option<StageSeats>
-            requires { (unmarshaller.seat.seat.table_id ≡ polled.now.table.shared.table_id) × (journaller.seat.seat.table_id ≡ polled.now.table.shared.table_id)
-                × (processor.seat.seat.table_id ≡ polled.now.table.shared.table_id) × (marshaller.seat.seat.table_id ≡ polled.now.table.shared.table_id) }
-            ensures { IfSome result (λ seats. seats.unmarshal.seat.table_id ≡ polled.entry.now.table.shared.table_id) }
-        {
-            process(Stages {
-                rings: polled,
-                unmarshaller,
-                journaller,
-                processor,
-                marshaller,
-            })
-        },
+        { trade_both(rt, rings, one, other, clients, day) },
+        move || -> Option<Stages>
+            requires { (stages.unmarshaller.seat.seat.table_id ≡ rings.now.table.shared.table_id) × (stages.journaller.seat.seat.table_id ≡ rings.now.table.shared.table_id) × (stages.processor.seat.seat.table_id ≡ rings.now.table.shared.table_id) × (stages.marshaller.seat.seat.table_id ≡ rings.now.table.shared.table_id) }
+            ensures unmarshals { IfSome result (λ s. s.unmarshaller.seat.seat.table_id ≡ rings.entry.now.table.shared.table_id) }
+            ensures journals { IfSome result (λ s. s.journaller.seat.seat.table_id ≡ rings.entry.now.table.shared.table_id) }
+            ensures processes { IfSome result (λ s. s.processor.seat.seat.table_id ≡ rings.entry.now.table.shared.table_id) }
+            ensures marshals { IfSome result (λ s. s.marshaller.seat.seat.table_id ≡ rings.entry.now.table.shared.table_id) }
+        { process(rings, stages, day.outputs) },
     );
-    Some((one?, other?, seats?))
+    Some((one?, other?, stages?))
 }
 
-/// Lets two gateways at rings of these symbols publish an order each and take what comes of both. Then they meet, and the rings are closed. Answers what had
-/// been done, where that was soon.
+/// Lets two gateways at rings of these symbols trade. Then they meet, and the rings are closed. Answers what had been done, where that was soon.
 fn close_behind<R: Threads + Sync>(
     rt: &R,
     alloc: Global,
     limits: &Limits,
-    symbol: Symbol,
 ) -> Result<Option<Summary>, Fail> {
     let (rings, seats) = open::<4, 2, 2>(alloc, limits)?;
     let (stages, mut gateways) = Stages::new(alloc, &rings, seats, limits)?;
@@ -156,24 +204,28 @@ fn close_behind<R: Threads + Sync>(
     };
     let Member { seat: one, .. } = one;
     let Member { seat: other, .. } = other;
-    let Some((mut one, mut other, seats)) = run(rt, &rings, one, other, stages, symbol) else {
+    let day = Day {
+        each: *b"020",
+        outputs: 40,
+    };
+    let Some((mut one, mut other, stages)) = run(rt, &rings, (one, other, stages), *b"12", day)
+    else {
         return Ok(None);
     };
     rings.meet(&mut one, &mut other);
     gateways.push(one)?;
     gateways.push(other)?;
-    Ok(Some(rings.close(seats.with(gateways))))
+    Ok(Some(rings.close(stages.end(gateways))))
 }
 
 #[test]
 fn gateways_meet(rt: HostRuntime) -> Result<(), Fail> {
-    let limits = limits_of(rt.alloc(), &["ABC"])?;
-    let symbol = Symbol::new(b"ABC").ok_or("no symbol")?;
+    let limits = abc(rt.alloc()).ok_or("no memory")?;
     assert_eq!(rt;
-        close_behind(&rt, rt.alloc(), &limits, symbol)?,
+        close_behind(&rt, rt.alloc(), &limits)?,
         Some(Summary {
-            commands: 2,
-            outputs: 2
+            commands: 40,
+            outputs: 40
         })
     );
     Ok(())

@@ -1,5 +1,5 @@
 //! What no clause says of opening and closing: that they succeed, and the texts of their refusals.
-use super::venue::{limits_of, open};
+use super::venue::{abc, open};
 use ring_words::{OpenError, Summary};
 use sequencer::ClaimRefusal;
 use stages::ProcessorError;
@@ -7,7 +7,7 @@ use std::test::Fail;
 
 #[test]
 fn opens_and_closes(rt: HostRuntime) -> Result<(), Fail> {
-    let limits = limits_of(rt.alloc(), &["ABC"])?;
+    let limits = abc(rt.alloc()).ok_or("no memory")?;
     let (rings, seats) = open::<4, 2, 4>(rt.alloc(), &limits)?;
     assert_eq!(rt;
         rings.close(seats),

@@ -1,132 +1,76 @@
-//! Outputs go through an output ring of two rows: the processor puts more only as both gateways take them or pass them over.
-use super::member::Member;
-use super::reports::is_text;
-use super::requests::Request;
-use super::venue::{Venue, limits_of, open};
-use sequencer::{Head, Take};
+//! Seven outputs go through an output ring of two rows: the processor puts more only as both gateways take them or pass them over.
+ghost use Rattle.std.specs.Prelude.{◌≡◌};
+
+use super::crew::Stages;
+use super::member::{Member, next_member};
+use super::messages::{BUY_THREE, SELL_ONE, SELL_THREE, SELL_TWO};
+use super::venue::{TestRings, abc, open};
+use sequencer::Take;
 use stages::Turn;
-use stages::Turn::{Did, Idle, OutFull};
+use stages::Turn::{Did, OutFull};
+use std::process::Abort;
 use std::test::Fail;
-use venue_model::{OutputType, Symbol};
 
-/// Whether an output that was taken or passed over was the gateway's own; none where there was no output.
-type Took = Option<bool>;
+type PairRings = TestRings<4, 2, 2>;
 
-const MINE: Took = Some(true);
+type Pair<'a> = Member<'a, 4, 2, 2>;
 
-const PASSED: Took = Some(false);
-
-const NOTHING: Took = None;
-
-/// What a poll of the stages answers, and up to where the processor is then; and what each gateway takes afterwards.
-type Row<'a> = ([Turn; 4], u64, &'a [Took], &'a [Took]);
-
-/// Takes the next output, or passes it over.
-fn take(gateway: &mut Member<'_, 4, 2, 2>) -> Took {
-    match gateway.take(&mut [0; 320]) {
-        Take::Mine(_) => MINE,
-        Take::Passed => PASSED,
-        Take::Nothing => NOTHING,
-    }
-}
-
-/// Whether the gateway takes so, one output after another.
-fn takes(gateway: &mut Member<'_, 4, 2, 2>, all: &[Took]) -> bool {
-    for took in all {
-        if take(gateway) != *took {
-            return false;
+/// How many outputs the gateway takes, and how many it passes over, until there is none.
+fn taken(gateway: &mut Pair<'_>) -> (u8, u8) {
+    let (mut own, mut passed) = (0, 0);
+    for _ in 0..3 {
+        match gateway.take(&mut [0; 320]) {
+            Take::Mine(_) => own += 1,
+            Take::Passed => passed += 1,
+            Take::Nothing => break,
         }
     }
-    true
+    (own, passed)
 }
 
-/// Whether the buffer begins with this text.
-fn begins_with(buf: &[u8; 320], text: &[u8]) -> bool {
-    text.len() <= buf.len() && is_text(&buf[..text.len()], text)
+/// Lets the stages poll twice, so that two outputs are marshalled, and answers what the processor did first.
+fn process(rings: &PairRings, stages: &mut Stages) -> Turn
+    requires stages { (stages.old.unmarshaller.seat.seat.table_id ≡ rings.now.table.shared.table_id) × (stages.old.journaller.seat.seat.table_id ≡ rings.now.table.shared.table_id) × (stages.old.processor.seat.seat.table_id ≡ rings.now.table.shared.table_id) × (stages.old.marshaller.seat.seat.table_id ≡ rings.now.table.shared.table_id) }
+    ensures stages { (stages.new.unmarshaller.seat.seat.table_id ≡ rings.now.table.shared.table_id) × (stages.new.journaller.seat.seat.table_id ≡ rings.now.table.shared.table_id) × (stages.new.processor.seat.seat.table_id ≡ rings.now.table.shared.table_id) × (stages.new.marshaller.seat.seat.table_id ≡ rings.now.table.shared.table_id) }
+{
+    let [_, _, turn, _] = stages.poll(rings);
+    stages.poll(rings);
+    turn
 }
 
-#[test]
-fn first_report_taken(rt: HostRuntime) -> Result<(), Fail> {
-    let limits = limits_of(rt.alloc(), &["ABC"])?;
-    let (rings, seats) = open::<4, 2, 2>(rt.alloc(), &limits)?;
-    let mut venue = Venue::new(rt.alloc(), &rings, seats, &limits)?;
-    let order = Request::buy(Symbol::new(b"ABC").ok_or("no symbol")?, 1);
-    assert!(rt; venue.ask(&order)?);
-    assert_eq!(rt; venue.stages.poll(), [Did(1); 4]);
-    let mut second = venue.members.pop().ok_or("no gateway 2")?;
-    let mut first = venue.members.pop().ok_or("no gateway 1")?;
-    let mut buf = [0; 320];
-    assert_eq!(rt;
-        first.take(&mut buf),
-        Take::Mine(Head {
-            msg_type: OutputType::ExecutionReport,
-            sending_time: 20250102093000,
-            len: 68
-        })
-    );
-    let text = b"37=1|17=1|150=0|39=0|11=1|55=ABC|54=1|38=100|44=50|151=100|14=0|6=0|";
-    assert!(rt; begins_with(&buf, text));
-    assert_eq!(rt; second.take(&mut buf), Take::Passed);
-    assert_eq!(rt; second.take(&mut buf), Take::Nothing);
-    Ok(())
+/// The first gateway sells 1 three times, and the second one buys 3.
+fn trade<A: Abort>(
+    rt: &A,
+    rings: &PairRings,
+    one: &mut Pair<'_>,
+    other: &mut Pair<'_>,
+    stages: &mut Stages,
+)
+    requires stages { (stages.old.unmarshaller.seat.seat.table_id ≡ rings.now.table.shared.table_id) × (stages.old.journaller.seat.seat.table_id ≡ rings.now.table.shared.table_id) × (stages.old.processor.seat.seat.table_id ≡ rings.now.table.shared.table_id) × (stages.old.marshaller.seat.seat.table_id ≡ rings.now.table.shared.table_id) }
+{
+    for sell in [SELL_ONE, SELL_TWO, SELL_THREE] {
+        assert!(rt; one.publish(sell).is_ok());
+        assert_eq!(rt; process(rings, stages), Did(1));
+        assert_eq!(rt; (taken(one), taken(other)), ((1, 0), (0, 1)));
+    }
+    assert_eq!(rt; other.publish(BUY_THREE), Ok(3));
+    for _ in 0..3 {
+        assert_eq!(rt; process(rings, stages), OutFull);
+        assert_eq!(rt; stages.processor.next_seq(), 3);
+        assert_eq!(rt; (taken(one), taken(other)), ((1, 1), (1, 1)));
+    }
+    assert_eq!(rt; process(rings, stages), Did(1));
+    assert_eq!(rt; stages.processor.next_seq(), 4);
+    assert_eq!(rt; (taken(one), taken(other)), ((0, 1), (1, 0)));
 }
 
 #[test]
 fn output_ring_of_two(rt: HostRuntime) -> Result<(), Fail> {
-    let limits = limits_of(rt.alloc(), &["ABC"])?;
+    let limits = abc(rt.alloc()).ok_or("no memory")?;
     let (rings, seats) = open::<4, 2, 2>(rt.alloc(), &limits)?;
-    let mut venue = Venue::new(rt.alloc(), &rings, seats, &limits)?;
-    let buy = Request::buy(Symbol::new(b"ABC").ok_or("no symbol")?, 2);
-    for cl_ord_id in 1..3 {
-        let sell = Request {
-            client: 1,
-            cl_ord_id,
-            side: b'2',
-            quantity: 50,
-            ..buy
-        };
-        assert!(rt; venue.ask(&sell)?);
-    }
-    assert!(rt; venue.finish(2)?);
-    let mut second = venue.members.pop().ok_or("no gateway 2")?;
-    let mut first = venue.members.pop().ok_or("no gateway 1")?;
-    assert_eq!(rt; second.ask(&buy), Ok(2));
-    // that the order was accepted, and of each of two trades a report to either side
-    let rows: [Row; 8] = [
-        ([Did(1), Did(1), OutFull, Did(1)], 2, &[], &[]),
-        ([Idle, Idle, OutFull, Did(1)], 2, &[], &[]),
-        (
-            [Idle, Idle, OutFull, Idle],
-            2,
-            &[PASSED, MINE, NOTHING],
-            &[],
-        ),
-        (
-            [Idle, Idle, OutFull, Idle],
-            2,
-            &[],
-            &[MINE, PASSED, NOTHING],
-        ),
-        ([Idle, Idle, OutFull, Did(1)], 2, &[], &[]),
-        (
-            [Idle, Idle, OutFull, Did(1)],
-            2,
-            &[PASSED, MINE, NOTHING],
-            &[MINE, PASSED, NOTHING],
-        ),
-        (
-            [Idle, Idle, Did(1), Did(1)],
-            3,
-            &[PASSED, NOTHING],
-            &[MINE, NOTHING],
-        ),
-        ([Idle; 4], 3, &[], &[]),
-    ];
-    for (turns, next, firsts, seconds) in rows {
-        assert_eq!(rt; venue.stages.poll(), turns);
-        assert_eq!(rt; venue.stages.processor.next_seq(), next);
-        assert!(rt; takes(&mut first, firsts));
-        assert!(rt; takes(&mut second, seconds));
-    }
+    let (mut stages, mut gateways) = Stages::new(rt.alloc(), &rings, seats, &limits)?;
+    let mut second = next_member(&rings, &mut gateways).ok_or("no gateway 2")?;
+    let mut first = next_member(&rings, &mut gateways).ok_or("no gateway 1")?;
+    trade(&rt, &rings, &mut first, &mut second, &mut stages);
     Ok(())
 }

@@ -1,22 +1,29 @@
 //! Two gateways fill a ring of two rows; once the stages have done its first message, the row is claimed again.
+ghost use Rattle.std.specs.Prelude.{◌≡◌};
+
 use super::crew::Stages;
-use super::member::Member;
-use super::reports::ends_in;
-use super::requests::Request;
-use super::venue::{Venue, limits_of, open};
-use sequencer::{ClaimRefusal, try_claim};
+use super::member::{Member, next_member};
+use super::messages::{FIRST_BUY, THIRD_ACKNOWLEDGED};
+use super::venue::{TestRings, abc, open};
+use sequencer::{ClaimRefusal, Take, try_claim};
 use stages::Turn::{Did, Idle};
+use std::process::Abort;
 use std::test::Fail;
-use venue_model::Symbol;
+
+type PairRings = TestRings<2, 2, 2>;
 
 type Pair<'a> = Member<'a, 2, 2, 2>;
 
 /// Both claim, one after the other, and both publish AB, the other one first: until then the stages find nothing. Answers the sequences.
 fn publish_both(
+    rings: &PairRings,
     one: &mut Pair<'_>,
     other: &mut Pair<'_>,
-    stages: &mut Stages<'_, 2, 2, 2>,
-) -> Result<Option<(u64, u64)>, ClaimRefusal> {
+    stages: &mut Stages,
+) -> Result<Option<(u64, u64)>, ClaimRefusal>
+    requires stages { (stages.old.unmarshaller.seat.seat.table_id ≡ rings.now.table.shared.table_id) × (stages.old.journaller.seat.seat.table_id ≡ rings.now.table.shared.table_id) × (stages.old.processor.seat.seat.table_id ≡ rings.now.table.shared.table_id) × (stages.old.marshaller.seat.seat.table_id ≡ rings.now.table.shared.table_id) }
+    ensures stages { (stages.new.unmarshaller.seat.seat.table_id ≡ rings.now.table.shared.table_id) × (stages.new.journaller.seat.seat.table_id ≡ rings.now.table.shared.table_id) × (stages.new.processor.seat.seat.table_id ≡ rings.now.table.shared.table_id) × (stages.new.marshaller.seat.seat.table_id ≡ rings.now.table.shared.table_id) }
+{
     let first = try_claim(one.rings, &mut one.seat)?;
     let second = match try_claim(other.rings, &mut other.seat) {
         Ok(second) => second,
@@ -26,7 +33,7 @@ fn publish_both(
         }
     };
     let at = second.publish(other.rings, &mut other.seat, b"AB");
-    let turns = stages.poll();
+    let turns = stages.poll(rings);
     let before = first.publish(one.rings, &mut one.seat, b"AB");
     if turns != [Idle; 4] {
         return Ok(None);
@@ -34,29 +41,37 @@ fn publish_both(
     Ok(Some((before, at)))
 }
 
+/// Fills the ring, publishes an order in its first row again, and takes what came of it.
+fn fill<A: Abort>(
+    rt: &A,
+    rings: &PairRings,
+    one: &mut Pair<'_>,
+    other: &mut Pair<'_>,
+    stages: &mut Stages,
+)
+    requires stages { (stages.old.unmarshaller.seat.seat.table_id ≡ rings.now.table.shared.table_id) × (stages.old.journaller.seat.seat.table_id ≡ rings.now.table.shared.table_id) × (stages.old.processor.seat.seat.table_id ≡ rings.now.table.shared.table_id) × (stages.old.marshaller.seat.seat.table_id ≡ rings.now.table.shared.table_id) }
+{
+    assert_eq!(rt; publish_both(rings, one, other, stages), Ok(Some((0, 1))));
+    assert_eq!(rt; one.publish(FIRST_BUY), Err(ClaimRefusal::Full));
+    assert_eq!(rt; stages.poll(rings), [Did(1), Did(1), Did(1), Idle]);
+    assert_eq!(rt; one.publish(FIRST_BUY), Ok(2));
+    assert_eq!(rt; stages.poll(rings), [Did(1), Did(1), Did(1), Idle]);
+    assert_eq!(rt; stages.poll(rings), [Did(1); 4]);
+    assert_eq!(rt; stages.poll(rings), [Idle; 4]);
+    let mut body = [0; 320];
+    assert!(rt; matches!(one.take(&mut body), Take::Mine(_)));
+    assert!(rt; body.starts_with(THIRD_ACKNOWLEDGED));
+    assert_eq!(rt; one.take(&mut body), Take::Nothing);
+    assert_eq!(rt; other.take(&mut body), Take::Passed);
+}
+
 #[test]
 fn ring_of_two(rt: HostRuntime) -> Result<(), Fail> {
-    let limits = limits_of(rt.alloc(), &["ABC"])?;
+    let limits = abc(rt.alloc()).ok_or("no memory")?;
     let (rings, seats) = open::<2, 2, 2>(rt.alloc(), &limits)?;
-    let mut venue = Venue::new(rt.alloc(), &rings, seats, &limits)?;
-    let mut second = venue.members.pop().ok_or("no gateway 2")?;
-    let mut first = venue.members.pop().ok_or("no gateway 1")?;
-    let order = Request::buy(Symbol::new(b"ABC").ok_or("no symbol")?, 1);
-    assert_eq!(rt;
-        publish_both(&mut first, &mut second, &mut venue.stages),
-        Ok(Some((0, 1)))
-    );
-    assert_eq!(rt; first.ask(&order), Err(ClaimRefusal::Full));
-    assert_eq!(rt; venue.stages.poll(), [Did(1), Did(1), Did(1), Idle]);
-    assert_eq!(rt; first.ask(&order), Ok(2));
-    venue.members.push(first)?;
-    venue.members.push(second)?;
-    assert!(rt; venue.finish(3)?);
-    let acknowledged: [(u8, &[u8]); 1] = [(
-        1,
-        b"37=3|17=1|150=0|39=0|11=1|55=ABC|54=1|38=100|44=50|151=100|14=0|6=0|",
-    )];
-    assert_eq!(rt; venue.taken.len(), 1);
-    assert!(rt; ends_in(venue.taken.as_slice(), &acknowledged));
+    let (mut stages, mut gateways) = Stages::new(rt.alloc(), &rings, seats, &limits)?;
+    let mut second = next_member(&rings, &mut gateways).ok_or("no gateway 2")?;
+    let mut first = next_member(&rings, &mut gateways).ok_or("no gateway 1")?;
+    fill(&rt, &rings, &mut first, &mut second, &mut stages);
     Ok(())
 }

@@ -1,14 +1,13 @@
 //! Two clients' sessions, one behind the other: the first orders and leaves, and what the second's order brings it is passed over by its gateway,
 //! and counted.
 ghost use Rattle.std.specs.Prelude.{None, ◌≡◌, true, false, [], IfOk, IsSome};
-ghost use Rattle.ring_words.specs.Crew.{AreFresh, IsFresh, stage_view, process_view, marshal_view};
-ghost use Rattle.ring_words.specs.declared.view.Role.TheVariants.{Unmarshal, Journal};
+ghost use Rattle.ring_words.specs.Crew.{IsFresh};
 
 use super::crew::Stages;
-use super::venue::{TestRings, limits_of};
+use super::venue::{TestRings, abc, open};
 use book::BookLogic;
 use gateway::{Gateway, MemWire, Reason, Turned};
-use ring_words::{GatewaySeat, OpenError, Seats};
+use ring_words::GatewaySeat;
 use std::alloc::Global;
 use std::test::Fail;
 use venue_model::Limits;
@@ -55,17 +54,6 @@ const SELLER_IS_TOLD: &[u8] = b"8=FIX.4.4\x019=63\x0135=A\x0149=VENUE\x0156=C2\x
     11=1\x0155=ABC\x0154=2\x0138=30\x0144=50\x0132=30\x0131=50\x01151=0\x01\
     14=30\x016=50\x0110=250\x01";
 
-/// New rings with their seats.
-fn open_pair(alloc: Global, limits: &Limits) -> Result<(PairRings, Seats<BookLogic>), OpenError>
-    ensures gateways { IfOk result (λ r. AreFresh r.0.table.shared.table_id limits.now [] 0 r.1.gateways.items) }
-    ensures unmarshal { IfOk result (λ r. (r.1.unmarshal.seat.table_id ≡ r.0.table.shared.table_id) × (r.1.unmarshal.seat.me.0 ≡ stage_view limits.now [] Unmarshal)) }
-    ensures journal { IfOk result (λ r. (r.1.journal.seat.table_id ≡ r.0.table.shared.table_id) × (r.1.journal.seat.me.0 ≡ stage_view limits.now [] Journal)) }
-    ensures process { IfOk result (λ r. (r.1.process.seat.table_id ≡ r.0.table.shared.table_id) × (r.1.process.seat.me.0 ≡ process_view limits.now [] 0)) }
-    ensures marshal { IfOk result (λ r. (r.1.marshal.seat.table_id ≡ r.0.table.shared.table_id) × (r.1.marshal.seat.me.0 ≡ marshal_view limits.now [] 0)) }
-{
-    PairRings::open(alloc, BookLogic::of(limits), &Vec::new(alloc), 0)
-}
-
 /// The gateway of a new seat.
 fn gateway_at(
     alloc: Global,
@@ -85,13 +73,15 @@ fn gateway_at(
 /// Serves a session for so many turns at most, with a poll of each stage behind each turn. Says why it ended, where it did.
 fn serve(
     rings: &PairRings,
-    stages: &mut Stages<'_, 4, 4, 2>,
+    stages: &mut Stages,
     gateway: &mut Gateway,
     wire: &mut MemWire,
     turns: usize,
 ) -> Option<Reason>
     requires live { gateway.old.front.live ≡ true }
     requires table { gateway.old.seat.seat.table_id ≡ rings.now.table.shared.table_id }
+    requires stages { (stages.old.unmarshaller.seat.seat.table_id ≡ rings.now.table.shared.table_id) × (stages.old.journaller.seat.seat.table_id ≡ rings.now.table.shared.table_id) × (stages.old.processor.seat.seat.table_id ≡ rings.now.table.shared.table_id) × (stages.old.marshaller.seat.seat.table_id ≡ rings.now.table.shared.table_id) }
+    ensures stages { (stages.new.unmarshaller.seat.seat.table_id ≡ rings.now.table.shared.table_id) × (stages.new.journaller.seat.seat.table_id ≡ rings.now.table.shared.table_id) × (stages.new.processor.seat.seat.table_id ≡ rings.now.table.shared.table_id) × (stages.new.marshaller.seat.seat.table_id ≡ rings.now.table.shared.table_id) }
     ensures table { gateway.new.seat.seat.table_id ≡ rings.now.table.shared.table_id }
     ensures over { IsSome result → gateway.new.front.live ≡ false }
     ensures alive { result ≡ None → gateway.new.front.live ≡ true }
@@ -100,19 +90,19 @@ fn serve(
         if let Turned::Ended(reason) = gateway.turn(rings, wire) {
             return Some(reason);
         }
-        stages.poll();
+        stages.poll(rings);
     }
     None
 }
 
-/// Lets a gateway without a session look so often.
-fn idle(rings: &PairRings, gateway: &mut Gateway, times: usize)
+/// Lets a gateway without a session look three times.
+fn idle(rings: &PairRings, gateway: &mut Gateway)
     requires off { gateway.old.front.live ≡ false }
     requires table { gateway.old.seat.seat.table_id ≡ rings.now.table.shared.table_id }
 {
-    for _ in 0..times {
-        gateway.idle(rings);
-    }
+    gateway.idle(rings);
+    gateway.idle(rings);
+    gateway.idle(rings);
 }
 
 /// What the clients send and are sent.
@@ -126,7 +116,7 @@ struct Wires {
 /// Serves the first client and then the second, and lets the first gateway be idle behind them. Answers how many outputs it passed over, where
 /// each session ended as it is to end.
 fn trade(alloc: Global, limits: &Limits, wires: &mut Wires) -> Result<Option<u64>, Fail> {
-    let (rings, seats) = open_pair(alloc, limits)?;
+    let (rings, seats) = open::<4, 4, 2>(alloc, limits)?;
     let (mut stages, mut gateways) = Stages::new(alloc, &rings, seats, limits)?;
     let Some(seat) = gateways.pop() else {
         return Ok(None);
@@ -149,13 +139,13 @@ fn trade(alloc: Global, limits: &Limits, wires: &mut Wires) -> Result<Option<u64
     else {
         return Ok(None);
     };
-    idle(&rings, &mut buyer, 8);
+    idle(&rings, &mut buyer);
     Ok(Some(buyer.passed()))
 }
 
 #[test]
 fn reports_without_session_are_passed_over(rt: HostRuntime) -> Result<(), Fail> {
-    let limits = limits_of(rt.alloc(), &["ABC"])?;
+    let limits = abc(rt.alloc()).ok_or("no memory")?;
     let mut wires = Wires {
         buying: MemWire::new(rt.alloc(), BUYER)?.staying_open(),
         leaving: MemWire::new(rt.alloc(), BUYER_LEAVES)?,

@@ -8,7 +8,6 @@ use Rattle.ring_tests.proofs.tests.gateways_meet.close_behind.Goals as goal
 pub close-requires : goal.close-requires
 close-requires g c =
     let table = c.in_ok-rings.rings.table.shared.table_id in
-    let at = c.in-Some-run.ensures.stages ∙ ap (λ r. r.table.shared.table_id) c.in_ok-stages.ensures.rings in
     let left = c.next_member-2.new.gateways in
     let with_one = c.push.new.self in
     let one = c.meet.new.one in
@@ -26,16 +25,16 @@ close-requires g c =
     let both_are = subst (λ seats. AreSpent table seats) (sym c.in_ok-push-2.ensures.items) (one_more (λ k s. IsSpent table k s) with_one.items other one_is met_other) in (
       omega arith,
       (
-        c.with.ensures.process ∙ at,
+        ap (λ s. s.seat.table_id) c.end.ensures.process ∙ c.in-Some-run.ensures.processes,
         (
-          c.with.ensures.unmarshal ∙ at,
+          ap (λ s. s.seat.table_id) c.end.ensures.unmarshal ∙ c.in-Some-run.ensures.unmarshals,
           (
-            c.with.ensures.journal ∙ at,
+            ap (λ s. s.seat.table_id) c.end.ensures.journal ∙ c.in-Some-run.ensures.journals,
             (
-              c.with.ensures.marshal ∙ at,
+              ap (λ s. s.seat.table_id) c.end.ensures.marshal ∙ c.in-Some-run.ensures.marshals,
               (
-                subst (λ seats. AreSpent table seats) (sym (ap (λ v. v.items) c.with.ensures.gateways)) both_are,
-                omega (arith, ap (λ v. v.len) c.with.ensures.gateways, c.in_ok-push.ensures.len, c.in_ok-push-2.ensures.len, c.in-Some.ensures.count, c.in-Some-next_member.ensures.count, c.in_ok-rings.ensures.count, ap (λ v. v.len) c.in_ok-stages.ensures.gateways),
+                subst (λ seats. AreSpent table seats) (sym (ap (λ v. v.items) c.end.ensures.gateways)) both_are,
+                omega (arith, ap (λ v. v.len) c.end.ensures.gateways, c.in_ok-push.ensures.len, c.in_ok-push-2.ensures.len, c.in-Some.ensures.count, c.in-Some-next_member.ensures.count, c.in_ok-rings.ensures.count, ap (λ v. v.len) c.in_ok-stages.ensures.gateways),
               ),
             ),
           ),

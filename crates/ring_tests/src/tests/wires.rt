@@ -1,7 +1,7 @@
-//! What a session meets at a wire: each setting of the wire in memory, and a reader and a writer that fail.
+//! What a session meets at a wire: a reader and a writer that fail, and each setting of the wire in memory.
 ghost use Rattle.std.specs.Prelude.{◌≤◌, IfOk};
 
-use super::*;
+use gateway::{MemWire, StdWire, TryRead, TryWrite, Wire};
 use std::io;
 use std::io::{ErrorKind, Read, Write};
 use std::test::Fail;

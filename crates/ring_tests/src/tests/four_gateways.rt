@@ -1,0 +1,74 @@
+//! Four gateways and the stages, each on a thread of its own, at a ring of four input rows.
+ghost use Rattle.std.specs.Prelude.{◌≡◌, ◌≤◌};
+ghost use Rattle.std.specs.Thread.{IsSync};
+
+use super::crew::Stages;
+use super::gateways_meet::{Crew, Day, run, trade_both};
+use super::member::{Member, next_member};
+use super::venue::{TestRings, abc, open};
+use book::BookLogic;
+use ring_words::GatewaySeat;
+use std::alloc::Global;
+use std::test::Fail;
+use std::thread::{Threads, join};
+use venue_model::Limits;
+
+type FourRings = TestRings<4, 16, 4>;
+
+/// Lets two gateways more trade beside the others and the stages, and says whether all went well.
+fn run_four<R: Threads + Sync>(
+    rt: &R,
+    rings: &FourRings,
+    third: GatewaySeat<BookLogic>,
+    fourth: GatewaySeat<BookLogic>,
+    crew: Crew,
+    day: Day,
+) -> bool
+    requires third { third.seat.table_id ≡ rings.now.table.shared.table_id }
+    requires fourth { fourth.seat.table_id ≡ rings.now.table.shared.table_id }
+    requires crew { (crew.0.seat.table_id ≡ rings.now.table.shared.table_id) × (crew.1.seat.table_id ≡ rings.now.table.shared.table_id) × (crew.2.unmarshaller.seat.seat.table_id ≡ rings.now.table.shared.table_id) × (crew.2.journaller.seat.seat.table_id ≡ rings.now.table.shared.table_id) × (crew.2.processor.seat.seat.table_id ≡ rings.now.table.shared.table_id) × (crew.2.marshaller.seat.seat.table_id ≡ rings.now.table.shared.table_id) }
+{
+    let ((third, fourth), crew) = join(
+        rt,
+        move || -> (
+            Option<GatewaySeat<BookLogic>>,
+            Option<GatewaySeat<BookLogic>>,
+        )
+            requires { IsSync R.row × (third.seat.table_id ≡ rings.now.table.shared.table_id) × (fourth.seat.table_id ≡ rings.now.table.shared.table_id) }
+        { trade_both(rt, rings, third, fourth, *b"34", day) },
+        move || -> Option<Crew>
+            requires { IsSync R.row × (crew.0.seat.table_id ≡ rings.now.table.shared.table_id) × (crew.1.seat.table_id ≡ rings.now.table.shared.table_id) × (crew.2.unmarshaller.seat.seat.table_id ≡ rings.now.table.shared.table_id) × (crew.2.journaller.seat.seat.table_id ≡ rings.now.table.shared.table_id) × (crew.2.processor.seat.seat.table_id ≡ rings.now.table.shared.table_id) × (crew.2.marshaller.seat.seat.table_id ≡ rings.now.table.shared.table_id) }
+        { run(rt, rings, crew, *b"12", day) },
+    );
+    third.is_some() && fourth.is_some() && crew.is_some()
+}
+
+/// Lets four gateways trade at rings of these symbols, and says whether all went well.
+fn trade_all<R: Threads + Sync>(rt: &R, alloc: Global, limits: &Limits) -> Result<bool, Fail> {
+    let (rings, seats) = open::<4, 16, 4>(alloc, limits)?;
+    let (stages, mut gateways) = Stages::new(alloc, &rings, seats, limits)?;
+    let Some(Member { seat: fourth, .. }) = next_member(&rings, &mut gateways) else {
+        return Ok(false);
+    };
+    let Some(Member { seat: third, .. }) = next_member(&rings, &mut gateways) else {
+        return Ok(false);
+    };
+    let Some(Member { seat: second, .. }) = next_member(&rings, &mut gateways) else {
+        return Ok(false);
+    };
+    let Some(Member { seat: first, .. }) = next_member(&rings, &mut gateways) else {
+        return Ok(false);
+    };
+    let day = Day {
+        each: *b"250",
+        outputs: 1_000,
+    };
+    Ok(run_four(rt, &rings, third, fourth, (first, second, stages), day))
+}
+
+#[test]
+fn each_order_acknowledged(rt: HostRuntime) -> Result<(), Fail> {
+    let limits = abc(rt.alloc()).ok_or("no memory")?;
+    assert!(rt; trade_all(&rt, rt.alloc(), &limits)?);
+    Ok(())
+}
