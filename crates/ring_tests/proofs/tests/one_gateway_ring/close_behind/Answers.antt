@@ -8,8 +8,11 @@ use Rattle.ring_tests.proofs.tests.one_gateway_ring.close_behind.Goals as goal
 pub meet_journal-requires : goal.meet_journal-requires
 meet_journal-requires c =
     let table = c.in_ok-rings.rings.table.shared.table_id in (
-      (c.take-taken.ensures table _ (c.publish.ensures table _ c.in-Some.ensures.member)).at,
-      ap (λ s. s.seat.table_id) c.end-seats.ensures.journal ∙ c.poll-turns.ensures.journals,
+      omega arith,
+      (
+        (c.take-taken.ensures table _ (c.publish.ensures table _ c.in-Some.ensures.member)).at,
+        ap (λ s. s.seat.table_id) c.end-seats.ensures.journal ∙ c.poll-turns.ensures.journals,
+      ),
     )
 
 pub close-requires : goal.close-requires
