@@ -30,7 +30,7 @@ reader_of w = w.reader
 abbrev pub writer_of : {R W : Type 0} → StdWire R W → W
 writer_of w = w.writer
 
--- a read has answered Nothing since bytes were last read or written
+-- it was made, or told that all is quiet, since bytes were last read or written: the next read asks the reader
 abbrev pub rested_of : {R W : Type 0} → StdWire R W → Bool
 rested_of w = w.rested
 
@@ -52,14 +52,15 @@ SendsOut old new bytes (write.Put n) = Appends old new (take n bytes)
 SendsOut old new bytes write.Nothing = Keeps old new
 SendsOut old new bytes write.Failed = (n : ℕ) × (n ≤ length bytes) × Appends old new (take n bytes)
 
--- whether the wire has rested before and after a read with this answer: one that hasn't answers Nothing
+-- whether the wire rests before and after a read with this answer: one that doesn't answers Nothing, and no read makes
+-- it rest
 abbrev pub Rests : Bool → Bool → TryRead → Type 0
 Rests old new (read.Got n) = (old ≡ true) × (new ≡ false)
-Rests old new read.Nothing = new ≡ true
+Rests old new read.Nothing = new ≡ old
 Rests old new read.End = (old ≡ true) × (new ≡ true)
 Rests old new read.Failed = (old ≡ true) × (new ≡ true)
 
--- whether it has before and after a write with this answer
+-- whether it rests before and after a write with this answer
 abbrev pub RestsNot : Bool → Bool → TryWrite → Type 0
 RestsNot old new (write.Put n) = new ≡ false
 RestsNot old new write.Nothing = new ≡ old

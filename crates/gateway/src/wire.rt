@@ -53,6 +53,10 @@ pub trait Wire {
         requires { 0 < length bytes.now }
         ensures { WriteTells (tells self.old) (tells self.new) bytes.now result };
 
+    /// Says whether all is quiet: whether nothing comes about until the client sends. While it is, a read may wait for it.
+    fn rest(&mut self, quiet: bool)
+        ensures { tells self.new ≡ tells self.old };
+
     /// How many calls answered `Failed`. The count stays at `u64::MAX`.
     fn failures(&self) -> u64
         ensures { result ≡ (tells self.now).failures };

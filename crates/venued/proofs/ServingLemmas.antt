@@ -1,6 +1,7 @@
 -- What a crash leaves while the venue serves: turn by turn, a journal that begins with the history at the start.
-use Rattle.std.proofs.Common.{◌≡◌, ◌⊎◌, inl, inr, ℕ, ◌^◌, ◌≤◌, List, length, refl, sym, subst, arith}
+use Rattle.std.proofs.Common.{◌≡◌, ◌∙◌, ◌⊎◌, inl, inr, Bool, true, false, ℕ, ◌^◌, ◌≤◌, List, length, refl, sym, subst, arith}
 use Rattle.atomic_table.specs.Seated.{TableId}
+use Rattle.venue_model.specs.Counts.{Rose}
 use Rattle.venue_model.specs.History.{History}
 use Rattle.venue_model.specs.Requests.{Symbols}
 use Rattle.venue_model.proofs.Growth.{few-told-by}
@@ -26,6 +27,11 @@ pub behind_poll : (old mid new : Told) (base from : History) → LeavesOnly old 
 behind_poll old mid new base from so_far same poll =
     joined old mid new (LeftOrBehind old base) so_far
     (weaker mid new (IsJournalBehind from) (LeftOrBehind old base) poll (λ c is. inr (subst (λ (h : History). IsJournalBehind h c) same is)))
+
+-- a poll in which a journal fails that had not failed yet has raised its disk's count
+pub risen : (failed : Bool) (old mid new : ℕ) → failed ≡ false → mid ≡ old → (failed ≡ true) ⊎ Rose mid new → Rose old new
+risen failed old mid new ready same (inl was) = let no : true ≡ false = sym was ∙ ready in cc
+risen failed old mid new ready same (inr rose) = subst (λ (n : ℕ). Rose n new) same rose
 
 -- the seat of gateway 1 knows the symbols, and has counted the outputs of the history at the start, which are few
 pub first_seen : (symbols : Symbols) (base : History) (table : TableId) (seat : GatewaySeat Symbols) → IsFirst symbols base table seat → length base ≤ 2 ^ 48

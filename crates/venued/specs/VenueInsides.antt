@@ -1,5 +1,5 @@
 -- What the fields of the venue stand for, and what holds of them.
-use Rattle.std.specs.Prelude.{Some, ◌≡◌, ◌≤◌, ℕ, Bool, ◌++◌, length}
+use Rattle.std.specs.Prelude.{Some, ◌≡◌, ◌≤◌, Bool, ◌++◌, length}
 use Rattle.atomic_table.specs.Seated.{TableId}
 use Rattle.venue_model.specs.History.{History}
 use Rattle.venue_model.specs.Requests.{Symbols}

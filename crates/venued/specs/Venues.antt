@@ -35,9 +35,12 @@ pub record OneVenue (D : Type 0) : Type 0 where
 abbrev pub IsJournalBehind : History → List ℕ → Type 0
 IsJournalBehind base file = (more : History) × IsJournal file (base ++ more)
 
--- what a poll says of the journaller's turn
-abbrev pub IsSaid : Turn → Polled → Type 0
-IsSaid journalled polled = (polled ≡ polls.JournalFailed) ↔ (journalled ≡ turns.JournalFailed)
+-- what a poll says of the stages' turns
+abbrev pub IsSaid : Turn → Turn → Turn → Turn → Polled → Type 0
+IsSaid unmarshalled journalled processed marshalled polled =
+    ((polled ≡ polls.JournalFailed) ↔ (journalled ≡ turns.JournalFailed))
+    × ((polled ≡ polls.Idle)
+    ↔ ((unmarshalled ≡ turns.Idle) × (journalled ≡ turns.Idle) × (processed ≡ turns.Idle) × (marshalled ≡ turns.Idle)))
 
 module _ {D : Type 0} where
   -- the venue behind this history, and its disk: each seat as the rings were opened with it, and the outputs of the history counted
@@ -55,7 +58,8 @@ module _ {D : Type 0} where
     marshaller = newcomer Marshal base (length (outputs_of symbols base));
   }
 
-  -- each stage polled once, and nothing else moved; the answer says whether the journal failed
+  -- each stage polled once, and nothing else moved; the answer says whether the journal failed, and whether all were
+  -- idle
   pub record Polls (old new : OneVenue D) (polled : Polled) : Type 0 where
     pub unmarshalled : Turn
     pub journalled : Turn
@@ -65,5 +69,5 @@ module _ {D : Type 0} where
     pub journals : Journals 1024 journalled old.journaller new.journaller
     pub processes : Processes 1024 1024 1 old.symbols processed old.processor old.applied new.processor new.applied
     pub marshals : Marshals 1024 1024 old.symbols marshalled old.marshaller new.marshaller
-    pub answer : IsSaid journalled polled
+    pub answer : IsSaid unmarshalled journalled processed marshalled polled
     pub others : new ≡ record old { disk = new.disk; failed = new.failed; unmarshaller = new.unmarshaller; journaller = new.journaller; processor = new.processor; applied = new.applied; marshaller = new.marshaller }

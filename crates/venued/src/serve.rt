@@ -1,5 +1,5 @@
 //! The mode `-`: one client's session over a wire, its turns and the polls of the stages taken one behind the other on this thread.
-ghost use Rattle.std.specs.Prelude.{◌≡◌, ◌≢◌, ◌⊎◌, true, false};
+ghost use Rattle.std.specs.Prelude.{◌≡◌, ◌≢◌, ◌⊎◌, true, false, IfErr, OnOk, OnErr};
 ghost use Rattle.venue_model.specs.Counts.{Rose};
 ghost use Rattle.journal.specs.Disk.{Both, LeavesOnly};
 ghost use Rattle.venued.specs.Serving.{LeavesFrom, Serves};
@@ -37,8 +37,8 @@ pub fn serve<D: JournalDisk, W: Wire, E: Write>(
     };
     gateway.begin();
     let status = match take_turns(&mut gateway, &mut venue, wire) {
-        Polled::Went => 0,
-        Polled::JournalFailed => ServeFault::JournalFailed.say(err),
+        Ok(()) => 0,
+        Err(fault) => fault.say(err),
     };
     (status, venue.end())
 }
@@ -51,30 +51,34 @@ pub fn refuse<E: Write>(fault: WordsFault, err: &mut E) -> u8
     1
 }
 
-/// Takes turns, each with a poll behind it, until the session ends or the journal fails: which of them. The session ends also after
-/// 2^64 - 1 turns.
+/// Takes turns, each with a poll behind it, until the session ends or the journal fails. The session ends also after
+/// 2^64 - 1 turns. Where the turn was quiet and no stage had anything to do, the wire may wait for the client: all that
+/// was read so far has brought about what it brings about, and that is written.
 fn take_turns<D: JournalDisk, W: Wire>(
     gateway: &mut Gateway,
     venue: &mut Venue<D>,
     wire: &mut W,
-) -> Polled
+) -> Result<(), ServeFault>
     requires live { gateway.old.front.live ≡ true }
     requires table { gateway.old.seat.seat.table_id ≡ venue.old.table }
     requires ready { venue.old.failed ≡ false }
     ensures honest { Both (D.honest venue.old.disk) (D.honest venue.new.disk) }
     ensures any_moment { D.honest venue.old.disk →
         LeavesOnly (D.tells venue.old.disk) (D.tells venue.new.disk) (λ file. (D.tells venue.old.disk).may_leave file ⊎ IsJournalBehind venue.old.base file) }
-    ensures failed { result ≡ Polled.JournalFailed → Rose (D.failed venue.old.disk) (D.failed venue.new.disk) }
-    ensures counts { result ≡ Polled.Went → D.failed venue.new.disk ≡ D.failed venue.old.disk }
+    ensures fault { IfErr result (λ fault. fault ≡ ServeFault.JournalFailed) }
+    ensures failed { OnErr result (Rose (D.failed venue.old.disk) (D.failed venue.new.disk)) }
+    ensures counts { OnOk result (D.failed venue.new.disk ≡ D.failed venue.old.disk) }
 {
     'turns: for _ in 0..u64::MAX {
         let turned = gateway.turn(venue.rings(), wire);
         if let Turned::Ended(_) = turned {
-            return Polled::Went;
+            return Ok(());
         }
-        if venue.poll() == Polled::JournalFailed {
-            return Polled::JournalFailed;
+        match venue.poll() {
+            Polled::JournalFailed => return Err(ServeFault::JournalFailed),
+            Polled::Idle => wire.rest(turned == Turned::Quiet),
+            Polled::Worked => wire.rest(false),
         }
     }
-    Polled::Went
+    Ok(())
 }

@@ -1,6 +1,6 @@
 //! The venue behind its gateway: rings, and the stages at them. A message that the gateway published goes from stage to stage, and what comes
 //! of it back into the output ring. All polls are taken in turn on the session's thread.
-ghost use Rattle.std.specs.Prelude.{◌≡◌, ◌≤◌, ◌^◌, ◌⊎◌, true, false, length, IfOk, IfErr};
+ghost use Rattle.std.specs.Prelude.{◌≡◌, ◌≢◌, ◌≤◌, ◌^◌, ◌⊎◌, true, false, length, IfOk, IfErr};
 ghost use Rattle.venue_model.specs.Counts.{Rose};
 ghost use Rattle.journal.specs.Disk.{Both, Only, LeavesOnly};
 ghost use Rattle.journal.specs.Format.{IsJournal};
@@ -53,7 +53,11 @@ impl<D: JournalDisk> Venue<D> {
 
     /// The venue of these symbols, behind the history of the journal on this disk, which is replayed, and the seat of gateway 1. A fault gives the
     /// disk back; those that there are, are the faults of `Journal::open`, and 44 also where other memory is refused.
-    pub fn open(alloc: Global, limits: &Limits, disk: D) -> Result<VenueAndSeat<D>, (JournalFault, D)>
+    pub fn open(
+        alloc: Global,
+        limits: &Limits,
+        disk: D,
+    ) -> Result<VenueAndSeat<D>, (JournalFault, D)>
         ensures opened { IfOk result (λ v. v.0 ≡ opened limits.now v.0.table v.0.base v.0.disk) }
         ensures seat { IfOk result (λ v. IsFirst limits.now v.0.base v.0.table v.1) }
         ensures few { IfOk result (λ v. length v.0.base ≤ 2 ^ 48) }
@@ -106,13 +110,13 @@ impl<D: JournalDisk> Venue<D> {
         ensures any_moment { D.honest self.old.disk →
             LeavesOnly (D.tells self.old.disk) (D.tells self.new.disk) (IsJournalBehind self.old.base) }
         ensures cause { result ≡ Polled.JournalFailed → (self.old.failed ≡ true) ⊎ Rose (D.failed self.old.disk) (D.failed self.new.disk) }
-        ensures ready { result ≡ Polled.Went → (self.new.failed ≡ false) × (D.failed self.new.disk ≡ D.failed self.old.disk) }
+        ensures ready { result ≢ Polled.JournalFailed → (self.new.failed ≡ false) × (D.failed self.new.disk ≡ D.failed self.old.disk) }
     {
-        self.unmarshaller.poll(&self.rings);
+        let unmarshalled = self.unmarshaller.poll(&self.rings);
         let journalled = self.journaller.poll(&self.rings);
-        self.processor.poll(&self.rings);
-        self.marshaller.poll(&self.rings);
-        polled(journalled)
+        let processed = self.processor.poll(&self.rings);
+        let marshalled = self.marshaller.poll(&self.rings);
+        polled(unmarshalled, journalled, processed, marshalled)
     }
 
     /// Gives the disk back.
@@ -125,12 +129,13 @@ impl<D: JournalDisk> Venue<D> {
     }
 }
 
-/// What a poll says of the journaller's turn.
-fn polled(journalled: Turn) -> Polled
-    ensures { IsSaid journalled result }
+/// What a poll says of the stages' turns.
+fn polled(unmarshalled: Turn, journalled: Turn, processed: Turn, marshalled: Turn) -> Polled
+    ensures { IsSaid unmarshalled journalled processed marshalled result }
 {
-    match journalled {
-        Turn::JournalFailed => Polled::JournalFailed,
-        _ => Polled::Went,
+    match (unmarshalled, journalled, processed, marshalled) {
+        (_, Turn::JournalFailed, _, _) => Polled::JournalFailed,
+        (Turn::Idle, Turn::Idle, Turn::Idle, Turn::Idle) => Polled::Idle,
+        _ => Polled::Worked,
     }
 }

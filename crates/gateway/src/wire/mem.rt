@@ -150,6 +150,10 @@ impl Wire for MemWire {
         TryWrite::Failed
     }
 
+    fn rest(&mut self, _quiet: bool)
+        ensures { self.new ≡ self.old }
+    {}
+
     fn failures(&self) -> u64
         ensures { result ≡ self.now.failures }
     {

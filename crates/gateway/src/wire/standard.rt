@@ -9,11 +9,11 @@ use super::{Nothings, TryRead, TryWrite, Wire};
 use std::io;
 use std::io::{ErrorKind, Read, Write};
 
-/// A wire over a reader and a writer. It has no buffer and tells no bytes. A read waits as long as its reader does: so the
-/// first one after bytes were read or written doesn't ask the reader, and answers `Nothing`. In the turn that this leaves to it a
-/// session takes what the venue has for it, and a client that waits for a report gets it before the wire waits for the client.
-/// A call that was interrupted, or refused since it would wait, answers `Nothing`: the next one tries again. What is written
-/// is flushed at once, and a flush that fails fails the write.
+/// A wire over a reader and a writer. It has no buffer and tells no bytes. Its reader may wait for the client, and the
+/// client for a report before it sends more: so the reader is asked only while the wire rests, and else a read answers
+/// `Nothing`. The wire rests as it is made, and from when it is told that all is quiet until bytes come or go, or it is
+/// told otherwise. A call that was interrupted, or refused since it would wait, answers `Nothing`: the next one tries
+/// again. What is written is flushed at once, and a flush that fails fails the write.
 #[derive(Drop)]
 pub struct StdWire<R, W> {
     reader: R,
@@ -59,7 +59,6 @@ impl<R: Read + Drop, W: Write + Drop> Wire for StdWire<R, W> {
         ensures unasked { rested_of self.old ≡ false → reader_of self.new ≡ reader_of self.old }
     {
         if !self.rested {
-            self.rested = true;
             self.counts.empty_read();
             return TryRead::Nothing;
         }
@@ -102,6 +101,15 @@ impl<R: Read + Drop, W: Write + Drop> Wire for StdWire<R, W> {
                 TryWrite::Failed
             }
         }
+    }
+
+    fn rest(&mut self, quiet: bool)
+        ensures tells { told self.new ≡ told self.old }
+        ensures reader { reader_of self.new ≡ reader_of self.old }
+        ensures writer { writer_of self.new ≡ writer_of self.old }
+        ensures rested { rested_of self.new ≡ quiet }
+    {
+        self.rested = quiet;
     }
 
     fn failures(&self) -> u64

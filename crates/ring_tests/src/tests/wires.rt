@@ -121,17 +121,15 @@ fn reads_on_after_a_failure(rt: HostRuntime) {
     let answers = [
         TryRead::Got(3),
         TryRead::Nothing,
-        TryRead::Nothing,
         TryRead::Got(8),
-        TryRead::Nothing,
         TryRead::Nothing,
         TryRead::Failed,
         TryRead::Got(1),
-        TryRead::Nothing,
         TryRead::End,
     ];
     let mut wire = StdWire::new(Script(&steps), Script(&[]));
     for answer in answers {
+        wire.rest(true);
         assert_eq!(rt; wire.try_read(&mut [0; 8]), answer);
     }
     assert_eq!(rt;
@@ -140,23 +138,30 @@ fn reads_on_after_a_failure(rt: HostRuntime) {
             wire.nothings().reads,
             wire.nothings().writes
         ),
-        (1, 5, 0)
+        (1, 2, 0)
     );
 }
 
 #[test]
-fn a_read_rests_behind_bytes(rt: HostRuntime) {
+fn a_reader_is_asked_only_at_rest(rt: HostRuntime) {
     let reads = [Step::Moves(3), Step::Moves(2), Step::Moves(0)];
     let writes = [Step::Moves(8), Step::Moves(0)];
     let mut wire = StdWire::new(Script(&reads), Script(&writes));
     assert_eq!(rt; wire.try_read(&mut [0; 8]), TryRead::Got(3));
     assert_eq!(rt; wire.try_read(&mut [0; 8]), TryRead::Nothing);
+    assert_eq!(rt; wire.try_read(&mut [0; 8]), TryRead::Nothing);
+    wire.rest(true);
     assert_eq!(rt; wire.try_write(b"8=FIX.4."), TryWrite::Put(8));
     assert_eq!(rt; wire.try_read(&mut [0; 8]), TryRead::Nothing);
+    wire.rest(true);
+    wire.rest(false);
+    assert_eq!(rt; wire.try_read(&mut [0; 8]), TryRead::Nothing);
+    wire.rest(true);
     assert_eq!(rt; wire.try_read(&mut [0; 8]), TryRead::Got(2));
     assert_eq!(rt; wire.try_read(&mut [0; 8]), TryRead::Nothing);
+    wire.rest(true);
     assert_eq!(rt; wire.try_read(&mut [0; 8]), TryRead::End);
-    assert_eq!(rt; wire.nothings().reads, 3);
+    assert_eq!(rt; wire.nothings().reads, 5);
 }
 
 #[test]

@@ -15,30 +15,30 @@ invariant_of-self g c =
     let grows = polled 1024 c.poll-journalled.result v w c.poll-journalled.ensures.turn in
     let behind = still_behind p.seat.seat.me.0.base v w (record { rest = held.behind.0; seen = held.behind.1; kept = held.kept }) grows in (
       record {
-        unmarshaller_at = c.poll.ensures.table ∙ seated.unmarshaller_at;
+        unmarshaller_at = c.poll-unmarshalled.ensures.table ∙ seated.unmarshaller_at;
         journaller_at = c.poll-journalled.ensures.table ∙ seated.journaller_at;
-        processor_at = c.poll-2.ensures.table ∙ seated.processor_at;
-        marshaller_at = c.poll-3.ensures.table ∙ seated.marshaller_at;
+        processor_at = c.poll-processed.ensures.table ∙ seated.processor_at;
+        marshaller_at = c.poll-marshalled.ensures.table ∙ seated.marshaller_at;
       },
-      kept_polling p c.poll-2.new.self c.poll-2.ensures.view c.self.inside.marshaller.seat.seat.me.0
-          c.poll-3.new.self.seat.seat.me.0 v w held c.poll-3.ensures.view behind,
+      kept_polling p c.poll-processed.new.self c.poll-processed.ensures.view c.self.inside.marshaller.seat.seat.me.0
+          c.poll-marshalled.new.self.seat.seat.me.0 v w held c.poll-marshalled.ensures.view behind,
     )
 
 pub returns-clause-polls : goal.returns-clause-polls
 returns-clause-polls g c =
     let held = c.self.invariant.1 in
     let p = c.self.inside.processor in
-    let q = c.poll-2.new.self in
-    let view = c.poll-2.ensures.view in
+    let q = c.poll-processed.new.self in
+    let view = c.poll-processed.ensures.view in
     rw (← c.self.view_is) (record {
-      unmarshalled = c.poll.result;
+      unmarshalled = c.poll-unmarshalled.result;
       journalled = c.poll-journalled.result;
-      processed = c.poll-2.result;
-      marshalled = c.poll-3.result;
-      unmarshals = c.poll.ensures.turn;
+      processed = c.poll-processed.result;
+      marshalled = c.poll-marshalled.result;
+      unmarshals = c.poll-unmarshalled.ensures.turn;
       journals = c.poll-journalled.ensures.turn;
-      processes = c.poll-2.ensures.turn;
-      marshals = c.poll-3.ensures.turn p.book.symbols held.marshals;
+      processes = c.poll-processed.ensures.turn;
+      marshals = c.poll-marshalled.ensures.turn p.book.symbols held.marshals;
       answer = c.polled.ensures;
       others = renamed _ p.book.symbols p.seat.seat.me.0.base (same_symbols p q view) (same_base p q view);
     })
