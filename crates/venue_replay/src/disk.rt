@@ -8,13 +8,13 @@ use std::fs::{File, Files};
 use std::io;
 use std::io::ErrorKind;
 
-/// Opens the journal of this name. A file that is missing isn't made.
+/// Opens the journal of this name to read it alone, while a venue may serve on it. A file that is missing isn't made.
 pub fn open<R: Files<File = File>>(files: &R, path: &str) -> Result<FileDisk, ReplayFault> {
-    FileDisk::open(files, path).map_err(|error| unopened(&error))
+    FileDisk::open_to_read(files, path).map_err(|error| unopened(&error))
 }
 
 /// Why the file could not be opened: memory, or 41.
-fn unopened(error: &io::Error) -> ReplayFault
+pub fn unopened(error: &io::Error) -> ReplayFault
     ensures { (result ≡ ReplayFault.Memory) ↔ (error_kind error.now ≡ ErrorKind.OutOfMemory) }
 {
     match error.kind() {

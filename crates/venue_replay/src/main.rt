@@ -6,7 +6,8 @@ ghost use Rattle.std.specs.IoError.{error_kind};
 
 mod disk;
 
-use crate::disk::open;
+use crate::disk::{open, unopened};
+use journal::StandardStreams;
 use replay::{Job, ReplayFault, refuse, report};
 use std::io::{BufWriter, ErrorKind};
 use std::process::ExitCode;
@@ -35,6 +36,10 @@ fn run(rt: &HostRuntime, job: &Job) -> u8 {
     let mut err = rt.stderr();
     let Ok(mut out) = BufWriter::new(rt.alloc(), rt.stdout()) else {
         return refuse(ReplayFault::Memory, &mut err);
+    };
+    let _streams = match StandardStreams::hold(rt) {
+        Ok(streams) => streams,
+        Err(error) => return refuse(unopened(&error), &mut err),
     };
     match open(rt, job.journal.as_str()) {
         Ok(disk) => report(rt.alloc(), job, disk, &mut out, &mut err).0,

@@ -13,10 +13,11 @@ mod serve;
 mod venue;
 mod words;
 
-use crate::journal_file::open_journal;
+use crate::journal_file::{open_journal, unopened};
 use crate::serve::{refuse, serve};
 use crate::words::{Words, WordsFault};
 use gateway::StdWire;
+use journal::StandardStreams;
 use std::io::{ErrorKind, Stderr};
 use std::process::ExitCode;
 use std::rt::Env;
@@ -41,6 +42,10 @@ fn unread(error: &io::Error) -> WordsFault
 
 /// Opens the journal, and serves over standard input and output: the program's status.
 fn run(rt: &HostRuntime, words: &Words, err: &mut Stderr) -> u8 {
+    let _streams = match StandardStreams::hold(rt) {
+        Ok(streams) => streams,
+        Err(error) => return unopened(&error).say(err),
+    };
     let disk = match open_journal(rt, words.journal.as_str()) {
         Ok(disk) => disk,
         Err(fault) => return fault.say(err),
