@@ -70,6 +70,20 @@ fn gateway_at(
     }
 }
 
+/// Takes one turn of a session, and says why it ended, where it did.
+fn turn(rings: &PairRings, gateway: &mut Gateway, wire: &mut MemWire) -> Option<Reason>
+    requires live { gateway.old.front.live ≡ true }
+    requires table { gateway.old.seat.seat.table_id ≡ rings.now.table.shared.table_id }
+    ensures table { gateway.new.seat.seat.table_id ≡ rings.now.table.shared.table_id }
+    ensures over { IsSome result → gateway.new.front.live ≡ false }
+    ensures alive { result ≡ None → gateway.new.front.live ≡ true }
+{
+    match gateway.turn(rings, wire) {
+        Turned::Ended(reason) => Some(reason),
+        _ => None,
+    }
+}
+
 /// Serves a session for so many turns at most, with a poll of each stage behind each turn. Says why it ended, where it did.
 fn serve(
     rings: &PairRings,
@@ -87,7 +101,7 @@ fn serve(
     ensures alive { result ≡ None → gateway.new.front.live ≡ true }
 {
     for _ in 0..turns {
-        if let Turned::Ended(reason) = gateway.turn(rings, wire) {
+        if let Some(reason) = turn(rings, gateway, wire) {
             return Some(reason);
         }
         stages.poll(rings);
