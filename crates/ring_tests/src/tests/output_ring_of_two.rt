@@ -1,5 +1,5 @@
 //! Seven outputs go through an output ring of two rows: the processor puts more only as both gateways take them or pass them over.
-ghost use Rattle.std.specs.Prelude.{◌≡◌};
+ghost use Rattle.std.specs.Prelude.{◌≡◌, ◌≤◌, length};
 
 use super::crew::Stages;
 use super::member::{Member, next_member};
@@ -38,6 +38,40 @@ fn process(rings: &PairRings, stages: &mut Stages) -> Turn
     turn
 }
 
+/// The first gateway sells, and takes the acknowledgement.
+fn sell<A: Abort>(
+    rt: &A,
+    rings: &PairRings,
+    one: &mut Pair<'_>,
+    other: &mut Pair<'_>,
+    stages: &mut Stages,
+    order: &[u8],
+)
+    requires stages { (stages.old.unmarshaller.seat.seat.table_id ≡ rings.now.table.shared.table_id) × (stages.old.journaller.seat.seat.table_id ≡ rings.now.table.shared.table_id) × (stages.old.processor.seat.seat.table_id ≡ rings.now.table.shared.table_id) × (stages.old.marshaller.seat.seat.table_id ≡ rings.now.table.shared.table_id) }
+    requires order { (1 ≤ length order.now) × (length order.now ≤ 320) }
+    ensures stages { (stages.new.unmarshaller.seat.seat.table_id ≡ rings.now.table.shared.table_id) × (stages.new.journaller.seat.seat.table_id ≡ rings.now.table.shared.table_id) × (stages.new.processor.seat.seat.table_id ≡ rings.now.table.shared.table_id) × (stages.new.marshaller.seat.seat.table_id ≡ rings.now.table.shared.table_id) }
+{
+    assert!(rt; one.publish(order).is_ok());
+    assert_eq!(rt; process(rings, stages), Did(1));
+    assert_eq!(rt; (taken(one), taken(other)), ((1, 0), (0, 1)));
+}
+
+/// Two outputs more of the last command are put and taken.
+fn put_two<A: Abort>(
+    rt: &A,
+    rings: &PairRings,
+    one: &mut Pair<'_>,
+    other: &mut Pair<'_>,
+    stages: &mut Stages,
+)
+    requires stages { (stages.old.unmarshaller.seat.seat.table_id ≡ rings.now.table.shared.table_id) × (stages.old.journaller.seat.seat.table_id ≡ rings.now.table.shared.table_id) × (stages.old.processor.seat.seat.table_id ≡ rings.now.table.shared.table_id) × (stages.old.marshaller.seat.seat.table_id ≡ rings.now.table.shared.table_id) }
+    ensures stages { (stages.new.unmarshaller.seat.seat.table_id ≡ rings.now.table.shared.table_id) × (stages.new.journaller.seat.seat.table_id ≡ rings.now.table.shared.table_id) × (stages.new.processor.seat.seat.table_id ≡ rings.now.table.shared.table_id) × (stages.new.marshaller.seat.seat.table_id ≡ rings.now.table.shared.table_id) }
+{
+    assert_eq!(rt; process(rings, stages), OutFull);
+    assert_eq!(rt; stages.processor.next_seq(), 3);
+    assert_eq!(rt; (taken(one), taken(other)), ((1, 1), (1, 1)));
+}
+
 /// The first gateway sells 1 three times, and the second one buys 3.
 fn trade<A: Abort>(
     rt: &A,
@@ -48,17 +82,13 @@ fn trade<A: Abort>(
 )
     requires stages { (stages.old.unmarshaller.seat.seat.table_id ≡ rings.now.table.shared.table_id) × (stages.old.journaller.seat.seat.table_id ≡ rings.now.table.shared.table_id) × (stages.old.processor.seat.seat.table_id ≡ rings.now.table.shared.table_id) × (stages.old.marshaller.seat.seat.table_id ≡ rings.now.table.shared.table_id) }
 {
-    for sell in [SELL_ONE, SELL_TWO, SELL_THREE] {
-        assert!(rt; one.publish(sell).is_ok());
-        assert_eq!(rt; process(rings, stages), Did(1));
-        assert_eq!(rt; (taken(one), taken(other)), ((1, 0), (0, 1)));
-    }
+    sell(rt, rings, one, other, stages, SELL_ONE);
+    sell(rt, rings, one, other, stages, SELL_TWO);
+    sell(rt, rings, one, other, stages, SELL_THREE);
     assert_eq!(rt; other.publish(BUY_THREE), Ok(3));
-    for _ in 0..3 {
-        assert_eq!(rt; process(rings, stages), OutFull);
-        assert_eq!(rt; stages.processor.next_seq(), 3);
-        assert_eq!(rt; (taken(one), taken(other)), ((1, 1), (1, 1)));
-    }
+    put_two(rt, rings, one, other, stages);
+    put_two(rt, rings, one, other, stages);
+    put_two(rt, rings, one, other, stages);
     assert_eq!(rt; process(rings, stages), Did(1));
     assert_eq!(rt; stages.processor.next_seq(), 4);
     assert_eq!(rt; (taken(one), taken(other)), ((0, 1), (1, 0)));
