@@ -11,8 +11,8 @@ the function calls one that isn't proved doesn't count: such an edit is tried ag
 first thing that is said of the function has to be of an open goal: what it ensures, what a call in it requires, an
 invariant, the end of a loop, an index or a sum in bounds. Where it is that the proof names something that is gone
 (`is not in scope`, `has no field`, an answer to a goal that isn't asked), or gives a term of another form (`expected
-type` and `this has type` begin with different names), the edit took the proof's shape and shows no promise: `refused
-for its shape alone` is a failure. So is an edit that doesn't apply, or that isn't read as code. Where no edit of the
+type` and `this has type` name different things), the edit took the proof's shape and shows no promise: `refused for
+its shape alone` is a failure. So is an edit that doesn't apply, or that isn't read as code. Where no edit of the
 code leaves a proof its shape, the edit mends the proof as far as that goes, so that the goal that it is about is open.
 
 Of an edit that changes a constant, the functions that name it are asked for. A check needs the libraries below its
@@ -37,7 +37,7 @@ MOST = 10
 
 # What is said of a proof that names what is gone, and of a term that isn't of the form that is asked for.
 GONE = re.compile(r"is not in scope|has no field|has no `|is no name|operand is missing")
-FORMS = re.compile(r"\Aexpected type `(?:[^\s`]*\.)?([^\s`.]*).*?but this has type `(?:[^\s`]*\.)?([^\s`.]*)", re.S)
+FORMS = re.compile(r"expected type `([^`]*)`.*?but this has type `([^`]*)`", re.S)
 
 FUNCTION = re.compile(r"\s*(?:pub(?:\([a-z ]+\))? )?(?:const )?(?:unsafe )?fn (\w+)")
 IMPL = re.compile(r"impl\b(?:<[^{]*?>)? (?:(?:\w+::)*(?P<trait>[\w<>]+) for )?(?:\w+::)*(?P<type>\w+)")
@@ -206,6 +206,12 @@ def outside(text, functions, file):
     return [line for at, line in lines if not any(it.stands_at(file, at) for it in functions)]
 
 
+def head(of_type):
+    """What a type says of its parts: an equation, or the last name of its first word."""
+    is_equation = " ≡ " in of_type and of_type[0] != "(" or "◌≡◌" in of_type.split(" ")[0]
+    return "≡" if is_equation else of_type.split(" ")[0].rpartition(".")[2]
+
+
 class Check:
     """What a check of a crate said."""
 
@@ -255,7 +261,7 @@ class Check:
                 more += 1
             said = "\n".join([error[3], *self.lines[at + 1:more]])
             forms = FORMS.match(said)
-            is_shape = GONE.search(re.sub(r"`[^`]*`", "``", said)) or forms and forms[1] != forms[2]
+            is_shape = GONE.search(re.sub(r"`[^`]*`", "``", said)) or forms and head(forms[1]) != head(forms[2])
             if error[2] and not is_shape:
                 goals.append(error[2])
             elif not goals or error[1].split(":")[0] in proofs:
