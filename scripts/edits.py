@@ -11,9 +11,10 @@ the function calls one that isn't proved doesn't count: such an edit is tried ag
 first thing that is said of the function has to be of an open goal: what it ensures, what a call in it requires, an
 invariant, the end of a loop, an index or a sum in bounds. Where it is that the proof names something that is gone
 (`is not in scope`, `has no field`, an answer to a goal that isn't asked), or gives a term of another form (`expected
-type` and `this has type` name different things), the edit took the proof's shape and shows no promise: `refused for
-its shape alone` is a failure. So is an edit that doesn't apply, or that isn't read as code. Where no edit of the
-code leaves a proof its shape, the edit mends the proof as far as that goes, so that the goal that it is about is open.
+type` and `this has type` name different things, and aren't compared), the edit took the proof's shape and shows no
+promise: `refused for its shape alone` is a failure. So is an edit that doesn't apply, or that isn't read as code.
+Where no edit of the code leaves a proof its shape, the edit mends the proof as far as that goes, so that the goal that
+it is about is open.
 
 Of an edit that changes a constant, the functions that name it are asked for. A check needs the libraries below its
 crate: one that is older than its sources is made first, by `rt lib`. Work that `rt check` left in a crate's folder
@@ -251,17 +252,20 @@ class Check:
 
         In a proof file that the edit changed no name may be gone at all, as `rt ci` has it.
         """
-        folder, goals = "./proofs/" + "/".join(path.split("::")[1:]) + "/", []
+        *above, name = path.split("::")[1:]
+        # (a function that calls itself has its proof in a folder with a plus)
+        folders, goals = tuple("/".join(["./proofs", *above, it, ""]) for it in (name, f"+{name}")), []
         for at, line in enumerate(self.lines):
             error = ERROR.match(line)
-            if not error or not error[1].startswith(folder) or "which was rejected" in line:
+            if not error or not error[1].startswith(folders) or "which was rejected" in line:
                 continue
             more = at + 1
             while more < len(self.lines) and self.lines[more].startswith("  "):
                 more += 1
             said = "\n".join([error[3], *self.lines[at + 1:more]])
             forms = FORMS.match(said)
-            is_shape = GONE.search(re.sub(r"`[^`]*`", "``", said)) or forms and head(forms[1]) != head(forms[2])
+            is_other = forms and "as far as they go" not in said and head(forms[1]) != head(forms[2])
+            is_shape = is_other or GONE.search(re.sub(r"`[^`]*`", "``", said))
             if error[2] and not is_shape:
                 goals.append(error[2])
             elif not goals or error[1].split(":")[0] in proofs:
