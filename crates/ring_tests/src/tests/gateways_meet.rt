@@ -28,16 +28,18 @@ pub struct Day {
     pub outputs: u64,
 }
 
-/// Takes or passes over the next output, if there is one, and says whether that was right: one of its own acknowledges its next order.
+/// Takes or passes over the next output, if there is one, and says whether that was right: one of its own acknowledges its next order, and
+/// with the last one all of these are acknowledged.
 fn take_next<const N: usize, const M: usize, const G: usize>(
     gateway: &mut Member<'_, N, M, G>,
     client: u8,
     told: &mut Count,
+    day: Day,
 ) -> bool
     ensures { StaysSpent gateway.old.seat gateway.new.seat }
 {
     let mut buf = [0; 320];
-    match gateway.take(&mut buf) {
+    let right = match gateway.take(&mut buf) {
         Take::Mine(head) => {
             let due = acknowledgement_of(client, *told);
             *told = next(*told);
@@ -48,16 +50,8 @@ fn take_next<const N: usize, const M: usize, const G: usize>(
             thread::yield_now();
             true
         }
-    }
-}
-
-/// Whether all outputs are taken or passed over, and all of the gateway's own orders are acknowledged.
-fn is_over<const N: usize, const M: usize, const G: usize>(
-    gateway: &Member<'_, N, M, G>,
-    told: &Count,
-    day: &Day,
-) -> bool {
-    gateway.seat.taken() == day.outputs && *told == day.each
+    };
+    right && (gateway.seat.taken() != day.outputs || *told == day.each)
 }
 
 /// Publishes the client's orders, and takes or passes over all outputs. Gives the seat back, where that was soon done and right.
@@ -74,14 +68,14 @@ fn trade<const N: usize, const M: usize, const G: usize>(
     let mut sent = *b"000";
     let mut told = *b"000";
     for _ in 0..TRIES {
-        if is_over(&gateway, &told, &day) {
+        if gateway.seat.taken() == day.outputs {
             let Member { seat, .. } = gateway;
             return Some(seat);
         }
         if sent != day.each && gateway.publish(&order_of(client, sent)).is_ok() {
             sent = next(sent);
         }
-        if !take_next(&mut gateway, client, &mut told) {
+        if !take_next(&mut gateway, client, &mut told, day) {
             return None;
         }
     }

@@ -17,11 +17,11 @@ type Pair<'a> = Member<'a, 4, 2, 2>;
 
 /// How many outputs the gateway takes, and how many it passes over, until there is none.
 fn taken(gateway: &mut Pair<'_>) -> (u8, u8) {
-    let (mut own, mut passed) = (0, 0);
+    let (mut own, mut passed) = (0_u8, 0_u8);
     for _ in 0..3 {
         match gateway.take(&mut [0; 320]) {
-            Take::Mine(_) => own += 1,
-            Take::Passed => passed += 1,
+            Take::Mine(_) => own = own.wrapping_add(1),
+            Take::Passed => passed = passed.wrapping_add(1),
             Take::Nothing => break,
         }
     }
