@@ -80,7 +80,7 @@ fn turn(rings: &PairRings, gateway: &mut Gateway, wire: &mut MemWire) -> Option<
 {
     match gateway.turn(rings, wire) {
         Turned::Ended(reason) => Some(reason),
-        _ => None,
+        Turned::Worked | Turned::Quiet => None,
     }
 }
 
