@@ -1,0 +1,11 @@
+//! Stages and gateways at the rings as workers: each takes its turns on a thread of its own until a flag says stop, and all come back.
+#![tactic(auto)]
+
+mod crew;
+mod stations;
+mod threads;
+mod worker;
+
+pub use crew::Crew;
+pub use threads::run;
+pub use worker::{Outcome, Worker};
