@@ -1,1 +1,1 @@
-pub mod FirstLemmas
+mod FieldLemmas

@@ -1,6 +1,7 @@
 //! Why nothing is measured.
 use std::alloc::AllocError;
 use std::io;
+use std::process::ExitCode;
 use thiserror::Error;
 
 /// Why nothing is measured. The text is the line that the program prints.
@@ -14,6 +15,19 @@ pub enum Fault {
     /// The clock can't be read, or a line can't be printed.
     #[error("bench_fix: input or output failed")]
     Device,
+    /// What was read or written isn't what the messages say.
+    #[error("bench_fix: wrong results")]
+    Wrong,
+}
+
+impl Fault {
+    /// The program's status: 2 where the results are wrong, else 1.
+    pub fn status(self) -> ExitCode {
+        match self {
+            Fault::Usage | Fault::Memory | Fault::Device => ExitCode::from(1),
+            Fault::Wrong => ExitCode::from(2),
+        }
+    }
 }
 
 impl From<AllocError> for Fault {

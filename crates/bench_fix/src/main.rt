@@ -9,16 +9,17 @@ mod writing;
 
 use crate::fault::Fault;
 use crate::rate::Rate;
-use crate::reading::read_orders;
+use crate::reading::{QUANTITY, read_orders};
 use crate::words::read_messages;
-use crate::writing::{acknowledgement, write_reports};
+use crate::writing::{ACKNOWLEDGEMENT, acknowledgement, write_reports};
 use fix_frame::Framer;
 use std::env;
 use std::process::ExitCode;
 use std::rt::{Clock, Env};
 use std::time::Instant;
 
-/// Measures as many messages as the words ask for. What was read and written in all goes to standard error.
+/// Measures as many messages as the words ask for. What was read and written in all goes to standard error; where that
+/// isn't what it should be, there is no figure.
 fn measure<R: Env + Clock + Print + Eprint + AllocGlobal>(rt: &R) -> Result<(), Fault> {
     let words: Vec<String> = env::args(rt)?.skip(1).collect(rt.alloc())?;
     let messages = read_messages(&words)?;
@@ -34,6 +35,13 @@ fn measure<R: Env + Clock + Print + Eprint + AllocGlobal>(rt: &R) -> Result<(), 
     let bytes = write_reports(&mut out, &output, messages);
     let report = Rate::of(messages, begun.elapsed(rt)?);
 
+    let all = u64::from(messages);
+    if quantities != all * QUANTITY
+        || bytes != all * ACKNOWLEDGEMENT.len() as u64
+        || !out.starts_with(ACKNOWLEDGEMENT)
+    {
+        return Err(Fault::Wrong);
+    }
     println!(rt; "fix.parse.project: {parse}")?;
     println!(rt; "fix.report.project: {report}")?;
     eprintln!(rt; "quantities {quantities}, bytes {bytes}")?;
@@ -45,7 +53,7 @@ fn main(rt: HostRuntime) -> ExitCode {
         Ok(()) => ExitCode::SUCCESS,
         Err(fault) => {
             let _ = eprintln!(rt; "{fault}");
-            ExitCode::from(1)
+            fault.status()
         }
     }
 }

@@ -1,8 +1,4 @@
 //! An order, framed and decoded again and again.
-ghost use Rattle.std.specs.Prelude.{◌≡◌, ◌*◌};
-ghost use Rattle.fix_frame.specs.Framing.{fresh};
-ghost use Rattle.bench_fix.specs.FirstOrder.{order};
-
 use fix_frame::Framer;
 use fix_orders::command_of;
 use venue_model::Command;
@@ -11,24 +7,20 @@ use venue_model::Command;
 const ORDER: &[u8; 125] =
     b"8=FIX.4.4\x019=102\x0135=D\x0149=C1\x0156=VENUE\x0134=2\x0152=20250102-09:30:00\x0111=1\x0155=ABC\x0154=1\x0160=20250102-09:30:00\x0138=100\x0140=2\x0144=50\x0110=098\x01";
 
+/// OrderQty (38) of the order.
+pub const QUANTITY: u64 = 100;
+
 /// Frames and decodes the order so many times, and answers the sum of the quantities that were read.
-pub fn read_orders(framer: &mut Framer, copies: u32) -> u64
-    requires { framer.old ≡ fresh }
-    ensures { result ≡ copies * 100 }
-{
-    let mut quantities = 0;
-    for read in 0..copies {
-        quantities += quantity_of(&read_order(framer));
+pub fn read_orders(framer: &mut Framer, copies: u32) -> u64 {
+    let mut quantities = 0u64;
+    for _ in 0..copies {
+        quantities = quantities.wrapping_add(quantity_of(&read_order(framer)));
     }
     quantities
 }
 
 /// Frames and decodes the order once.
-fn read_order(framer: &mut Framer) -> Command
-    requires { framer.old ≡ fresh }
-    ensures order { result ≡ order }
-    ensures again { framer.new ≡ fresh }
-{
+fn read_order(framer: &mut Framer) -> Command {
     let Ok(_) = framer.feed(ORDER) else {
         return Command::Void;
     };
@@ -38,11 +30,8 @@ fn read_order(framer: &mut Framer) -> Command
     }
 }
 
-/// OrderQty of a new order.
-fn quantity_of(command: &Command) -> u64
-    requires { command.now ≡ order }
-    ensures { result ≡ 100 }
-{
+/// OrderQty (38) of a new order; of anything else nothing.
+fn quantity_of(command: &Command) -> u64 {
     match command {
         Command::New { order, .. } => order.quantity,
         _ => 0,
