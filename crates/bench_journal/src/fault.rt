@@ -2,6 +2,7 @@
 use journal::JournalFault;
 use std::alloc::AllocError;
 use std::io;
+use std::process::ExitCode;
 use thiserror::Error;
 
 /// Why nothing is measured. The text is the line that the program prints.
@@ -15,6 +16,19 @@ pub enum Fault {
     /// The clock can't be read, a line can't be printed, or a file in the folder can't be made, written or removed.
     #[error("bench_journal: input or output failed")]
     Device,
+    /// The file hasn't the length of what was appended.
+    #[error("bench_journal: wrong results")]
+    Wrong,
+}
+
+impl Fault {
+    /// The program's status: 2 where the results are wrong, else 1.
+    pub fn status(self) -> ExitCode {
+        match self {
+            Fault::Usage | Fault::Memory | Fault::Device => ExitCode::from(1),
+            Fault::Wrong => ExitCode::from(2),
+        }
+    }
 }
 
 impl From<AllocError> for Fault {

@@ -8,7 +8,7 @@ mod fault;
 mod rate;
 mod words;
 
-use crate::appending::{append_again, block_of};
+use crate::appending::{append_again, block_of, file_length};
 use crate::fault::Fault;
 use crate::rate::Rate;
 use crate::words::read_folder;
@@ -19,7 +19,8 @@ use std::{env, fs};
 /// How many entries the blocks have that are measured.
 const COUNTS: [usize; 4] = [1, 8, 64, 512];
 
-/// The rate of blocks of so many entries, in a journal that is made in this file and removed again.
+/// The rate of blocks of so many entries, in a journal that is made in this file and removed again. Where the
+/// file hasn't the length of so many blocks, there is no figure.
 fn measure(rt: &HostRuntime, path: &str, count: usize) -> Result<Rate, Fault>
     requires { (1 ≤ count) × (count ≤ 4096) }
 {
@@ -31,7 +32,11 @@ fn measure(rt: &HostRuntime, path: &str, count: usize) -> Result<Rate, Fault>
         return Err(Fault::Device);
     }
     let done = append_again(rt, &mut journal, &block)?;
+    let found = fs::metadata(rt, path)?.len();
     fs::remove_file(rt, path)?;
+    if found != file_length(done.blocks, count) {
+        return Err(Fault::Wrong);
+    }
     Ok(Rate::of(done.blocks, done.took))
 }
 
@@ -52,7 +57,7 @@ fn main(rt: HostRuntime) -> ExitCode {
         Ok(()) => ExitCode::SUCCESS,
         Err(fault) => {
             let _ = eprintln!(rt; "{fault}");
-            ExitCode::from(1)
+            fault.status()
         }
     }
 }

@@ -1,10 +1,10 @@
-use Rattle.std.proofs.Common.{◌≡◌, ◌*◌, ◌-◌, ◌≤◌, length}
+use Rattle.std.proofs.Common.{◌*◌, ◌-◌, ◌≤◌}
 use Rattle.bench_journal.proofs.appending.append_again.Given as goal
 
--- so many blocks were appended, and no other
+-- there is room in the journal for all blocks
 abbrev pub invariant-loop-blocks : goal.invariant-loop-blocks
 invariant-loop-blocks g l = record {
-  each : l.journal.count ≡ l.blocks * length l.block;
+  few : l.journal.count ≤ l.blocks * 4096;
   most : l.blocks ≤ 10000;
 }
 
