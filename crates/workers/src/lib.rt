@@ -8,4 +8,4 @@ mod worker;
 
 pub use crew::Crew;
 pub use threads::run;
-pub use worker::{Outcome, Worker};
+pub use worker::{Outcome, Worker, work};

@@ -2,7 +2,7 @@
 ghost use Rattle.std.specs.Prelude.{◌≡◌};
 ghost use Rattle.atomic_table.specs.Seated.{TableId};
 
-use crate::worker::{Outcome, Worker, goes_on, take_turns};
+use crate::worker::{Outcome, Worker, goes_on, work};
 use book::BookLogic;
 use crossbeam_utils::Backoff;
 use journal::JournalDisk;
@@ -47,7 +47,7 @@ pub(crate) fn unmarshal<const N: usize, const M: usize, const G: usize>(
     ensures { result.seat.seat.table_id ≡ rings.now.table.shared.table_id }
 {
     let mut worker = Unmarshalling { rings, stage };
-    take_turns(&mut worker, stop);
+    work(&mut worker, stop);
     let Unmarshalling { stage, .. } = worker;
     stage
 }
@@ -99,7 +99,7 @@ pub(crate) fn process<const N: usize, const M: usize, const G: usize>(
     ensures { result.seat.seat.table_id ≡ rings.now.table.shared.table_id }
 {
     let mut worker = Processing { rings, stage };
-    take_turns(&mut worker, stop);
+    work(&mut worker, stop);
     let Processing { stage, .. } = worker;
     stage
 }
@@ -132,7 +132,7 @@ pub(crate) fn marshal<const N: usize, const M: usize, const G: usize>(
     ensures { result.seat.seat.table_id ≡ rings.now.table.shared.table_id }
 {
     let mut worker = Marshalling { rings, stage };
-    take_turns(&mut worker, stop);
+    work(&mut worker, stop);
     let Marshalling { stage, .. } = worker;
     stage
 }

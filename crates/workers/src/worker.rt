@@ -41,7 +41,7 @@ pub(crate) fn goes_on(outcome: Outcome, backoff: &Backoff) -> bool {
 }
 
 /// Lets the worker take turns until it is over or the flag says stop.
-pub(crate) fn take_turns<W: Worker>(worker: &mut W, stop: &AtomicBool)
+pub fn work<W: Worker>(worker: &mut W, stop: &AtomicBool)
     ensures { W.place worker.new ≡ W.place worker.old }
 {
     let backoff = Backoff::new();
