@@ -1,6 +1,1 @@
-pub mod GatewayLemmas
-pub mod MessageLemmas
-pub mod SeatLemmas
-pub mod TakeLemmas
-pub mod TextLemmas
-pub mod TurnLemmas
+mod Seats

@@ -9,18 +9,14 @@ mod gateway;
 mod messages;
 mod path;
 mod rings;
-mod runs;
-mod stations;
 mod words;
-mod worker;
 
-ghost use Rattle.std.specs.Prelude.{◌≡◌, IfOk};
+ghost use Rattle.std.specs.Prelude.{◌≤◌};
 
 use crate::fault::Fault;
 use crate::figures::{Cost, Rate};
 use crate::path::Path;
 use crate::rings::open;
-use crate::runs::{run_on_one_thread, run_on_threads};
 use crate::words::Task;
 use std::env;
 use std::process::ExitCode;
@@ -28,36 +24,35 @@ use std::rt::{Clock, Env};
 use std::thread::Threads;
 use std::time::{Duration, Instant};
 
-/// How long the task takes with a thread for each worker, and how many commands were processed.
+/// How long the task takes with a thread for each gateway and each stage.
 fn time_threads<R: Clock + AllocGlobal + Threads + Sync, const G: usize>(
     rt: &R,
     task: &Task,
-) -> Result<(u64, Duration), Fault>
-    requires { task.now.gateways ≡ G }
-    ensures { IfOk result (λ r. r.0 ≡ task.now.commands) }
+) -> Result<Duration, Fault>
+    requires { (1 ≤ G) × (G ≤ 8) }
 {
     let (rings, seats, book) = open::<G>(rt.alloc())?;
     let path = Path::new(rt.alloc(), &rings, seats, book, task)?;
     let begun = Instant::now(rt)?;
-    let processor = run_on_threads(rt, path, task)?;
+    path.run_on_threads(rt, task)?;
     let took = begun.elapsed(rt)?;
-    Ok((processor.next_seq(), took))
+    Ok(took)
 }
 
-/// How long the task takes on one thread, and how many commands were processed.
+/// How long the task takes on one thread.
 fn time_one_thread<R: Clock + AllocGlobal, const G: usize>(
     rt: &R,
     task: &Task,
-) -> Result<(u64, Duration), Fault>
-    requires { task.now.gateways ≡ G }
-    ensures { IfOk result (λ r. r.0 ≡ task.now.commands) }
+) -> Result<Duration, Fault>
+    requires { (1 ≤ G) × (G ≤ 8) }
 {
     let (rings, seats, book) = open::<G>(rt.alloc())?;
-    let path = Path::new(rt.alloc(), &rings, seats, book, task)?;
+    let mut path = Path::new(rt.alloc(), &rings, seats, book, task)?;
     let begun = Instant::now(rt)?;
-    let processor = run_on_one_thread(path, task)?;
+    path.run_on_one_thread(task)?;
     let took = begun.elapsed(rt)?;
-    Ok((processor.next_seq(), took))
+    path.check(task)?;
+    Ok(took)
 }
 
 /// Measures what the words ask for.
@@ -81,12 +76,12 @@ fn print_figures<R: Clock + Print + AllocGlobal + Threads + Sync, const G: usize
     rt: &R,
     task: &Task,
 ) -> Result<(), Fault>
-    requires { task.now.gateways ≡ G }
+    requires { (1 ≤ G) × (G ≤ 8) }
 {
-    let (commands, took) = time_threads::<R, G>(rt, task)?;
-    println!(rt; "stages.threads.g{G}: {}", Rate::of(commands, took))?;
-    let (commands, took) = time_one_thread::<R, G>(rt, task)?;
-    println!(rt; "stages.one_thread.g{G}: {}", Cost::of(commands, took))?;
+    let took = time_threads::<R, G>(rt, task)?;
+    println!(rt; "stages.threads.g{G}: {}", Rate::of(task.commands, took))?;
+    let took = time_one_thread::<R, G>(rt, task)?;
+    println!(rt; "stages.one_thread.g{G}: {}", Cost::of(task.commands, took))?;
     Ok(())
 }
 

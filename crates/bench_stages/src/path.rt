@@ -1,46 +1,54 @@
 //! The whole path of a run: gateways and stages at the same rings.
-ghost use Rattle.std.specs.Prelude.{◌≡◌, ◌+◌, [], vec_len, IfOk, IsTrue};
-ghost use Rattle.ring_words.specs.Seats.{person};
+ghost use Rattle.std.specs.Prelude.{◌≡◌, [], false, IfOk, IfSome};
 ghost use Rattle.venue_model.specs.Step.{empty};
-ghost use Rattle.ring_words.specs.declared.view.Role.TheVariants.{Unmarshal, Journal};
-ghost use Rattle.ring_words.specs.Crew.{AreFresh, stage_view, process_view, marshal_view};
+ghost use Rattle.ring_words.specs.declared.view.Role.TheVariants as role;
+ghost use Rattle.ring_words.specs.Crew.{stage_view, process_view, marshal_view};
+ghost use Rattle.ring_words.specs.Ending.{AreSpent};
+ghost use Rattle.std.specs.Thread.{IsSync};
 
+use crate::fault::Fault;
 use crate::gateway::Gateway;
 use crate::rings::VenueRings;
-use crate::stations::{Journalling, Marshalling, Processing, Unmarshalling, empty_journal};
 use crate::words::Task;
-use crate::worker::Worker;
 use book::{Book, BookLogic};
+use journal::{Journal, NullDisk};
 use ring_words::{GatewaySeat, Seats};
 use stages::{Journaller, Marshaller, Processor, Unmarshaller};
 use std::alloc::{AllocError, Global};
-
-/// The stages.
-#[derive(Drop)]
-pub struct Stages<'a, const G: usize> {
-    pub unmarshalling: Unmarshalling<'a, G>,
-    pub journalling: Journalling<'a, G>,
-    pub processing: Processing<'a, G>,
-    pub marshalling: Marshalling<'a, G>,
-}
-
-impl<const G: usize> Stages<'_, G> {
-    /// Lets each stage do what is next for it, and says whether all did.
-    pub fn turn(&mut self) -> bool
-        ensures { IsTrue result → (person self.new.processing.stage.seat.seat.me.0).own ≡ (person self.old.processing.stage.seat.seat.me.0).own + 1 }
-    {
-        self.unmarshalling.turn()
-            && self.journalling.turn()
-            && self.processing.turn()
-            && self.marshalling.turn()
-    }
-}
+use std::sync::atomic::AtomicBool;
+use std::thread::{Threads, join};
+use workers::{Crew, Outcome, Worker, run, work};
 
 /// Gateways with their messages, the last one first, and the stages.
 #[derive(Drop)]
 pub struct Path<'a, const G: usize> {
-    pub gateways: Vec<Gateway<'a, G>>,
-    pub stages: Stages<'a, G>,
+    rings: &'a VenueRings<G>,
+    gateways: Vec<Gateway<'a, G>>,
+    crew: Crew<NullDisk>,
+    ghost fits: { crew.processor.seat.seat.table_id ≡ rings.now.table.shared.table_id },
+}
+
+/// An empty journal. Its disk keeps nothing, so that what the calls of a disk cost is left out of the figures.
+fn empty_journal(alloc: Global) -> Result<Journal<NullDisk>, AllocError>
+    ensures { IfOk result (λ journal. (journal.failed ≡ false) × (journal.count ≡ 0)) }
+{
+    match Journal::open(alloc, NullDisk) {
+        Ok((journal, entries)) if entries.is_empty() => Ok(journal),
+        _ => Err(AllocError),
+    }
+}
+
+/// The next gateway, from the last seat on.
+fn next_seat<const G: usize>(
+    rings: &VenueRings<G>,
+    seats: &mut Vec<GatewaySeat<BookLogic>>,
+) -> Option<GatewaySeat<BookLogic>>
+    requires { AreSpent rings.now.table.shared.table_id seats.old.items }
+    ensures left { AreSpent rings.now.table.shared.table_id seats.new.items }
+    ensures next { IfSome result (λ seat. seat.seat.table_id ≡ rings.now.table.shared.table_id) }
+{
+    let seat = seats.pop()?;
+    Some(seat)
 }
 
 /// The gateways of all seats, the last one first, each with its share of the messages.
@@ -50,59 +58,138 @@ fn gateways<'a, const G: usize>(
     mut seats: Vec<GatewaySeat<BookLogic>>,
     task: &Task,
 ) -> Result<Vec<Gateway<'a, G>>, AllocError>
-    requires { AreFresh rings.now.table.shared.table_id rings.now.table.shared.key.logic [] 0 seats.items }
-    ensures { IfOk result (λ all. vec_len all ≡ vec_len seats) }
+    requires { AreSpent rings.now.table.shared.table_id seats.items }
 {
-    let mut all = Vec::with_capacity(alloc, seats.len())?;
-    while let Some(seat) = seats.pop() {
-        let share = task.share(seat.number());
-        all.push(Gateway::new(alloc, rings, seat, share)?)?;
+    let mut all = Vec::new(alloc);
+    for _ in 0..G {
+        if let Some(seat) = next_seat(rings, &mut seats) {
+            all.push(Gateway::new(alloc, rings, seat, task)?)?;
+        }
     }
     Ok(all)
 }
 
-impl<const G: usize> Path<'_, G> {
+/// Lets the gateway work until it is over, and looks whether it has what is due to it.
+fn trade<const G: usize>(mut gateway: Gateway<'_, G>, stop: &AtomicBool) -> Result<(), Fault> {
+    work(&mut gateway, stop);
+    gateway.check()
+}
+
+/// Lets each gateway do that on a thread of its own.
+fn serve<R: Threads + Sync, const G: usize>(
+    rt: &R,
+    mut gateways: Vec<Gateway<'_, G>>,
+    stop: &AtomicBool,
+) -> Result<(), Fault> {
+    let Some(gateway) = gateways.pop() else {
+        return Ok(());
+    };
+    let (one, others) = join(
+        rt,
+        move || trade(gateway, stop),
+        move || -> Result<(), Fault>
+            requires { IsSync R.row }
+        { serve(rt, gateways, stop) },
+    );
+    one?;
+    others
+}
+
+/// Looks whether all commands were processed.
+fn check_processed(crew: &Crew<NullDisk>, task: &Task) -> Result<(), Fault> {
+    if crew.processor.next_seq() != task.commands {
+        return Err(Fault::Wrong);
+    }
+    Ok(())
+}
+
+impl<'a, const G: usize> Path<'a, G> {
     /// The path over new rings, with an empty book.
-    pub fn new<'a>(
+    pub fn new(
         alloc: Global,
         rings: &'a VenueRings<G>,
         seats: Seats<BookLogic>,
         book: Book,
         task: &Task,
     ) -> Result<Path<'a, G>, AllocError>
-        requires gateways { AreFresh rings.now.table.shared.table_id rings.now.table.shared.key.logic [] 0 seats.gateways.items }
-        requires unmarshal { (seats.unmarshal.seat.table_id ≡ rings.now.table.shared.table_id) × (seats.unmarshal.seat.me.0 ≡ stage_view book.symbols [] Unmarshal) }
-        requires journal { (seats.journal.seat.table_id ≡ rings.now.table.shared.table_id) × (seats.journal.seat.me.0 ≡ stage_view book.symbols [] Journal) }
+        requires gateways { AreSpent rings.now.table.shared.table_id seats.gateways.items }
+        requires unmarshal { (seats.unmarshal.seat.table_id ≡ rings.now.table.shared.table_id) × (seats.unmarshal.seat.me.0 ≡ stage_view book.symbols [] role.Unmarshal) }
+        requires journal { (seats.journal.seat.table_id ≡ rings.now.table.shared.table_id) × (seats.journal.seat.me.0 ≡ stage_view book.symbols [] role.Journal) }
         requires process { (seats.process.seat.table_id ≡ rings.now.table.shared.table_id) × (seats.process.seat.me.0 ≡ process_view book.symbols [] 0) }
         requires marshal { (seats.marshal.seat.table_id ≡ rings.now.table.shared.table_id) × (seats.marshal.seat.me.0 ≡ marshal_view book.symbols [] 0) }
         requires book { book.state ≡ empty }
-        ensures begins { IfOk result (λ p. (person p.stages.processing.stage.seat.seat.me.0).own ≡ 0) }
-        ensures all { IfOk result (λ p. vec_len p.gateways ≡ vec_len seats.gateways) }
     {
         let gateways = gateways(alloc, rings, seats.gateways, task)?;
         let Ok(processor) = Processor::new(alloc, seats.process, book) else {
             return Err(AllocError);
         };
+        let crew = Crew {
+            unmarshaller: Unmarshaller::new(seats.unmarshal),
+            journaller: Journaller::new(seats.journal, empty_journal(alloc)?),
+            processor,
+            marshaller: Marshaller::new(seats.marshal),
+        };
         Ok(Path {
+            rings,
             gateways,
-            stages: Stages {
-                unmarshalling: Unmarshalling {
-                    rings,
-                    stage: Unmarshaller::new(seats.unmarshal),
-                },
-                journalling: Journalling {
-                    rings,
-                    stage: Journaller::new(seats.journal, empty_journal(alloc)?),
-                },
-                processing: Processing {
-                    rings,
-                    stage: processor,
-                },
-                marshalling: Marshalling {
-                    rings,
-                    stage: Marshaller::new(seats.marshal),
-                },
-            },
+            crew,
         })
+    }
+
+    /// Lets gateways and stages do the task, each on a thread of its own, and looks whether each gateway has what is due to it and all
+    /// commands were processed.
+    pub fn run_on_threads<R: Threads + Sync>(self, rt: &R, task: &Task) -> Result<(), Fault> {
+        let Path {
+            rings,
+            gateways,
+            crew,
+        } = self;
+        let flag = AtomicBool::new(false);
+        let stop = &flag;
+        let (crew, served) = run(
+            rt,
+            rings,
+            crew,
+            move || -> Result<(), Fault>
+                requires { IsSync R.row }
+            { serve(rt, gateways, stop) },
+            stop,
+        );
+        served?;
+        check_processed(&crew, task)
+    }
+
+    /// Brings the next message of the gateway at this place through all stages, and what comes of it to all gateways, and says whether
+    /// that went well.
+    fn pass(&mut self, place: usize) -> bool {
+        let Some(gateway) = self.gateways.get_mut(place) else {
+            return false;
+        };
+        if !matches!(gateway.turn(), Outcome::Worked) || !self.crew.turn(self.rings) {
+            return false;
+        }
+        let mut all = true;
+        for gateway in self.gateways.iter_mut() {
+            all = all && matches!(gateway.turn(), Outcome::Worked);
+        }
+        all
+    }
+
+    /// Lets gateways and stages do the task on this thread, one command after another, each of the next gateway.
+    pub fn run_on_one_thread(&mut self, task: &Task) -> Result<(), Fault> {
+        for command in 0..task.commands {
+            if !self.pass((command % task.gateways) as usize) {
+                return Err(Fault::GaveUp);
+            }
+        }
+        Ok(())
+    }
+
+    /// Looks whether each gateway has what is due to it and all commands were processed.
+    pub fn check(&self, task: &Task) -> Result<(), Fault> {
+        for gateway in &self.gateways {
+            gateway.check()?;
+        }
+        check_processed(&self.crew, task)
     }
 }
