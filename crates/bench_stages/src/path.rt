@@ -96,11 +96,28 @@ fn serve<R: Threads + Sync, const G: usize>(
 }
 
 /// Looks whether all commands were processed.
-fn check_processed(crew: &Crew<NullDisk>, task: &Task) -> Result<(), Fault> {
-    if crew.processor.next_seq() != task.commands {
+fn check_processed(processor: &Processor, task: &Task) -> Result<(), Fault> {
+    if processor.next_seq() != task.commands {
         return Err(Fault::Wrong);
     }
     Ok(())
+}
+
+/// Lets the gateway at this place take its turn, and says whether it did something.
+fn turn_at<const G: usize>(gateways: &mut [Gateway<'_, G>], place: usize) -> bool {
+    let Some(gateway) = gateways.get_mut(place) else {
+        return false;
+    };
+    matches!(gateway.turn(), Outcome::Worked)
+}
+
+/// Lets each gateway take its turn, and says whether all did something.
+fn turn_all<const G: usize>(gateways: &mut [Gateway<'_, G>]) -> bool {
+    let mut all = true;
+    for gateway in gateways.iter_mut() {
+        all = all && matches!(gateway.turn(), Outcome::Worked);
+    }
+    all
 }
 
 impl<'a, const G: usize> Path<'a, G> {
@@ -156,23 +173,15 @@ impl<'a, const G: usize> Path<'a, G> {
             stop,
         );
         served?;
-        check_processed(&crew, task)
+        check_processed(&crew.processor, task)
     }
 
     /// Brings the next message of the gateway at this place through all stages, and what comes of it to all gateways, and says whether
     /// that went well.
     fn pass(&mut self, place: usize) -> bool {
-        let Some(gateway) = self.gateways.get_mut(place) else {
-            return false;
-        };
-        if !matches!(gateway.turn(), Outcome::Worked) || !self.crew.turn(self.rings) {
-            return false;
-        }
-        let mut all = true;
-        for gateway in self.gateways.iter_mut() {
-            all = all && matches!(gateway.turn(), Outcome::Worked);
-        }
-        all
+        turn_at(self.gateways.as_mut_slice(), place)
+            && self.crew.turn(self.rings)
+            && turn_all(self.gateways.as_mut_slice())
     }
 
     /// Lets gateways and stages do the task on this thread, one command after another, each of the next gateway.
@@ -190,6 +199,6 @@ impl<'a, const G: usize> Path<'a, G> {
         for gateway in &self.gateways {
             gateway.check()?;
         }
-        check_processed(&self.crew, task)
+        check_processed(&self.crew.processor, task)
     }
 }

@@ -17,7 +17,10 @@ pub type VenueRings<const G: usize> = Rings<BookLogic, 1024, 1024, G>;
 fn limits(alloc: Global) -> Result<Limits, AllocError> {
     let mut names = Vec::new(alloc);
     names.push(String::from_str(alloc, "ABC")?)?;
-    Limits::new(alloc, &names).map_err(|_| AllocError)
+    let Ok(limits) = Limits::new(alloc, &names) else {
+        return Err(AllocError);
+    };
+    Ok(limits)
 }
 
 /// New rings with their seats.
@@ -49,6 +52,8 @@ pub fn open<const G: usize>(
 {
     let limits = limits(alloc)?;
     let book = Book::new(alloc, &limits)?;
-    let (rings, seats) = open_rings(alloc, &limits).map_err(|_| AllocError)?;
+    let Ok((rings, seats)) = open_rings(alloc, &limits) else {
+        return Err(AllocError);
+    };
     Ok((rings, seats, book))
 }
