@@ -8,7 +8,8 @@ use venue_model::OutputType;
 /// The byte that ends each field.
 const SOH: u8 = 1;
 
-/// Whether the text is an execution report with this ExecType (150): the third field, behind OrderID (37) and ExecID (17).
+/// Whether the text is an execution report with this ExecType (150): the third field, behind OrderID (37) and ExecID
+/// (17).
 fn is_event(head: &Head, body: &[u8], exec_type: &[u8]) -> bool {
     match head.msg_type {
         OutputType::ExecutionReport => body.split(|byte| *byte == SOH).nth(2) == Some(exec_type),

@@ -1,5 +1,5 @@
-//! Measures how many commands a second go from gateways through both rings and all stages, until each gateway has its outputs, with a
-//! thread for each gateway and each stage, and how long a command takes where one thread does all.
+//! Measures how many commands a second go from gateways through both rings and all stages, until each gateway has its
+//! outputs, with a thread for each gateway and each stage, and how long a command takes where one thread does all.
 #![tactic(auto)]
 
 mod answers;

@@ -1,5 +1,6 @@
-//! The messages that the gateways publish, made before the clock runs: each gateway buys and cancels by turns, so that the book
-//! stays small and each command has one output. A message that weren't right would be answered by a Reject, and no figure printed.
+//! The messages that the gateways publish, made before the clock runs: each gateway buys and cancels by turns, so that
+//! the book stays small and each command has one output. A message that weren't right would be answered by a Reject,
+//! and no figure printed.
 ghost use Rattle.std.specs.Prelude.{◌+◌, ◌≤◌, ◌<◌, ◌^◌, length};
 
 use fix_orders::{put_bytes, put_field, put_number};
@@ -35,8 +36,8 @@ fn put_deal(fields: &mut [u8; 200], at: usize, place: u64) -> usize
     put_field(fields, end, 38, b"1")
 }
 
-/// Writes the gateway's message of this place, from 0, at the buffer's front, and answers where it ends: at each even place a day order
-/// to buy 1 ABC at 50, else a cancel of the order before it.
+/// Writes the gateway's message of this place, from 0, at the buffer's front, and answers where it ends: at each even
+/// place a day order to buy 1 ABC at 50, else a cancel of the order before it.
 fn put_message(fields: &mut [u8; 200], gateway: u8, place: u64) -> usize
     requires gateway { gateway ≤ 8 }
     requires place { place < 2 ^ 24 }

@@ -130,10 +130,14 @@ impl<'a, const G: usize> Path<'a, G> {
         task: &Task,
     ) -> Result<Path<'a, G>, AllocError>
         requires gateways { AreSpent rings.now.table.shared.table_id seats.gateways.items }
-        requires unmarshal { (seats.unmarshal.seat.table_id ≡ rings.now.table.shared.table_id) × (seats.unmarshal.seat.me.0 ≡ stage_view book.symbols [] role.Unmarshal) }
-        requires journal { (seats.journal.seat.table_id ≡ rings.now.table.shared.table_id) × (seats.journal.seat.me.0 ≡ stage_view book.symbols [] role.Journal) }
-        requires process { (seats.process.seat.table_id ≡ rings.now.table.shared.table_id) × (seats.process.seat.me.0 ≡ process_view book.symbols [] 0) }
-        requires marshal { (seats.marshal.seat.table_id ≡ rings.now.table.shared.table_id) × (seats.marshal.seat.me.0 ≡ marshal_view book.symbols [] 0) }
+        requires unmarshal { (seats.unmarshal.seat.table_id ≡ rings.now.table.shared.table_id)
+            × (seats.unmarshal.seat.me.0 ≡ stage_view book.symbols [] role.Unmarshal) }
+        requires journal { (seats.journal.seat.table_id ≡ rings.now.table.shared.table_id)
+            × (seats.journal.seat.me.0 ≡ stage_view book.symbols [] role.Journal) }
+        requires process { (seats.process.seat.table_id ≡ rings.now.table.shared.table_id)
+            × (seats.process.seat.me.0 ≡ process_view book.symbols [] 0) }
+        requires marshal { (seats.marshal.seat.table_id ≡ rings.now.table.shared.table_id)
+            × (seats.marshal.seat.me.0 ≡ marshal_view book.symbols [] 0) }
         requires book { book.state ≡ empty }
     {
         let gateways = gateways(alloc, rings, seats.gateways, task)?;
@@ -153,8 +157,8 @@ impl<'a, const G: usize> Path<'a, G> {
         })
     }
 
-    /// Lets gateways and stages do the task, each on a thread of its own, and looks whether each gateway has what is due to it and all
-    /// commands were processed.
+    /// Lets gateways and stages do the task, each on a thread of its own, and looks whether each gateway has what is
+    /// due to it and all commands were processed.
     pub fn run_on_threads<R: Threads + Sync>(self, rt: &R, task: &Task) -> Result<(), Fault> {
         let Path {
             rings,
@@ -176,8 +180,8 @@ impl<'a, const G: usize> Path<'a, G> {
         check_processed(&crew.processor, task)
     }
 
-    /// Brings the next message of the gateway at this place through all stages, and what comes of it to all gateways, and says whether
-    /// that went well.
+    /// Brings the next message of the gateway at this place through all stages, and what comes of it to all gateways,
+    /// and says whether that went well.
     fn pass(&mut self, place: usize) -> bool {
         turn_at(self.gateways.as_mut_slice(), place)
             && self.crew.turn(self.rings)

@@ -10,7 +10,8 @@ use ring_words::{OpenError, Rings, Seats};
 use std::alloc::{AllocError, Global};
 use venue_model::Limits;
 
-/// The rings of so many gateways. There are no others: each gateway must take or pass over each output, or the processor would wait for it.
+/// The rings of so many gateways. There are no others: each gateway must take or pass over each output, or the
+/// processor would wait for it.
 pub type VenueRings<const G: usize> = Rings<BookLogic, 1024, 1024, G>;
 
 /// The table of the one symbol.
@@ -30,10 +31,14 @@ fn open_rings<const G: usize>(
 ) -> Result<(VenueRings<G>, Seats<BookLogic>), OpenError>
     requires { (1 ≤ G) × (G ≤ 8) }
     ensures gateways { IfOk result (λ r. AreSpent r.0.table.shared.table_id r.1.gateways.items) }
-    ensures unmarshal { IfOk result (λ r. (r.1.unmarshal.seat.table_id ≡ r.0.table.shared.table_id) × (r.1.unmarshal.seat.me.0 ≡ stage_view limits.now [] role.Unmarshal)) }
-    ensures journal { IfOk result (λ r. (r.1.journal.seat.table_id ≡ r.0.table.shared.table_id) × (r.1.journal.seat.me.0 ≡ stage_view limits.now [] role.Journal)) }
-    ensures process { IfOk result (λ r. (r.1.process.seat.table_id ≡ r.0.table.shared.table_id) × (r.1.process.seat.me.0 ≡ process_view limits.now [] 0)) }
-    ensures marshal { IfOk result (λ r. (r.1.marshal.seat.table_id ≡ r.0.table.shared.table_id) × (r.1.marshal.seat.me.0 ≡ marshal_view limits.now [] 0)) }
+    ensures unmarshal { IfOk result (λ r. (r.1.unmarshal.seat.table_id ≡ r.0.table.shared.table_id)
+        × (r.1.unmarshal.seat.me.0 ≡ stage_view limits.now [] role.Unmarshal)) }
+    ensures journal { IfOk result (λ r. (r.1.journal.seat.table_id ≡ r.0.table.shared.table_id)
+        × (r.1.journal.seat.me.0 ≡ stage_view limits.now [] role.Journal)) }
+    ensures process { IfOk result (λ r. (r.1.process.seat.table_id ≡ r.0.table.shared.table_id)
+        × (r.1.process.seat.me.0 ≡ process_view limits.now [] 0)) }
+    ensures marshal { IfOk result (λ r. (r.1.marshal.seat.table_id ≡ r.0.table.shared.table_id)
+        × (r.1.marshal.seat.me.0 ≡ marshal_view limits.now [] 0)) }
 {
     VenueRings::open(alloc, BookLogic::of(limits), &Vec::new(alloc), 0)
 }
@@ -44,10 +49,14 @@ pub fn open<const G: usize>(
 ) -> Result<(VenueRings<G>, Seats<BookLogic>, Book), AllocError>
     requires { (1 ≤ G) × (G ≤ 8) }
     ensures gateways { IfOk result (λ r. AreSpent r.0.table.shared.table_id r.1.gateways.items) }
-    ensures unmarshal { IfOk result (λ r. (r.1.unmarshal.seat.table_id ≡ r.0.table.shared.table_id) × (r.1.unmarshal.seat.me.0 ≡ stage_view r.2.symbols [] role.Unmarshal)) }
-    ensures journal { IfOk result (λ r. (r.1.journal.seat.table_id ≡ r.0.table.shared.table_id) × (r.1.journal.seat.me.0 ≡ stage_view r.2.symbols [] role.Journal)) }
-    ensures process { IfOk result (λ r. (r.1.process.seat.table_id ≡ r.0.table.shared.table_id) × (r.1.process.seat.me.0 ≡ process_view r.2.symbols [] 0)) }
-    ensures marshal { IfOk result (λ r. (r.1.marshal.seat.table_id ≡ r.0.table.shared.table_id) × (r.1.marshal.seat.me.0 ≡ marshal_view r.2.symbols [] 0)) }
+    ensures unmarshal { IfOk result (λ r. (r.1.unmarshal.seat.table_id ≡ r.0.table.shared.table_id)
+        × (r.1.unmarshal.seat.me.0 ≡ stage_view r.2.symbols [] role.Unmarshal)) }
+    ensures journal { IfOk result (λ r. (r.1.journal.seat.table_id ≡ r.0.table.shared.table_id)
+        × (r.1.journal.seat.me.0 ≡ stage_view r.2.symbols [] role.Journal)) }
+    ensures process { IfOk result (λ r. (r.1.process.seat.table_id ≡ r.0.table.shared.table_id)
+        × (r.1.process.seat.me.0 ≡ process_view r.2.symbols [] 0)) }
+    ensures marshal { IfOk result (λ r. (r.1.marshal.seat.table_id ≡ r.0.table.shared.table_id)
+        × (r.1.marshal.seat.me.0 ≡ marshal_view r.2.symbols [] 0)) }
     ensures book { IfOk result (λ r. r.2.state ≡ empty) }
 {
     let limits = limits(alloc)?;

@@ -35,7 +35,8 @@ impl Task {
         Ok(Task { commands, gateways })
     }
 
-    /// How many of the commands this gateway publishes. The shares of all gateways differ by one at most, and are all commands together.
+    /// How many of the commands this gateway publishes. The shares of all gateways differ by one at most, and are all
+    /// commands together.
     pub fn share(&self, gateway: u64) -> u64
         requires { (1 ≤ gateway) × (gateway ≤ 8) }
         ensures { result < 2 ^ 24 }

@@ -23,8 +23,8 @@ pub struct Crew<D: JournalDisk> {
 }
 
 impl<D: JournalDisk> Crew<D> {
-    /// Lets each stage do what is next for it, in the order in which a message meets them, as long as each did something, and says
-    /// whether all did.
+    /// Lets each stage do what is next for it, in the order in which a message meets them, as long as each did
+    /// something, and says whether all did.
     pub fn turn<const N: usize, const M: usize, const G: usize>(
         &mut self,
         rings: &Rings<BookLogic, N, M, G>,
@@ -97,7 +97,8 @@ fn answer<R: Threads + Sync, const N: usize, const M: usize, const G: usize>(
     )
 }
 
-/// Lets the stages work, each on a thread of its own, until the flag says stop or the journal fails. Then the flag says stop.
+/// Lets the stages work, each on a thread of its own, until the flag says stop or the journal fails. Then the flag says
+/// stop.
 pub(crate) fn run_stages<
     R: Threads + Sync,
     D: JournalDisk + Drop + Send,
@@ -117,14 +118,16 @@ pub(crate) fn run_stages<
     let ((unmarshaller, journaller), (processor, marshaller)) = join(
         rt,
         move || -> (Unmarshaller, Journaller<D>)
-            requires { IsSync R.row × IsSend D.row
-                × (unmarshaller.seat.seat.table_id ≡ rings.now.table.shared.table_id) × (journaller.seat.seat.table_id ≡ rings.now.table.shared.table_id) }
-            ensures { (result.0.seat.seat.table_id ≡ rings.entry.now.table.shared.table_id) × (result.1.seat.seat.table_id ≡ rings.entry.now.table.shared.table_id) }
+            requires { IsSync R.row × IsSend D.row × (unmarshaller.seat.seat.table_id ≡ rings.now.table.shared.table_id)
+                × (journaller.seat.seat.table_id ≡ rings.now.table.shared.table_id) }
+            ensures { (result.0.seat.seat.table_id ≡ rings.entry.now.table.shared.table_id)
+                × (result.1.seat.seat.table_id ≡ rings.entry.now.table.shared.table_id) }
         { read(rt, rings, unmarshaller, journaller, stop) },
         move || -> (Processor, Marshaller)
-            requires { IsSync R.row
-                × (processor.seat.seat.table_id ≡ rings.now.table.shared.table_id) × (marshaller.seat.seat.table_id ≡ rings.now.table.shared.table_id) }
-            ensures { (result.0.seat.seat.table_id ≡ rings.entry.now.table.shared.table_id) × (result.1.seat.seat.table_id ≡ rings.entry.now.table.shared.table_id) }
+            requires { IsSync R.row × (processor.seat.seat.table_id ≡ rings.now.table.shared.table_id)
+                × (marshaller.seat.seat.table_id ≡ rings.now.table.shared.table_id) }
+            ensures { (result.0.seat.seat.table_id ≡ rings.entry.now.table.shared.table_id)
+                × (result.1.seat.seat.table_id ≡ rings.entry.now.table.shared.table_id) }
         { answer(rt, rings, processor, marshaller, stop) },
     );
     Crew {

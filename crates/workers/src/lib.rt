@@ -1,4 +1,5 @@
-//! Stages and gateways at the rings as workers: each takes its turns on a thread of its own until a flag says stop, and all come back.
+//! Stages and gateways at the rings as workers: each takes its turns on a thread of its own until a flag says stop, and
+//! all come back.
 #![tactic(auto)]
 
 mod crew;

@@ -1,4 +1,5 @@
-//! The four stages as workers: each function lets one work on the thread that calls it, and gives it back at the same rings.
+//! The four stages as workers: each function lets one work on the thread that calls it, and gives it back at the same
+//! rings.
 ghost use Rattle.std.specs.Prelude.{◌≡◌};
 ghost use Rattle.atomic_table.specs.Seated.{TableId};
 

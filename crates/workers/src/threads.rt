@@ -9,9 +9,10 @@ use ring_words::Rings;
 use std::sync::atomic::{AtomicBool, Ordering};
 use std::thread::{Threads, join};
 
-/// Lets the stages work, each on a thread of its own, while the others work on this thread and those that they start, and gives the
-/// stages back at their rings, with what the others came to. The stages end when the flag says stop, which it does once the others are
-/// over, once the journal has failed, or when the caller's own code sets it. No clause says that a run ends.
+/// Lets the stages work, each on a thread of its own, while the others work on this thread and those that they start,
+/// and gives the stages back at their rings, with what the others came to. The stages end when the flag says stop,
+/// which it does once the others are over, once the journal has failed, or when the caller's own code sets it. No
+/// clause says that a run ends.
 pub fn run<
     R: Threads + Sync,
     D: JournalDisk + Drop + Send,
@@ -35,7 +36,8 @@ pub fn run<
     join(
         rt,
         move || -> Crew<D>
-            requires { IsSync R.row × IsSend D.row × (crew.processor.seat.seat.table_id ≡ rings.now.table.shared.table_id) }
+            requires { IsSync R.row × IsSend D.row
+                × (crew.processor.seat.seat.table_id ≡ rings.now.table.shared.table_id) }
             ensures { result.processor.seat.seat.table_id ≡ rings.entry.now.table.shared.table_id }
         { run_stages(rt, rings, crew, stop) },
         move || -> X

@@ -1,5 +1,5 @@
-//! A worker, a stage or a gateway at the rings, and the loop in which it takes its turns (Disruptor: an event processor and its wait
-//! strategy).
+//! A worker, a stage or a gateway at the rings, and the loop in which it takes its turns (Disruptor: an event processor
+//! and its wait strategy).
 ghost use Rattle.std.specs.Prelude.{◌≡◌};
 
 use crossbeam_utils::Backoff;
@@ -29,8 +29,8 @@ pub trait Worker {
         ensures { place self.new ≡ place self.old };
 }
 
-/// Lets a thread rest as what its last turn came to asks for, and says whether it is to go on: while there is nothing to do it spins
-/// for a while, and then lets other threads run.
+/// Lets a thread rest as what its last turn came to asks for, and says whether it is to go on: while there is nothing
+/// to do it spins for a while, and then lets other threads run.
 pub(crate) fn goes_on(outcome: Outcome, backoff: &Backoff) -> bool {
     match outcome {
         Outcome::Worked => backoff.reset(),
