@@ -49,8 +49,8 @@ pub fn write_reports(out: &mut [u8; 512], output: &Output, copies: u32) -> u64 {
     written
 }
 
-/// Writes the acknowledgement at the buffer's front, and answers how many bytes it has. Where its fields aren't the right ones it writes
-/// nothing.
+/// Writes the acknowledgement at the buffer's front, and answers how many bytes it has. Where its fields aren't the
+/// right ones it writes nothing.
 fn write_report(out: &mut [u8; 512], output: &Output) -> usize {
     let mut body = [0; 320];
     let len = body_of(output, 1, &mut body);

@@ -29,8 +29,8 @@ pub fn block_of(alloc: Global, count: usize) -> Result<Vec<Entry>, AllocError>
     Ok(block)
 }
 
-/// How many bytes a journal has with so many blocks of so many orders (docs/JOURNAL.md, "The bytes"): header and gate, and for each
-/// block its length, its records, each with 3 bytes in front of the order, and the next gate.
+/// How many bytes a journal has with so many blocks of so many orders (docs/JOURNAL.md, "The bytes"): header and gate,
+/// and for each block its length, its records, each with 3 bytes in front of the order, and the next gate.
 pub fn file_length(blocks: u32, count: usize) -> u64
     requires { count ≤ 4096 }
 {
