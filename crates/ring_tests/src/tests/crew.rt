@@ -13,13 +13,16 @@ use std::alloc::Global;
 use std::test::Fail;
 use venue_model::Limits;
 
-/// The stages.
+/// The stages, all at the same rings.
 #[derive(Drop)]
 pub struct Stages {
     pub unmarshaller: Unmarshaller,
     pub journaller: Journaller<NullDisk>,
     pub processor: Processor,
     pub marshaller: Marshaller,
+    ghost unmarshals: { unmarshaller.seat.seat.table_id ≡ processor.seat.seat.table_id },
+    ghost journals: { journaller.seat.seat.table_id ≡ processor.seat.seat.table_id },
+    ghost marshals: { marshaller.seat.seat.table_id ≡ processor.seat.seat.table_id },
 }
 
 impl Stages {
@@ -34,10 +37,7 @@ impl Stages {
         requires journal { (seats.journal.seat.table_id ≡ rings.now.table.shared.table_id) × (seats.journal.seat.me.0 ≡ stage_view limits.now [] role.Journal) }
         requires process { (seats.process.seat.table_id ≡ rings.now.table.shared.table_id) × (seats.process.seat.me.0 ≡ process_view limits.now [] 0) }
         requires marshal { (seats.marshal.seat.table_id ≡ rings.now.table.shared.table_id) × (seats.marshal.seat.me.0 ≡ marshal_view limits.now [] 0) }
-        ensures unmarshals { IfOk result (λ r. r.0.unmarshaller.seat.seat.table_id ≡ rings.now.table.shared.table_id) }
-        ensures journals { IfOk result (λ r. r.0.journaller.seat.seat.table_id ≡ rings.now.table.shared.table_id) }
-        ensures processes { IfOk result (λ r. r.0.processor.seat.seat.table_id ≡ rings.now.table.shared.table_id) }
-        ensures marshals { IfOk result (λ r. r.0.marshaller.seat.seat.table_id ≡ rings.now.table.shared.table_id) }
+        ensures rings { IfOk result (λ r. r.0.processor.seat.seat.table_id ≡ rings.now.table.shared.table_id) }
         ensures gateways { IfOk result (λ r. r.1 ≡ seats.gateways) }
     {
         let Seats {
@@ -61,14 +61,8 @@ impl Stages {
         &mut self,
         rings: &TestRings<N, M, G>,
     ) -> [Turn; 4]
-        requires unmarshals { self.old.unmarshaller.seat.seat.table_id ≡ rings.now.table.shared.table_id }
-        requires journals { self.old.journaller.seat.seat.table_id ≡ rings.now.table.shared.table_id }
-        requires processes { self.old.processor.seat.seat.table_id ≡ rings.now.table.shared.table_id }
-        requires marshals { self.old.marshaller.seat.seat.table_id ≡ rings.now.table.shared.table_id }
-        ensures unmarshals { self.new.unmarshaller.seat.seat.table_id ≡ rings.now.table.shared.table_id }
-        ensures journals { self.new.journaller.seat.seat.table_id ≡ rings.now.table.shared.table_id }
-        ensures processes { self.new.processor.seat.seat.table_id ≡ rings.now.table.shared.table_id }
-        ensures marshals { self.new.marshaller.seat.seat.table_id ≡ rings.now.table.shared.table_id }
+        requires { self.old.processor.seat.seat.table_id ≡ rings.now.table.shared.table_id }
+        ensures { self.new.processor.seat.seat.table_id ≡ rings.now.table.shared.table_id }
     {
         let unmarshaller = self.unmarshaller.poll(rings);
         let journaller = self.journaller.poll(rings);

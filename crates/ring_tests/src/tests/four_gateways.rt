@@ -26,7 +26,7 @@ fn run_four<R: Threads + Sync>(
 ) -> bool
     requires third { third.seat.table_id ≡ rings.now.table.shared.table_id }
     requires fourth { fourth.seat.table_id ≡ rings.now.table.shared.table_id }
-    requires crew { (crew.0.seat.table_id ≡ rings.now.table.shared.table_id) × (crew.1.seat.table_id ≡ rings.now.table.shared.table_id) × (crew.2.unmarshaller.seat.seat.table_id ≡ rings.now.table.shared.table_id) × (crew.2.journaller.seat.seat.table_id ≡ rings.now.table.shared.table_id) × (crew.2.processor.seat.seat.table_id ≡ rings.now.table.shared.table_id) × (crew.2.marshaller.seat.seat.table_id ≡ rings.now.table.shared.table_id) }
+    requires crew { (crew.0.seat.table_id ≡ rings.now.table.shared.table_id) × (crew.1.seat.table_id ≡ rings.now.table.shared.table_id) × (crew.2.processor.seat.seat.table_id ≡ rings.now.table.shared.table_id) }
 {
     let ((third, fourth), crew) = join(
         rt,
@@ -37,7 +37,7 @@ fn run_four<R: Threads + Sync>(
             requires { IsSync R.row × (third.seat.table_id ≡ rings.now.table.shared.table_id) × (fourth.seat.table_id ≡ rings.now.table.shared.table_id) }
         { trade_both(rt, rings, third, fourth, *b"34", day) },
         move || -> Option<Crew>
-            requires { IsSync R.row × (crew.0.seat.table_id ≡ rings.now.table.shared.table_id) × (crew.1.seat.table_id ≡ rings.now.table.shared.table_id) × (crew.2.unmarshaller.seat.seat.table_id ≡ rings.now.table.shared.table_id) × (crew.2.journaller.seat.seat.table_id ≡ rings.now.table.shared.table_id) × (crew.2.processor.seat.seat.table_id ≡ rings.now.table.shared.table_id) × (crew.2.marshaller.seat.seat.table_id ≡ rings.now.table.shared.table_id) }
+            requires { IsSync R.row × (crew.0.seat.table_id ≡ rings.now.table.shared.table_id) × (crew.1.seat.table_id ≡ rings.now.table.shared.table_id) × (crew.2.processor.seat.seat.table_id ≡ rings.now.table.shared.table_id) }
         { run(rt, rings, crew, *b"12", day) },
     );
     third.is_some() && fourth.is_some() && crew.is_some()

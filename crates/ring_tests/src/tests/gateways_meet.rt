@@ -118,14 +118,8 @@ fn process<const N: usize, const M: usize, const G: usize>(
     mut stages: Stages,
     outputs: u64,
 ) -> Option<Stages>
-    requires unmarshals { stages.unmarshaller.seat.seat.table_id ≡ rings.now.table.shared.table_id }
-    requires journals { stages.journaller.seat.seat.table_id ≡ rings.now.table.shared.table_id }
-    requires processes { stages.processor.seat.seat.table_id ≡ rings.now.table.shared.table_id }
-    requires marshals { stages.marshaller.seat.seat.table_id ≡ rings.now.table.shared.table_id }
-    ensures unmarshals { IfSome result (λ s. s.unmarshaller.seat.seat.table_id ≡ rings.now.table.shared.table_id) }
-    ensures journals { IfSome result (λ s. s.journaller.seat.seat.table_id ≡ rings.now.table.shared.table_id) }
-    ensures processes { IfSome result (λ s. s.processor.seat.seat.table_id ≡ rings.now.table.shared.table_id) }
-    ensures marshals { IfSome result (λ s. s.marshaller.seat.seat.table_id ≡ rings.now.table.shared.table_id) }
+    requires { stages.processor.seat.seat.table_id ≡ rings.now.table.shared.table_id }
+    ensures { IfSome result (λ s. s.processor.seat.seat.table_id ≡ rings.now.table.shared.table_id) }
 {
     for _ in 0..TRIES {
         if stages.marshaller.next_seq() == outputs {
@@ -149,16 +143,10 @@ pub fn run<R: Threads + Sync, const N: usize, const M: usize, const G: usize>(
 ) -> Option<Crew>
     requires one { crew.0.seat.table_id ≡ rings.now.table.shared.table_id }
     requires other { crew.1.seat.table_id ≡ rings.now.table.shared.table_id }
-    requires unmarshals { crew.2.unmarshaller.seat.seat.table_id ≡ rings.now.table.shared.table_id }
-    requires journals { crew.2.journaller.seat.seat.table_id ≡ rings.now.table.shared.table_id }
-    requires processes { crew.2.processor.seat.seat.table_id ≡ rings.now.table.shared.table_id }
-    requires marshals { crew.2.marshaller.seat.seat.table_id ≡ rings.now.table.shared.table_id }
+    requires rings { crew.2.processor.seat.seat.table_id ≡ rings.now.table.shared.table_id }
     ensures one { IfSome result (λ r. StaysSpent crew.0 r.0) }
     ensures other { IfSome result (λ r. StaysSpent crew.1 r.1) }
-    ensures unmarshals { IfSome result (λ r. r.2.unmarshaller.seat.seat.table_id ≡ rings.now.table.shared.table_id) }
-    ensures journals { IfSome result (λ r. r.2.journaller.seat.seat.table_id ≡ rings.now.table.shared.table_id) }
-    ensures processes { IfSome result (λ r. r.2.processor.seat.seat.table_id ≡ rings.now.table.shared.table_id) }
-    ensures marshals { IfSome result (λ r. r.2.marshaller.seat.seat.table_id ≡ rings.now.table.shared.table_id) }
+    ensures rings { IfSome result (λ r. r.2.processor.seat.seat.table_id ≡ rings.now.table.shared.table_id) }
 {
     let (one, other, stages) = crew;
     let ((one, other), stages) = join(
@@ -172,11 +160,8 @@ pub fn run<R: Threads + Sync, const N: usize, const M: usize, const G: usize>(
             ensures other { IfSome result.1 (StaysSpent other) }
         { trade_both(rt, rings, one, other, clients, day) },
         move || -> Option<Stages>
-            requires { (stages.unmarshaller.seat.seat.table_id ≡ rings.now.table.shared.table_id) × (stages.journaller.seat.seat.table_id ≡ rings.now.table.shared.table_id) × (stages.processor.seat.seat.table_id ≡ rings.now.table.shared.table_id) × (stages.marshaller.seat.seat.table_id ≡ rings.now.table.shared.table_id) }
-            ensures unmarshals { IfSome result (λ s. s.unmarshaller.seat.seat.table_id ≡ rings.entry.now.table.shared.table_id) }
-            ensures journals { IfSome result (λ s. s.journaller.seat.seat.table_id ≡ rings.entry.now.table.shared.table_id) }
-            ensures processes { IfSome result (λ s. s.processor.seat.seat.table_id ≡ rings.entry.now.table.shared.table_id) }
-            ensures marshals { IfSome result (λ s. s.marshaller.seat.seat.table_id ≡ rings.entry.now.table.shared.table_id) }
+            requires { stages.processor.seat.seat.table_id ≡ rings.now.table.shared.table_id }
+            ensures { IfSome result (λ s. s.processor.seat.seat.table_id ≡ rings.entry.now.table.shared.table_id) }
         { process(rings, stages, day.outputs) },
     );
     Some((one?, other?, stages?))

@@ -30,8 +30,8 @@ fn taken(gateway: &mut Pair<'_>) -> (u8, u8) {
 
 /// Lets the stages poll twice, so that two outputs are marshalled, and answers what the processor did first.
 fn process(rings: &PairRings, stages: &mut Stages) -> Turn
-    requires stages { (stages.old.unmarshaller.seat.seat.table_id ≡ rings.now.table.shared.table_id) × (stages.old.journaller.seat.seat.table_id ≡ rings.now.table.shared.table_id) × (stages.old.processor.seat.seat.table_id ≡ rings.now.table.shared.table_id) × (stages.old.marshaller.seat.seat.table_id ≡ rings.now.table.shared.table_id) }
-    ensures stages { (stages.new.unmarshaller.seat.seat.table_id ≡ rings.now.table.shared.table_id) × (stages.new.journaller.seat.seat.table_id ≡ rings.now.table.shared.table_id) × (stages.new.processor.seat.seat.table_id ≡ rings.now.table.shared.table_id) × (stages.new.marshaller.seat.seat.table_id ≡ rings.now.table.shared.table_id) }
+    requires stages { stages.old.processor.seat.seat.table_id ≡ rings.now.table.shared.table_id }
+    ensures stages { stages.new.processor.seat.seat.table_id ≡ rings.now.table.shared.table_id }
 {
     let [_, _, turn, _] = stages.poll(rings);
     stages.poll(rings);
@@ -47,9 +47,9 @@ fn sell<A: Abort>(
     stages: &mut Stages,
     order: &[u8],
 )
-    requires stages { (stages.old.unmarshaller.seat.seat.table_id ≡ rings.now.table.shared.table_id) × (stages.old.journaller.seat.seat.table_id ≡ rings.now.table.shared.table_id) × (stages.old.processor.seat.seat.table_id ≡ rings.now.table.shared.table_id) × (stages.old.marshaller.seat.seat.table_id ≡ rings.now.table.shared.table_id) }
+    requires stages { stages.old.processor.seat.seat.table_id ≡ rings.now.table.shared.table_id }
     requires order { (1 ≤ length order.now) × (length order.now ≤ 320) }
-    ensures stages { (stages.new.unmarshaller.seat.seat.table_id ≡ rings.now.table.shared.table_id) × (stages.new.journaller.seat.seat.table_id ≡ rings.now.table.shared.table_id) × (stages.new.processor.seat.seat.table_id ≡ rings.now.table.shared.table_id) × (stages.new.marshaller.seat.seat.table_id ≡ rings.now.table.shared.table_id) }
+    ensures stages { stages.new.processor.seat.seat.table_id ≡ rings.now.table.shared.table_id }
 {
     assert!(rt; one.publish(order).is_ok());
     assert_eq!(rt; process(rings, stages), Did(1));
@@ -64,8 +64,8 @@ fn put_two<A: Abort>(
     other: &mut Pair<'_>,
     stages: &mut Stages,
 )
-    requires stages { (stages.old.unmarshaller.seat.seat.table_id ≡ rings.now.table.shared.table_id) × (stages.old.journaller.seat.seat.table_id ≡ rings.now.table.shared.table_id) × (stages.old.processor.seat.seat.table_id ≡ rings.now.table.shared.table_id) × (stages.old.marshaller.seat.seat.table_id ≡ rings.now.table.shared.table_id) }
-    ensures stages { (stages.new.unmarshaller.seat.seat.table_id ≡ rings.now.table.shared.table_id) × (stages.new.journaller.seat.seat.table_id ≡ rings.now.table.shared.table_id) × (stages.new.processor.seat.seat.table_id ≡ rings.now.table.shared.table_id) × (stages.new.marshaller.seat.seat.table_id ≡ rings.now.table.shared.table_id) }
+    requires stages { stages.old.processor.seat.seat.table_id ≡ rings.now.table.shared.table_id }
+    ensures stages { stages.new.processor.seat.seat.table_id ≡ rings.now.table.shared.table_id }
 {
     assert_eq!(rt; process(rings, stages), OutFull);
     assert_eq!(rt; stages.processor.next_seq(), 3);
@@ -80,7 +80,7 @@ fn trade<A: Abort>(
     other: &mut Pair<'_>,
     stages: &mut Stages,
 )
-    requires stages { (stages.old.unmarshaller.seat.seat.table_id ≡ rings.now.table.shared.table_id) × (stages.old.journaller.seat.seat.table_id ≡ rings.now.table.shared.table_id) × (stages.old.processor.seat.seat.table_id ≡ rings.now.table.shared.table_id) × (stages.old.marshaller.seat.seat.table_id ≡ rings.now.table.shared.table_id) }
+    requires stages { stages.old.processor.seat.seat.table_id ≡ rings.now.table.shared.table_id }
 {
     sell(rt, rings, one, other, stages, SELL_ONE);
     sell(rt, rings, one, other, stages, SELL_TWO);

@@ -21,8 +21,8 @@ fn publish_both(
     other: &mut Pair<'_>,
     stages: &mut Stages,
 ) -> Result<Option<(u64, u64)>, ClaimRefusal>
-    requires stages { (stages.old.unmarshaller.seat.seat.table_id ≡ rings.now.table.shared.table_id) × (stages.old.journaller.seat.seat.table_id ≡ rings.now.table.shared.table_id) × (stages.old.processor.seat.seat.table_id ≡ rings.now.table.shared.table_id) × (stages.old.marshaller.seat.seat.table_id ≡ rings.now.table.shared.table_id) }
-    ensures stages { (stages.new.unmarshaller.seat.seat.table_id ≡ rings.now.table.shared.table_id) × (stages.new.journaller.seat.seat.table_id ≡ rings.now.table.shared.table_id) × (stages.new.processor.seat.seat.table_id ≡ rings.now.table.shared.table_id) × (stages.new.marshaller.seat.seat.table_id ≡ rings.now.table.shared.table_id) }
+    requires stages { stages.old.processor.seat.seat.table_id ≡ rings.now.table.shared.table_id }
+    ensures stages { stages.new.processor.seat.seat.table_id ≡ rings.now.table.shared.table_id }
 {
     let first = try_claim(one.rings, &mut one.seat)?;
     let second = match try_claim(other.rings, &mut other.seat) {
@@ -49,7 +49,7 @@ fn fill<A: Abort>(
     other: &mut Pair<'_>,
     stages: &mut Stages,
 )
-    requires stages { (stages.old.unmarshaller.seat.seat.table_id ≡ rings.now.table.shared.table_id) × (stages.old.journaller.seat.seat.table_id ≡ rings.now.table.shared.table_id) × (stages.old.processor.seat.seat.table_id ≡ rings.now.table.shared.table_id) × (stages.old.marshaller.seat.seat.table_id ≡ rings.now.table.shared.table_id) }
+    requires stages { stages.old.processor.seat.seat.table_id ≡ rings.now.table.shared.table_id }
 {
     assert_eq!(rt; publish_both(rings, one, other, stages), Ok(Some((0, 1))));
     assert_eq!(rt; one.publish(FIRST_BUY), Err(ClaimRefusal::Full));

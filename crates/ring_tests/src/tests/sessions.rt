@@ -94,8 +94,8 @@ fn serve(
 ) -> Option<Reason>
     requires live { gateway.old.front.live ≡ true }
     requires table { gateway.old.seat.seat.table_id ≡ rings.now.table.shared.table_id }
-    requires stages { (stages.old.unmarshaller.seat.seat.table_id ≡ rings.now.table.shared.table_id) × (stages.old.journaller.seat.seat.table_id ≡ rings.now.table.shared.table_id) × (stages.old.processor.seat.seat.table_id ≡ rings.now.table.shared.table_id) × (stages.old.marshaller.seat.seat.table_id ≡ rings.now.table.shared.table_id) }
-    ensures stages { (stages.new.unmarshaller.seat.seat.table_id ≡ rings.now.table.shared.table_id) × (stages.new.journaller.seat.seat.table_id ≡ rings.now.table.shared.table_id) × (stages.new.processor.seat.seat.table_id ≡ rings.now.table.shared.table_id) × (stages.new.marshaller.seat.seat.table_id ≡ rings.now.table.shared.table_id) }
+    requires stages { stages.old.processor.seat.seat.table_id ≡ rings.now.table.shared.table_id }
+    ensures stages { stages.new.processor.seat.seat.table_id ≡ rings.now.table.shared.table_id }
     ensures table { gateway.new.seat.seat.table_id ≡ rings.now.table.shared.table_id }
     ensures over { IsSome result → gateway.new.front.live ≡ false }
     ensures alive { result ≡ None → gateway.new.front.live ≡ true }

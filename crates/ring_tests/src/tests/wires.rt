@@ -1,69 +1,9 @@
-//! What a session meets at a wire: a reader and a writer that fail, and each setting of the wire in memory.
+//! What a session meets at standard input and output: a reader and a writer that do less than they are asked for, or fail.
 ghost use Rattle.std.specs.Prelude.{◌≤◌, IfOk};
 
-use gateway::{MemWire, StdWire, TryRead, TryWrite, Wire};
+use gateway::{StdWire, TryRead, TryWrite, Wire};
 use std::io;
 use std::io::{ErrorKind, Read, Write};
-use std::test::Fail;
-
-/// Reads until the wire answers something else than `Got`, and gives the counts and that answer.
-fn read_out<W: Wire>(wire: &mut W, counts: &mut Vec<usize>) -> Result<TryRead, Fail> {
-    let mut buf = [0; 64];
-    for _ in 0..100 {
-        match wire.try_read(&mut buf) {
-            TryRead::Got(count) => counts.push(count)?,
-            answer => return Ok(answer),
-        }
-    }
-    Ok(TryRead::Nothing)
-}
-
-#[test]
-fn gives_its_input(rt: HostRuntime) -> Result<(), Fail> {
-    let input = [b'x'; 130];
-    let cases: [(usize, bool, &[usize], TryRead); 4] = [
-        (usize::MAX, true, &[64, 64, 2], TryRead::End),
-        (60, true, &[60, 60, 10], TryRead::End),
-        (65, true, &[64, 64, 2], TryRead::End),
-        (100, false, &[64, 64, 2], TryRead::Nothing),
-    ];
-    for (piece, ends, counts, answer) in cases {
-        let mut wire = MemWire::new(rt.alloc(), &input)?.in_pieces(piece);
-        if !ends {
-            wire = wire.staying_open();
-        }
-        let mut got = Vec::new(rt.alloc());
-        assert_eq!(rt;
-            read_out(&mut wire, &mut got)?,
-            answer,
-            "in pieces of {piece}"
-        );
-        assert_eq!(rt; got.as_slice(), counts, "in pieces of {piece}");
-        assert_eq!(rt; wire.given(), input.as_slice());
-        assert_eq!(rt; wire.nothings().reads, if ends { 0 } else { 1 });
-    }
-    Ok(())
-}
-
-#[test]
-fn takes_what_it_was_set_to(rt: HostRuntime) -> Result<(), Fail> {
-    let mut open = MemWire::new(rt.alloc(), b"")?;
-    assert_eq!(rt; open.try_write(b"abc"), TryWrite::Put(3));
-    assert_eq!(rt; open.try_write(b"d"), TryWrite::Put(1));
-    assert_eq!(rt; open.taken(), b"abcd".as_slice());
-
-    let mut full = MemWire::new(rt.alloc(), b"")?.full_after(2);
-    assert_eq!(rt; full.try_write(b"abc"), TryWrite::Put(2));
-    assert_eq!(rt; full.try_write(b"c"), TryWrite::Nothing);
-    assert_eq!(rt; (full.nothings().writes, full.failures()), (1, 0));
-
-    let mut broken = MemWire::new(rt.alloc(), b"")?.breaking_after(2);
-    assert_eq!(rt; broken.try_write(b"abc"), TryWrite::Put(2));
-    assert_eq!(rt; broken.try_write(b"c"), TryWrite::Failed);
-    assert_eq!(rt; (broken.nothings().writes, broken.failures()), (0, 1));
-    assert_eq!(rt; broken.taken(), b"ab".as_slice());
-    Ok(())
-}
 
 /// A reader and a writer that go through a script: each read, write and flush takes the next step.
 #[derive(Drop)]

@@ -25,13 +25,13 @@ close-requires g c =
     let both_are = subst (λ seats. AreSpent table seats) (sym c.in_ok-push-2.ensures.items) (one_more (λ k s. IsSpent table k s) with_one.items other one_is met_other) in (
       omega arith,
       (
-        ap (λ s. s.seat.table_id) c.end.ensures.process ∙ c.in-Some-run.ensures.processes,
+        ap (λ s. s.seat.table_id) c.end.ensures.process ∙ c.in-Some-run.ensures.rings,
         (
-          ap (λ s. s.seat.table_id) c.end.ensures.unmarshal ∙ c.in-Some-run.ensures.unmarshals,
+          ap (λ s. s.seat.table_id) c.end.ensures.unmarshal ∙ c.in-Some-run.stages.unmarshals ∙ c.in-Some-run.ensures.rings,
           (
-            ap (λ s. s.seat.table_id) c.end.ensures.journal ∙ c.in-Some-run.ensures.journals,
+            ap (λ s. s.seat.table_id) c.end.ensures.journal ∙ c.in-Some-run.stages.journals ∙ c.in-Some-run.ensures.rings,
             (
-              ap (λ s. s.seat.table_id) c.end.ensures.marshal ∙ c.in-Some-run.ensures.marshals,
+              ap (λ s. s.seat.table_id) c.end.ensures.marshal ∙ c.in-Some-run.stages.marshals ∙ c.in-Some-run.ensures.rings,
               (
                 subst (λ seats. AreSpent table seats) (sym (ap (λ v. v.items) c.end.ensures.gateways)) both_are,
                 omega (arith, ap (λ v. v.len) c.end.ensures.gateways, c.in_ok-push.ensures.len, c.in_ok-push-2.ensures.len, c.in-Some.ensures.count, c.in-Some-next_member.ensures.count, c.in_ok-rings.ensures.count, ap (λ v. v.len) c.in_ok-stages.ensures.gateways),

@@ -4,8 +4,5 @@ use Rattle.ring_tests.proofs.tests.gateways_meet.process.Given as goal
 
 abbrev pub invariant-loop : goal.invariant-loop
 invariant-loop g l = record {
-  unmarshals : l.stages.unmarshaller.seat.seat.table_id ≡ l.fn.rings.table.shared.table_id;
-  journals : l.stages.journaller.seat.seat.table_id ≡ l.fn.rings.table.shared.table_id;
   processes : l.stages.processor.seat.seat.table_id ≡ l.fn.rings.table.shared.table_id;
-  marshals : l.stages.marshaller.seat.seat.table_id ≡ l.fn.rings.table.shared.table_id;
 }

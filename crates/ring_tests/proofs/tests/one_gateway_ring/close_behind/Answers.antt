@@ -11,7 +11,7 @@ meet_journal-requires c =
       omega arith,
       (
         (c.take-taken.ensures table _ (c.publish.ensures table _ c.in-Some.ensures.member)).at,
-        ap (λ s. s.seat.table_id) c.end-seats.ensures.journal ∙ c.poll-turns.ensures.journals,
+        ap (λ s. s.seat.table_id) c.end-seats.ensures.journal ∙ c.poll-turns.new.self.journals ∙ c.poll-turns.ensures,
       ),
     )
 
@@ -26,13 +26,13 @@ close-requires c =
     let back = c.in_ok-push.ensures.items ∙ ap (λ l. l ++ c.meet_journal.new.gateway ∷ []) (ap (λ v. v.items) c.end-seats.ensures.gateways) in (
       omega arith,
       (
-        ap (λ s. s.seat.table_id) c.end-seats.ensures.process ∙ c.poll-turns.ensures.processes,
+        ap (λ s. s.seat.table_id) c.end-seats.ensures.process ∙ c.poll-turns.ensures,
         (
-          ap (λ s. s.seat.table_id) c.end-seats.ensures.unmarshal ∙ c.poll-turns.ensures.unmarshals,
+          ap (λ s. s.seat.table_id) c.end-seats.ensures.unmarshal ∙ c.poll-turns.new.self.unmarshals ∙ c.poll-turns.ensures,
           (
-            c.meet_journal.ensures.tables.1 ∙ ap (λ s. s.seat.table_id) c.end-seats.ensures.journal ∙ c.poll-turns.ensures.journals,
+            c.meet_journal.ensures.tables.1 ∙ ap (λ s. s.seat.table_id) c.end-seats.ensures.journal ∙ c.poll-turns.new.self.journals ∙ c.poll-turns.ensures,
             (
-              ap (λ s. s.seat.table_id) c.end-seats.ensures.marshal ∙ c.poll-turns.ensures.marshals,
+              ap (λ s. s.seat.table_id) c.end-seats.ensures.marshal ∙ c.poll-turns.new.self.marshals ∙ c.poll-turns.ensures,
               (
                 subst (λ seats. AreSpent table seats) (sym back) (one_more (λ k s. IsSpent table k s) _ _ c.in-Some.ensures.left last),
                 omega (arith, c.in_ok-push.ensures.len, ap (λ v. v.len) c.end-seats.ensures.gateways, c.in-Some.ensures.count, c.in_ok-rings.ensures.count, ap (λ v. v.len) c.in_ok-stages.ensures.gateways),

@@ -1,4 +1,4 @@
--- the session lives, and all are at these rings
+-- the session lives, and it and the stages are at these rings
 use Rattle.std.specs.Prelude.{◌≡◌, true}
 use Rattle.ring_tests.proofs.tests.sessions.serve.Given as goal
 
@@ -6,8 +6,5 @@ abbrev pub invariant-loop : goal.invariant-loop
 invariant-loop l = record {
   live : l.gateway.front.live ≡ true;
   table : l.gateway.seat.seat.table_id ≡ l.fn.rings.table.shared.table_id;
-  unmarshals : l.stages.unmarshaller.seat.seat.table_id ≡ l.fn.rings.table.shared.table_id;
-  journals : l.stages.journaller.seat.seat.table_id ≡ l.fn.rings.table.shared.table_id;
   processes : l.stages.processor.seat.seat.table_id ≡ l.fn.rings.table.shared.table_id;
-  marshals : l.stages.marshaller.seat.seat.table_id ≡ l.fn.rings.table.shared.table_id;
 }
