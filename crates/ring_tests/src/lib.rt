@@ -1,5 +1,5 @@
-//! Tests of both rings and all stages together, as several gateways use them: requests in FIX go in by the gateways' seats, and the
-//! literal bodies of reports come out. This crate holds nothing else; the venue's own program has tests of whole sessions.
+//! Tests of rings, stages and gateways together, where what they show is no byte of one client's session: small rings, threads,
+//! gateways that meet, the end of the rings, and readers that fail. This crate holds nothing else; whole sessions are played files.
 #![tactic(auto)]
 
 #[cfg(test)]
