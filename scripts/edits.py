@@ -419,8 +419,13 @@ def names_of(crate, edit):
 
 def drawn(chosen):
     """The edits in an order that the commit decides: crate by crate, since a crate's first check takes longest."""
-    head = subprocess.run(["git", "rev-parse", "HEAD"], cwd=ROOT, stdout=subprocess.PIPE, text=True, check=True)
-    place = lambda *names: hashlib.sha256("/".join([head.stdout.strip(), *names]).encode()).digest()
+    try:
+        words = {"stdout": subprocess.PIPE, "stderr": subprocess.DEVNULL, "text": True}
+        head = subprocess.run(["git", "rev-parse", "HEAD"], cwd=ROOT, **words).stdout.strip()
+    except OSError:
+        head = ""
+    # (a copy without its history has one order, always the same)
+    place = lambda *names: hashlib.sha256("/".join([head, *names]).encode()).digest()
     order = sorted(chosen, key=lambda crate: place(crate.name))
     return {crate: sorted(chosen[crate], key=lambda edit: place(crate.name, edit.name)) for crate in order}
 
