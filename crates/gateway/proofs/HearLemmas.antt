@@ -1,5 +1,5 @@
 -- What the parts that hear come to.
-use Rattle.std.proofs.Common.{◌≡◌, ◌≢◌, ◌⊎◌, inl, inr, ℕ, zero, suc, ◌+◌, ◌≤◌, false, List, [], ◌∷◌, ◌++◌, length, take, drop, refl, ap, sym, subst, ◌∙◌, arith, append-nil, take-append-drop, Option, Some, None, is_some}
+use Rattle.std.proofs.Common.{◌≡◌, ◌≢◌, ◌⊎◌, inl, inr, ℕ, zero, suc, ◌+◌, ◌≤◌, Bool, false, List, [], ◌∷◌, ◌++◌, length, take, drop, refl, ap, sym, subst, ◌∙◌, arith, append-nil, take-append-drop, Option, Some, None, is_some}
 use Rattle.fix_orders.specs.Text.{Said}
 use Rattle.ring_words.specs.declared.view.Load.{Load}
 use Rattle.gateway.specs.declared.ending.Reason.TheVariants as reason
@@ -12,7 +12,7 @@ use Rattle.gateway.specs.Ledgers.{Ledger, loading}
 use Rattle.gateway.specs.Verdict.{Verdict, Welcome, Beat, Hold, Pass, Leave, Refuse, verdict}
 use Rattle.gateway.specs.Session.{Standing, At}
 use Rattle.gateway.specs.Moves.{heard}
-use Rattle.gateway.specs.Turns.{Front, Moved, nothing_moved, Moves, Counts, farewell}
+use Rattle.gateway.specs.Turns.{Front, Moved, nothing_moved, Moves, Counts, ClosesBy, farewell}
 use Rattle.gateway.specs.Parts.{Tries, Listens, Unheard, HeardFrame, HeardFault}
 use Rattle.gateway.specs.HeardOf.{heard_of}
 use Rattle.gateway.specs.Gateways.{Hears, HeardSo, Reads, ReadSo}
@@ -46,6 +46,9 @@ module _ (old new : Front) (desk desk' : Ledger) (is_open : old.session.closing 
   others_full = others ∙ ap (λ w. record old { session = new.session; waiting = w }) (sym waiting_stays)
       ∙ ap (λ c. record old { session = new.session; waiting = new.waiting; closed = c }) (sym (ap (λ (f : Front). f.closed) others))
 
+  unclosed : (wire : Told) → ClosesBy old.closed new.closed wire.ends wire.ends
+  unclosed wire = inl (ap (λ (f : Front). f.closed) others, refl)
+
   -- the message held went to the desk
   pub publish-hears : (answer : TryPublish) → Tries old.session new.session desk desk' answer →
       (wire : Told) → Hears old new wire wire desk desk' (heard_of answer)
@@ -72,6 +75,8 @@ module _ (old new : Front) (desk desk' : Ledger) (is_open : old.session.closing 
     room = room_left;
     next = let number : new.session.number ≡ old.session.number = ap (λ (s : Standing). s.number) tries.settles in omega arith;
     lost = λ is. absurd (let stays = ap (λ (s : Standing). s.closing) tries.settles in cc);
+    closes = unclosed wire;
+    alive = λ other. refl;
     so = λ same. let none = ap (λ (m : Moved). m.messages) same in cc;
   }
   publish-hears Refused tries wire = record {
@@ -93,6 +98,8 @@ module _ (old new : Front) (desk desk' : Ledger) (is_open : old.session.closing 
     room = room_left;
     next = let number : new.session.number ≡ old.session.number = ap (λ (s : Standing). s.number) tries.settles in omega arith;
     lost = λ is. absurd (let stays = ap (λ (s : Standing). s.closing) tries.settles in cc);
+    closes = unclosed wire;
+    alive = λ other. refl;
     so = (refl, inl (held_is_some old.session tries.message tries.holds, (tries.tells.0, inl tries.tells.1, [], all_loads desk desk' tries.tells.0 (ap (λ (l : Ledger). l.loads) tries.tells.2))));
   }
   publish-hears Exhausted tries wire = record {
@@ -120,6 +127,8 @@ module _ (old new : Front) (desk desk' : Ledger) (is_open : old.session.closing 
     next = let number : new.session.number ≡ old.session.number + 1 = ap (λ (s : Standing). s.number) tries.settles in omega arith;
     lost = λ is.
         (held_is_some old.session tries.message tries.holds, (tries.tells.0, tries.tells.1, [], all_loads desk desk' tries.tells.0 (ap (λ (l : Ledger). l.loads) tries.tells.2)));
+    closes = unclosed wire;
+    alive = λ other. refl;
     so = (refl, inl (held_is_some old.session tries.message tries.holds, (tries.tells.0, inr tries.tells.1, [], all_loads desk desk' tries.tells.0 (ap (λ (l : Ledger). l.loads) tries.tells.2))));
   }
 
@@ -245,15 +254,17 @@ module _ (old mid : Front) (wire wire' : Told) (desk : Ledger) (is_open : old.se
     room = let none : length mid.session.outgoing ≡ 0 = ap (λ (s : Standing). length s.outgoing) session_stays ∙ ap length silent in omega arith;
     next = let number : mid.session.number ≡ old.session.number = ap (λ (s : Standing). s.number) session_stays in omega arith;
     lost = λ is. absurd (let stays = ap (λ (s : Standing). s.closing) session_stays in cc);
+    closes = reads.closes;
+    alive = reads.alive;
     so = read-so answer reads.so why;
   }
 
   -- what was read is fed
-  pub feed-hears : (new : Front) (n : ℕ) → Listens mid.session new.session mid.waiting n →
+  pub feed-hears : answer ≢ Failed → (new : Front) (n : ℕ) → Listens mid.session new.session mid.waiting n →
       new ≡ record mid { session = new.session; waiting = new.waiting } → new.waiting ≡ drop n mid.waiting →
       length new.session.outgoing ≤ length mid.session.outgoing + 412 →
       Hears old new wire wire' desk desk Something
-  feed-hears new n listens others rest room =
+  feed-hears alive new n listens others rest room =
       let fed = fed-so old.session new.session (take n mid.waiting) is_open free
       (subst (λ (s : Standing). (Unheard s new.session (take n mid.waiting) ⊎ HeardFrame s new.session (take n mid.waiting)) ⊎ HeardFault s new.session (take n mid.waiting)) session_stays listens.hears) in
       record {
@@ -278,17 +289,19 @@ module _ (old mid : Front) (wire wire' : Told) (desk : Ledger) (is_open : old.se
         room = let none : length mid.session.outgoing ≡ 0 = ap (λ (s : Standing). length s.outgoing) session_stays ∙ ap length silent in omega arith;
         next = fed.next;
         lost = λ is. absurd (fed.unlost is);
+        closes = subst (λ (c : Bool). ClosesBy old.closed c wire.ends wire'.ends) (sym (ap (λ (f : Front). f.closed) others)) reads.closes;
+        alive = λ other. reads.alive alive;
         so = λ same. front_is_some mid.waiting n listens.some listens.within (ap (λ (m : Moved). m.fed) same);
       }
 
   -- the same, as the code hands on what was read
-  pub fed-hears : (piece : List ℕ) (new : Front) (n : ℕ) → piece ≡ mid.waiting →
+  pub fed-hears : answer ≢ Failed → (piece : List ℕ) (new : Front) (n : ℕ) → piece ≡ mid.waiting →
       Listens mid.session new.session piece n →
       new ≡ record mid { session = new.session; waiting = new.waiting } → new.waiting ≡ drop n mid.waiting →
       length new.session.outgoing ≤ length mid.session.outgoing + 412 →
       Hears old new wire wire' desk desk Something
-  fed-hears piece new n piece_is listens =
-      feed-hears new n (subst (λ p. Listens mid.session new.session p n) piece_is listens)
+  fed-hears alive piece new n piece_is listens =
+      feed-hears alive new n (subst (λ p. Listens mid.session new.session p n) piece_is listens)
 
 -- what is not there is nothing
 pub is_free : {A : Type 0} (held : Option A) → is_some held ≡ false → held ≡ None

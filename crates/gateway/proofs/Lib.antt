@@ -20,3 +20,4 @@ pub mod OutputSymbols
 pub mod Carried
 pub mod TakenLemmas
 pub mod SeatLemmas
+pub mod DeliversLemmas

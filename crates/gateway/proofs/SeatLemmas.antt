@@ -22,14 +22,15 @@ use Rattle.gateway.proofs.Carried.{carried}
 use Rattle.gateway.proofs.OutputSymbols.{tells_spelled}
 use Rattle.gateway.proofs.TakenLemmas.{taken_mine, taken_other, still_within, still_small}
 
--- a holder who has seen and taken as much knows as much
-knows_still : (v : View Symbols) (q : Person) → q.own ≡ (person v).own → q.seen ≡ (person v).seen → KnowsOutputs v → KnowsOutputs (alone v q)
-knows_still v q own seen knows = record {
+-- a holder who has seen and taken as much, and has no claim left, knows as much
+knows_still : (v : View Symbols) (q : Person) → q.own ≡ (person v).own → q.seen ≡ (person v).seen → q.claims ≡ [] → KnowsOutputs v → KnowsOutputs (alone v q)
+knows_still v q own seen spent knows = record {
   logic = knows.logic;
   from = subst (λ (n : ℕ). given v ≤ n) (sym own) knows.from;
   few = subst (λ (n : ℕ). n ≤ 2 ^ 62) (sym own) knows.few;
   to = subst (λ (n : ℕ). n ≤ length (outputs_of (symbols_of v) q.seen)) (sym own)
       (subst (λ (h : List Message). (person v).own ≤ length (outputs_of (symbols_of v) h)) (sym seen) knows.to);
+  spent = spent;
 }
 
 -- the clause of a call that took an output or passed it over
@@ -67,6 +68,7 @@ module _ (n k : ℕ) (v w : View Symbols) (knows : KnowsOutputs v) (o : Output) 
         from = omega (arith, from, own);
         to = still_within k (symbols_of v) v.base t.history (person v) (person w) o (length v.base) t.takes t.next;
         few = let most = small in omega (arith, most, own);
+        spent = ap (λ (p : Person). p.claims) t.takes.taken ∙ knows.spent;
       })
 
   -- the ledger with one output more, of these texts
@@ -92,7 +94,7 @@ module _ (n k : ℕ) (v w : View Symbols) (knows : KnowsOutputs v) where
   pub looks_keeps : (take : Take) (body : List ℕ) → Looks k v w body take → KnowsOutputs w
   looks_keeps (Mine head) body (o, t, is, carries) = taken_keeps n k v w knows o t
   looks_keeps Passed body (o, t, other) = taken_keeps n k v w knows o t
-  looks_keeps Nothing body is = subst KnowsOutputs (sym is) (knows_still v _ refl refl knows)
+  looks_keeps Nothing body is = subst KnowsOutputs (sym is) (knows_still v _ refl refl knows.spent knows)
 
   pub looks_tells : (take : Take) (body : List ℕ) → Looks k v w body take → TakeTells (ledger_at n k v) (ledger_at n k w) body take
   looks_tells (Mine head) body (o, t, is, carries) =

@@ -1,5 +1,5 @@
 -- Where a session stands after each thing that a turn may do.
-use Rattle.std.proofs.Common.{◌≡◌, inl, inr, ℕ, ◌+◌, zero-add, Bool, true, false, List, [], ◌∷◌, ◌++◌, length, refl, ap, sym, subst, ◌∙◌, arith, append_assoc, append-nil, Option, Some, None, is_some}
+use Rattle.std.proofs.Common.{◌≡◌, ◌≢◌, inl, inr, ℕ, ◌+◌, zero-add, Bool, true, false, List, [], ◌∷◌, ◌++◌, length, refl, ap, sym, subst, ◌∙◌, arith, append_assoc, append-nil, Option, Some, None, is_some}
 use Rattle.std.specs.List.{flat_map, list_all}
 use Rattle.fix_frame.specs.Grammar.{Field, IsBody, frame_text, most_in}
 use Rattle.fix_frame.specs.Stream.{BeginsNoFrame, Faults}
@@ -96,10 +96,10 @@ module _ (s : Standing) (input : List ℕ) (messages : List (List ℕ)) (outs : 
 
   -- the session closes with a Logout, for what it has heard last
   module _ (o : Open s input messages outs written) (free : s.held ≡ None) where
-    at-ended : (reason : Reason) (j : Judgement) (text bytes left : List ℕ) → replies_of j ≡ Logout j.time text ∷ [] →
+    at-ended : (reason : Reason) → reason ≢ Exhausted → (j : Judgement) (text bytes left : List ℕ) → replies_of j ≡ Logout j.time text ∷ [] →
         Ending s.gateway (length o.frames) (last_time no_time o.frames) (judged s.gateway 0 no_time o.frames) (s.under_way ++ bytes) left (Some reason) (j ∷ []) →
         At (closing_by reason j.time text (record s { under_way = left })) (input ++ bytes) messages outs written
-    at-ended reason j text bytes left says ending =
+    at-ended reason other j text bytes left says ending =
         let js = judged s.gateway 0 no_time o.frames in
         let published : messages ≡ flat_map held_of js = subst (λ (h : Option (List ℕ)). Held h None messages js) free o.held in
         let replies_are : flat_map replies_of (js ++ j ∷ []) ≡ flat_map replies_of js ++ Logout j.time text ∷ [] =
@@ -117,7 +117,7 @@ module _ (s : Standing) (input : List ℕ) (messages : List (List ℕ)) (outs : 
           spoken = subst (λ rs. Spoken s.gateway (s.number + 1) s.logged_on true (written ++ (s.outgoing ++ message_text s.gateway s.number (said_by (Logout j.time text)))) rs outs) (sym replies_are)
               (subst (λ (b : List ℕ). Spoken s.gateway (s.number + 1) s.logged_on true b (flat_map replies_of js ++ Logout j.time text ∷ []) outs)
               (append_assoc written s.outgoing (message_text s.gateway s.number (said_by (Logout j.time text)))) (spoken-logout o.spoken j.time text));
-          held = subst (λ (h : Option (List ℕ)). Held h (Some reason) messages js) (sym free) (inl published);
+          held = subst (λ (h : Option (List ℕ)). Held h (Some reason) messages js) (sym free) (inl (other, published));
           accepted = o.accepted;
           time = o.time;
         }
@@ -126,7 +126,7 @@ module _ (s : Standing) (input : List ℕ) (messages : List (List ℕ)) (outs : 
     pub at-faulted : (bytes left : List ℕ) (at : ℕ) (fault : FrameFault) → Faults (s.under_way ++ bytes) at fault →
         At (refusing s.time (refusal.Frame fault) (record s { under_way = left })) (input ++ bytes) messages outs written
     at-faulted bytes left at fault faults =
-        at-ended Refused (fault_judgement s.time fault) (refusal_text (refusal.Frame fault)) bytes left refl
+        at-ended Refused (λ is. cc) (fault_judgement s.time fault) (refusal_text (refusal.Frame fault)) bytes left refl
         (fault_judgement s.time fault, inr (fault, at, faults, ap (λ t. fault_judgement t fault) o.time), refl, (λ h. cc), refl)
 
     -- a frame ends what was fed
@@ -227,10 +227,10 @@ module _ (s : Standing) (input : List ℕ) (messages : List (List ℕ)) (outs : 
           (ap goes_on e) (silent (ap (replies_by (time_after s.time frame)) e))
           (not_held (ap (held_by (frame_text frame)) e)) is_open
       at-heard Leave e is_open =
-          at-ended LoggedOut the_judgement [] bytes [] (ap (replies_by (time_after s.time frame)) e)
+          at-ended LoggedOut (λ is. cc) the_judgement [] bytes [] (ap (replies_by (time_after s.time frame)) e)
           (the_judgement, (frame, [], body, ends_here, j_is), e, refl)
       at-heard (Refuse r) e is_open =
-          at-ended Refused the_judgement (refusal_text r) bytes [] (ap (replies_by (time_after s.time frame)) e)
+          at-ended Refused (λ is. cc) the_judgement (refusal_text r) bytes [] (ap (replies_by (time_after s.time frame)) e)
           (the_judgement, inl (frame, [], body, ends_here, j_is), ap goes_on e, (λ leaves. cc), refl)
 
 -- the last judgement has the time of the last right header

@@ -18,7 +18,7 @@ use Rattle.gateway.specs.Ledgers.{Ledger, loading}
 use Rattle.gateway.specs.Flushing.{Flushes}
 use Rattle.gateway.specs.Session.{Standing}
 use Rattle.gateway.specs.Sessions.{ClosesItself}
-use Rattle.gateway.specs.Turns.{Front, Moved, nothing_moved, Step, Takes, WasRefused, WasExhausted, FoundNone, IsQuiet, GoesOn, EndedBy, Means, CountsTurns, Turn, Counts, GoesWith}
+use Rattle.gateway.specs.Turns.{Front, Moved, nothing_moved, Step, Takes, WasRefused, WasExhausted, FoundNone, ClosesBy, Silence, Hearing, IsQuiet, GoesOn, EndedBy, Means, CountsTurns, Attends, Turn, Counts, GoesWith}
 use Rattle.gateway.specs.Gateways.{Hears, HeardSo, HandsOn, TookSo, Waits, Rests, RestsSo, Stuck, StuckSo}
 use Rattle.gateway.proofs.StepLemmas.{both, step-then, flush-step}
 use Rattle.gateway.proofs.WireLemmas.{grown-nil}
@@ -52,20 +52,37 @@ wrote_none stood (b ∷ put) rest split wrote =
     let most : length stood ≤ length rest = ltb-false _ _ wrote in
     absurd (omega arith)
 
+-- all was written only if nothing is left
+no_rest : (put rest : List ℕ) → put ≡ put ++ rest → rest ≡ []
+no_rest [] rest e = sym e
+no_rest (b ∷ put) rest e = no_rest put rest cc
+
+-- a session that has ended needn't attend to anything
+over-attends : (old new : Front) (wire wire' : Told) (desk desk' : Ledger) (m : Moved) → new.live ≡ false → Attends old new wire wire' desk desk' m
+over-attends old new wire wire' desk desk' m over = record {
+  listens = λ live. absurd (true≢false (sym live ∙ over));
+  looks = λ live. absurd (true≢false (sym live ∙ over));
+}
+
 -- Bytes went out, or none could; the gateway ends or goes on without hearing.
 module _ (old : Front) (session : Standing) (wire wire' : Told) (desk : Ledger) (put : List ℕ)
     (split : old.session.outgoing ≡ put ++ session.outgoing)
     (session_is : session ≡ record old.session { outgoing = session.outgoing })
-    (gave : wire'.gave ≡ wire.gave) (took : wire'.took ≡ grown wire.took put) (deaf : ℕ) (live : Bool) where
-  flushed-turn : (answer : Turned) → Means old (record old { session = session; deaf = deaf; live = live }) wire wire' desk desk (record nothing_moved { put = put }) answer →
+    (gave : wire'.gave ≡ wire.gave) (took : wire'.took ≡ grown wire.took put) (ends : wire'.ends ≡ wire.ends) (deaf : ℕ) (live : Bool) where
+  flushed-turn : (answer : Turned) → (wire'.failures ≢ wire.failures → answer ≡ Ended WireFailed) →
+      Attends old (record old { session = session; deaf = deaf; live = live }) wire wire' desk desk (record nothing_moved { put = put }) →
+      Means old (record old { session = session; deaf = deaf; live = live }) wire wire' desk desk (record nothing_moved { put = put }) answer →
       CountsTurns old (record old { session = session; deaf = deaf; live = live }) wire wire' desk desk (record nothing_moved { put = put }) →
       Turn old (record old { session = session; deaf = deaf; live = live }) wire wire' desk desk answer
-  flushed-turn answer means counts = record {
+  flushed-turn answer fails attends means counts = record {
     moved = record nothing_moved { put = put };
     step = flush-step old.session session old.waiting put wire wire' desk split session_is gave took;
     takes = no_takes session.logged_on old (record old { session = session; deaf = deaf; live = live }) desk desk refl refl;
     means = means;
     counts = counts;
+    attends = attends;
+    closes = inl (refl, ends);
+    fails = fails;
     lost = λ is_open is. absurd (let stays = ap (λ (s : Standing). s.closing) session_is in cc);
   }
 
@@ -90,8 +107,8 @@ pub turn-failed : (old : Front) (session : Standing) (wire wire' : Told) (desk :
     Flushes old.session.outgoing session.outgoing wire wire' flushed.Failed →
     Turn old (record old { session = session; live = false }) wire wire' desk desk (Ended WireFailed)
 turn-failed old session wire wire' desk session_is (put, split, (rose, tells)) =
-    flushed-turn old session wire wire' desk put split session_is (ap (λ (t : Told). t.gave) tells) (ap (λ (t : Told). t.took) tells)
-    old.deaf false (Ended WireFailed) (rose, refl)
+    flushed-turn old session wire wire' desk put split session_is (ap (λ (t : Told). t.gave) tells) (ap (λ (t : Told). t.took) tells) (ap (λ (t : Told). t.ends) tells)
+    old.deaf false (Ended WireFailed) (λ more. refl) (over-attends old (record old { session = session; live = false }) wire wire' desk desk (record nothing_moved { put = put }) refl) (rose, refl)
     (over-counts old (record old { session = session; live = false }) wire wire' desk desk (record nothing_moved { put = put }) refl (inr refl) refl)
 
 -- the wire took no more in the flush
@@ -161,8 +178,10 @@ pub turn-stuck : (old : Front) (session : Standing) (new : Front) (wire wire' : 
 turn-stuck old session new wire wire' desk wrote answer session_is live (put, split, (left, rose, tells)) wrote_is stuck =
     let end = record old { session = session; deaf = new.deaf; live = new.live } in
     subst (λ (f : Front). Turn old f wire wire' desk desk answer) (sym stuck.others)
-    (flushed-turn old session wire wire' desk put split session_is (ap (λ (t : Told). t.gave) tells) (ap (λ (t : Told). t.took) tells)
-    new.deaf new.live answer (stuck-means old end wire wire' desk put wrote answer split left live wrote_is rose (stuck-so old session new wrote answer stuck))
+    (flushed-turn old session wire wire' desk put split session_is (ap (λ (t : Told). t.gave) tells) (ap (λ (t : Told). t.took) tells) (ap (λ (t : Told). t.ends) tells)
+    new.deaf new.live answer (λ more. absurd (more (ap (λ (t : Told). t.failures) tells)))
+    (record { listens = λ lives all. absurd (left (no_rest put session.outgoing (all ∙ split))); looks = λ lives all. absurd (left (no_rest put session.outgoing (all ∙ split))) })
+    (stuck-means old end wire wire' desk put wrote answer split left live wrote_is rose (stuck-so old session new wrote answer stuck))
     (stuck-counts old end wire wire' desk put wrote answer split left refl wrote_is rose (stuck-so old session new wrote answer stuck)))
 
 -- the session was closing, and all is written
@@ -181,9 +200,15 @@ pub turn-closed : (old : Front) (session : Standing) (wire wire' : Told) (desk :
     ClosesItself reason → session.closing ≡ Some reason →
     Turn old (record old { session = session; deaf = 0; live = false }) wire wire' desk desk (Ended reason)
 turn-closed old session wire wire' desk reason session_is (put, split, (none, tells)) own closing =
-    flushed-turn old session wire wire' desk put split session_is (ap (λ (t : Told). t.gave) tells) (ap (λ (t : Told). t.took) tells)
-    0 false (Ended reason) (closed-by (record old { session = session; deaf = 0; live = false }) wire wire' reason own closing none, refl)
+    flushed-turn old session wire wire' desk put split session_is (ap (λ (t : Told). t.gave) tells) (ap (λ (t : Told). t.took) tells) (ap (λ (t : Told). t.ends) tells)
+    0 false (Ended reason) (λ more. absurd (more (ap (λ (t : Told). t.failures) tells)))
+    (over-attends old (record old { session = session; deaf = 0; live = false }) wire wire' desk desk (record nothing_moved { put = put }) refl) (closed-by (record old { session = session; deaf = 0; live = false }) wire wire' reason own closing none, refl)
     (over-counts old (record old { session = session; deaf = 0; live = false }) wire wire' desk desk (record nothing_moved { put = put }) refl (inl refl) refl)
+
+-- a list is empty or it isn't
+none_or_some : {X : Type 0} (xs : List X) → (xs ≡ []) ⊎ (xs ≢ [])
+none_or_some [] = inl refl
+none_or_some (x ∷ xs) = inr (λ none. cc)
 
 -- nothing fed, read, written, published or handed on is nothing moved
 is_still : (m : Moved) → m.fed ≡ [] → m.got ≡ [] → m.put ≡ [] → m.messages ≡ [] → m.handed ≡ [] → m ≡ nothing_moved
@@ -192,6 +217,19 @@ is_still m fed got put messages handed =
     ∙ ap (λ x. record m { fed = []; got = []; put = x }) put
     ∙ ap (λ x. record m { fed = []; got = []; put = []; messages = x }) messages
     ∙ ap (λ x. record m { fed = []; got = []; put = []; messages = []; handed = x }) handed
+
+-- where something moved, and nothing was written or handed on, something was heard
+some_heard : (m : Moved) → m ≢ nothing_moved → m.put ≡ [] → m.handed ≡ [] → Hearing m
+some_heard m some put handed = elim (none_or_some m.got) [
+  | inr got ↦ inl got
+  | inl no_bytes ↦ elim (none_or_some m.fed) [
+    | inr fed ↦ inr (inl fed)
+    | inl unfed ↦ elim (none_or_some m.messages) [
+      | inr messages ↦ inr (inr messages)
+      | inl unpublished ↦ absurd (some (is_still m unfed no_bytes put unpublished handed))
+    ]
+  ]
+]
 
 -- a claim that was refused, and what was loaded behind it
 later-refused : (desk desk' desk'' : Ledger) (more : List Load) → desk''.loads ≡ desk'.loads ++ more → WasRefused desk desk' → WasRefused desk desk''
@@ -227,6 +265,10 @@ module _ (old h : Front) (session : Standing) (wire wire' wire'' : Told) (desk d
   lost_heard : h.session.closing ≡ Some Exhausted → (old.session.held ≢ None) × WasExhausted desk desk'
   lost_heard is = let lost = hears.lost is in ((λ none. lost.0 (ap (λ (s : Standing). s.held) session_is ∙ none)), lost.1)
 
+  -- the client's side closed in the read, or didn't
+  heard_closes : ClosesBy old.closed h.closed wire.ends wire''.ends
+  heard_closes = subst (λ n. ClosesBy old.closed h.closed n wire''.ends) (ap (λ (t : Told). t.ends) tells) hears.closes
+
   -- the wire failed in the read
   pub turn-unheard : answer ≡ Failed → Turn old (record h { live = false }) wire wire'' desk desk' (Ended WireFailed)
   turn-unheard failed =
@@ -238,6 +280,9 @@ module _ (old h : Front) (session : Standing) (wire wire' wire'' : Told) (desk d
             (no_takes h.session.logged_on old (record h { live = false }) desk desk' (ap (λ (l : Ledger). l.taken) hears.ledger) (ap (λ (f : Front). f.passed) hears.others));
         means = (subst (λ n. Rose n wire''.failures) (ap (λ (t : Told). t.failures) tells) rose, refl);
         counts = over-counts old (record h { live = false }) wire wire'' desk desk' heard-moved refl (inl (ap (λ (f : Front). f.deaf) hears.others)) (ap (λ (f : Front). f.idle) hears.others);
+        attends = over-attends old (record h { live = false }) wire wire'' desk desk' heard-moved refl;
+        closes = heard_closes;
+        fails = λ more. refl;
         lost = λ is_open is. lost_heard is;
       }
 
@@ -314,6 +359,25 @@ module _ (old h : Front) (session : Standing) (wire wire' wire'' : Told) (desk d
               ∙ ap (λ n. desk.loads ++ (hears.loaded ++ load_of marshalled n ∷ [])) (sym (ap (λ (l : Ledger). l.count) at_end)),
         )
 
+    -- what was heard, in the whole turn
+    hearing_all : Hearing hears.moved → Hearing all-moved
+    hearing_all (inl got) = inl (λ none. got (sym (append-nil hears.moved.got) ∙ none))
+    hearing_all (inr (inl fed)) = inr (inl (λ none. fed (sym (append-nil hears.moved.fed) ∙ none)))
+    hearing_all (inr (inr messages)) = inr (inr (λ none. messages (sym (append-nil hears.moved.messages) ∙ none)))
+
+    -- why nothing was heard, in the whole turn
+    silent_all : (end : Front) → end.waiting ≡ t.waiting → end.closed ≡ t.closed →
+        ((old.session.held ≢ None) × WasRefused desk desk')
+        ⊎ ((old.session.held ≡ None) × (h.waiting ≡ []) × (Rose wire.empty_reads wire''.empty_reads ⊎ (h.closed ≡ true))) →
+        Silence old end wire wire'' desk desk''
+    silent_all end waiting_end closed_end (inl (held, refused)) =
+        inl (held, later-refused desk desk' desk'' hands.loaded (ap (λ (l : Ledger). l.loads) hands.ledger) refused)
+    silent_all end waiting_end closed_end (inr (free, fed, why)) = inr (
+      free,
+      waiting_end ∙ ap (λ (f : Front). f.waiting) hands.others ∙ fed,
+      elim why [ inl rose ↦ inl rose | inr closed ↦ inr (closed_end ∙ ap (λ (f : Front). f.closed) hands.others ∙ closed) ],
+    )
+
     quiet-all : (end : Front) → put ≡ [] → hears.moved ≡ nothing_moved → (hands.handed ≡ []) × (t ≡ h) × (desk''.count ≡ desk'.count) × (h.session.closing ≡ None → desk'' ≡ loading desk' (load_of marshalled desk'.count ∷ [])) →
         (((old.session.held ≢ None) × WasRefused desk desk')
         ⊎ ((old.session.held ≡ None) × (h.waiting ≡ []) × (Rose wire.empty_reads wire''.empty_reads ⊎ (h.closed ≡ true)))) →
@@ -322,14 +386,7 @@ module _ (old h : Front) (session : Standing) (wire wire' wire'' : Told) (desk d
     quiet-all end written heard (handed, stays, uncounted, looked) silence session_end waiting_end closed_end = record {
       still = still_all written heard handed;
       stuck = λ stood. absurd (stood (split ∙ ap (λ p. p ++ session.outgoing) written ∙ none));
-      unheard = λ silent. elim silence [
-        | inl (held, refused) ↦ inl (held, later-refused desk desk' desk'' hands.loaded (ap (λ (l : Ledger). l.loads) hands.ledger) refused)
-        | inr (free, fed, why) ↦ inr (
-          free,
-          waiting_end ∙ ap (λ (f : Front). f.waiting) stays ∙ fed,
-          elim why [ inl rose ↦ inl rose | inr closed ↦ inr (closed_end ∙ ap (λ (f : Front). f.closed) stays ∙ closed) ],
-        )
-      ];
+      unheard = λ silent. silent_all end waiting_end closed_end silence;
       untaken = uncounted ∙ count_same;
       unhanded = λ silent is_open.
           found (handed, stays, uncounted, looked) (sym (ap (λ (s : Standing). s.closing) session_end) ∙ is_open);
@@ -391,6 +448,24 @@ module _ (old h : Front) (session : Standing) (wire wire' wire'' : Told) (desk d
           took = λ live more. let same = nothing.2 in absurd (omega (arith, more, same, count_same));
         }
 
+    -- a turn that went on behind its writes listened
+    all-listens : (end : Front) (a : Heard) → a ≢ Failed → HeardSo (record old { session = session; deaf = 0 }) h wire' wire'' desk desk' hears.moved a →
+        end.waiting ≡ t.waiting → end.closed ≡ t.closed → Hearing all-moved ⊎ Silence old end wire wire'' desk desk''
+    all-listens end Something alive so waiting_end closed_end = inl (hearing_all (some_heard hears.moved so hears.unwritten hears.unhanded))
+    all-listens end Nothing alive so waiting_end closed_end = inr (silent_all end waiting_end closed_end (heard-nothing Nothing (λ is. cc) alive so).1)
+    all-listens end Failed alive so waiting_end closed_end = absurd (alive refl)
+
+    -- and looked for an output
+    all-looks : (end : Front) (b : Bool) → TookSo h t desk' desk'' hands.handed b → t.session.closing ≡ None →
+        (desk.count < desk''.count) ⊎ FoundNone desk desk''
+    all-looks end true so is_open = inl (subst (λ n. n < desk''.count) count_same so)
+    all-looks end false so is_open = inr (found so is_open)
+
+    -- the client's side, and the failures of the wire, are as the part that hears left them
+    all_closes : (end : Front) → end.closed ≡ t.closed → ClosesBy old.closed end.closed wire.ends wire''.ends
+    all_closes end closed_end =
+        subst (λ (c : Bool). ClosesBy old.closed c wire.ends wire''.ends) (sym (closed_end ∙ ap (λ (f : Front). f.closed) hands.others)) heard_closes
+
     goes-on : (end : Front) → end.live ≡ true → old.session.closing ≡ None → GoesOn old end
     goes-on end live is_open = record { live = live; unsaid = λ closes. absurd (closes is_open) }
 
@@ -432,6 +507,12 @@ module _ (old h : Front) (session : Standing) (wire wire' wire'' : Told) (desk d
           });
           means = all-means end wrote turned wrote_is alive t_live (sym (ap (λ (s : Standing). s.closing) session_is) ∙ is_open) rests.others rests.so;
           counts = all-counts end wrote took refl wrote_is rests.others rests.waits;
+          attends = record {
+            listens = λ lives all. all-listens end answer alive hears.so (ap (λ (f : Front). f.waiting) rests.others) (ap (λ (f : Front). f.closed) rests.others);
+            looks = λ lives all still_open. all-looks end took hands.so (sym (ap (λ (s : Standing). s.closing) session_end) ∙ still_open);
+          };
+          closes = all_closes end (ap (λ (f : Front). f.closed) rests.others);
+          fails = λ more. absurd (more (hears.alive alive ∙ ap (λ (t : Told). t.failures) tells));
           lost = λ open_before is.
               let lost = lost_heard (sym hands.closing ∙ sym (ap (λ (s : Standing). s.closing) session_end) ∙ is) in
               (lost.0, later-exhausted desk desk' desk'' hands.loaded (ap (λ (l : Ledger). l.loads) hands.ledger) lost.1);

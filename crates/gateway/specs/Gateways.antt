@@ -13,7 +13,7 @@ use Rattle.ring_words.specs.declared.view.Load.{Load}
 use Rattle.ring_words.specs.Places.{marshalled}
 use Rattle.ring_words.specs.Seats.{load_of}
 use Rattle.gateway.specs.Ledgers.{Ledger, loading}
-use Rattle.gateway.specs.Turns.{Front, Moved, nothing_moved, Moves, Step, Takes, Counts, WasRefused, WasExhausted}
+use Rattle.gateway.specs.Turns.{Front, Moved, nothing_moved, Moves, Step, Takes, Counts, WasExhausted, ClosesBy, Silence}
 use Rattle.gateway.specs.Moves.{fresh}
 
 abbrev pub front : Inside → Front
@@ -44,12 +44,6 @@ begun gateway passed = record {
   live = true;
 }
 
--- why nothing was heard
-abbrev pub Silence : Front → Front → Told → Told → Ledger → Ledger → Type 0
-Silence old new wire wire_after desk desk_after =
-    ((old.session.held ≢ None) × WasRefused desk desk_after)
-    ⊎ ((old.session.held ≡ None) × (new.waiting ≡ []) × (Rose wire.empty_reads wire_after.empty_reads ⊎ (new.closed ≡ true)))
-
 -- what was heard
 abbrev pub HeardSo : Front → Front → Told → Told → Ledger → Ledger → Moved → Heard → Type 0
 HeardSo old new wire wire_after desk desk_after m Something = m ≢ nothing_moved
@@ -69,6 +63,8 @@ pub record Hears (old new : Front) (wire wire_after : Told) (desk desk_after : L
   pub room : length new.session.outgoing ≤ 512
   pub next : new.session.number ≤ old.session.number + 1
   pub lost : new.session.closing ≡ Some Exhausted → (old.session.held ≢ None) × WasExhausted desk desk_after
+  pub closes : ClosesBy old.closed new.closed wire.ends wire_after.ends
+  pub alive : answer ≢ Failed → wire_after.failures ≡ wire.failures
   pub so : HeardSo old new wire wire_after desk desk_after moved answer
 
 -- the message held was tried to publish, and the wire wasn't touched
@@ -89,6 +85,8 @@ pub record Reads (old new : Front) (wire wire_after : Told) (answer : Heard) : T
   pub waiting : new.waiting ≡ old.waiting ++ got
   pub gave : wire_after.gave ≡ grown wire.gave got
   pub took : wire_after.took ≡ wire.took
+  pub closes : ClosesBy old.closed new.closed wire.ends wire_after.ends
+  pub alive : answer ≢ Failed → wire_after.failures ≡ wire.failures
   pub so : ReadSo old new wire wire_after got answer
 
 -- an output was taken or passed over, or there was none

@@ -15,5 +15,5 @@ pub record KeepsInput (bytes : List ℕ) (start upto : ℕ) : Type 0 where
 abbrev pub Fills : List ℕ → Told → Told → TryRead → Type 0
 Fills left old new (Got n) = (1 ≤ n) × (n ≡ length left) × (new ≡ record old { gave = grown old.gave left })
 Fills left old new Nothing = (left ≡ []) × Rose old.empty_reads new.empty_reads × (new ≡ record old { empty_reads = new.empty_reads })
-Fills left old new End = (left ≡ []) × (new ≡ old)
+Fills left old new End = (left ≡ []) × Rose old.ends new.ends × (new ≡ record old { ends = new.ends })
 Fills left old new Failed = (left ≡ []) × Rose old.failures new.failures × (new ≡ record old { failures = new.failures })

@@ -19,3 +19,4 @@ pub mod Logons
 pub mod Headings
 pub mod Seats
 pub mod AtRings
+pub mod Delivers

@@ -14,10 +14,11 @@ pub record Memory : Type 0 where
   pub failures : ℕ
   pub empty_reads : ℕ
   pub full_writes : ℕ
+  pub ends : ℕ
   -- at most so many bytes a read
   pub piece : ℕ
   -- it ends behind its input, else reads answer Nothing there
-  pub ends : Bool
+  pub closes : Bool
   -- so many bytes are taken in all; from there on writes fail, or else answer Nothing
   pub room : ℕ
   pub breaks : Bool
@@ -31,8 +32,9 @@ fresh input = record {
   failures = 0;
   empty_reads = 0;
   full_writes = 0;
+  ends = 0;
   piece = 2 ^ 64 - 1;
-  ends = true;
+  closes = true;
   room = 2 ^ 64 - 1;
   breaks = false;
 }
@@ -45,6 +47,7 @@ told m = record {
   failures = m.failures;
   empty_reads = m.empty_reads;
   full_writes = m.full_writes;
+  ends = m.ends;
 }
 
 -- what a read into so much space does: it gives the next bytes while there are some, then answers as it was set
@@ -52,8 +55,8 @@ abbrev pub Gives : Memory → Memory → ℕ → TryRead → Type 0
 Gives old new space (read.Got n) =
     (n ≡ min (min (length old.input - old.given) old.piece) space) × (new ≡ record old { given = old.given + n })
 Gives old new space read.Nothing =
-    (old.given ≡ length old.input) × (old.ends ≡ false) × (new ≡ record old { empty_reads = new.empty_reads })
-Gives old new space read.End = (old.given ≡ length old.input) × (old.ends ≡ true) × (new ≡ old)
+    (old.given ≡ length old.input) × (old.closes ≡ false) × (new ≡ record old { empty_reads = new.empty_reads })
+Gives old new space read.End = (old.given ≡ length old.input) × (old.closes ≡ true) × (new ≡ record old { ends = new.ends })
 Gives old new space read.Failed = ⊥
 
 -- what a write does: it takes bytes while there is room, then answers as it was set; with room left only a refusal of

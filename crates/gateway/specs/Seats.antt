@@ -38,12 +38,14 @@ symbols_of v = known v.logic
 abbrev pub given : View Symbols → ℕ
 given v = length (outputs_of (symbols_of v) v.base)
 
--- It knows the rings' logic; and it has counted the outputs of the history at the start, and no more than those of what it has seen, which are few.
+-- It knows the rings' logic; it has counted the outputs of the history at the start, and no more than those of what it has seen, which are few; and
+-- it has published at each place that it claimed.
 pub record KnowsOutputs (v : View Symbols) : Type 0 where
   pub logic : v.logic ≡ Some (symbols_of v)
   pub from : given v ≤ (person v).own
   pub to : (person v).own ≤ length (outputs_of (symbols_of v) (person v).seen)
   pub few : (person v).own ≤ 2 ^ 62
+  pub spent : (person v).claims ≡ []
 
 -- so a seat that `Rings::open` made, or that was used since, has taken nothing that it hasn't seen
 abbrev pub HasSeen : GatewaySeat Symbols → Type 0

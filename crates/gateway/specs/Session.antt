@@ -1,6 +1,6 @@
 -- What a session writes: its answers and the outputs handed to it, in one order, each numbered; and where a session
 -- stands after some input (docs/PROFILE.md, "Session").
-use Rattle.std.specs.Prelude.{◌≡◌, ◌⊎◌, ℕ, ◌+◌, Bool, true, false, ◌&&◌, List, [], ◌∷◌, ◌++◌, length, codes, Option, Some, None, is_some}
+use Rattle.std.specs.Prelude.{◌≡◌, ◌≢◌, ◌⊎◌, ℕ, ◌+◌, Bool, true, false, ◌&&◌, List, [], ◌∷◌, ◌++◌, length, codes, Option, Some, None, is_some}
 use Rattle.std.specs.List.{flat_map, list_any}
 use Rattle.fix_frame.specs.Grammar.{Field, frame_text}
 use Rattle.fix_orders.specs.Text.{Said, field, number}
@@ -118,12 +118,12 @@ pub record Waits (message : List ℕ) (messages : List (List ℕ)) (judgements :
   pub message_is : last.message ≡ message
   pub published : messages ≡ flat_map held_of before
 
--- the messages published and the one held are those to hold; but one that found no sequence left is lost
+-- the messages published and the one held are those to hold; but where the session closes since no sequence was left, the last of them is lost
 abbrev pub Held : Option (List ℕ) → Option Reason → List (List ℕ) → List Judgement → Type 0
 Held (Some message) closing messages judgements = Waits message messages judgements
 Held None None messages judgements = messages ≡ flat_map held_of judgements
 Held None (Some reason) messages judgements =
-    (messages ≡ flat_map held_of judgements)
+    ((reason ≢ Exhausted) × (messages ≡ flat_map held_of judgements))
     ⊎ ((reason ≡ Exhausted) × (message : List ℕ) × Waits message messages judgements)
 
 -- A session stands where this input leaves it, with these messages published, these outputs handed to it while it was

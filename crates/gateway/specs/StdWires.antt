@@ -16,13 +16,14 @@ told w = record {
   gave = None;
   took = None;
   failures = w.counts.failures;
-  empty_reads = w.counts.nothings.reads;
-  full_writes = w.counts.nothings.writes;
+  empty_reads = w.counts.empty_reads;
+  full_writes = w.counts.full_writes;
+  ends = w.counts.ends;
 }
 
 -- what it tells before its first call
 abbrev pub untold : Told
-untold = record { gave = None; took = None; failures = 0; empty_reads = 0; full_writes = 0 }
+untold = record { gave = None; took = None; failures = 0; empty_reads = 0; full_writes = 0; ends = 0 }
 
 abbrev pub reader_of : {R W : Type 0} → StdWire R W → R
 reader_of w = w.reader

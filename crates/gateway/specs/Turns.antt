@@ -76,14 +76,28 @@ abbrev pub FoundNone : Ledger → Ledger → Type 0
 FoundNone desk desk_after =
     (before : List Load) × (desk_after.loads ≡ desk.loads ++ (before ++ load_of marshalled desk_after.count ∷ []))
 
--- Nothing moved in the turn, and this is why. Bytes stood to be written, and a write answered Nothing. Or a message
--- is held whose claim was refused; or none is, nothing is left of what was read, and a read answered Nothing or the
--- client has closed its side; and, unless the session closes, there was no output.
+-- whether the client has closed its side, before and after, by the wire's count of ends: it closes where the wire tells an end, and stays closed
+abbrev pub ClosesBy : Bool → Bool → ℕ → ℕ → Type 0
+ClosesBy closed closed_after ends ends_after =
+    ((closed_after ≡ closed) × (ends_after ≡ ends)) ⊎ ((closed_after ≡ true) × Rose ends ends_after)
+
+-- why nothing was heard: a message is held whose claim was refused; or none is, nothing is left of what was read, and a read answered Nothing or
+-- the client has closed its side
+abbrev pub Silence : Front → Front → Told → Told → Ledger → Ledger → Type 0
+Silence old new wire wire_after desk desk_after =
+    ((old.session.held ≢ None) × WasRefused desk desk_after)
+    ⊎ ((old.session.held ≡ None) × (new.waiting ≡ []) × (Rose wire.empty_reads wire_after.empty_reads ⊎ (new.closed ≡ true)))
+
+-- something was heard: bytes were read or fed, or a message published
+abbrev pub Hearing : Moved → Type 0
+Hearing m = (m.got ≢ []) ⊎ ((m.fed ≢ []) ⊎ (m.messages ≢ []))
+
+-- Nothing moved in the turn, and this is why. Bytes stood to be written, and a write answered Nothing. Or there was nothing to hear; and, unless the
+-- session closes, there was no output.
 pub record IsQuiet (old new : Front) (wire wire_after : Told) (desk desk_after : Ledger) (m : Moved) : Type 0 where
   pub still : m ≡ nothing_moved
   pub stuck : old.session.outgoing ≢ [] → Rose wire.full_writes wire_after.full_writes
-  pub unheard : old.session.outgoing ≡ [] → ((old.session.held ≢ None) × WasRefused desk desk_after)
-      ⊎ ((old.session.held ≡ None) × (new.waiting ≡ []) × (Rose wire.empty_reads wire_after.empty_reads ⊎ (new.closed ≡ true)))
+  pub unheard : old.session.outgoing ≡ [] → Silence old new wire wire_after desk desk_after
   pub untaken : desk_after.count ≡ desk.count
   pub unhanded : old.session.outgoing ≡ [] → new.session.closing ≡ None → FoundNone desk desk_after
 
@@ -123,6 +137,11 @@ pub record CountsTurns (old new : Front) (wire wire_after : Told) (desk desk_aft
   pub wrote_all : new.live ≡ true → m.put ≢ [] → new.session.outgoing ≡ [] → new.idle ≡ 0
   pub took : new.live ≡ true → desk.count < desk_after.count → new.idle ≡ 0
 
+-- A turn that wrote all that stood to be written, and didn't end the session, listened; and, unless the session closes now, it looked for an output.
+pub record Attends (old new : Front) (wire wire_after : Told) (desk desk_after : Ledger) (m : Moved) : Type 0 where
+  pub listens : new.live ≡ true → m.put ≡ old.session.outgoing → Hearing m ⊎ Silence old new wire wire_after desk desk_after
+  pub looks : new.live ≡ true → m.put ≡ old.session.outgoing → new.session.closing ≡ None → (desk.count < desk_after.count) ⊎ FoundNone desk desk_after
+
 -- a whole turn
 pub record Turn (old new : Front) (wire wire_after : Told) (desk desk_after : Ledger) (answer : Turned) : Type 0 where
   pub moved : Moved
@@ -130,6 +149,9 @@ pub record Turn (old new : Front) (wire wire_after : Told) (desk desk_after : Le
   pub takes : Takes new.session.logged_on old new desk desk_after moved.handed
   pub means : Means old new wire wire_after desk desk_after moved answer
   pub counts : CountsTurns old new wire wire_after desk desk_after moved
+  pub attends : Attends old new wire wire_after desk desk_after moved
+  pub closes : ClosesBy old.closed new.closed wire.ends wire_after.ends
+  pub fails : wire_after.failures ≢ wire.failures → answer ≡ Ended WireFailed
   pub lost : old.session.closing ≡ None → new.session.closing ≡ Some Exhausted → (old.session.held ≢ None) × WasExhausted desk desk_after
 
 -- a closing session has said one message more

@@ -1,19 +1,25 @@
 -- What a wire tells of itself, and what each of its calls tells. It may keep its bytes to itself, but not its counts.
 use Rattle.std.specs.Prelude.{◌≡◌, ℕ, ◌≤◌, List, ◌++◌, length, take, Option, Some, None}
 use Rattle.venue_model.specs.Counts.{Rose}
+use Rattle.gateway.specs.declared.wire.counts.Counts.{Counts}
 use Rattle.gateway.specs.declared.wire.TryRead.{TryRead}
 use Rattle.gateway.specs.declared.wire.TryRead.TheVariants as read
 use Rattle.gateway.specs.declared.wire.TryWrite.{TryWrite}
 use Rattle.gateway.specs.declared.wire.TryWrite.TheVariants as write
 
 -- the bytes that it gave and took, each None where it tells none; the calls that failed; the reads and the writes
--- that answered Nothing
+-- that answered Nothing; and the reads that answered End
 pub record Told : Type 0 where
   pub gave : Option (List ℕ)
   pub took : Option (List ℕ)
   pub failures : ℕ
   pub empty_reads : ℕ
   pub full_writes : ℕ
+  pub ends : ℕ
+
+-- what it counts
+abbrev pub counts_of : Told → Counts
+counts_of t = record { failures = t.failures; empty_reads = t.empty_reads; full_writes = t.full_writes; ends = t.ends }
 
 -- what is told of some bytes, and then of more
 abbrev pub grown : Option (List ℕ) → List ℕ → Option (List ℕ)
@@ -26,7 +32,7 @@ ReadTells old new buf (read.Got n) =
     (1 ≤ n) × (n ≤ length buf) × (new ≡ record old { gave = grown old.gave (take n buf) })
 ReadTells old new buf read.Nothing =
     Rose old.empty_reads new.empty_reads × (new ≡ record old { empty_reads = new.empty_reads })
-ReadTells old new buf read.End = new ≡ old
+ReadTells old new buf read.End = Rose old.ends new.ends × (new ≡ record old { ends = new.ends })
 ReadTells old new buf read.Failed =
     Rose old.failures new.failures × (new ≡ record old { failures = new.failures })
 

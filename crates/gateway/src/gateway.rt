@@ -29,9 +29,9 @@ impl Model for Gateway {
 
 impl Gateway {
     ghost use Rattle.gateway.specs.AtRings.{Idles};
+    ghost use Rattle.gateway.specs.Delivers.{Begins, Continues};
     ghost use Rattle.gateway.specs.Gateways.{begun};
     ghost use Rattle.gateway.specs.Seats.{HasSeen, LooksOnce, Uses, ledger_of};
-    ghost use Rattle.gateway.specs.Session.{At};
     ghost use Rattle.gateway.specs.Turns.{Turn};
 
     /// The gateway of a seat that `Rings::open` made, or that a gateway gave back. All its room is made here; no session is begun. Where room is
@@ -53,7 +53,7 @@ impl Gateway {
     /// Begins a new session of the client.
     pub fn begin(&mut self)
         ensures new { self.new ≡ record self.old { front = begun self.old.seat.number self.old.front.passed } }
-        ensures at { At self.new.front.session [] [] [] [] }
+        ensures begins { Begins self.new }
     {
         self.client.begin();
     }
@@ -67,6 +67,7 @@ impl Gateway {
         requires live { self.old.front.live ≡ true }
         requires table { self.old.seat.seat.table_id ≡ rings.now.table.shared.table_id }
         ensures turn { Turn self.old.front self.new.front (W.tells wire.old) (W.tells wire.new) (ledger_of N self.old.seat) (ledger_of N self.new.seat) result }
+        ensures delivers { Continues N self.old self.new (W.tells wire.old) (W.tells wire.new) }
         ensures uses { Uses N self.old.seat self.new.seat }
     {
         self.client.turn(rings, &mut self.seat, wire)
@@ -97,7 +98,7 @@ impl Gateway {
         self.client.passed()
     }
 
-    /// Gives the seat back.
+    /// Gives the seat back, which has published at each place that it claimed.
     pub fn end(self) -> GatewaySeat<BookLogic>
         ensures seat { result ≡ self.seat }
         ensures seen { HasSeen result }

@@ -18,4 +18,4 @@ mod wire;
 
 pub use ending::{Reason, Turned};
 pub use gateway::Gateway;
-pub use wire::{MemWire, Nothings, StdWire, TryRead, TryWrite, Wire};
+pub use wire::{Counts, MemWire, StdWire, TryRead, TryWrite, Wire};

@@ -1,12 +1,13 @@
 //! The wire: where a client's bytes come in and where its messages go out, one session at a time.
 //! A session knows no more of it than this trait; `MemWire` stands in for it in tests, `StdWire` is the program's.
 ghost use Rattle.std.specs.Prelude.{◌≡◌, ◌<◌, length};
-ghost use Rattle.gateway.specs.Wires.{Told, ReadTells, WriteTells};
+ghost use Rattle.gateway.specs.Wires.{Told, ReadTells, WriteTells, counts_of};
 
 mod counts;
 mod mem;
 mod standard;
 
+pub use counts::Counts;
 pub use mem::MemWire;
 pub use standard::StdWire;
 
@@ -31,13 +32,6 @@ pub enum TryWrite {
     Failed,
 }
 
-/// How many reads and how many writes answered `Nothing`.
-#[derive(Clone, Copy, Debug, PartialEq, Eq)]
-pub struct Nothings {
-    pub reads: u64,
-    pub writes: u64,
-}
-
 /// A client's bytes in both directions. A call may move fewer bytes than there is room for, or none.
 pub trait Wire {
     /// The bytes that it gave and took, as far as it tells them, and its counts.
@@ -57,12 +51,7 @@ pub trait Wire {
     fn rest(&mut self, quiet: bool)
         ensures { tells self.new ≡ tells self.old };
 
-    /// How many calls answered `Failed`. The count stays at `u64::MAX`.
-    fn failures(&self) -> u64
-        ensures { result ≡ (tells self.now).failures };
-
-    /// The counts of calls that answered `Nothing`. Each stays at `u64::MAX`.
-    fn nothings(&self) -> Nothings
-        ensures reads { result.reads ≡ (tells self.now).empty_reads }
-        ensures writes { result.writes ≡ (tells self.now).full_writes };
+    /// What it counts of its calls.
+    fn counts(&self) -> Counts
+        ensures { result ≡ counts_of (tells self.now) };
 }

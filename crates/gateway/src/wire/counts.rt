@@ -2,52 +2,58 @@
 ghost use Rattle.std.specs.Prelude.{◌≡◌};
 ghost use Rattle.venue_model.specs.Counts.{Rose};
 
-use super::Nothings;
-
-/// The calls that failed and those that answered `Nothing`. A count that is full stays.
-#[derive(Clone, Copy)]
+/// How many calls failed, how many reads and how many writes answered `Nothing`, and how many reads answered `End`. A count that is full
+/// stays.
+#[derive(Clone, Copy, Debug, PartialEq, Eq)]
 pub struct Counts {
     pub failures: u64,
-    pub nothings: Nothings,
+    pub empty_reads: u64,
+    pub full_writes: u64,
+    pub ends: u64,
 }
 
 impl Counts {
     /// Nothing has been counted yet.
     pub fn new() -> Counts
-        ensures { result ≡ record { failures = 0; nothings = record { reads = 0; writes = 0 } } }
+        ensures { result ≡ record { failures = 0; empty_reads = 0; full_writes = 0; ends = 0 } }
     {
         Counts {
             failures: 0,
-            nothings: Nothings {
-                reads: 0,
-                writes: 0,
-            },
+            empty_reads: 0,
+            full_writes: 0,
+            ends: 0,
         }
     }
 
     /// Counts a call that failed.
     pub fn failed(&mut self)
         ensures risen { Rose self.old.failures self.new.failures }
-        ensures same { self.new.nothings ≡ self.old.nothings }
+        ensures others { self.new ≡ record self.old { failures = self.new.failures } }
     {
         self.failures = self.failures.saturating_add(1);
     }
 
     /// Counts a read that answered `Nothing`.
     pub fn empty_read(&mut self)
-        ensures risen { Rose self.old.nothings.reads self.new.nothings.reads }
-        ensures failures { self.new.failures ≡ self.old.failures }
-        ensures writes { self.new.nothings.writes ≡ self.old.nothings.writes }
+        ensures risen { Rose self.old.empty_reads self.new.empty_reads }
+        ensures others { self.new ≡ record self.old { empty_reads = self.new.empty_reads } }
     {
-        self.nothings.reads = self.nothings.reads.saturating_add(1);
+        self.empty_reads = self.empty_reads.saturating_add(1);
     }
 
     /// Counts a write that answered `Nothing`.
     pub fn full_write(&mut self)
-        ensures risen { Rose self.old.nothings.writes self.new.nothings.writes }
-        ensures failures { self.new.failures ≡ self.old.failures }
-        ensures reads { self.new.nothings.reads ≡ self.old.nothings.reads }
+        ensures risen { Rose self.old.full_writes self.new.full_writes }
+        ensures others { self.new ≡ record self.old { full_writes = self.new.full_writes } }
     {
-        self.nothings.writes = self.nothings.writes.saturating_add(1);
+        self.full_writes = self.full_writes.saturating_add(1);
+    }
+
+    /// Counts a read that answered `End`.
+    pub fn ended(&mut self)
+        ensures risen { Rose self.old.ends self.new.ends }
+        ensures others { self.new ≡ record self.old { ends = self.new.ends } }
+    {
+        self.ends = self.ends.saturating_add(1);
     }
 }

@@ -2,9 +2,10 @@
 ghost use Rattle.std.specs.Prelude.{◌≡◌, ◌<◌, ◌≤◌, [], length, take, true, false, IfOk};
 ghost use Rattle.gateway.specs.Wires.{ReadTells, WriteTells};
 ghost use Rattle.gateway.specs.MemWires.{fresh, told, Gives, Takes};
+ghost use Rattle.gateway.specs.Wires.{counts_of};
 
 use super::counts::Counts;
-use super::{Nothings, TryRead, TryWrite, Wire};
+use super::{TryRead, TryWrite, Wire};
 use std::alloc::{AllocError, Global};
 use std::marker::Model;
 
@@ -16,7 +17,7 @@ pub struct MemWire {
     taken: Vec<u8>,
     counts: Counts,
     piece: usize,
-    ends: bool,
+    closes: bool,
     room: usize,
     breaks: bool,
 }
@@ -31,10 +32,11 @@ impl Model for MemWire {
       given = w.given;
       taken = w.taken.items;
       failures = w.counts.failures;
-      empty_reads = w.counts.nothings.reads;
-      full_writes = w.counts.nothings.writes;
+      empty_reads = w.counts.empty_reads;
+      full_writes = w.counts.full_writes;
+      ends = w.counts.ends;
       piece = w.piece;
-      ends = w.ends;
+      closes = w.closes;
       room = w.room;
       breaks = w.breaks;
     } };
@@ -55,7 +57,7 @@ impl MemWire {
             taken: Vec::new(alloc),
             counts: Counts::new(),
             piece: usize::MAX,
-            ends: true,
+            closes: true,
             room: usize::MAX,
             breaks: false,
         })
@@ -72,9 +74,9 @@ impl MemWire {
 
     /// Stays open behind its input: reads answer `Nothing` there.
     pub fn staying_open(mut self) -> MemWire
-        ensures { result ≡ record self { ends = false } }
+        ensures { result ≡ record self { closes = false } }
     {
-        self.ends = false;
+        self.closes = false;
         self
     }
 
@@ -126,7 +128,8 @@ impl Wire for MemWire {
             self.given += count;
             return TryRead::Got(count);
         }
-        if self.ends {
+        if self.closes {
+            self.counts.ended();
             return TryRead::End;
         }
         self.counts.empty_read();
@@ -154,16 +157,9 @@ impl Wire for MemWire {
         ensures { self.new ≡ self.old }
     {}
 
-    fn failures(&self) -> u64
-        ensures { result ≡ self.now.failures }
+    fn counts(&self) -> Counts
+        ensures { result ≡ counts_of (told self.now) }
     {
-        self.counts.failures
-    }
-
-    fn nothings(&self) -> Nothings
-        ensures reads { result.reads ≡ self.now.empty_reads }
-        ensures writes { result.writes ≡ self.now.full_writes }
-    {
-        self.counts.nothings
+        self.counts
     }
 }

@@ -1,11 +1,11 @@
 //! The program's own wire: standard input and output, or any reader and writer.
 ghost use Rattle.std.specs.Prelude.{◌≡◌, ◌<◌, ◌↔◌, true, false, length, IsTrue};
 ghost use Rattle.std.specs.IoError.{error_kind};
-ghost use Rattle.gateway.specs.Wires.{ReadTells, WriteTells};
+ghost use Rattle.gateway.specs.Wires.{ReadTells, WriteTells, counts_of};
 ghost use Rattle.gateway.specs.StdWires.{told, untold, reader_of, writer_of, rested_of, IsPassing, TakesIn, SendsOut, Rests, RestsNot};
 
 use super::counts::Counts;
-use super::{Nothings, TryRead, TryWrite, Wire};
+use super::{TryRead, TryWrite, Wire};
 use std::io;
 use std::io::{ErrorKind, Read, Write};
 
@@ -63,7 +63,10 @@ impl<R: Read + Drop, W: Write + Drop> Wire for StdWire<R, W> {
             return TryRead::Nothing;
         }
         match self.reader.read(buf) {
-            Ok(0) => TryRead::End,
+            Ok(0) => {
+                self.counts.ended();
+                TryRead::End
+            }
             Ok(count) => {
                 self.rested = false;
                 TryRead::Got(count)
@@ -112,16 +115,9 @@ impl<R: Read + Drop, W: Write + Drop> Wire for StdWire<R, W> {
         self.rested = quiet;
     }
 
-    fn failures(&self) -> u64
-        ensures { result ≡ (told self.now).failures }
+    fn counts(&self) -> Counts
+        ensures { result ≡ counts_of (told self.now) }
     {
-        self.counts.failures
-    }
-
-    fn nothings(&self) -> Nothings
-        ensures reads { result.reads ≡ (told self.now).empty_reads }
-        ensures writes { result.writes ≡ (told self.now).full_writes }
-    {
-        self.counts.nothings
+        self.counts
     }
 }

@@ -1,5 +1,5 @@
-//! One gateway publishes one order, each stage polls once, the gateway takes what came of it and meets the journaller, and the rings are closed
-//! behind them.
+//! One gateway publishes one order, each stage polls once, the gateway takes what came of it, finds no more, and meets the journaller, and the rings
+//! are closed behind them.
 use super::crew::Stages;
 use super::member::{Member, next_member};
 use super::messages::{FIRST_ACKNOWLEDGED, FIRST_BUY};
@@ -22,9 +22,11 @@ fn close_behind(alloc: Global, limits: &Limits) -> Result<Option<Summary>, Fail>
     let turns = stages.poll(&rings);
     let mut body = [0; 320];
     let taken = gateway.take(&mut body);
+    let next = gateway.take(&mut [0; 320]);
     if !published
         || turns != [Did(1); 4]
         || !matches!(taken, Take::Mine(_))
+        || !matches!(next, Take::Nothing)
         || !body.starts_with(FIRST_ACKNOWLEDGED)
     {
         return Ok(None);

@@ -1,7 +1,7 @@
 //! What a session meets at standard input and output: a reader and a writer that do less than they are asked for, or fail.
 ghost use Rattle.std.specs.Prelude.{◌≤◌, IfOk};
 
-use gateway::{StdWire, TryRead, TryWrite, Wire};
+use gateway::{Counts, StdWire, TryRead, TryWrite, Wire};
 use std::io;
 use std::io::{ErrorKind, Read, Write};
 
@@ -72,14 +72,13 @@ fn reads_on_after_a_failure(rt: HostRuntime) {
         wire.rest(true);
         assert_eq!(rt; wire.try_read(&mut [0; 8]), answer);
     }
-    assert_eq!(rt;
-        (
-            wire.failures(),
-            wire.nothings().reads,
-            wire.nothings().writes
-        ),
-        (1, 2, 0)
-    );
+    let counts = Counts {
+        failures: 1,
+        empty_reads: 2,
+        full_writes: 0,
+        ends: 1,
+    };
+    assert_eq!(rt; wire.counts(), counts);
 }
 
 #[test]
@@ -101,7 +100,7 @@ fn a_reader_is_asked_only_at_rest(rt: HostRuntime) {
     assert_eq!(rt; wire.try_read(&mut [0; 8]), TryRead::Nothing);
     wire.rest(true);
     assert_eq!(rt; wire.try_read(&mut [0; 8]), TryRead::End);
-    assert_eq!(rt; wire.nothings().reads, 5);
+    assert_eq!(rt; wire.counts().empty_reads, 5);
 }
 
 #[test]
@@ -133,12 +132,11 @@ fn a_write_is_flushed_or_failed(rt: HostRuntime) {
     for answer in answers {
         assert_eq!(rt; wire.try_write(b"8=FIX.4."), answer);
     }
-    assert_eq!(rt;
-        (
-            wire.failures(),
-            wire.nothings().reads,
-            wire.nothings().writes
-        ),
-        (3, 0, 1)
-    );
+    let counts = Counts {
+        failures: 3,
+        empty_reads: 0,
+        full_writes: 1,
+        ends: 0,
+    };
+    assert_eq!(rt; wire.counts(), counts);
 }

@@ -1,5 +1,5 @@
 -- A read, and a feed, are one step.
-use Rattle.std.proofs.Common.{◌≡◌, ◌⊎◌, inl, inr, [], ap, refl, sym, ◌∙◌, subst, rules}
+use Rattle.std.proofs.Common.{◌≡◌, ◌⊎◌, inl, inr, [], ap, refl, sym, ◌∙◌, subst, true≢false, rules}
 use Rattle.gateway.specs.declared.client_side.Heard.TheVariants.{Failed}
 use Rattle.gateway.specs.Gateways.{front, Reads}
 use Rattle.gateway.specs.Seats.{ledger_of}
@@ -31,4 +31,5 @@ returns-clause-hears g c =
     let reads = subst (λ (m : Front). Reads old m (tells c.args.wire.now) (tells c.read-read.new.wire) c.read-read.result) (sym c.self-2.view_is) c.read-read.ensures in
     fed-hears old mid (tells c.args.wire.now) (tells c.read-read.new.wire) (ledger_of g.row.N c.args.seat.now)
     c.requires.open free c.requires.silent c.read-read.result reads
+    (λ is_failed. true≢false (sym (rw is_failed at c.eq.ensures) ∙ c.if-eq.false))
     c.as_slice.result.now new c.feed-fed.result c.as_slice.ensures c.feed-fed.ensures.hears refl c.skip.ensures c.feed-fed.ensures.room

@@ -1,0 +1,103 @@
+-- A session that goes on by a turn has delivered what moved in the turn besides.
+use Rattle.std.proofs.Common.{◌≡◌, ℕ, ◌+◌, Bool, true, false, true≢false, ◌&&◌, if◌then◌else◌, List, [], ◌∷◌, ◌++◌, length, refl, ap, sym, subst, ◌∙◌, arith, append_assoc, append-nil, length-append}
+use Rattle.std.specs.List.{flat_map, list_any}
+use Rattle.fix_orders.specs.Text.{Said}
+use Rattle.gateway.specs.Answers.{Logon, Heartbeat, Logout}
+use Rattle.gateway.specs.Session.{Item, Answer, Output, is_logon, is_last, orderly, outputs_in, Standing, At}
+use Rattle.gateway.specs.Ledgers.{Ledger}
+use Rattle.gateway.specs.Wires.{Told, grown}
+use Rattle.gateway.specs.Turns.{Front, Moved, Takes, Turn}
+use Rattle.gateway.specs.declared.ending.Turned.{Turned}
+use Rattle.gateway.specs.Delivers.{Course, nothing_yet, further, Start, Delivers}
+use Rattle.gateway.proofs.WireLemmas.{grown-append, grown-nil}
+
+-- where no Logon stands among the items no output does
+none_last : (items : List Item) → is_last items ≡ true → flat_map outputs_in items ≡ []
+none_last [] last = refl
+none_last (item ∷ items) last = cc
+
+no_outputs : (items : List Item) → orderly false items ≡ true → list_any is_logon items ≡ false → flat_map outputs_in items ≡ []
+no_outputs [] order off = refl
+no_outputs (Answer (Logon time) ∷ items) order off = cc
+no_outputs (Answer (Heartbeat time echo) ∷ items) order off = no_outputs items order off
+no_outputs (Answer (Logout time text) ∷ items) order off = none_last items order
+no_outputs (Output said ∷ items) order off = cc
+
+-- so a client that isn't logged on was given none
+none_given : (s : Standing) (input : List ℕ) (messages : List (List ℕ)) (outs : List Said) (written : List ℕ) →
+    At s input messages outs written → s.logged_on ≡ false → outs ≡ []
+none_given s input messages outs written at off =
+    let spoken = at.spoken in
+    sym spoken.says.handed ∙ no_outputs spoken.items spoken.says.order (sym spoken.logon ∙ off)
+
+no_front : (xs ys : List Said) → xs ++ ys ≡ [] → xs ≡ []
+no_front [] ys e = refl
+no_front (x ∷ xs) ys e = cc
+
+-- a session begins
+pub begins : (front : Front) (wire : Told) (desk : Ledger) → At front.session [] [] [] [] → front.waiting ≡ [] →
+    Delivers (record { desk = desk; wire = wire; passed = front.passed }) front wire desk nothing_yet
+begins front wire desk at none = record {
+  stands = at;
+  published = sym (append-nil desk.published);
+  missed = [];
+  taken = sym (append-nil desk.taken);
+  passed_over = omega arith;
+  gave = sym (ap (grown wire.gave) none ∙ grown-nil wire.gave);
+  took = sym (grown-nil wire.took);
+}
+
+module _ (start : Start) (old new : Front) (wire wire' : Told) (desk desk' : Ledger) (answer : Turned) (c : Course)
+    (turn : Turn old new wire wire' desk desk' answer) (so_far : Delivers start old wire desk c) where
+  abbrev m : Moved
+  m = turn.moved
+
+  stands : At new.session (c.input ++ m.fed) (c.messages ++ m.messages) (c.outs ++ m.handed) (c.written ++ m.put)
+  stands = turn.step.moves c.input c.messages c.outs c.written so_far.stands
+
+  -- what the wire gave is what was fed and what waits
+  gave : wire'.gave ≡ grown start.wire.gave ((c.input ++ m.fed) ++ new.waiting)
+  gave =
+      let all : (c.input ++ old.waiting) ++ m.got ≡ (c.input ++ m.fed) ++ new.waiting =
+      append_assoc c.input old.waiting m.got ∙ ap (λ x. c.input ++ x) (sym turn.step.input) ∙ sym (append_assoc c.input m.fed new.waiting) in
+      turn.step.gave ∙ ap (λ t. grown t m.got) so_far.gave ∙ grown-append start.wire.gave (c.input ++ old.waiting) m.got ∙ ap (grown start.wire.gave) all
+
+  took : wire'.took ≡ grown start.wire.took (c.written ++ m.put)
+  took = turn.step.took ∙ ap (λ t. grown t m.put) so_far.took ∙ grown-append start.wire.took c.written m.put
+
+  published : desk'.published ≡ start.desk.published ++ (c.messages ++ m.messages)
+  published = turn.step.published ∙ ap (λ ms. ms ++ m.messages) so_far.published ∙ append_assoc start.desk.published c.messages m.messages
+
+  -- the outputs taken in the turn were given, or missed
+  goes-on : (on : Bool) → new.session.logged_on ≡ on → Takes on old new desk desk' m.handed → Delivers start new wire' desk' (further c m)
+  goes-on true on_is takes = record {
+    stands = stands;
+    published = published;
+    missed = so_far.missed;
+    taken = takes.taken ∙ ap (λ ts. ts ++ takes.these) so_far.taken ∙ append_assoc start.desk.taken (so_far.missed ++ c.outs) takes.these
+        ∙ ap (λ ts. start.desk.taken ++ ts) (append_assoc so_far.missed c.outs takes.these)
+        ∙ ap (λ ts. start.desk.taken ++ (so_far.missed ++ (c.outs ++ ts))) (sym takes.given);
+    passed_over = let before = so_far.passed_over in let now = takes.passed in omega (arith, before, now);
+    gave = gave;
+    took = took;
+  }
+  goes-on false off takes =
+      let none = none_given new.session _ _ _ _ stands off in
+      let none_before : c.outs ≡ [] = no_front c.outs m.handed none in
+      let long = length-append so_far.missed takes.these in record {
+        stands = stands;
+        published = published;
+        missed = so_far.missed ++ takes.these;
+        taken = takes.taken ∙ ap (λ ts. ts ++ takes.these) so_far.taken
+            ∙ ap (λ os. (start.desk.taken ++ (so_far.missed ++ os)) ++ takes.these) none_before
+            ∙ append_assoc start.desk.taken (so_far.missed ++ []) takes.these
+            ∙ ap (λ ts. start.desk.taken ++ (ts ++ takes.these)) (append-nil so_far.missed)
+            ∙ ap (λ ts. start.desk.taken ++ ts) (sym (append-nil (so_far.missed ++ takes.these)))
+            ∙ ap (λ os. start.desk.taken ++ ((so_far.missed ++ takes.these) ++ os)) (sym none);
+        passed_over = let before = so_far.passed_over in let now = takes.passed in omega (arith, before, now, long);
+        gave = gave;
+        took = took;
+      }
+
+  pub delivers : (moved : Moved) × Delivers start new wire' desk' (further c moved)
+  delivers = (m, goes-on new.session.logged_on refl turn.takes)
