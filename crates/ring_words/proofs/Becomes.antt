@@ -1,8 +1,12 @@
 -- A seat whose one person changed is in use as before.
-use Rattle.std.proofs.Common.{◌≡◌, [], refl, ap, sym, subst, ◌∙◌}
+use Rattle.std.proofs.Common.{◌≡◌, ℕ, List, [], ◌∷◌, refl, ap, sym, subst, ◌∙◌}
 use Rattle.ring_words.specs.declared.view.Role.{Role}
 use Rattle.ring_words.specs.declared.view.Person.{Person}
-use Rattle.ring_words.specs.Seats.{person, IsAlone}
+use Rattle.atomic_table.specs.Seated.{TableId}
+use Rattle.ring_words.specs.declared.view.View.{View}
+use Rattle.ring_words.specs.Seats.{person, IsAlone, together}
+use Rattle.ring_words.specs.At.{Opened, At, IsAt, Steps, seat_of}
+use Rattle.ring_words.specs.Meeting.{first_alone, second_alone}
 use Rattle.ring_words.specs.Steps.{Seated, Became}
 
 module _ {S L : Type 0} (me me' : Seated S L) (q : Person) where
@@ -14,3 +18,24 @@ module _ {S L : Type 0} (me me' : Seated S L) (q : Person) where
 
   pub still_role : Became me q me' → (role : Role) → q.role ≡ role → (person me'.0).role ≡ role
   still_role is role same = ap (λ (z : Seated S L). (person z.0).role) is ∙ same
+
+  -- and with the rest of what a seat keeps
+  pub still_sits : {Rest : Type 0} → Became me q me' → me.1 ≡ [] → (role : Role) → q.role ≡ role → Rest → IsAlone me'.0 × ((me'.1 ≡ []) × (((person me'.0).role ≡ role) × Rest))
+  still_sits is bare role same more = (still_alone is, (still_bare is bare, (still_role is role same, more)))
+
+-- Two seats came together, their persons became p and q, and the seat was split again: the first has p, the second q, each beside what the first had.
+module _ {S L : Type 0} (v w : View L) (came both cut : Seated S L) (p q : Person) (a : came ≡ (together v w, [])) (b : both ≡ (record came.0 { people = p ∷ q ∷ [] }, came.1)) where
+  pub parted_first : cut ≡ (first_alone both.0, both.1) → Became (v, []) p cut
+  parted_first c = c ∙ ap (λ (z : Seated S L). (first_alone z.0, z.1)) (b ∙ ap (λ (z : Seated S L). (record z.0 { people = p ∷ q ∷ [] }, z.1)) a)
+
+  pub parted_second : cut ≡ (second_alone both.0, []) → Became (v, []) q cut
+  parted_second c = c ∙ ap (λ (z : Seated S L). (second_alone z.0, [])) (b ∙ ap (λ (z : Seated S L). (record z.0 { people = p ∷ q ∷ [] }, z.1)) a)
+
+module _ {S L : Type 0} where
+  -- what contracts see of a seat whose one person changed
+  pub steps : (t t' : TableId) (v : View L) (carried : List (ℕ × S)) (cut : Seated S L) (q : Person) (s : At L) → seat_of t v ≡ s → t' ≡ t → Became (v, carried) q cut → Steps s q (seat_of t' cut.0)
+  steps t t' v carried cut q s seat_is table is = ap (λ (x : TableId). seat_of x cut.0) table ∙ ap (λ (z : Seated S L). seat_of t z.0) is ∙ ap (λ (b : At L). record b { who = q }) seat_is
+
+-- two seats of the same rings become the same by the same person
+pub steps_either : {L : Type 0} (rings : Opened L) (a b new : At L) (q : Person) → IsAt rings a → IsAt rings b → Steps a q new → Steps b q new
+steps_either {L} rings a b new q a_is b_is step = step ∙ ap (λ (s : At L). record s { who = q }) a_is ∙ sym (ap (λ (s : At L). record s { who = q }) b_is)

@@ -1,14 +1,14 @@
 -- The seats of the gateways, one after the other.
-use Rattle.std.proofs.Common.{◌≡◌, ℕ, ◌+◌, List, [], ◌∷◌, ◌++◌, length, ⊎_elim, subst, arith}
-use Rattle.atomic_table.specs.Seated.{TableId}
-use Rattle.venue_model.specs.History.{Message}
-use Rattle.ring_words.specs.declared.seats.GatewaySeat.{GatewaySeat}
-use Rattle.ring_words.specs.Crew.{IsFresh, AreFresh}
+use Rattle.std.proofs.Common.{◌≡◌, ℕ, ◌+◌, List, [], ◌∷◌, ◌++◌, length, ⊎_elim, sym, subst, ◌∙◌, arith}
+use Rattle.ring_words.specs.declared.view.Role.TheVariants.{Gateway}
+use Rattle.ring_words.specs.Rule.{newcomer}
+use Rattle.ring_words.specs.At.{Opened, At, at}
+use Rattle.ring_words.specs.Crew.{AreNewGateways}
 use Rattle.ring_words.proofs.Logs.{at_end}
 
-module _ {L : Type 0} (table : TableId) (logic : L) (base : List Message) (given : ℕ) where
-  pub fresh_more : (seats : List (GatewaySeat L)) (s : GatewaySeat L) (k : ℕ) → AreFresh table logic base given seats → length seats + 1 ≡ k → IsFresh table logic base given k s → AreFresh table logic base given (seats ++ s ∷ [])
-  fresh_more seats s k were is new i t there = ⊎_elim (λ was. were i t was)
-      (λ (last : (i ≡ length seats) × (s ≡ t)). let at : i ≡ length seats = last.0 in let same : k ≡ i + 1 = omega arith in
-      subst (λ (j : ℕ). IsFresh table logic base given j t) same (subst (IsFresh table logic base given k) last.1 new))
+module _ {L : Type 0} (rings : Opened L) where
+  pub new_more : (seats : List (At L)) (s : At L) (k : ℕ) → AreNewGateways rings seats → length seats + 1 ≡ k → s ≡ at rings (newcomer (Gateway k) rings.base rings.given) → AreNewGateways rings (seats ++ s ∷ [])
+  new_more seats s k were is new i t there = ⊎_elim (λ was. were i t was)
+      (λ (last : (i ≡ length seats) × (s ≡ t)). let at_i : i ≡ length seats = last.0 in let same : k ≡ i + 1 = omega arith in
+      subst (λ (j : ℕ). t ≡ at rings (newcomer (Gateway j) rings.base rings.given)) same (sym last.1 ∙ new))
       (at_end seats s t i there)

@@ -6,22 +6,23 @@ use mathlib.Core.Option.{Option, none, some, some-injective, some-ne-none}
 use native.Mathlib.Decide.{dec_le, ℕ_discrete}
 use lib.ListN.{get_elem?}
 use Rattle.atomic_table.specs.Table.{State}
-use Rattle.atomic_table.specs.Seated.{TableId}
 use Rattle.atomic_table.proofs.Lists.{at_longer, at_last}
 use Rattle.venue_model.specs.History.{Message}
 use Rattle.ring_words.specs.declared.view.Role.{Role}
-use Rattle.ring_words.specs.declared.view.Role.TheVariants.{Process, Journal}
+use Rattle.ring_words.specs.declared.view.Role.TheVariants.{Process, Journal, Gateway}
 use Rattle.ring_words.specs.declared.view.Person.{Person}
 use Rattle.ring_words.specs.declared.view.View.{View}
-use Rattle.ring_words.specs.declared.seats.GatewaySeat.{GatewaySeat}
+use Rattle.ring_words.specs.declared.seats.Seats.{Seats}
+use Rattle.ring_words.specs.declared.close.Summary.{Summary}
+use Rattle.ring_words.specs.At.{Opened, At}
 use Rattle.ring_words.specs.Places.{processed, claim, journalled, published, place_of, number_of}
 use Rattle.ring_words.specs.Log.{Status, unclaimed, old, claimed, sent, Log, entry_of, sends_of, claims_of, times, of_gateway, published_at}
 use Rattle.ring_words.specs.Terms.{Terms, outputs_of}
-use Rattle.ring_words.specs.Rule.{IsGateway, Knows, PartOf, words_of, Lawful}
-use Rattle.ring_words.specs.Seats.{person, together}
-use Rattle.ring_words.specs.Crew.{AreFresh}
+use Rattle.ring_words.specs.Rule.{IsGateway, Depth, Knows, PartOf, words_of, Lawful}
+use Rattle.ring_words.specs.Seats.{together}
+use Rattle.ring_words.specs.Crew.{AreNewGateways}
 use Rattle.ring_words.specs.Gathered.{Gathers}
-use Rattle.ring_words.specs.Ending.{AreSpent, Ended}
+use Rattle.ring_words.specs.Ending.{AreSpent, Ended, stages_of}
 use Rattle.ring_words.proofs.Logs.{stands, within, published_late}
 use Rattle.ring_words.proofs.Outputs.{begins}
 
@@ -69,23 +70,21 @@ begins_with [] p at = absurd (some-ne-none p (sym at))
 begins_with (q ∷ ps) p at = ap (λ (x : Person). x ∷ ps) (some-injective q p at)
 
 module _ {L : Type 0} (S : Type 0) (terms : Terms L) (s : State S (View L)) (r : Lawful S terms s) (id : ℕ) (v : View L) (at : get_elem? s.views id ≡ some v)
-    (gs : List (GatewaySeat L)) (stages : List Person) (all : Gathers gs stages v) (table : TableId) (spent : AreSpent table gs) (count : length gs ≡ terms.gateways) where
-  knows_of : (i : ℕ) (g : GatewaySeat L) → get_elem? gs i ≡ some g → Knows terms (words_of s) r.log (person g.seat.me.0)
-  knows_of i g there = let found = all.all i g there in (r.people id found.0 v (person g.seat.me.0) at found.1).2
+    (seats : Seats L) (all : Gathers seats.gateways.items (stages_of seats) v) (numbered : (i : ℕ) (g : At L) → get_elem? seats.gateways.items i ≡ some g → g.who.role ≡ Gateway (i + 1))
+    (spent : AreSpent seats.gateways.items) (count : length seats.gateways.items ≡ terms.gateways) where
+  knows_of : (i : ℕ) (g : At L) → get_elem? seats.gateways.items i ≡ some g → Knows terms (words_of s) r.log g.who
+  knows_of i g there = let found = all.all i g there in (r.people id found.0 v g.who at found.1).2
 
-  knows_stage : (j : ℕ) (p : Person) → get_elem? stages j ≡ some p → Knows terms (words_of s) r.log p
+  knows_stage : (j : ℕ) (p : Person) → get_elem? (stages_of seats) j ≡ some p → Knows terms (words_of s) r.log p
   knows_stage j p there = (r.people id j v p at (all.stage j p there)).2
-
-  number_is : (g : GatewaySeat L) → number_of (person g.seat.me.0).role ≡ g.number
-  number_is g = ap number_of g.role
 
   no_claim : (t k : ℕ) → r.log.status t ≡ claimed k → ⊥
   no_claim t k is = let gateway = r.logged.holder t k is in let lo : 1 ≤ k = gateway.0 in let hi : k ≤ terms.gateways = gateway.1 in
-      let there = stands gs (k - 1) (omega arith) in let g : GatewaySeat L = there.0 in let done = spent (k - 1) g there.1 in
-      let number : g.number ≡ k - 1 + 1 = done.number in let role_is : number_of (person g.seat.me.0).role ≡ k = number_is g ∙ (let e : g.number ≡ k = omega arith in e) in
-      let counted : times t (person g.seat.me.0).claims ≡ claims_of (number_of (person g.seat.me.0).role) (r.log.status t) = (knows_of (k - 1) g there.1).claims t in
-      let zero_is : times t (person g.seat.me.0).claims ≡ 0 = ap (times t) done.claims in
-      let one_is : claims_of (number_of (person g.seat.me.0).role) (r.log.status t) ≡ 1 = ap (claims_of (number_of (person g.seat.me.0).role)) is ∙ ap (λ (j : ℕ). claims_of j (claimed k)) role_is ∙ cond-true (eqb k k) 1 0 (eq-eqb k k refl) in
+      let there = stands seats.gateways.items (k - 1) (omega arith) in let g : At L = there.0 in
+      let same : k - 1 + 1 ≡ k = omega arith in let role_is : number_of g.who.role ≡ k = ap number_of (numbered (k - 1) g there.1) ∙ same in
+      let counted : times t g.who.claims ≡ claims_of (number_of g.who.role) (r.log.status t) = (knows_of (k - 1) g there.1).claims t in
+      let zero_is : times t g.who.claims ≡ 0 = ap (times t) (spent (k - 1) g there.1) in
+      let one_is : claims_of (number_of g.who.role) (r.log.status t) ≡ 1 = ap (claims_of (number_of g.who.role)) is ∙ ap (λ (j : ℕ). claims_of j (claimed k)) role_is ∙ cond-true (eqb k k) 1 0 (eq-eqb k k refl) in
       omega arith
 
   there_or_not : (t : ℕ) (x : Status) → r.log.status t ≡ x → t < words_of s claim → (e : Message) × (entry_of x ≡ some e)
@@ -139,41 +138,55 @@ module _ {L : Type 0} (S : Type 0) (terms : Terms L) (s : State S (View L)) (r :
   kept_begins = begins r.log.status whole r.log.history (λ t e there. sym (same t) ∙ there) r.outgoing.front
       (let l : length whole ≡ words_of s claim = long in let kept : length r.log.history ≡ words_of s journalled = r.outgoing.kept in let low = r.order.journalled_claimed in omega arith)
 
-  pub ends : Ended (outputs_of terms) terms.base gs stages (words_of s processed) (words_of s journalled) (words_of s published)
-  ends = record {
+  -- all outputs of the entries processed are published, and maybe some of the next entry's, where that is kept
+  least : length (outputs_of terms (take (words_of s processed) whole)) ≤ words_of s published
+  least = let longer = kept_begins in let kept : length r.log.history ≡ words_of s journalled = r.outgoing.kept in let low = r.order.processed_journalled in
+      let is : take (words_of s processed) whole ≡ take (words_of s processed) r.log.history =
+      ap (take (words_of s processed)) longer.1 ∙ take-append-le (words_of s processed) r.log.history longer.0 (omega arith) in
+      subst (λ (h : List Message). length (outputs_of terms h) ≤ words_of s published) (sym is) r.outgoing.least
+
+  most : words_of s published ≤ length (outputs_of terms (take (suc (words_of s processed)) (take (words_of s journalled) whole)))
+  most = let longer = kept_begins in let kept : length r.log.history ≡ words_of s journalled = r.outgoing.kept in
+      let is : take (words_of s journalled) whole ≡ r.log.history =
+      ap (take (words_of s journalled)) longer.1 ∙ take-append-le (words_of s journalled) r.log.history longer.0 (omega arith) ∙ take_all (words_of s journalled) r.log.history (omega arith) in
+      subst (λ (h : List Message). words_of s published ≤ length (outputs_of terms (take (suc (words_of s processed)) h))) (sym is) r.outgoing.most
+
+  -- a gateway has seen no more than what is kept
+  seen_kept : (i : ℕ) (g : At L) → get_elem? seats.gateways.items i ≡ some g → length g.who.seen ≤ words_of s journalled
+  seen_kept i g there = subst (λ (z : Role). Depth (words_of s) z (length g.who.seen)) (numbered i g there) (knows_of i g there).depth
+
+  pub ends : (summary : Summary) → summary.commands ≡ words_of s processed → words_of s journalled ≡ seats.journal.who.own → summary.outputs ≡ words_of s published
+      → Ended (outputs_of terms) terms.base seats summary
+  ends summary commands kept outputs = record {
     log = whole;
     begins = λ t e there. same t ∙ ap entry_of (r.logged.based t e there);
     later = λ t e late there. (let sound = r.logged.sender t e (published_late terms (words_of s) r.log t e r.logged (sym (same t) ∙ there) late) in (sound.0, subst (λ (k : ℕ). IsGateway k e.gateway) (sym count) sound.1));
-    mine = λ i g there t. (knows_of i g there).mine t ∙ ap (λ (k : ℕ). sends_of k (r.log.status t)) (number_is g) ∙ sends_are t g.number;
-    seen = λ i g there t e at_t. same t ∙ (knows_of i g there).front t e at_t;
+    mine = λ i g there t. (knows_of i g there).mine t ∙ sends_are t (number_of g.who.role);
+    seen = λ i g there. ((λ t e at_t. same t ∙ (knows_of i g there).front t e at_t), subst (λ (n : ℕ). length g.who.seen ≤ n) kept (seen_kept i g there));
     known = λ j p there t e at_t. same t ∙ (knows_stage j p there).front t e at_t;
-    done = r.order.processed_journalled;
+    done = (let low = r.order.processed_journalled in omega arith);
     journalled = (let l : length whole ≡ words_of s claim = long in let low = r.order.journalled_claimed in omega arith);
-    least = (let longer = kept_begins in let kept : length r.log.history ≡ words_of s journalled = r.outgoing.kept in let low = r.order.processed_journalled in
-        let is : take (words_of s processed) whole ≡ take (words_of s processed) r.log.history =
-        ap (take (words_of s processed)) longer.1 ∙ take-append-le (words_of s processed) r.log.history longer.0 (omega arith) in
-        subst (λ (h : List Message). length (outputs_of terms h) ≤ words_of s published) (sym is) r.outgoing.least);
-    most = (let longer = kept_begins in let kept : length r.log.history ≡ words_of s journalled = r.outgoing.kept in
-        let is : take (words_of s journalled) whole ≡ r.log.history =
-        ap (take (words_of s journalled)) longer.1 ∙ take-append-le (words_of s journalled) r.log.history longer.0 (omega arith) ∙ take_all (words_of s journalled) r.log.history (omega arith) in
-        subst (λ (h : List Message). words_of s published ≤ length (outputs_of terms (take (suc (words_of s processed)) h))) (sym is) r.outgoing.most);
+    least = subst (λ (n : ℕ). length (outputs_of terms (take n whole)) ≤ summary.outputs) (sym commands) (subst (λ (n : ℕ). length (outputs_of terms (take (words_of s processed) whole)) ≤ n) (sym outputs) least);
+    most = subst (λ (n : ℕ). n ≤ length (outputs_of terms (take (suc summary.commands) (take seats.journal.who.own whole)))) (sym outputs)
+        (subst (λ (n : ℕ). words_of s published ≤ length (outputs_of terms (take (suc n) (take seats.journal.who.own whole)))) (sym commands)
+        (subst (λ (n : ℕ). words_of s published ≤ length (outputs_of terms (take (suc (words_of s processed)) (take n whole)))) kept most));
   }
 
-  pub own_is : (p : Person) → get_elem? stages 0 ≡ some p → p.role ≡ Process → words_of s processed ≡ p.own
-  own_is p there role = ap (λ (z : Role). words_of s (place_of z)) (sym role) ∙ (knows_stage 0 p there).own
+  pub own_is : seats.process.who.role ≡ Process → words_of s processed ≡ seats.process.who.own
+  own_is role = ap (λ (z : Role). words_of s (place_of z)) (sym role) ∙ (knows_stage 0 seats.process.who refl).own
 
-  pub journalled_is : (p : Person) → get_elem? stages 2 ≡ some p → p.role ≡ Journal → words_of s journalled ≡ p.own
-  journalled_is p there role = ap (λ (z : Role). words_of s (place_of z)) (sym role) ∙ (knows_stage 2 p there).own
+  pub journalled_is : seats.journal.who.role ≡ Journal → words_of s journalled ≡ seats.journal.who.own
+  journalled_is role = ap (λ (z : Role). words_of s (place_of z)) (sym role) ∙ (knows_stage 2 seats.journal.who refl).own
 
-  pub published_is : (p : Person) → get_elem? stages 0 ≡ some p → p.role ≡ Process → words_of s published ≡ p.part.sequence
-  published_is p there role = sym (subst (λ (z : Role). PartOf terms.rows terms.output_rows (words_of s) r.log z p.part) role (knows_stage 0 p there).part).0
+  pub published_is : seats.process.who.role ≡ Process → words_of s published ≡ seats.process.who.part.sequence
+  published_is role = sym (subst (λ (z : Role). PartOf terms.rows terms.output_rows (words_of s) r.log z seats.process.who.part) role (knows_stage 0 seats.process.who refl).part).0
 
-module _ {L : Type 0} (gs : List (GatewaySeat L)) (stages : List Person) where
+module _ {L : Type 0} (gs : List (At L)) (stages : List Person) where
   -- those behind the first `left` have been taken in
-  pub record Gathering (left : List (GatewaySeat L)) (v : View L) : Type 0 where
-    pub others : (i : ℕ) (g : GatewaySeat L) → get_elem? left i ≡ some g → get_elem? gs i ≡ some g
+  pub record Gathering (left : List (At L)) (v : View L) : Type 0 where
+    pub others : (i : ℕ) (g : At L) → get_elem? left i ≡ some g → get_elem? gs i ≡ some g
     pub stage : (j : ℕ) (p : Person) → get_elem? stages j ≡ some p → get_elem? v.people j ≡ some p
-    pub taken : (i : ℕ) (g : GatewaySeat L) → get_elem? gs i ≡ some g → length left ≤ i → (j : ℕ) × (get_elem? v.people j ≡ some (person g.seat.me.0))
+    pub taken : (i : ℕ) (g : At L) → get_elem? gs i ≡ some g → length left ≤ i → (j : ℕ) × (get_elem? v.people j ≡ some g.who)
 
   pub gathers_none : (v : View L) → v.people ≡ stages → Gathering gs v
   gathers_none v is = record {
@@ -182,22 +195,22 @@ module _ {L : Type 0} (gs : List (GatewaySeat L)) (stages : List Person) where
     taken = λ i g there late. (let below = within gs i g there in absurd (omega arith));
   }
 
-  pub gathers_one : (left : List (GatewaySeat L)) (x : GatewaySeat L) (v : View L) → Gathering (left ++ x ∷ []) v → Gathering left (together v x.seat.me.0)
-  gathers_one left x v r = record {
+  pub gathers_one : (left : List (At L)) (x : At L) (v w : View L) → w.people ≡ x.who ∷ [] → Gathering (left ++ x ∷ []) v → Gathering left (together v w)
+  gathers_one left x v w one_is r = record {
     others = λ i g there. r.others i g (at_longer left (x ∷ []) i g there);
-    stage = λ j p there. at_longer v.people x.seat.me.0.people j p (r.stage j p there);
+    stage = λ j p there. at_longer v.people w.people j p (r.stage j p there);
     taken = λ i g there late. by_place i g there (ℕ_discrete i (length left)) late;
   } where
-    by_place : (i : ℕ) (g : GatewaySeat L) → get_elem? gs i ≡ some g → Dec (i ≡ length left) → length left ≤ i → (j : ℕ) × (get_elem? (v.people ++ x.seat.me.0.people) j ≡ some (person g.seat.me.0))
+    by_place : (i : ℕ) (g : At L) → get_elem? gs i ≡ some g → Dec (i ≡ length left) → length left ≤ i → (j : ℕ) × (get_elem? (v.people ++ w.people) j ≡ some g.who)
     by_place i g there (yes is) late =
         let last : get_elem? gs i ≡ some x = r.others i x (at_last left x i (sym is)) in let one : g ≡ x = some-injective g x (sym there ∙ last) in
-        (length v.people, ap (λ (ps : List Person). get_elem? (v.people ++ ps) (length v.people)) x.alone ∙ at_last v.people (person x.seat.me.0) (length v.people) refl ∙ ap (λ (y : GatewaySeat L). some (person y.seat.me.0)) (sym one))
+        (length v.people, ap (λ (ps : List Person). get_elem? (v.people ++ ps) (length v.people)) one_is ∙ at_last v.people x.who (length v.people) refl ∙ ap (λ (y : At L). some y.who) (sym one))
     by_place i g there (no ne) late = let more = length-append left (x ∷ []) in let found = r.taken i g there (omega arith) in
-        (found.0, at_longer v.people x.seat.me.0.people found.0 (person g.seat.me.0) found.1)
+        (found.0, at_longer v.people w.people found.0 g.who found.1)
 
   pub gathers_all : (v : View L) → Gathering [] v → Gathers gs stages v
   gathers_all v r = record { stage = r.stage; all = λ i g there. r.taken i g there (omega arith) }
 
 -- seats as they were opened have no claim
-pub fresh_spent : {L : Type 0} (table : TableId) (logic : L) (base : List Message) (given : ℕ) (seats : List (GatewaySeat L)) → AreFresh table logic base given seats → AreSpent table seats
-fresh_spent table logic base given seats fresh = λ i s there. (let new = fresh i s there in record { at = new.at; number = new.number; claims = ap (λ (v : View _). (person v).claims) new.view })
+pub new_spent : {L : Type 0} (rings : Opened L) (seats : List (At L)) → AreNewGateways rings seats → AreSpent seats
+new_spent rings seats new = λ i s there. ap (λ (a : At _). a.who.claims) (new i s there)

@@ -1,5 +1,5 @@
 -- The marshaller's steps at control words and at published outputs keep the rule, and what its loads tell.
-use Rattle.std.proofs.Common.{◌≡◌, ◌≢◌, ℕ, suc, ◌+◌, ◌*◌, ◌<◌, ◌≤◌, List, ◌++◌, length, take, get_or, set, refl, ap, sym, subst, ◌∙◌, arith, le_refl}
+use Rattle.std.proofs.Common.{Some, ◌≡◌, ◌≢◌, ℕ, suc, ◌+◌, ◌*◌, ◌<◌, ◌≤◌, List, ◌++◌, length, take, get_or, set, refl, ap, sym, subst, ◌∙◌, arith, le_refl}
 use mathlib.Core.Option.{none, some, some-injective}
 use mathlib.Core.Logic.{dite}
 use native.Mathlib.Decide.{ℕ_discrete}
@@ -86,9 +86,9 @@ module _ {L : Type 0} (S : Type 0) (terms : Terms L) where
       (subst (λ (j : ℕ). Loads slots id me k (sees_output j terms.output_rows published terms.outputs (step slots k 0 0 none) me)) rows (loads_marshal_output slots id me k one role))
 
   -- the marshaller moves its word behind the next output, whose text it wrote whole
-  pub stores_marshalled : (slots id : ℕ) (me : Seated S L) (x : ℕ) (lg : L) (o : Output) → WroteText terms.outputs terms.text me.0 lg o → IsAlone me.0 → (person me.0).role ≡ Marshal → x ≡ suc (person me.0).own
+  pub stores_marshalled : (slots id : ℕ) (me : Seated S L) (x : ℕ) (lg : L) (o : Output) → me.0.logic ≡ Some lg → WroteText (terms.outputs lg) (terms.text lg) (person me.0) o → IsAlone me.0 → (person me.0).role ≡ Marshal → x ≡ suc (person me.0).own
       → Allows (Lawful S terms) slots id me marshalled (λ _. x) (λ _. moves_own (step slots marshalled x 0 none) me x)
-  stores_marshalled slots id me x lg o wrote one role next s r wide at _ =
+  stores_marshalled slots id me x lg o by wrote one role next s r wide at _ =
       let p = person me.0 in let ws = s.words in let w = words_of s in let w' : ℕ → ℕ = λ (j : ℕ). get_or (set ws 32 x) j 0 in
       let own = mine S terms s r id me.0 p at one in let knows = own.2 in let out = r.outgoing in
       let own_is : w 32 ≡ p.own = subst (λ (z : Role). w (place_of z) ≡ p.own) role knows.own in
@@ -104,7 +104,7 @@ module _ {L : Type 0} (S : Type 0) (terms : Terms L) where
       λ q i. else (out_row terms.rows terms.output_rows q i) (no_output terms.rows terms.output_rows q i 32 (let n : ℕ = terms.rows in omega arith)) in
       let order = r.order in let first = order.processed_unmarshalled in let second = order.processed_journalled in let third = order.unmarshalled_claimed in let fourth = order.journalled_claimed in let room = order.room in let most = order.most in
       let part = subst (λ (z : Role). PartOf terms.rows terms.output_rows w r.log z p.part) role knows.part in
-      let logic_is : lg ≡ terms.logic = some_is lg terms.logic (sym wrote.by ∙ own.0) in
+      let logic_is : lg ≡ terms.logic = some_is lg terms.logic (sym by ∙ own.0) in
       let mine_at : get_elem? (outputs_of terms p.seen) p.own ≡ some o = subst (λ (l : L). get_elem? (terms.outputs l p.seen) p.own ≡ some o) logic_is wrote.output in
       let kept_at = output_kept terms w r.log p.seen p.own o out knows.front deep mine_at in
       let whole : p.part.words ≡ text_words (text_of terms o p.own) = subst (λ (l : L). p.part.words ≡ text_words (terms.text l o p.own)) logic_is wrote.words in

@@ -9,6 +9,7 @@ use Rattle.ring_words.specs.declared.view.Person.{Person}
 use Rattle.ring_words.specs.Places.{claim, processed}
 use Rattle.ring_words.specs.Log.{times}
 use Rattle.ring_words.specs.Seats.{load_of, looked, with_claim, last_from}
+use Rattle.ring_words.specs.At.{Opened, At, at, seated, IsAt, Steps}
 use Rattle.ring_words.specs.Steps.{ClaimsUpTo, HasRoom, Reaches}
 
 -- a processed value that was just loaded leaves room
@@ -45,3 +46,7 @@ last_loaded k d x (l ∷ ls) = last_loaded k (cond (eqb l.place k) l.value d) x 
 pub last_kept : (k j d x : ℕ) (ls : List Load) → j ≢ k → last_from k d (ls ++ load_of j x ∷ []) ≡ last_from k d ls
 last_kept k j d x [] ne = cond-false (eqb j k) x d (ne_eqb j k ne)
 last_kept k j d x (l ∷ ls) ne = last_kept k j (cond (eqb l.place k) l.value d) x ls ne
+
+-- a seat of these rings is still theirs when its person changed
+pub still_at : {L : Type 0} (rings : Opened L) (old new : At L) (q : Person) → IsAt rings old → Steps old q new → IsAt rings new
+still_at rings old new q is step = step ∙ ap (λ (s : At _). seated s q) is ∙ ap (λ (s : At _). at rings s.who) (sym step)

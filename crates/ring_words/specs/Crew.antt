@@ -1,34 +1,36 @@
--- The seats at the start.
-use Rattle.std.specs.Prelude.{◌≡◌, ℕ, ◌+◌, List, [], ◌∷◌, length}
+-- All seats of one opening of rings.
+use Rattle.std.specs.Prelude.{◌≡◌, ℕ, ◌+◌, List, length, vec_len}
 use mathlib.Core.Option.{some}
 use lib.ListN.{get_elem?}
-use Rattle.atomic_table.specs.Seated.{TableId}
-use Rattle.venue_model.specs.History.{Message}
-use Rattle.ring_words.specs.declared.view.Role.{Role}
-use Rattle.ring_words.specs.declared.view.Role.TheVariants.{Gateway, Marshal}
-use Rattle.ring_words.specs.declared.seats.GatewaySeat.{GatewaySeat}
-use Rattle.ring_words.specs.declared.view.View.{View}
-use Rattle.ring_words.specs.Rule.{newcomer, processor, view_of}
+use Rattle.ring_words.specs.declared.view.Role.TheVariants.{Gateway, Unmarshal, Journal, Marshal}
+use Rattle.ring_words.specs.declared.seats.Seats.{Seats}
+use Rattle.ring_words.specs.Rule.{newcomer, processor}
+use Rattle.ring_words.specs.At.{Opened, At, at, IsAt}
 
-module _ {L : Type 0} (table : TableId) (logic : L) (base : List Message) where
-  -- the seat of gateway k, which has published and claimed nothing, knows the history at the start, and has taken the outputs given
-  pub record IsFresh (given k : ℕ) (s : GatewaySeat L) : Type 0 where
-    pub at : s.seat.table_id ≡ table
-    pub number : s.number ≡ k
-    pub view : s.seat.me.0 ≡ view_of logic base (newcomer (Gateway k) base given ∷ [])
+module _ {L : Type 0} where
+  -- the gateways' seats of these rings, in the order of their numbers
+  abbrev pub AreGateways : Opened L → List (At L) → Type 0
+  AreGateways rings seats = (i : ℕ) (s : At L) → get_elem? seats i ≡ some s → IsAt rings s × (s.who.role ≡ Gateway (i + 1))
 
-  -- one such seat for each gateway, in the order of the numbers
-  abbrev pub AreFresh : ℕ → List (GatewaySeat L) → Type 0
-  AreFresh given seats = (i : ℕ) (s : GatewaySeat L) → get_elem? seats i ≡ some s → IsFresh given (i + 1) s
+  -- all seats of these rings, of g gateways
+  pub record AreSeatsOf (g : ℕ) (rings : Opened L) (seats : Seats L) : Type 0 where
+    pub count : vec_len seats.gateways ≡ g
+    pub gateways : AreGateways rings seats.gateways.items
+    pub unmarshal : IsAt rings seats.unmarshal
+    pub journal : IsAt rings seats.journal
+    pub process : IsAt rings seats.process
+    pub marshal : IsAt rings seats.marshal
 
--- the view of the processor, which has done the history at the start and published the outputs given
-abbrev pub process_view : {L : Type 0} → L → List Message → ℕ → View L
-process_view logic base given = view_of logic base (processor base given ∷ [])
+  -- gateways' seats at the start, in the order of their numbers: each knows the history at the start, has published and claimed nothing, and has
+  -- taken the outputs given
+  abbrev pub AreNewGateways : Opened L → List (At L) → Type 0
+  AreNewGateways rings seats = (i : ℕ) (s : At L) → get_elem? seats i ≡ some s → s ≡ at rings (newcomer (Gateway (i + 1)) rings.base rings.given)
 
--- the view of the marshaller, which has written the outputs given
-abbrev pub marshal_view : {L : Type 0} → L → List Message → ℕ → View L
-marshal_view logic base given = view_of logic base (newcomer Marshal base given ∷ [])
-
--- the view of unmarshaller or journaller, which has done the history at the start
-abbrev pub stage_view : {L : Type 0} → L → List Message → Role → View L
-stage_view logic base role = view_of logic base (newcomer role base (length base) ∷ [])
+  -- all seats at the start: each stage knows the history at the start and has done it, whose outputs are published and their texts written
+  pub record AreNew (g : ℕ) (rings : Opened L) (seats : Seats L) : Type 0 where
+    pub count : vec_len seats.gateways ≡ g
+    pub gateways : AreNewGateways rings seats.gateways.items
+    pub unmarshal : seats.unmarshal ≡ at rings (newcomer Unmarshal rings.base (length rings.base))
+    pub journal : seats.journal ≡ at rings (newcomer Journal rings.base (length rings.base))
+    pub process : seats.process ≡ at rings (processor rings.base rings.given)
+    pub marshal : seats.marshal ≡ at rings (newcomer Marshal rings.base rings.given)

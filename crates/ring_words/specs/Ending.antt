@@ -1,43 +1,41 @@
 -- What the rings leave when all seats have come back.
-use Rattle.std.specs.Prelude.{◌≡◌, ℕ, suc, ◌+◌, ◌≤◌, List, [], length, take}
+use Rattle.std.specs.Prelude.{◌≡◌, ℕ, suc, ◌≤◌, List, [], ◌∷◌, length, take}
 use mathlib.Core.Option.{some}
 use lib.ListN.{get_elem?}
-use Rattle.atomic_table.specs.Seated.{TableId}
 use Rattle.venue_model.specs.History.{Message}
 use Rattle.venue_model.specs.declared.outputs.Output.{Output}
-use Rattle.ring_words.specs.declared.seats.GatewaySeat.{GatewaySeat}
+use Rattle.ring_words.specs.declared.close.Summary.{Summary}
+use Rattle.ring_words.specs.declared.seats.Seats.{Seats}
 use Rattle.ring_words.specs.declared.view.Person.{Person}
 use Rattle.ring_words.specs.Log.{IsEntry, sent_at, published_at}
 use Rattle.ring_words.specs.Rule.{IsGateway}
-use Rattle.ring_words.specs.Seats.{person}
+use Rattle.ring_words.specs.At.{At, number}
 
 -- each entry of the history stands in the log at its place
 abbrev pub IsBeginning : List Message → List Message → Type 0
 IsBeginning h log = (s : ℕ) (e : Message) → get_elem? h s ≡ some e → get_elem? log s ≡ some e
 
 module _ {L : Type 0} where
-  -- the seat of gateway k, which has no claim left
-  pub record IsSpent (table : TableId) (k : ℕ) (s : GatewaySeat L) : Type 0 where
-    pub at : s.seat.table_id ≡ table
-    pub number : s.number ≡ k
-    pub claims : (person s.seat.me.0).claims ≡ []
+  -- no gateway has a claim left
+  abbrev pub AreSpent : List (At L) → Type 0
+  AreSpent seats = (i : ℕ) (s : At L) → get_elem? seats i ≡ some s → s.who.claims ≡ []
 
-  -- such seats, in the order of the numbers
-  abbrev pub AreSpent : TableId → List (GatewaySeat L) → Type 0
-  AreSpent table seats = (i : ℕ) (s : GatewaySeat L) → get_elem? seats i ≡ some s → IsSpent table (i + 1) s
+  -- the stages' persons
+  abbrev pub stages_of : Seats L → List Person
+  stages_of seats = seats.process.who ∷ seats.unmarshal.who ∷ seats.journal.who ∷ seats.marshal.who ∷ []
 
-  -- one log tells of all: it begins with the history at the start; each later entry is a message and was published there by one gateway, and all that
-  -- a gateway published stands there; what anyone knew is a beginning of it; all outputs of the entries processed were published, and maybe some of
-  -- the next entry's, where that was journalled
-  pub record Ended (outputs_of : List Message → List Output) (base : List Message) (gateways : List (GatewaySeat L)) (stages : List Person) (commands kept outputs : ℕ) : Type 0 where
+  -- One log tells of all: it begins with the history at the start; each later entry is a message and was published there by one gateway, and all that
+  -- a gateway published stands there; what anyone knew is a beginning of it, and what a gateway has seen is no longer than what the journaller
+  -- released; all outputs of the entries processed were published, and maybe some of the next entry's, where that was journalled
+  pub record Ended (outputs_of : List Message → List Output) (base : List Message) (seats : Seats L) (summary : Summary) : Type 0 where
     pub log : List Message
     pub begins : IsBeginning base log
-    pub later : (s : ℕ) (e : Message) → length base ≤ s → get_elem? log s ≡ some e → IsEntry e × IsGateway (length gateways) e.gateway
-    pub mine : (i : ℕ) (g : GatewaySeat L) → get_elem? gateways i ≡ some g
-        → (s : ℕ) → sent_at s (person g.seat.me.0).mine ≡ published_at (length base) g.number log s
-    pub seen : (i : ℕ) (g : GatewaySeat L) → get_elem? gateways i ≡ some g → IsBeginning (person g.seat.me.0).seen log
-    pub known : (j : ℕ) (p : Person) → get_elem? stages j ≡ some p → IsBeginning p.seen log
-    pub done : commands ≤ kept
-    pub journalled : kept ≤ length log
-    pub least : length (outputs_of (take commands log)) ≤ outputs
-    pub most : outputs ≤ length (outputs_of (take (suc commands) (take kept log)))
+    pub later : (s : ℕ) (e : Message) → length base ≤ s → get_elem? log s ≡ some e → IsEntry e × IsGateway (length seats.gateways.items) e.gateway
+    pub mine : (i : ℕ) (g : At L) → get_elem? seats.gateways.items i ≡ some g
+        → (s : ℕ) → sent_at s g.who.mine ≡ published_at (length base) (number g) log s
+    pub seen : (i : ℕ) (g : At L) → get_elem? seats.gateways.items i ≡ some g → IsBeginning g.who.seen log × (length g.who.seen ≤ seats.journal.who.own)
+    pub known : (j : ℕ) (p : Person) → get_elem? (stages_of seats) j ≡ some p → IsBeginning p.seen log
+    pub done : summary.commands ≤ seats.journal.who.own
+    pub journalled : seats.journal.who.own ≤ length log
+    pub least : length (outputs_of (take summary.commands log)) ≤ summary.outputs
+    pub most : summary.outputs ≤ length (outputs_of (take (suc summary.commands) (take seats.journal.who.own log)))

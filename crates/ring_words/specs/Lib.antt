@@ -7,7 +7,9 @@ pub mod Texts
 pub mod Terms
 pub mod Rule
 pub mod Seats
+pub mod At
 pub mod Steps
+pub mod Finds
 pub mod Meeting
 pub mod Sizes
 pub mod Crew

@@ -54,35 +54,31 @@ Reaches x seen rest = ((x ≤ length seen) × (rest ≡ [])) ⊎ ((length seen <
 abbrev pub Seated : Type 0 → Type 0 → Type 0
 Seated S L = Me S (View L)
 
--- the unmarshaller wrote the whole command of the next sequence, which is that of the entry e, as the logic reads it
-pub record WroteCommand {L : Type 0} (reads : L → ℕ → Message → Command) (v : View L) (logic : L) (e : Message) : Type 0 where
-  pub by : v.logic ≡ Some logic
-  pub entry : get_elem? (person v).seen (person v).own ≡ some e
-  pub row : (person v).part.sequence ≡ (person v).own
-  pub words : (person v).part.words ≡ command_words e.gateway (reads logic (person v).own e)
-  pub packable : IsPackable e.gateway (reads logic (person v).own e)
+-- the unmarshaller wrote the whole command of the next sequence, which is that of the entry e, by this reading
+pub record WroteCommand (reads : ℕ → Message → Command) (p : Person) (e : Message) : Type 0 where
+  pub entry : get_elem? p.seen p.own ≡ some e
+  pub row : p.part.sequence ≡ p.own
+  pub words : p.part.words ≡ command_words e.gateway (reads p.own e)
+  pub packable : IsPackable e.gateway (reads p.own e)
 
 -- the processor wrote the whole output at the next place, which is one of the next entry's; it saw that entry journalled
-pub record WroteOutput {L : Type 0} (outputs : L → List Message → List Output) (v : View L) (logic : L) (o : Output) : Type 0 where
-  pub by : v.logic ≡ Some logic
-  pub synced : Shows journalled (person v) (person v).own
-  pub output : get_elem? (outputs logic (take (suc (person v).own) (person v).seen)) (person v).part.sequence ≡ some o
-  pub words : (person v).part.words ≡ output_words o
+pub record WroteOutput (outputs : List Message → List Output) (p : Person) (o : Output) : Type 0 where
+  pub synced : Shows journalled p p.own
+  pub output : get_elem? (outputs (take (suc p.own) p.seen)) p.part.sequence ≡ some o
+  pub words : p.part.words ≡ output_words o
   pub packable : IsPackableOutput o
 
 -- the processor published all outputs of the first entries that it knows, so many
-pub record HasPublished {L : Type 0} (outputs : L → List Message → List Output) (v : View L) (logic : L) (upto : ℕ) : Type 0 where
-  pub by : v.logic ≡ Some logic
-  pub all : length (outputs logic (take upto (person v).seen)) ≤ (person v).part.sequence
+abbrev pub HasPublished : (List Message → List Output) → Person → ℕ → Type 0
+HasPublished outputs p upto = length (outputs (take upto p.seen)) ≤ p.part.sequence
 
 -- the marshaller wrote the whole text of the next output
-pub record WroteText {L : Type 0} (outputs : L → List Message → List Output) (text : L → Output → ℕ → Text) (v : View L) (logic : L) (o : Output) : Type 0 where
-  pub by : v.logic ≡ Some logic
-  pub shown : Shows published (person v) (person v).own
-  pub output : get_elem? (outputs logic (person v).seen) (person v).own ≡ some o
-  pub row : (person v).part.sequence ≡ (person v).own
-  pub words : (person v).part.words ≡ text_words (text logic o (person v).own)
-  pub packable : IsPackableText (text logic o (person v).own)
+pub record WroteText (outputs : List Message → List Output) (text : Output → ℕ → Text) (p : Person) (o : Output) : Type 0 where
+  pub shown : Shows published p p.own
+  pub output : get_elem? (outputs p.seen) p.own ≡ some o
+  pub row : p.part.sequence ≡ p.own
+  pub words : p.part.words ≡ text_words (text o p.own)
+  pub packable : IsPackableText (text o p.own)
 
 module _ {S L : Type 0} where
   -- the seat is as before, but for its one person, who is now q

@@ -1,8 +1,4 @@
 //! How the rings end: all seats come back, and the last words are read.
-ghost use Rattle.std.specs.Prelude.{◌≡◌, ◌<◌, [], ◌∷◌, vec_len, length};
-ghost use Rattle.ring_words.specs.Seats.{person};
-ghost use Rattle.ring_words.specs.Ending.{AreSpent, Ended};
-ghost use Rattle.ring_words.specs.Gathered.{Gathers};
 
 use crate::marshal_seat::MarshalSeat;
 use crate::places::{PROCESSED, PUBLISHED};
@@ -25,6 +21,13 @@ pub struct Summary {
 }
 
 impl<L: Logic + Drop, const N: usize, const M: usize, const G: usize> Rings<L, N, M, G> {
+    ghost use Rattle.std.specs.Prelude.{◌≡◌, ◌<◌, [], ◌∷◌, length};
+    ghost use Rattle.ring_words.specs.declared.view.Role.TheVariants.{Process, Journal};
+    ghost use Rattle.ring_words.specs.At.{IsAt};
+    ghost use Rattle.ring_words.specs.Crew.{AreGateways, AreSeatsOf};
+    ghost use Rattle.ring_words.specs.Gathered.{Gathers};
+    ghost use Rattle.ring_words.specs.Ending.{AreSpent, Ended};
+
     /// The processor's seat takes in those of the other stages.
     fn gather_stages(
         &self,
@@ -33,12 +36,13 @@ impl<L: Logic + Drop, const N: usize, const M: usize, const G: usize> Rings<L, N
         journal: JournalSeat<L>,
         marshal: MarshalSeat<L>,
     ) -> Seat<(), View<L>>
-        requires process { process.seat.table_id ≡ self.now.table.shared.table_id }
-        requires unmarshal { unmarshal.seat.table_id ≡ self.now.table.shared.table_id }
-        requires journal { journal.seat.table_id ≡ self.now.table.shared.table_id }
-        requires marshal { marshal.seat.table_id ≡ self.now.table.shared.table_id }
-        ensures table { (result.table_id ≡ self.now.table.shared.table_id) × (result.me.1 ≡ []) }
-        ensures all { result.me.0.people ≡ person process.seat.me.0 ∷ person unmarshal.seat.me.0 ∷ person journal.seat.me.0 ∷ person marshal.seat.me.0 ∷ [] }
+        requires process { IsAt self.now process }
+        requires unmarshal { IsAt self.now unmarshal }
+        requires journal { IsAt self.now journal }
+        requires marshal { IsAt self.now marshal }
+        ensures table { (result.table_id ≡ self.now.table) × (result.me.1 ≡ []) }
+        ensures roles { (process.who.role ≡ Process) × (journal.who.role ≡ Journal) }
+        ensures all { result.me.0.people ≡ process.who ∷ unmarshal.who ∷ journal.who ∷ marshal.who ∷ [] }
     {
         let ProcessSeat { seat: mut all, .. } = process;
         let ReaderSeat { seat: second, .. } = unmarshal;
@@ -56,10 +60,10 @@ impl<L: Logic + Drop, const N: usize, const M: usize, const G: usize> Rings<L, N
         mut gateways: Vec<GatewaySeat<L>>,
         stages: Seat<(), View<L>>,
     ) -> Seat<(), View<L>>
-        requires table { (stages.table_id ≡ self.now.table.shared.table_id) × (stages.me.1 ≡ []) }
+        requires table { (stages.table_id ≡ self.now.table) × (stages.me.1 ≡ []) }
         requires some { 0 < length stages.me.0.people }
-        requires gateways { AreSpent self.now.table.shared.table_id gateways.items }
-        ensures table { result.table_id ≡ self.now.table.shared.table_id }
+        requires gateways { AreGateways self.now gateways.items }
+        ensures table { result.table_id ≡ self.now.table }
         ensures all { Gathers gateways.items stages.me.0.people result.me.0 }
     {
         let mut all = stages;
@@ -73,15 +77,11 @@ impl<L: Logic + Drop, const N: usize, const M: usize, const G: usize> Rings<L, N
     /// Ends the rings, when all seats have come back and each claim is published. It loads the processed word once with
     /// each seat but the processor's.
     pub fn close(self, seats: Seats<L>) -> Summary
-        requires process { seats.process.seat.table_id ≡ self.table.shared.table_id }
-        requires unmarshal { seats.unmarshal.seat.table_id ≡ self.table.shared.table_id }
-        requires journal { seats.journal.seat.table_id ≡ self.table.shared.table_id }
-        requires marshal { seats.marshal.seat.table_id ≡ self.table.shared.table_id }
-        requires gateways { AreSpent self.table.shared.table_id seats.gateways.items }
-        requires count { vec_len seats.gateways ≡ G }
-        ensures commands { result.commands ≡ (person seats.process.seat.me.0).own }
-        ensures outputs { result.outputs ≡ (person seats.process.seat.me.0).part.sequence }
-        ensures log { Ended (L.outputs self.table.shared.key.logic) self.table.shared.key.base.value.items seats.gateways.items (person seats.process.seat.me.0 ∷ person seats.unmarshal.seat.me.0 ∷ person seats.journal.seat.me.0 ∷ person seats.marshal.seat.me.0 ∷ []) result.commands (person seats.journal.seat.me.0).own result.outputs }
+        requires seats { AreSeatsOf G self seats }
+        requires spent { AreSpent seats.gateways.items }
+        ensures commands { result.commands ≡ seats.process.who.own }
+        ensures outputs { result.outputs ≡ seats.process.who.part.sequence }
+        ensures log { Ended (L.outputs self.logic) self.base seats result }
     {
         let Seats {
             gateways,

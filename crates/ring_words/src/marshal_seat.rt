@@ -5,6 +5,7 @@ ghost use Rattle.ring_words.specs.Seats.{person, IsAlone};
 
 use crate::view::View;
 use atomic_table::Seat;
+use std::marker::Model;
 
 /// The marshaller's place at the table. It holds its own word.
 #[derive(Drop)]
@@ -17,10 +18,18 @@ pub struct MarshalSeat<L> {
     ghost counts: { own ≡ (person seat.me.0).own },
 }
 
+impl<L> Model for MarshalSeat<L> {
+    ghost use Rattle.ring_words.specs.At.{At, seat_of};
+
+    ghost Value = { At L };
+
+    ghost view = { λ s. seat_of s.seat.table_id s.seat.me.0 };
+}
+
 impl<L> MarshalSeat<L> {
     /// The marshaller's word: the texts of all outputs below it are written.
     pub fn own(&self) -> u64
-        ensures value { result ≡ (person self.now.seat.me.0).own }
+        ensures value { result ≡ self.now.who.own }
     {
         self.own
     }

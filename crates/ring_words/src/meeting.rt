@@ -1,6 +1,7 @@
 //! Meetings: two seats learn what either knew, so that what their holders saw is of one history. No word changes.
 ghost use Rattle.std.specs.Prelude.{◌≡◌, ℕ, [], length, take};
-ghost use Rattle.ring_words.specs.Seats.{person, alone, IsAlone, together};
+ghost use Rattle.ring_words.specs.Seats.{IsAlone, together};
+ghost use Rattle.ring_words.specs.At.{IsAt, Steps};
 ghost use Rattle.ring_words.specs.Meeting.{longer, met, AreMet, MeetsJournal};
 
 use crate::places::PROCESSED;
@@ -16,8 +17,8 @@ use venue_model::Logic;
 impl<L: Logic, const N: usize, const M: usize, const G: usize> Rings<L, N, M, G> {
     /// The first seat takes in the persons of the second, which is then a seat of nobody.
     fn bring_together(&self, first: &mut Seat<(), View<L>>, second: &mut Seat<(), View<L>>)
-        requires first { (first.old.table_id ≡ self.now.table.shared.table_id) × (first.old.me.1 ≡ []) × IsAlone first.old.me.0 }
-        requires second { (second.old.table_id ≡ self.now.table.shared.table_id) × (second.old.me.1 ≡ []) }
+        requires first { (first.old.table_id ≡ self.now.table) × (first.old.me.1 ≡ []) × IsAlone first.old.me.0 }
+        requires second { (second.old.table_id ≡ self.now.table) × (second.old.me.1 ≡ []) }
         ensures first { (first.new.table_id ≡ first.old.table_id) × (first.new.me ≡ (together first.old.me.0 second.old.me.0, [])) }
         ensures second { (second.new.table_id ≡ second.old.table_id) × (second.new.me.1 ≡ []) }
     {
@@ -29,13 +30,11 @@ impl<L: Logic, const N: usize, const M: usize, const G: usize> Rings<L, N, M, G>
     /// Two gateways meet: of what they had seen one history begins the other, and afterwards both have seen the longer, which is legal
     /// for both. The processed word is loaded by both at once; the table's own moves, which join the two seats and split them again, load it too.
     pub fn meet(&self, one: &mut GatewaySeat<L>, other: &mut GatewaySeat<L>)
-        requires one { one.old.seat.table_id ≡ self.now.table.shared.table_id }
-        requires other { other.old.seat.table_id ≡ self.now.table.shared.table_id }
-        ensures tables { (one.new.seat.table_id ≡ one.old.seat.table_id) × (other.new.seat.table_id ≡ other.old.seat.table_id) }
-        ensures numbers { (one.new.number ≡ one.old.number) × (other.new.number ≡ other.old.number) }
-        ensures met { AreMet (length one.old.seat.me.0.base) (person one.old.seat.me.0) (person other.old.seat.me.0) }
-        ensures view { (r : ℕ) × (one.new.seat.me.0 ≡ alone one.old.seat.me.0 (met (person one.old.seat.me.0) r (longer (person one.old.seat.me.0).seen (person other.old.seat.me.0).seen)))
-            × (person other.new.seat.me.0 ≡ met (person other.old.seat.me.0) r (longer (person one.old.seat.me.0).seen (person other.old.seat.me.0).seen)) }
+        requires one { IsAt self.now one.old }
+        requires other { IsAt self.now other.old }
+        ensures met { AreMet (length self.now.base) one.old.who other.old.who }
+        ensures steps { let history = longer one.old.who.seen other.old.who.seen in (r : ℕ)
+            × Steps one.old (met one.old.who r history) one.new × Steps other.old (met other.old.who r history) other.new }
     {
         self.bring_together(&mut one.seat, &mut other.seat);
         self.table.shared.load::<Meet>(&mut one.seat, PROCESSED);
@@ -45,13 +44,11 @@ impl<L: Logic, const N: usize, const M: usize, const G: usize> Rings<L, N, M, G>
     /// A gateway meets the journaller: what it had seen begins what the journaller has released, and afterwards it has seen all of that,
     /// which is legal for it.
     pub fn meet_journal(&self, gateway: &mut GatewaySeat<L>, journal: &mut JournalSeat<L>)
-        requires gateway { gateway.old.seat.table_id ≡ self.now.table.shared.table_id }
-        requires journal { journal.old.seat.table_id ≡ self.now.table.shared.table_id }
-        ensures tables { (gateway.new.seat.table_id ≡ gateway.old.seat.table_id) × (journal.new.seat.table_id ≡ journal.old.seat.table_id) }
-        ensures number { gateway.new.number ≡ gateway.old.number }
-        ensures met { MeetsJournal (length gateway.old.seat.me.0.base) (person gateway.old.seat.me.0) (person journal.old.seat.me.0) }
-        ensures view { (r : ℕ) × (gateway.new.seat.me.0 ≡ alone gateway.old.seat.me.0 (met (person gateway.old.seat.me.0) r (take (person journal.old.seat.me.0).own (person journal.old.seat.me.0).seen)))
-            × (person journal.new.seat.me.0 ≡ met (person journal.old.seat.me.0) r (person journal.old.seat.me.0).seen) }
+        requires gateway { IsAt self.now gateway.old }
+        requires journal { IsAt self.now journal.old }
+        ensures met { MeetsJournal (length self.now.base) gateway.old.who journal.old.who }
+        ensures steps { let old = journal.old.who in (r : ℕ)
+            × Steps gateway.old (met gateway.old.who r (take old.own old.seen)) gateway.new × Steps journal.old (met old r old.seen) journal.new }
     {
         self.bring_together(&mut gateway.seat, &mut journal.seat);
         self.table

@@ -1,10 +1,11 @@
 //! How the rings begin: their words, the first seat, and the seats that it is split into.
 ghost use Rattle.std.specs.Prelude.{◌≡◌, ◌≢◌, ℕ, suc, ◌+◌, ◌-◌, ◌*◌, ◌^◌, ◌<◌, ◌≤◌, [], ◌∷◌, length, slice_index_or, vec_len, IfOk, IsErrOf, IsTrue, IsFalse, IsOk, ◌&&◌};
 ghost use Rattle.ring_words.specs.Rule.{gateways, newcomer, processor, opening_word, view_of};
-ghost use Rattle.ring_words.specs.declared.view.Role.TheVariants.{Unmarshal, Journal, Marshal};
+ghost use Rattle.ring_words.specs.declared.view.Role.TheVariants.{Gateway, Marshal};
 ghost use Rattle.ring_words.specs.Seats.{person, others, apart};
 ghost use Rattle.ring_words.specs.Sizes.{ring_size};
-ghost use Rattle.ring_words.specs.Crew.{IsFresh, AreFresh, stage_view, process_view, marshal_view};
+ghost use Rattle.ring_words.specs.At.{at, seat_of};
+ghost use Rattle.ring_words.specs.Crew.{AreNewGateways, AreNew};
 
 use crate::marshal_seat::MarshalSeat;
 use crate::places::{FIRST_ROW, MARSHALLED, OUTPUT_ROW_WORDS, OUTPUT_WORDS_END, ROW_WORDS};
@@ -73,7 +74,7 @@ fn words_at_start(
 impl<L: Logic, const N: usize, const M: usize, const G: usize> Rings<L, N, M, G> {
     /// Splits the seat of the first person off the first seat.
     fn split(&self, first: &mut Seat<(), View<L>>) -> Seat<(), View<L>>
-        requires table { first.old.table_id ≡ self.now.table.shared.table_id }
+        requires table { first.old.table_id ≡ self.now.table }
         requires bare { first.old.me.1 ≡ [] }
         requires some { 0 < length first.old.me.0.people }
         ensures first { (first.new.table_id ≡ first.old.table_id) × (first.new.me ≡ (others first.old.me.0, [])) }
@@ -84,14 +85,14 @@ impl<L: Logic, const N: usize, const M: usize, const G: usize> Rings<L, N, M, G>
 
     /// Splits the processor's seat off the first one.
     fn process_seat(&self, first: &mut Seat<(), View<L>>, count: u64, given: u64) -> ProcessSeat<L>
-        requires table { first.old.table_id ≡ self.now.table.shared.table_id }
+        requires table { first.old.table_id ≡ self.now.table }
         requires bare { first.old.me.1 ≡ [] }
         requires some { 0 < length first.old.me.0.people }
-        requires head { person first.old.me.0 ≡ processor self.now.table.shared.key.base.value.items given }
-        requires count { count ≡ length self.now.table.shared.key.base.value.items }
+        requires head { person first.old.me.0 ≡ processor self.now.base given }
+        requires count { count ≡ length self.now.base }
         requires small { count ≤ 2 ^ 48 }
         ensures first { (first.new.table_id ≡ first.old.table_id) × (first.new.me ≡ (others first.old.me.0, [])) }
-        ensures seat { (result.seat.table_id ≡ first.old.table_id) × (result.seat.me.0 ≡ apart first.old.me.0) }
+        ensures seat { result ≡ seat_of first.old.table_id first.old.me.0 }
     {
         ProcessSeat {
             seat: self.split(first),
@@ -104,12 +105,12 @@ impl<L: Logic, const N: usize, const M: usize, const G: usize> Rings<L, N, M, G>
 
     /// Splits the marshaller's seat off the first one.
     fn marshal_seat(&self, first: &mut Seat<(), View<L>>, given: u64) -> MarshalSeat<L>
-        requires table { first.old.table_id ≡ self.now.table.shared.table_id }
+        requires table { first.old.table_id ≡ self.now.table }
         requires bare { first.old.me.1 ≡ [] }
         requires some { 0 < length first.old.me.0.people }
-        requires head { person first.old.me.0 ≡ newcomer Marshal self.now.table.shared.key.base.value.items given }
+        requires head { person first.old.me.0 ≡ newcomer Marshal self.now.base given }
         ensures first { (first.new.table_id ≡ first.old.table_id) × (first.new.me ≡ (others first.old.me.0, [])) }
-        ensures seat { (result.seat.table_id ≡ first.old.table_id) × (result.seat.me.0 ≡ apart first.old.me.0) }
+        ensures seat { result ≡ seat_of first.old.table_id first.old.me.0 }
     {
         MarshalSeat {
             seat: self.split(first),
@@ -119,14 +120,14 @@ impl<L: Logic, const N: usize, const M: usize, const G: usize> Rings<L, N, M, G>
 
     /// Splits the seat of a stage that reads what gateways publish off the first one.
     fn reader_seat<R: Reader>(&self, first: &mut Seat<(), View<L>>, count: u64) -> ReaderSeat<L, R>
-        requires table { first.old.table_id ≡ self.now.table.shared.table_id }
+        requires table { first.old.table_id ≡ self.now.table }
         requires bare { first.old.me.1 ≡ [] }
         requires some { 0 < length first.old.me.0.people }
-        requires head { person first.old.me.0 ≡ newcomer R.role self.now.table.shared.key.base.value.items count }
-        requires count { count ≡ length self.now.table.shared.key.base.value.items }
+        requires head { person first.old.me.0 ≡ newcomer R.role self.now.base count }
+        requires count { count ≡ length self.now.base }
         requires small { count ≤ 2 ^ 48 }
         ensures first { (first.new.table_id ≡ first.old.table_id) × (first.new.me ≡ (others first.old.me.0, [])) }
-        ensures seat { (result.seat.table_id ≡ first.old.table_id) × (result.seat.me.0 ≡ apart first.old.me.0) }
+        ensures seat { result ≡ seat_of first.old.table_id first.old.me.0 }
     {
         ReaderSeat {
             seat: self.split(first),
@@ -144,15 +145,15 @@ impl<L: Logic, const N: usize, const M: usize, const G: usize> Rings<L, N, M, G>
         left: u64,
         given: u64,
     ) -> GatewaySeat<L>
-        requires table { first.old.table_id ≡ self.now.table.shared.table_id }
+        requires table { first.old.table_id ≡ self.now.table }
         requires bare { first.old.me.1 ≡ [] }
-        requires people { first.old.me.0 ≡ view_of self.now.table.shared.key.logic self.now.table.shared.key.base.value.items (gateways number left self.now.table.shared.key.base.value.items self.now.table.shared.key.given) }
+        requires people { first.old.me.0 ≡ view_of self.now.logic self.now.base (gateways number left self.now.base self.now.given) }
         requires some { 0 < left }
-        requires given { given ≡ self.now.table.shared.key.given }
+        requires given { given ≡ self.now.given }
         requires number { (1 ≤ number) × (number ≤ 8) }
         ensures first { (first.new.table_id ≡ first.old.table_id) × (first.new.me.1 ≡ []) }
-        ensures people { first.new.me.0 ≡ view_of self.now.table.shared.key.logic self.now.table.shared.key.base.value.items (gateways (number + 1) (left - 1) self.now.table.shared.key.base.value.items self.now.table.shared.key.given) }
-        ensures seat { IsFresh self.now.table.shared.table_id self.now.table.shared.key.logic self.now.table.shared.key.base.value.items self.now.table.shared.key.given number result }
+        ensures people { first.new.me.0 ≡ view_of self.now.logic self.now.base (gateways (number + 1) (left - 1) self.now.base self.now.given) }
+        ensures seat { result ≡ at self.now (newcomer (Gateway number) self.now.base self.now.given) }
     {
         GatewaySeat {
             seat: self.split(first),
@@ -168,13 +169,13 @@ impl<L: Logic, const N: usize, const M: usize, const G: usize> Rings<L, N, M, G>
         mut first: Seat<(), View<L>>,
         given: u64,
     ) -> Result<Vec<GatewaySeat<L>>, AllocError>
-        requires table { first.table_id ≡ self.now.table.shared.table_id }
+        requires table { first.table_id ≡ self.now.table }
         requires bare { first.me.1 ≡ [] }
-        requires people { first.me.0 ≡ view_of self.now.table.shared.key.logic self.now.table.shared.key.base.value.items (gateways 1 G self.now.table.shared.key.base.value.items self.now.table.shared.key.given) }
-        requires given { given ≡ self.now.table.shared.key.given }
+        requires people { first.me.0 ≡ view_of self.now.logic self.now.base (gateways 1 G self.now.base self.now.given) }
+        requires given { given ≡ self.now.given }
         requires few { G ≤ 8 }
         ensures count { IfOk result (λ seats. vec_len seats ≡ G) }
-        ensures seats { IfOk result (λ seats. AreFresh self.now.table.shared.table_id self.now.table.shared.key.logic self.now.table.shared.key.base.value.items self.now.table.shared.key.given seats.items) }
+        ensures seats { IfOk result (λ seats. AreNewGateways self.now seats.items) }
     {
         let mut seats = Vec::with_capacity(alloc, G)?;
         let mut number = 1;
@@ -204,13 +205,8 @@ impl<L: Logic + Drop, const N: usize, const M: usize, const G: usize> Rings<L, N
         ensures sizes { IsOk result → IsTrue (ring_size N && ring_size M) }
         ensures bad { IsErrOf result OpenError.NotPowerOfTwo → IsFalse (ring_size N && ring_size M) }
         ensures memory { IsErrOf result OpenError.Memory → IsTrue (ring_size N && ring_size M) }
-        ensures opened { IfOk result (λ r. (r.0.table.shared.key.logic ≡ logic) × (r.0.table.shared.key.base.value.items ≡ base.now.items) × (r.0.table.shared.key.given ≡ given)) }
-        ensures count { IfOk result (λ r. vec_len r.1.gateways ≡ G) }
-        ensures gateways { IfOk result (λ r. AreFresh r.0.table.shared.table_id logic base.now.items given r.1.gateways.items) }
-        ensures process { IfOk result (λ r. (r.1.process.seat.table_id ≡ r.0.table.shared.table_id) × (r.1.process.seat.me.0 ≡ process_view logic base.now.items given)) }
-        ensures unmarshal { IfOk result (λ r. (r.1.unmarshal.seat.table_id ≡ r.0.table.shared.table_id) × (r.1.unmarshal.seat.me.0 ≡ stage_view logic base.now.items Unmarshal)) }
-        ensures journal { IfOk result (λ r. (r.1.journal.seat.table_id ≡ r.0.table.shared.table_id) × (r.1.journal.seat.me.0 ≡ stage_view logic base.now.items Journal)) }
-        ensures marshal { IfOk result (λ r. (r.1.marshal.seat.table_id ≡ r.0.table.shared.table_id) × (r.1.marshal.seat.me.0 ≡ marshal_view logic base.now.items given)) }
+        ensures opened { IfOk result (λ r. (r.0.logic ≡ logic) × (r.0.base ≡ base.now.items) × (r.0.given ≡ given)) }
+        ensures seats { IfOk result (λ r. AreNew G r.0 r.1) }
     {
         if !is_ring_size(N) || !is_ring_size(M) {
             return Err(OpenError::NotPowerOfTwo);

@@ -6,6 +6,7 @@ ghost use Rattle.ring_words.specs.Seats.{person, IsAlone, last_from};
 
 use crate::view::View;
 use atomic_table::Seat;
+use std::marker::Model;
 
 /// The processor's place at the table. It holds the length of the history that it knows, its own word, the unmarshalled value that it loaded
 /// last, and how many outputs are published.
@@ -24,10 +25,18 @@ pub struct ProcessSeat<L> {
     ghost put: { published ≡ (person seat.me.0).part.sequence },
 }
 
+impl<L> Model for ProcessSeat<L> {
+    ghost use Rattle.ring_words.specs.At.{At, seat_of};
+
+    ghost Value = { At L };
+
+    ghost view = { λ s. seat_of s.seat.table_id s.seat.me.0 };
+}
+
 impl<L> ProcessSeat<L> {
     /// How many entries the processor knows: all sequences below may be read.
     pub fn known(&self) -> u64
-        ensures value { result ≡ length (person self.now.seat.me.0).seen }
+        ensures value { result ≡ length self.now.who.seen }
         ensures most { result ≤ 2 ^ 48 }
     {
         self.known
@@ -35,15 +44,15 @@ impl<L> ProcessSeat<L> {
 
     /// The processor's word: all sequences below it are processed.
     pub fn own(&self) -> u64
-        ensures value { result ≡ (person self.now.seat.me.0).own }
-        ensures known { result ≤ length (person self.now.seat.me.0).seen }
+        ensures value { result ≡ self.now.who.own }
+        ensures known { result ≤ length self.now.who.seen }
     {
         self.own
     }
 
     /// How many outputs are published: the place of the next one.
     pub fn published(&self) -> u64
-        ensures value { result ≡ (person self.now.seat.me.0).part.sequence }
+        ensures value { result ≡ self.now.who.part.sequence }
     {
         self.published
     }

@@ -4,7 +4,7 @@ ghost use Rattle.ring_words.specs.Seats.{person, IsAlone};
 
 use crate::view::View;
 use atomic_table::Seat;
-use std::marker::PhantomData;
+use std::marker::{Model, PhantomData};
 
 /// A stage that reads what gateways published.
 pub trait Reader {
@@ -56,6 +56,14 @@ pub struct ReaderSeat<L, R: Reader> {
     ghost counts: { (known ≡ length (person seat.me.0).seen) × (own ≡ (person seat.me.0).own) × (own ≤ known) × (known ≤ 2 ^ 48) },
 }
 
+impl<L, R: Reader> Model for ReaderSeat<L, R> {
+    ghost use Rattle.ring_words.specs.At.{At, seat_of};
+
+    ghost Value = { At L };
+
+    ghost view = { λ s. seat_of s.seat.table_id s.seat.me.0 };
+}
+
 /// The unmarshaller's place at the table.
 pub type UnmarshalSeat<L> = ReaderSeat<L, Unmarshalling>;
 
@@ -65,7 +73,7 @@ pub type JournalSeat<L> = ReaderSeat<L, Journalling>;
 impl<L, R: Reader> ReaderSeat<L, R> {
     /// How many entries the stage knows: all sequences below may be read.
     pub fn known(&self) -> u64
-        ensures value { result ≡ length (person self.now.seat.me.0).seen }
+        ensures value { result ≡ length self.now.who.seen }
         ensures most { result ≤ 2 ^ 48 }
     {
         self.known
@@ -73,8 +81,8 @@ impl<L, R: Reader> ReaderSeat<L, R> {
 
     /// The stage's word: all sequences below it are done.
     pub fn own(&self) -> u64
-        ensures value { result ≡ (person self.now.seat.me.0).own }
-        ensures known { result ≤ length (person self.now.seat.me.0).seen }
+        ensures value { result ≡ self.now.who.own }
+        ensures known { result ≤ length self.now.who.seen }
     {
         self.own
     }

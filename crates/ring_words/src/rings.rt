@@ -6,7 +6,7 @@ use crate::setup::Setup;
 use crate::view::View;
 use atomic_table::{Table, TableRule};
 use std::alloc::Global;
-use std::marker::PhantomData;
+use std::marker::{Model, PhantomData};
 use venue_model::Logic;
 
 /// The rule of the table. No value of it is made.
@@ -30,4 +30,43 @@ pub struct Rings<L: Logic, const N: usize, const M: usize, const G: usize> {
     ghost rows: { (table.shared.key.rows ≡ N) × (table.shared.key.output_rows ≡ M) × (table.shared.key.gateways ≡ G) },
     ghost words: { (table.shared.table_id.words ≡ table_words N M) × (0 < N) × (N ≤ 4096) × (0 < M) × (M ≤ 4096) × (1 ≤ G) × (G ≤ 8) },
     ghost bare: { table.shared.table_id.slots ≡ 0 },
+}
+
+impl<L: Logic, const N: usize, const M: usize, const G: usize> Model for Rings<L, N, M, G> {
+    ghost use Rattle.ring_words.specs.At.{Opened};
+
+    ghost Value = { Opened L };
+
+    ghost view = { λ r. record { table = r.table.shared.table_id; logic = r.table.shared.key.logic; base = r.table.shared.key.base.value.items; given = r.table.shared.key.given } };
+}
+
+impl<L: Logic, const N: usize, const M: usize, const G: usize> Rings<L, N, M, G> {
+    ghost use Rattle.std.specs.Prelude.{◌≡◌, ◌≤◌};
+
+    /// How many rows the input ring has.
+    pub fn rows(&self) -> u64
+        ensures value { result ≡ N }
+        ensures range { (1 ≤ result) × (result ≤ 4096) }
+    {
+        let _table = &self.table;
+        N as u64
+    }
+
+    /// How many rows the output ring has.
+    pub fn output_rows(&self) -> u64
+        ensures value { result ≡ M }
+        ensures range { (1 ≤ result) × (result ≤ 4096) }
+    {
+        let _table = &self.table;
+        M as u64
+    }
+
+    /// How many gateways there are.
+    pub fn gateways(&self) -> u64
+        ensures value { result ≡ G }
+        ensures range { (1 ≤ result) × (result ≤ 8) }
+    {
+        let _table = &self.table;
+        G as u64
+    }
 }

@@ -8,6 +8,7 @@ use crate::process_seat::ProcessSeat;
 use crate::reader_seat::{JournalSeat, UnmarshalSeat};
 use crate::view::View;
 use atomic_table::Seat;
+use std::marker::Model;
 
 /// A gateway's place at the table.
 #[derive(Drop)]
@@ -22,11 +23,23 @@ pub struct GatewaySeat<L> {
     ghost counts: { taken ≡ (person seat.me.0).own },
 }
 
+impl<L> Model for GatewaySeat<L> {
+    ghost use Rattle.ring_words.specs.At.{At, seat_of};
+
+    ghost Value = { At L };
+
+    ghost view = { λ s. seat_of s.seat.table_id s.seat.me.0 };
+}
+
 impl<L> GatewaySeat<L> {
+    ghost use Rattle.std.specs.Prelude.{◌≡◌, ◌≤◌};
+    ghost use Rattle.ring_words.specs.declared.view.Role.TheVariants.{Gateway};
+    ghost use Rattle.ring_words.specs.At.{number};
+
     /// The gateway's number, 1 to 8.
     pub fn number(&self) -> u64
-        ensures value { result ≡ self.now.number }
-        ensures role { (person self.now.seat.me.0).role ≡ Gateway result }
+        ensures value { result ≡ number self.now }
+        ensures role { self.now.who.role ≡ Gateway result }
         ensures range { (1 ≤ result) × (result ≤ 8) }
     {
         self.number
@@ -34,7 +47,7 @@ impl<L> GatewaySeat<L> {
 
     /// How many outputs the gateway took or passed over, with those given: the place of the next one.
     pub fn taken(&self) -> u64
-        ensures value { result ≡ (person self.now.seat.me.0).own }
+        ensures value { result ≡ self.now.who.own }
     {
         self.taken
     }

@@ -4,7 +4,8 @@ ghost use Rattle.venue_model.specs.History.{Message};
 ghost use Rattle.ring_words.specs.Places.{claim, processed, in_row};
 ghost use Rattle.ring_words.specs.Log.{IsEntry, times};
 ghost use Rattle.ring_words.specs.Raw.{Spells};
-ghost use Rattle.ring_words.specs.Seats.{person, alone, looked, with_claim, stored, marked};
+ghost use Rattle.ring_words.specs.At.{IsAt, Steps, number};
+ghost use Rattle.ring_words.specs.Seats.{looked, with_claim, stored, marked};
 ghost use Rattle.ring_words.specs.Steps.{ClaimsUpTo, HasRoom, GoesOn};
 
 use crate::places::{CLAIM, FIRST_ROW, PROCESSED, ROW_WORDS};
@@ -16,10 +17,9 @@ use venue_model::Logic;
 impl<L: Logic, const N: usize, const M: usize, const G: usize> Rings<L, N, M, G> {
     /// Loads the number of sequences that are claimed.
     pub fn load_claim(&self, seat: &mut GatewaySeat<L>) -> u64
-        requires table { seat.old.seat.table_id ≡ self.now.table.shared.table_id }
-        ensures table { seat.new.seat.table_id ≡ seat.old.seat.table_id }
-        ensures view { seat.new.seat.me.0 ≡ alone seat.old.seat.me.0 (looked (person seat.old.seat.me.0) claim result) }
-        ensures seen { length (person seat.old.seat.me.0).seen ≤ result }
+        requires at { IsAt self.now seat.old }
+        ensures step { Steps seat.old (looked seat.old.who claim result) seat.new }
+        ensures seen { length seat.old.who.seen ≤ result }
         ensures most { result ≤ 2 ^ 48 }
     {
         self.table.shared.load::<SeeClaim>(&mut seat.seat, CLAIM)
@@ -27,10 +27,9 @@ impl<L: Logic, const N: usize, const M: usize, const G: usize> Rings<L, N, M, G>
 
     /// Loads the number of sequences that are processed.
     pub fn load_processed(&self, seat: &mut GatewaySeat<L>) -> u64
-        requires table { seat.old.seat.table_id ≡ self.now.table.shared.table_id }
-        ensures table { seat.new.seat.table_id ≡ seat.old.seat.table_id }
-        ensures view { seat.new.seat.me.0 ≡ alone seat.old.seat.me.0 (looked (person seat.old.seat.me.0) processed result) }
-        ensures claims { ClaimsUpTo (person seat.old.seat.me.0) (result + N) }
+        requires at { IsAt self.now seat.old }
+        ensures step { Steps seat.old (looked seat.old.who processed result) seat.new }
+        ensures claims { ClaimsUpTo seat.old.who (result + N) }
     {
         self.table
             .shared
@@ -39,13 +38,12 @@ impl<L: Logic, const N: usize, const M: usize, const G: usize> Rings<L, N, M, G>
 
     /// Claims the sequence `from`, if claim is still there. Answers the number of sequences that were claimed.
     pub fn exchange_claim(&self, seat: &mut GatewaySeat<L>, from: u64) -> u64
-        requires table { seat.old.seat.table_id ≡ self.now.table.shared.table_id }
-        requires room { HasRoom N (person seat.old.seat.me.0) from }
+        requires at { IsAt self.now seat.old }
+        requires room { HasRoom N seat.old.who from }
         requires small { from < 2 ^ 48 }
-        ensures table { seat.new.seat.table_id ≡ seat.old.seat.table_id }
-        ensures claimed { result ≡ from → seat.new.seat.me.0 ≡ alone seat.old.seat.me.0 (with_claim (looked (person seat.old.seat.me.0) claim from) from) }
-        ensures refused { result ≢ from → seat.new.seat.me.0 ≡ alone seat.old.seat.me.0 (looked (person seat.old.seat.me.0) claim result) }
-        ensures claims { ClaimsUpTo (person seat.old.seat.me.0) result }
+        ensures claimed { result ≡ from → Steps seat.old (with_claim (looked seat.old.who claim from) from) seat.new }
+        ensures refused { result ≢ from → Steps seat.old (looked seat.old.who claim result) seat.new }
+        ensures claims { ClaimsUpTo seat.old.who result }
     {
         self.table
             .shared
@@ -56,20 +54,20 @@ impl<L: Logic, const N: usize, const M: usize, const G: usize> Rings<L, N, M, G>
     pub(crate) fn row_word(&self, sequence: u64, word: usize) -> usize
         requires { word < 64 }
         ensures place { result ≡ in_row N sequence word }
-        ensures inside { result < self.now.table.shared.table_id.words }
+        ensures inside { result < self.now.table.words }
     {
+        let _table = &self.table; // its rule says that there are N rows
         FIRST_ROW + ROW_WORDS * (sequence % N as u64) as usize + word
     }
 
     /// Stores a word of the message in the row of a sequence that the gateway claimed: the first one, or one behind or among
     /// those stored so far.
     pub fn store_raw(&self, seat: &mut GatewaySeat<L>, sequence: u64, word: usize, value: u64)
-        requires table { seat.old.seat.table_id ≡ self.now.table.shared.table_id }
-        requires claimed { 0 < times sequence (person seat.old.seat.me.0).claims }
+        requires at { IsAt self.now seat.old }
+        requires claimed { 0 < times sequence seat.old.who.claims }
         requires word { word < 41 }
-        requires order { GoesOn (person seat.old.seat.me.0).part sequence word }
-        ensures table { seat.new.seat.table_id ≡ seat.old.seat.table_id }
-        ensures view { seat.new.seat.me.0 ≡ alone seat.old.seat.me.0 (stored (person seat.old.seat.me.0) sequence word value) }
+        requires order { GoesOn seat.old.who.part sequence word }
+        ensures step { Steps seat.old (stored seat.old.who sequence word value) seat.new }
     {
         let place = self.row_word(sequence, word + 1);
         self.table
@@ -79,13 +77,12 @@ impl<L: Logic, const N: usize, const M: usize, const G: usize> Rings<L, N, M, G>
 
     /// Stores the availability word of a sequence that the gateway claimed: what it stored in the row is published.
     pub fn store_availability(&self, seat: &mut GatewaySeat<L>, sequence: u64)
-        requires table { seat.old.seat.table_id ≡ self.now.table.shared.table_id }
-        requires claimed { 0 < times sequence (person seat.old.seat.me.0).claims }
+        requires at { IsAt self.now seat.old }
+        requires claimed { 0 < times sequence seat.old.who.claims }
         requires small { sequence < 2 ^ 48 }
-        requires row { (person seat.old.seat.me.0).part.sequence ≡ sequence }
-        requires message { (e : Message) × Spells (person seat.old.seat.me.0).part.words e × IsEntry e × (e.gateway ≡ seat.old.number) }
-        ensures table { seat.new.seat.table_id ≡ seat.old.seat.table_id }
-        ensures view { (e : Message) → Spells (person seat.old.seat.me.0).part.words e → IsEntry e → seat.new.seat.me.0 ≡ alone seat.old.seat.me.0 (marked (person seat.old.seat.me.0) sequence e) }
+        requires row { seat.old.who.part.sequence ≡ sequence }
+        requires message { (e : Message) × Spells seat.old.who.part.words e × IsEntry e × (e.gateway ≡ number seat.old) }
+        ensures view { (e : Message) → Spells seat.old.who.part.words e → IsEntry e → Steps seat.old (marked seat.old.who sequence e) seat.new }
     {
         let place = self.row_word(sequence, 0);
         self.table

@@ -7,11 +7,11 @@ use Rattle.ring_words.proofs.Meetings.{spares}
 use Rattle.ring_words.proofs.rings.Rings.bring_together.Goals as goal
 
 pub split_seat-spare-requires : goal.split_seat-spare-requires
-split_seat-spare-requires g c = let key = c.args.self.now.table.shared.key in
+split_seat-spare-requires g c = let key = c.self.inside.table.shared.key in
     (search rules, search rules, spares (Unit {0}) (terms_of g.L.Logic.reads g.L.Logic.outputs g.L.Logic.text g.L.Logic.nothing g.L.Logic.grows key) _ _)
 
 pub join_seat-requires : goal.join_seat-requires
-join_seat-requires g c = let key = c.args.self.now.table.shared.key in (
+join_seat-requires g c = let key = c.self.inside.table.shared.key in (
   search rules,
   search rules,
   search rules,

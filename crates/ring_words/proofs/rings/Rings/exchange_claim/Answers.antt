@@ -4,5 +4,5 @@ use Rattle.ring_words.proofs.Claims.{claims_claim_in}
 use Rattle.ring_words.proofs.rings.Rings.exchange_claim.Goals as goal
 
 pub compare_exchange-requires : goal.compare_exchange-requires
-compare_exchange-requires g c = let key = c.args.self.now.table.shared.key in
-    (search rules, search rules, claims_claim_in (Unit {0}) (terms_of g.L.Logic.reads g.L.Logic.outputs g.L.Logic.text g.L.Logic.nothing g.L.Logic.grows key) g.row.N c.args.self.now.rows.0 _ _ _ _ c.args.from _ c.args.seat.now.alone c.args.seat.now.role refl c.requires.room c.requires.small)
+compare_exchange-requires g c = let key = c.self.inside.table.shared.key in
+    (search rules, search rules, claims_claim_in (Unit {0}) (terms_of g.L.Logic.reads g.L.Logic.outputs g.L.Logic.text g.L.Logic.nothing g.L.Logic.grows key) g.row.N c.self.inside.rows.0 _ _ _ _ c.args.from _ c.seat.inside.alone c.seat.inside.role refl (search rules) c.requires.small)

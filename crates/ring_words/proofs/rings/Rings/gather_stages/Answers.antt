@@ -7,27 +7,27 @@ use Rattle.ring_words.proofs.Joins.{joins}
 use Rattle.ring_words.proofs.rings.Rings.gather_stages.Goals as goal
 
 pub join_seat-requires : goal.join_seat-requires
-join_seat-requires g c = let key = c.args.self.now.table.shared.key in
-    (search rules, search rules, c.args.unmarshal.bare, search rules, joins (Unit {0}) (terms_of g.L.Logic.reads g.L.Logic.outputs g.L.Logic.text g.L.Logic.nothing g.L.Logic.grows key) _ _ _ _ (person c.args.process.seat.me.0) _ c.args.process.alone)
+join_seat-requires g c = let key = c.self.inside.table.shared.key in
+    (search rules, search rules, c.unmarshal.inside.bare, search rules, joins (Unit {0}) (terms_of g.L.Logic.reads g.L.Logic.outputs g.L.Logic.text g.L.Logic.nothing g.L.Logic.grows key) _ _ _ _ (person c.process.inside.seat.me.0) _ c.process.inside.alone)
 
 pub join_seat-requires-2 : goal.join_seat-requires-2
-join_seat-requires-2 g c = let key = c.args.self.now.table.shared.key in (
+join_seat-requires-2 g c = let key = c.self.inside.table.shared.key in (
   search rules,
   search rules,
-  c.args.journal.bare,
+  c.journal.inside.bare,
   search rules,
-  joins (Unit {0}) (terms_of g.L.Logic.reads g.L.Logic.outputs g.L.Logic.text g.L.Logic.nothing g.L.Logic.grows key) _ _ _ _ (person c.args.process.seat.me.0) _
-      (ap (λ (z : Seated (Unit {0}) g.row.L.Denot). z.0.people) c.join_seat.ensures.2 ∙ ap (λ (ps : List Person). ps ++ c.args.unmarshal.seat.me.0.people) c.args.process.alone),
+  joins (Unit {0}) (terms_of g.L.Logic.reads g.L.Logic.outputs g.L.Logic.text g.L.Logic.nothing g.L.Logic.grows key) _ _ _ _ (person c.process.inside.seat.me.0) _
+      (ap (λ (z : Seated (Unit {0}) g.row.L.Denot). z.0.people) c.join_seat.ensures.2 ∙ ap (λ (ps : List Person). ps ++ c.unmarshal.inside.seat.me.0.people) c.process.inside.alone),
 )
 
 pub join_seat-requires-3 : goal.join_seat-requires-3
-join_seat-requires-3 g c = let key = c.args.self.now.table.shared.key in (
+join_seat-requires-3 g c = let key = c.self.inside.table.shared.key in (
   search rules,
   search rules,
-  c.args.marshal.bare,
+  c.marshal.inside.bare,
   search rules,
-  joins (Unit {0}) (terms_of g.L.Logic.reads g.L.Logic.outputs g.L.Logic.text g.L.Logic.nothing g.L.Logic.grows key) _ _ _ _ (person c.args.process.seat.me.0) _
+  joins (Unit {0}) (terms_of g.L.Logic.reads g.L.Logic.outputs g.L.Logic.text g.L.Logic.nothing g.L.Logic.grows key) _ _ _ _ (person c.process.inside.seat.me.0) _
       (ap (λ (z : Seated (Unit {0}) g.row.L.Denot). z.0.people) c.join_seat-2.ensures.2
-      ∙ ap (λ (ps : List Person). ps ++ c.args.journal.seat.me.0.people)
-      (ap (λ (z : Seated (Unit {0}) g.row.L.Denot). z.0.people) c.join_seat.ensures.2 ∙ ap (λ (ps : List Person). ps ++ c.args.unmarshal.seat.me.0.people) c.args.process.alone)),
+      ∙ ap (λ (ps : List Person). ps ++ c.journal.inside.seat.me.0.people)
+      (ap (λ (z : Seated (Unit {0}) g.row.L.Denot). z.0.people) c.join_seat.ensures.2 ∙ ap (λ (ps : List Person). ps ++ c.unmarshal.inside.seat.me.0.people) c.process.inside.alone)),
 )

@@ -4,4 +4,4 @@ use Rattle.ring_words.proofs.Loads.{loads_claim}
 use Rattle.ring_words.proofs.rings.Rings.load_claim.Goals as goal
 
 pub load-requires : goal.load-requires
-load-requires g c = let key = c.args.self.now.table.shared.key in (search rules, search rules, loads_claim (Unit {0}) (terms_of g.L.Logic.reads g.L.Logic.outputs g.L.Logic.text g.L.Logic.nothing g.L.Logic.grows key) _ _ _ c.args.seat.now.alone)
+load-requires g c = let key = c.self.inside.table.shared.key in (search rules, search rules, loads_claim (Unit {0}) (terms_of g.L.Logic.reads g.L.Logic.outputs g.L.Logic.text g.L.Logic.nothing g.L.Logic.grows key) _ _ _ c.seat.inside.alone)

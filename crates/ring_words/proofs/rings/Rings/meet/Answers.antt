@@ -1,15 +1,17 @@
-use Rattle.std.proofs.Common.{rules, [], ◌∷◌, List, length, take, drop, ap, sym, subst, ◌∙◌}
+use Rattle.std.proofs.Common.{rules, ◌≡◌, ℕ, List, [], length, refl, ap, sym, subst, ◌∙◌}
 use Rattle.venue_model.specs.History.{Message}
 use Rattle.ring_words.specs.declared.view.Person.{Person}
 use Rattle.ring_words.specs.Terms.{terms_of}
-use Rattle.ring_words.specs.Seats.{first_of, person}
+use Rattle.ring_words.specs.Seats.{person}
+use Rattle.ring_words.specs.At.{At, Steps, seat_of}
 use Rattle.ring_words.specs.Steps.{Seated}
-use Rattle.ring_words.specs.Meeting.{AreMet}
+use Rattle.ring_words.specs.Meeting.{longer, met, AreMet}
+use Rattle.ring_words.proofs.Becomes.{still_sits, parted_first, parted_second, steps, steps_either}
 use Rattle.ring_words.proofs.Meetings.{loads_meeting, parts, both_people}
 use Rattle.ring_words.proofs.rings.Rings.meet.Goals as goal
 
 pub load-requires : goal.load-requires
-load-requires g c = let key = c.args.self.now.table.shared.key in let one = c.args.one.now in let other = c.args.other.now in (
+load-requires g c = let key = c.self.inside.table.shared.key in let one = c.one.inside in let other = c.other.inside in (
   search rules,
   search rules,
   loads_meeting (Unit {0}) (terms_of g.L.Logic.reads g.L.Logic.outputs g.L.Logic.text g.L.Logic.nothing g.L.Logic.grows key) _ _ _ (person one.seat.me.0) (person other.seat.me.0) one.number other.number
@@ -17,36 +19,42 @@ load-requires g c = let key = c.args.self.now.table.shared.key in let one = c.ar
 )
 
 pub split_seat-requires : goal.split_seat-requires
-split_seat-requires g c = let key = c.args.self.now.table.shared.key in let one = c.args.one.now in let other = c.args.other.now in
+split_seat-requires g c = let key = c.self.inside.table.shared.key in let one = c.one.inside in let other = c.other.inside in
     let learned = c.load.ensures.2 (person one.seat.me.0) (person other.seat.me.0) one.number other.number (both_people one.seat.me.0 other.seat.me.0 _ one.alone other.alone c.bring_together.ensures.first.1) one.role other.role in (
       search rules,
       search rules,
       parts (Unit {0}) (terms_of g.L.Logic.reads g.L.Logic.outputs g.L.Logic.text g.L.Logic.nothing g.L.Logic.grows key) _ _ _ _ (ap (λ (z : Seated (Unit {0}) g.row.L.Denot). z.0.people) learned.0),
     )
 
-pub invariant_of-one : goal.invariant_of-one
-invariant_of-one g c = let one = c.args.one.now in let other = c.args.other.now in let cut = c.split_seat.ensures in let came = c.bring_together.ensures.first.1 in
+pub invariant_of-one-inside : goal.invariant_of-one-inside
+invariant_of-one-inside g c = let one = c.one.inside in let other = c.other.inside in let came = c.bring_together.ensures.first.1 in
     let learned = c.load.ensures.2 (person one.seat.me.0) (person other.seat.me.0) one.number other.number (both_people one.seat.me.0 other.seat.me.0 _ one.alone other.alone came) one.role other.role in
-    let is = ap (λ (z : Seated (Unit {0}) g.row.L.Denot). z.0.people) cut.2 ∙ ap (λ (z : Seated (Unit {0}) g.row.L.Denot). take 1 z.0.people) learned.0 in record {
-      alone = is ∙ ap (λ (ps : List Person). first_of ps ∷ []) (sym is);
-      bare = ap (λ (z : Seated (Unit {0}) g.row.L.Denot). z.1) cut.2 ∙ ap (λ (z : Seated (Unit {0}) g.row.L.Denot). z.1) learned.0 ∙ ap (λ (z : Seated (Unit {0}) g.row.L.Denot). z.1) came;
-      role = ap (λ (ps : List Person). (first_of ps).role) is ∙ one.role;
-      numbered = one.numbered;
-      counts = one.counts ∙ sym (ap (λ (ps : List Person). (first_of ps).own) is);
-    }
+    let is = parted_first one.seat.me.0 other.seat.me.0 _ _ _ _ _ came learned.0 c.split_seat.ensures.2 in
+    still_sits (one.seat.me.0, []) _ _ is refl _ one.role (one.numbered, (one.counts ∙ sym (ap (λ (z : Seated (Unit {0}) g.row.L.Denot). (person z.0).own) is), tt))
 
-pub invariant_of-other : goal.invariant_of-other
-invariant_of-other g c = let one = c.args.one.now in let other = c.args.other.now in let cut = c.split_seat.ensures in let came = c.bring_together.ensures.first.1 in
+pub invariant_of-other-inside : goal.invariant_of-other-inside
+invariant_of-other-inside g c = let one = c.one.inside in let other = c.other.inside in let came = c.bring_together.ensures.first.1 in
     let learned = c.load.ensures.2 (person one.seat.me.0) (person other.seat.me.0) one.number other.number (both_people one.seat.me.0 other.seat.me.0 _ one.alone other.alone came) one.role other.role in
-    let is = ap (λ (z : Seated (Unit {0}) g.row.L.Denot). z.0.people) cut.4 ∙ ap (λ (z : Seated (Unit {0}) g.row.L.Denot). drop 1 z.0.people) learned.0 in record {
-      alone = is ∙ ap (λ (ps : List Person). first_of ps ∷ []) (sym is);
-      bare = ap (λ (z : Seated (Unit {0}) g.row.L.Denot). z.1) cut.4;
-      role = ap (λ (ps : List Person). (first_of ps).role) is ∙ other.role;
-      numbered = other.numbered;
-      counts = other.counts ∙ sym (ap (λ (ps : List Person). (first_of ps).own) is);
-    }
+    let is = parted_second one.seat.me.0 other.seat.me.0 _ _ _ _ _ came learned.0 c.split_seat.ensures.4 in
+    still_sits (one.seat.me.0, []) _ _ is refl _ other.role (other.numbered, (other.counts ∙ sym (ap (λ (z : Seated (Unit {0}) g.row.L.Denot). (person z.0).own) is), tt))
 
 pub returns-clause-met : goal.returns-clause-met
-returns-clause-met g c = let one = c.args.one.now in let other = c.args.other.now in let came = c.bring_together.ensures.first.1 in
+returns-clause-met g c = let one = c.one.inside in let other = c.other.inside in let came = c.bring_together.ensures.first.1 in
     let learned = c.load.ensures.2 (person one.seat.me.0) (person other.seat.me.0) one.number other.number (both_people one.seat.me.0 other.seat.me.0 _ one.alone other.alone came) one.role other.role in
-    subst (λ (h : List Message). AreMet (length h) (person one.seat.me.0) (person other.seat.me.0)) (ap (λ (z : Seated (Unit {0}) g.row.L.Denot). z.0.base) came) learned.1
+    let base : c.bring_together.new.first.me.0.base ≡ c.args.self.now.base =
+    ap (λ (z : Seated (Unit {0}) g.row.L.Denot). z.0.base) came ∙ ap (λ (s : At g.row.L.Denot). s.base) c.one.view_is ∙ ap (λ (s : At g.row.L.Denot). s.base) c.requires.one in
+    subst (λ (z : Person × Person). AreMet (length c.args.self.now.base) z.0 z.1) (λ i. ((c.one.view_is i).who, (c.other.view_is i).who))
+    (subst (λ (h : List Message). AreMet (length h) (person one.seat.me.0) (person other.seat.me.0)) base learned.1)
+
+pub returns-clause-steps : goal.returns-clause-steps
+returns-clause-steps g c = let one = c.one.inside in let other = c.other.inside in let came = c.bring_together.ensures.first.1 in let cut = c.split_seat.ensures in
+    let learned = c.load.ensures.2 (person one.seat.me.0) (person other.seat.me.0) one.number other.number (both_people one.seat.me.0 other.seat.me.0 _ one.alone other.alone came) one.role other.role in
+    let r : ℕ = c.load.result in let table = c.load.ensures.0 ∙ c.bring_together.ensures.first.0 in
+    let first = steps one.seat.table_id c.split_seat.new.seat.table_id one.seat.me.0 [] c.split_seat.new.seat.me _ c.args.one.now c.one.view_is (cut.0 ∙ table)
+    (parted_first one.seat.me.0 other.seat.me.0 _ _ _ _ _ came learned.0 cut.2) in
+    let second = steps one.seat.table_id c.split_seat.result.table_id one.seat.me.0 [] c.split_seat.result.me _ c.args.one.now c.one.view_is (cut.3 ∙ table)
+    (parted_second one.seat.me.0 other.seat.me.0 _ _ _ _ _ came learned.0 cut.4) in
+    let told = subst (λ (z : Person × Person). Steps c.args.one.now (met z.0 r (longer z.0.seen z.1.seen)) (seat_of c.split_seat.new.seat.table_id c.split_seat.new.seat.me.0)
+    × Steps c.args.other.now (met z.1 r (longer z.0.seen z.1.seen)) (seat_of c.split_seat.result.table_id c.split_seat.result.me.0))
+    (λ i. ((c.one.view_is i).who, (c.other.view_is i).who))
+    (first, steps_either c.args.self.now c.args.one.now c.args.other.now _ _ c.requires.one c.requires.other second) in (r, told.0, told.1)

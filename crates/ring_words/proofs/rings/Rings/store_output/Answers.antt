@@ -1,19 +1,23 @@
-use Rattle.std.proofs.Common.{rules, ◌∙◌, ap, ℕ}
+use Rattle.std.proofs.Common.{rules, ◌≡◌, ◌∙◌, ap, sym, subst, ℕ}
 use Rattle.ring_words.specs.Places.{out_row}
+use Rattle.ring_words.specs.declared.view.Person.{Person}
 use Rattle.ring_words.specs.Terms.{terms_of}
-use Rattle.ring_words.proofs.Becomes.{still_alone, still_bare, still_role}
+use Rattle.ring_words.specs.Seats.{person, last_from}
+use Rattle.ring_words.specs.At.{At}
+use Rattle.ring_words.specs.Steps.{Seated, HasOutputRoom}
+use Rattle.ring_words.proofs.Becomes.{still_sits}
 use Rattle.ring_words.proofs.Putting.{writes_output_in}
 use Rattle.ring_words.proofs.rings.Rings.store_output.Goals as goal
 
 pub store-requires : goal.store-requires
-store-requires g c = let key = c.args.self.now.table.shared.key in let rows = c.args.self.now.rows in let seat = c.args.seat.now in (
+store-requires g c = let key = c.self.inside.table.shared.key in let rows = c.self.inside.rows in let seat = c.seat.inside in let who : person seat.seat.me.0 ≡ c.args.seat.now.who = ap (λ (s : At g.row.L.Denot). s.who) c.seat.view_is in (
   search rules,
   search rules,
   writes_output_in (Unit {0}) (terms_of g.L.Logic.reads g.L.Logic.outputs g.L.Logic.text g.L.Logic.nothing g.L.Logic.grows key) g.row.N g.row.M g.row.G rows.0 rows.1 rows.2 _ _ c.args.word c.args.value _ _
-      seat.alone seat.role c.requires.word c.requires.room c.requires.order (c.output_word-place.ensures.place ∙ ap (λ (q : ℕ). out_row g.row.N g.row.M q c.args.word) seat.put),
+      seat.alone seat.role c.requires.word (subst (λ (p : Person). HasOutputRoom g.row.G g.row.M p p.part.sequence) (sym who) c.requires.room) (search rules) (c.output_word-place.ensures.place ∙ ap (λ (q : ℕ). out_row g.row.N g.row.M q c.args.word) seat.put),
 )
 
-pub invariant_of-seat : goal.invariant_of-seat
-invariant_of-seat g c = let seat = c.args.seat.now in
+pub invariant_of-seat-inside : goal.invariant_of-seat-inside
+invariant_of-seat-inside g c = let seat = c.seat.inside in
     let is = c.store.ensures.2 c.args.word c.requires.word (c.output_word-place.ensures.place ∙ ap (λ (q : ℕ). out_row g.row.N g.row.M q c.args.word) seat.put) in
-    record { alone = still_alone seat.seat.me _ _ is; bare = still_bare seat.seat.me _ _ is seat.bare; role = still_role seat.seat.me _ _ is _ seat.role; counts = search rules; gated = search rules; put = search rules }
+    still_sits seat.seat.me _ _ is seat.bare _ seat.role (search rules, (seat.gated ∙ sym (ap (λ (z : Seated (Unit {0}) g.row.L.Denot). last_from 16 0 (person z.0).loads) is), (search rules, tt)))

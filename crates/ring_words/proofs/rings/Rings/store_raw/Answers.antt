@@ -2,18 +2,18 @@ use Rattle.std.proofs.Common.{rules, ◌∙◌, ap, sym}
 use Rattle.ring_words.specs.Terms.{terms_of}
 use Rattle.ring_words.specs.Seats.{person}
 use Rattle.ring_words.specs.Steps.{Seated}
-use Rattle.ring_words.proofs.Becomes.{still_alone, still_bare, still_role}
+use Rattle.ring_words.proofs.Becomes.{still_sits}
 use Rattle.ring_words.proofs.Writes.{writes_raw_in}
 use Rattle.ring_words.proofs.rings.Rings.store_raw.Goals as goal
 
 pub store-requires : goal.store-requires
-store-requires g c = let key = c.args.self.now.table.shared.key in (
+store-requires g c = let key = c.self.inside.table.shared.key in (
   search rules,
   search rules,
-  writes_raw_in (Unit {0}) (terms_of g.L.Logic.reads g.L.Logic.outputs g.L.Logic.text g.L.Logic.nothing g.L.Logic.grows key) g.row.N c.args.self.now.rows.0 _ _ _ c.args.sequence c.args.word c.args.value _ _
-      c.args.seat.now.alone c.args.seat.now.role c.requires.claimed c.requires.word c.requires.order c.row_word-place.ensures.place,
+  writes_raw_in (Unit {0}) (terms_of g.L.Logic.reads g.L.Logic.outputs g.L.Logic.text g.L.Logic.nothing g.L.Logic.grows key) g.row.N c.self.inside.rows.0 _ _ _ c.args.sequence c.args.word c.args.value _ _
+      c.seat.inside.alone c.seat.inside.role (search rules) c.requires.word (search rules) c.row_word-place.ensures.place,
 )
 
-pub invariant_of-seat : goal.invariant_of-seat
-invariant_of-seat g c = let seat = c.args.seat.now in let is = c.store.ensures.2 c.args.sequence c.args.word c.requires.claimed c.requires.word c.row_word-place.ensures.place in
-    record { alone = still_alone seat.seat.me _ _ is; bare = still_bare seat.seat.me _ _ is seat.bare; role = still_role seat.seat.me _ _ is _ seat.role; numbered = seat.numbered; counts = seat.counts ∙ sym (ap (λ (z : Seated (Unit {0}) g.row.L.Denot). (person z.0).own) is) }
+pub invariant_of-seat-inside : goal.invariant_of-seat-inside
+invariant_of-seat-inside g c = let seat = c.seat.inside in let is = c.store.ensures.2 c.args.sequence c.args.word (search rules) c.requires.word c.row_word-place.ensures.place in
+    still_sits seat.seat.me _ _ is seat.bare _ seat.role (seat.numbered, (seat.counts ∙ sym (ap (λ (z : Seated (Unit {0}) g.row.L.Denot). (person z.0).own) is), tt))

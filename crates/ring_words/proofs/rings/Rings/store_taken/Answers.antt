@@ -4,8 +4,8 @@ use Rattle.ring_words.proofs.Taking.{stores_taken_at}
 use Rattle.ring_words.proofs.rings.Rings.store_taken.Goals as goal
 
 pub store-requires : goal.store-requires
-store-requires g c = let key = c.args.self.now.table.shared.key in let seat = c.args.seat.now in (
+store-requires g c = let key = c.self.inside.table.shared.key in let seat = c.seat.inside in (
   search rules,
   search rules,
-  stores_taken_at (Unit {0}) (terms_of g.L.Logic.reads g.L.Logic.outputs g.L.Logic.text g.L.Logic.nothing g.L.Logic.grows key) _ _ _ _ _ _ c.taken_word-place.ensures.place seat.alone seat.role (search rules) c.requires.shown,
+  stores_taken_at (Unit {0}) (terms_of g.L.Logic.reads g.L.Logic.outputs g.L.Logic.text g.L.Logic.nothing g.L.Logic.grows key) _ _ _ _ _ _ c.taken_word-place.ensures.place seat.alone seat.role (search rules) (search rules),
 )
