@@ -1,14 +1,14 @@
 -- The words of one command, loaded one after another.
-use Rattle.std.proofs.Common.{Some, ◌≡◌, ℕ, suc, ◌+◌, ◌<◌, ◌≤◌, List, [], ◌∷◌, ◌++◌, length, take, set, ap, sym, ◌∙◌, arith, append_assoc}
+use Rattle.std.proofs.Common.{◌≡◌, ℕ, suc, ◌+◌, ◌<◌, ◌≤◌, List, [], ◌∷◌, ◌++◌, length, take, set, ap, sym, ◌∙◌, arith, append_assoc}
 use Rattle.std.proofs.Math.Seq.{take-length}
 use Rattle.std.proofs.lemmas.List.{take_more, take_more_set, take-take, length-take-le}
 use mathlib.Core.Option.{some}
 use lib.ListN.{get_elem?}
 use Rattle.venue_model.specs.History.{Message}
 use Rattle.ring_words.specs.declared.view.Load.{Load}
-use Rattle.ring_words.specs.declared.view.View.{View}
 use Rattle.ring_words.specs.Places.{in_row}
-use Rattle.ring_words.specs.Seats.{person, alone, load_of, looked}
+use Rattle.ring_words.specs.Seats.{load_of, looked}
+use Rattle.ring_words.specs.At.{At, seated}
 use Rattle.ring_words.proofs.Logs.{read_at}
 use Rattle.barrier.specs.Commands.{command_loads, after_command}
 
@@ -37,20 +37,16 @@ agree_whole words ws i count same ended all =
     ∙ ap (λ (j : ℕ). take j ws) all
     ∙ take-length ws
 
-module _ {L : Type 0} (n : ℕ) (v u w : View L) (s : ℕ) where
+module _ {L : Type 0} (n : ℕ) (v u w : At L) (s : ℕ) where
   -- one word more is loaded
-  pub loads_more : (words : List ℕ) (i x : ℕ) → u ≡ alone v (after_command n (person v) s (take i words)) → i < length words
-      → w ≡ alone u (looked (person u) (in_row n s (i + 48)) x) → w ≡ alone v (after_command n (person v) s (take (i + 1) (set words i x)))
+  pub loads_more : (words : List ℕ) (i x : ℕ) → u ≡ seated v (after_command n v.who s (take i words)) → i < length words
+      → w ≡ seated u (looked u.who (in_row n s (i + 48)) x) → w ≡ seated v (after_command n v.who s (take (i + 1) (set words i x)))
   loads_more words i x so_far within step =
       let ws = take i words in let long : i ≡ 0 + length ws = let is = length-take-le i words (omega arith) in omega arith in
       rw so_far at step
-      ∙ ap (λ (ls : List Load). alone v (record (person v) { loads = ls })) (append_assoc (person v).loads (command_loads n s 0 ws) _
-      ∙ ap (λ (ls : List Load). (person v).loads ++ ls) (sym (one_load_more n s 0 i x ws long) ∙ ap (command_loads n s 0) (sym (take_more_set words i x within))))
+      ∙ ap (λ (ls : List Load). seated v (record v.who { loads = ls })) (append_assoc v.who.loads (command_loads n s 0 ws) _
+      ∙ ap (λ (ls : List Load). v.who.loads ++ ls) (sym (one_load_more n s 0 i x ws long) ∙ ap (command_loads n s 0) (sym (take_more_set words i x within))))
 
-module _ {L : Type 0} (n : ℕ) (v u : View L) (s : ℕ) (ws : List ℕ) (so_far : u ≡ alone v (after_command n (person v) s ws)) where
-  -- loads leave the logic, and what is seen
-  pub logic_stays : (logic : L) → v.logic ≡ Some logic → u.logic ≡ Some logic
-  logic_stays logic by = ap (λ (y : View L). y.logic) so_far ∙ by
-
-  pub seen_stays : (e : Message) → get_elem? (person v).seen s ≡ some e → get_elem? (person u).seen s ≡ some e
-  seen_stays e at = ap (λ (y : View L). get_elem? (person y).seen s) so_far ∙ at
+module _ {L : Type 0} (n : ℕ) (v u : At L) (s : ℕ) (ws : List ℕ) (so_far : u ≡ seated v (after_command n v.who s ws)) where
+  pub seen_stays : (e : Message) → get_elem? v.who.seen s ≡ some e → get_elem? u.who.seen s ≡ some e
+  seen_stays e at = ap (λ (y : At L). get_elem? y.who.seen s) so_far ∙ at

@@ -1,9 +1,9 @@
 -- What the processor knows behind its two loads: as much as the lesser of the two words says.
 use Rattle.std.proofs.Common.{◌≡◌, ℕ, ◌≤◌, List, ◌++◌, ◌⊎◌, inl, inr, ⊎_elim, Bool, true, false, cond, leb, length, refl, ap, sym, subst, ◌∙◌, arith}
 use Rattle.venue_model.specs.History.{Message}
-use Rattle.ring_words.specs.declared.view.View.{View}
 use Rattle.ring_words.specs.Places.{unmarshalled, journalled}
-use Rattle.ring_words.specs.Seats.{person, alone, looked, knowing, last_from}
+use Rattle.ring_words.specs.Seats.{looked, knowing, last_from}
+use Rattle.ring_words.specs.At.{At, seated}
 use Rattle.ring_words.specs.Steps.{lesser, Reaches}
 use Rattle.ring_words.proofs.Views.{last_loaded, not_reached}
 use Rattle.barrier.specs.Availability.{Gated}
@@ -21,16 +21,16 @@ known_behind seen rest u j below_u below_j (inl near) = let y : ℕ = lesser u j
     let up : length seen ≤ y = ⊎_elim (λ (e : lesser u j ≡ u). let e' : y ≡ u = e in omega arith) (λ (e : lesser u j ≡ j). let e' : y ≡ j = e in omega arith) (one_of_two u j) in omega arith
 
 module _ {L : Type 0} where
-  pub gated : (v m w : View L) (u j : ℕ) (rest : List Message) → m ≡ alone v (looked (person v) unmarshalled u) → length (person v).seen ≤ u → length (person m).seen ≤ j
-      → Reaches (lesser (last_from unmarshalled 0 (person m).loads) j) (person m).seen rest → w ≡ alone m (knowing (looked (person m) journalled j) rest) → Gated (person v) (person w)
-  gated v m w u j rest is below_u = subst (λ (z : View L). length (person z).seen ≤ j → Reaches (lesser (last_from unmarshalled 0 (person z).loads) j) (person z).seen rest
-      → w ≡ alone z (knowing (looked (person z) journalled j) rest) → Gated (person v) (person w)) (sym is)
+  pub gated : (v m w : At L) (u j : ℕ) (rest : List Message) → m ≡ seated v (looked v.who unmarshalled u) → length v.who.seen ≤ u → length m.who.seen ≤ j
+      → Reaches (lesser (last_from unmarshalled 0 m.who.loads) j) m.who.seen rest → w ≡ seated m (knowing (looked m.who journalled j) rest) → Gated v.who w.who
+  gated v m w u j rest is below_u = subst (λ (z : At L). length z.who.seen ≤ j → Reaches (lesser (last_from unmarshalled 0 z.who.loads) j) z.who.seen rest
+      → w ≡ seated z (knowing (looked z.who journalled j) rest) → Gated v.who w.who) (sym is)
       (λ below_j reaches w_is. (
         u,
         j,
         (
           rest,
-          ap person w_is,
-          ap (λ (z : View L). length (person z).seen) w_is ∙ known_behind (person v).seen rest u j below_u below_j (subst (λ (a : ℕ). Reaches (lesser a j) (person v).seen rest) (last_loaded unmarshalled 0 u (person v).loads) reaches),
+          ap (λ (s : At _). s.who) w_is,
+          ap (λ (z : At L). length z.who.seen) w_is ∙ known_behind v.who.seen rest u j below_u below_j (subst (λ (a : ℕ). Reaches (lesser a j) v.who.seen rest) (last_loaded unmarshalled 0 u v.who.loads) reaches),
         ),
       ))

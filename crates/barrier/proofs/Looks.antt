@@ -4,11 +4,11 @@ use mathlib.Core.Option.{some}
 use lib.ListN.{get_elem?}
 use Rattle.venue_model.specs.History.{Message}
 use Rattle.ring_words.specs.declared.view.Person.{Person}
-use Rattle.ring_words.specs.declared.view.View.{View}
 use Rattle.ring_words.specs.declared.view.Load.{Load}
 use Rattle.ring_words.specs.Places.{in_row}
 use Rattle.ring_words.specs.Log.{IsEntry}
-use Rattle.ring_words.specs.Seats.{person, alone, load_of, looked, saw}
+use Rattle.ring_words.specs.Seats.{load_of, looked, saw}
+use Rattle.ring_words.specs.At.{At, seated}
 use Rattle.ring_words.proofs.Logs.{at_end}
 use Rattle.barrier.specs.Availability.{fresh, AreEntries, grown}
 
@@ -37,23 +37,23 @@ entries_more rest e valid is i d at = by_place (at_end rest e d i at) where
 
 module _ {L : Type 0} where
   -- the view is v, with these entries more
-  abbrev pub Grew : ℕ → View L → List Message → View L → Type 0
-  Grew n v rest w = w ≡ alone v (grown n (person v) rest)
+  abbrev pub Grew : ℕ → At L → List Message → At L → Type 0
+  Grew n v rest w = w ≡ seated v (grown n v.who rest)
 
   -- a load of the next availability word showed its sequence
-  abbrev pub Showed : ℕ → View L → View L → Message → Type 0
-  Showed n u w e = w ≡ alone u (saw (looked (person u) (in_row n (length (person u).seen) 0) (suc (length (person u).seen))) e)
+  abbrev pub Showed : ℕ → At L → At L → Message → Type 0
+  Showed n u w e = w ≡ seated u (saw (looked u.who (in_row n (length u.who.seen) 0) (suc (length u.who.seen))) e)
 
-  goes_on : (n : ℕ) (v u w : View L) (rest : List Message) (e : Message) → Grew n v rest u → Showed n u w e → Grew n v (rest ++ e ∷ []) w
-  goes_on n v u w rest e grew is = subst (λ (y : View L). Showed n y w e) grew is ∙ ap (alone v) (grown_by_one n (person v) rest e)
+  goes_on : (n : ℕ) (v u w : At L) (rest : List Message) (e : Message) → Grew n v rest u → Showed n u w e → Grew n v (rest ++ e ∷ []) w
+  goes_on n v u w rest e grew is = subst (λ (y : At L). Showed n y w e) grew is ∙ ap (seated v) (grown_by_one n v.who rest e)
 
   -- entries, and the one that was shown
-  pub shows : (n : ℕ) (v u w : View L) → ((rest : List Message) × AreEntries rest × Grew n v rest u)
+  pub shows : (n : ℕ) (v u w : At L) → ((rest : List Message) × AreEntries rest × Grew n v rest u)
       → ((e : Message) × IsEntry e × Showed n u w e) → (rest : List Message) × AreEntries rest × Grew n v rest w
   shows n v u w known one = (known.0 ++ one.0 ∷ [], entries_more known.0 one.0 known.1 one.1, goes_on n v u w known.0 one.0 known.2 one.2)
 
   -- one entry more is known
-  pub longer : (n : ℕ) (u w : View L) (c : ℕ) → ((e : Message) × IsEntry e × Showed n u w e)
-      → c ≡ length (person u).seen → c + 1 ≡ length (person w).seen
+  pub longer : (n : ℕ) (u w : At L) (c : ℕ) → ((e : Message) × IsEntry e × Showed n u w e)
+      → c ≡ length u.who.seen → c + 1 ≡ length w.who.seen
   longer n u w c one is = ap (λ (k : ℕ). k + 1) is
-      ∙ sym (ap (λ (y : View L). length (person y).seen) one.2 ∙ length-append (person u).seen (one.0 ∷ []))
+      ∙ sym (ap (λ (y : At L). length y.who.seen) one.2 ∙ length-append u.who.seen (one.0 ∷ []))

@@ -1,5 +1,5 @@
 -- The words of one output, loaded one after another.
-use Rattle.std.proofs.Common.{Some, ◌≡◌, ℕ, suc, ◌+◌, ◌<◌, ◌≤◌, List, [], ◌∷◌, ◌++◌, length, take, set, get_or, ap, sym, ◌∙◌, arith, append_assoc}
+use Rattle.std.proofs.Common.{◌≡◌, ℕ, suc, ◌+◌, ◌<◌, ◌≤◌, List, [], ◌∷◌, ◌++◌, length, take, set, get_or, ap, sym, ◌∙◌, arith, append_assoc}
 use Rattle.std.proofs.Math.Seq.{take-length}
 use Rattle.std.proofs.lemmas.List.{take_more_set, get_or-take, length-take-le, append-nil}
 use mathlib.Core.Option.{some}
@@ -9,11 +9,10 @@ use Rattle.venue_model.specs.declared.outputs.Output.{Output}
 use Rattle.venue_model.specs.declared.outputs.Report.{Report}
 use Rattle.venue_model.specs.declared.outputs.Report.TheVariants.{Exec, CancelReject, SessionReject}
 use Rattle.ring_words.specs.declared.view.Load.{Load}
-use Rattle.ring_words.specs.declared.view.Person.{Person}
-use Rattle.ring_words.specs.declared.view.View.{View}
 use Rattle.ring_words.specs.OutputPacking.{output_words, report_words}
 use Rattle.ring_words.specs.Places.{published, out_row}
-use Rattle.ring_words.specs.Seats.{person, IsAlone, alone, load_of, looked}
+use Rattle.ring_words.specs.Seats.{load_of, looked}
+use Rattle.ring_words.specs.At.{At, seated}
 use Rattle.ring_words.specs.Steps.{Shows}
 use Rattle.ring_words.proofs.Logs.{read_at, stands}
 use Rattle.ring_words.proofs.Outputs.{at_front}
@@ -44,38 +43,34 @@ one_load_more n m q k i x [] is = ap (λ (j : ℕ). load_of (out_row n m q j) x 
 one_load_more n m q k i x (w ∷ ws) is =
     ap (λ (ls : List Load). load_of (out_row n m q k) w ∷ ls) (one_load_more n m q (suc k) i x ws (omega arith))
 
-module _ {L : Type 0} (n m : ℕ) (v u w : View L) (q : ℕ) where
+module _ {L : Type 0} (n m : ℕ) (v u w : At L) (q : ℕ) where
   -- one word more is loaded
-  pub loads_more : (words : List ℕ) (i x : ℕ) → u ≡ alone v (after_output n m (person v) q (take i words)) → i < length words
-      → w ≡ alone u (looked (person u) (out_row n m q i) x) → w ≡ alone v (after_output n m (person v) q (take (i + 1) (set words i x)))
+  pub loads_more : (words : List ℕ) (i x : ℕ) → u ≡ seated v (after_output n m v.who q (take i words)) → i < length words
+      → w ≡ seated u (looked u.who (out_row n m q i) x) → w ≡ seated v (after_output n m v.who q (take (i + 1) (set words i x)))
   loads_more words i x so_far within step =
       let ws = take i words in let long : i ≡ 0 + length ws = let is = length-take-le i words (omega arith) in omega arith in
       rw so_far at step
-      ∙ ap (λ (ls : List Load). alone v (record (person v) { loads = ls })) (append_assoc (person v).loads (output_loads n m q 0 ws) _
-      ∙ ap (λ (ls : List Load). (person v).loads ++ ls) (sym (one_load_more n m q 0 i x ws long) ∙ ap (output_loads n m q 0) (sym (take_more_set words i x within))))
+      ∙ ap (λ (ls : List Load). seated v (record v.who { loads = ls })) (append_assoc v.who.loads (output_loads n m q 0 ws) _
+      ∙ ap (λ (ls : List Load). v.who.loads ++ ls) (sym (one_load_more n m q 0 i x ws long) ∙ ap (output_loads n m q 0) (sym (take_more_set words i x within))))
 
-module _ {L : Type 0} (n m : ℕ) (v u : View L) (q : ℕ) (ws : List ℕ) (so_far : u ≡ alone v (after_output n m (person v) q ws)) where
+module _ {L : Type 0} (n m : ℕ) (v u : At L) (q : ℕ) (ws : List ℕ) (so_far : u ≡ seated v (after_output n m v.who q ws)) where
   -- loads leave the own word, and what was loaded before them
-  pub own_stays : (person v).own ≤ q → (person u).own ≤ q
+  pub own_stays : v.who.own ≤ q → u.who.own ≤ q
   own_stays from = rw so_far from
 
-  pub shown_stays : Shows published (person v) q → Shows published (person u) q
-  shown_stays to = rw so_far (to.0, (to.1.0, at_front (person v).loads (output_loads n m q 0 ws) to.0 to.1.0 to.1.1, to.1.2, to.1.3))
+  pub shown_stays : Shows published v.who q → Shows published u.who q
+  shown_stays to = rw so_far (to.0, (to.1.0, at_front v.who.loads (output_loads n m q 0 ws) to.0 to.1.0 to.1.1, to.1.2, to.1.3))
 
-  -- loads leave the logic, and the outputs of what is seen
-  pub logic_stays : (logic : L) → v.logic ≡ Some logic → u.logic ≡ Some logic
-  logic_stays logic by = ap (λ (y : View L). y.logic) so_far ∙ by
-
-  pub output_stays : (outputs : List Message → List Output) (o : Output) → get_elem? (outputs (person v).seen) q ≡ some o → get_elem? (outputs (person u).seen) q ≡ some o
-  output_stays outputs o at = ap (λ (y : View L). get_elem? (outputs (person y).seen) q) so_far ∙ at
+  -- loads leave the outputs of what is seen
+  pub output_stays : (outputs : List Message → List Output) (o : Output) → get_elem? (outputs v.who.seen) q ≡ some o → get_elem? (outputs u.who.seen) q ≡ some o
+  output_stays outputs o at = ap (λ (y : At L). get_elem? (outputs y.who.seen) q) so_far ∙ at
 
 -- before the first load the view is as it was
-pub no_loads : {L : Type 0} (n m : ℕ) (v : View L) (q : ℕ) → IsAlone v → v ≡ alone v (after_output n m (person v) q [])
-no_loads n m v q one = let none : (person v).loads ≡ (person v).loads ++ [] = sym (append-nil (person v).loads) in
-    ap (λ (ps : List Person). record v { people = ps }) one ∙ ap (λ (ls : List Load). alone v (record (person v) { loads = ls })) none
+pub no_loads : {L : Type 0} (n m : ℕ) (v : At L) (q : ℕ) → v ≡ seated v (after_output n m v.who q [])
+no_loads n m v q = ap (λ (ls : List Load). seated v (record v.who { loads = ls })) (sym (append-nil v.who.loads))
 
 -- after the last load all words of the output are loaded
-pub all_loaded : {L : Type 0} (n m : ℕ) (v u : View L) (q : ℕ) (words ws : List ℕ) (i : ℕ) → u ≡ alone v (after_output n m (person v) q (take i words))
-    → take i words ≡ take i ws → i ≡ length ws → u ≡ alone v (after_output n m (person v) q ws)
+pub all_loaded : {L : Type 0} (n m : ℕ) (v u : At L) (q : ℕ) (words ws : List ℕ) (i : ℕ) → u ≡ seated v (after_output n m v.who q (take i words))
+    → take i words ≡ take i ws → i ≡ length ws → u ≡ seated v (after_output n m v.who q ws)
 all_loaded n m v u q words ws i so_far same ended =
-    so_far ∙ ap (λ (l : List ℕ). alone v (after_output n m (person v) q l)) (same ∙ ap (λ (j : ℕ). take j ws) ended ∙ take-length ws)
+    so_far ∙ ap (λ (l : List ℕ). seated v (after_output n m v.who q l)) (same ∙ ap (λ (j : ℕ). take j ws) ended ∙ take-length ws)

@@ -5,10 +5,10 @@ use Rattle.std.specs.Int.{from_be_bytes}
 use mir.Syntax.{w64}
 use Rattle.venue_model.specs.Texts.{Text}
 use Rattle.ring_words.specs.declared.view.Person.{Person}
-use Rattle.ring_words.specs.declared.view.View.{View}
 use Rattle.ring_words.specs.Raw.{eight}
 use Rattle.ring_words.specs.Texts.{eights, text_head, text_words}
-use Rattle.ring_words.specs.Seats.{person, alone, stored, wrote}
+use Rattle.ring_words.specs.Seats.{stored, wrote}
+use Rattle.ring_words.specs.At.{At, seated}
 use Rattle.ring_words.specs.Steps.{GoesOn}
 
 -- head, time, and the first k words of the body
@@ -33,22 +33,22 @@ store_after p q t k x is =
     let kept : take (k + 2) ws ≡ ws = subst (λ (n : ℕ). take n ws ≡ ws) long (take-length ws) in
     ap (wrote p q) (ap (λ (l : List ℕ). l ++ x ∷ []) kept ∙ ap (λ (y : ℕ). ws ++ y ∷ []) is)
 
-module _ {L : Type 0} (v u w : View L) (q : ℕ) (t : Text) where
+module _ {L : Type 0} (v u w : At L) (q : ℕ) (t : Text) where
   -- the first two stores are head and time
-  pub store_first : (x y : ℕ) → u ≡ alone v (stored (person v) q 0 x) → x ≡ text_head t → w ≡ alone u (stored (person u) q 1 y) → y ≡ t.sending_time
-      → w ≡ alone v (wrote (person v) q (first_words t 0))
+  pub store_first : (x y : ℕ) → u ≡ seated v (stored v.who q 0 x) → x ≡ text_head t → w ≡ seated u (stored u.who q 1 y) → y ≡ t.sending_time
+      → w ≡ seated v (wrote v.who q (first_words t 0))
   store_first x y head head_is time time_is =
-      rw head at time ∙ ap (λ (ws : List ℕ). alone v (wrote (person v) q ws)) (ap (λ (a : ℕ). a ∷ y ∷ []) head_is ∙ ap (λ (a : ℕ). text_head t ∷ a ∷ []) time_is)
+      rw head at time ∙ ap (λ (ws : List ℕ). seated v (wrote v.who q ws)) (ap (λ (a : ℕ). a ∷ y ∷ []) head_is ∙ ap (λ (a : ℕ). text_head t ∷ a ∷ []) time_is)
 
   -- one store more: word k of the body
-  pub store_next : (k x : ℕ) → u ≡ alone v (wrote (person v) q (first_words t k)) → x ≡ from_be_bytes w64 (eight t.body k)
-      → w ≡ alone u (stored (person u) q (k + 2) x) → w ≡ alone v (wrote (person v) q (first_words t (k + 1)))
+  pub store_next : (k x : ℕ) → u ≡ seated v (wrote v.who q (first_words t k)) → x ≡ from_be_bytes w64 (eight t.body k)
+      → w ≡ seated u (stored u.who q (k + 2) x) → w ≡ seated v (wrote v.who q (first_words t (k + 1)))
   store_next k x so_far word step =
-      rw so_far at step ∙ ap (alone v) (store_after (person v) q t k x word ∙ ap (λ (n : ℕ). wrote (person v) q (first_words t n)) (sym (add-one k)))
+      rw so_far at step ∙ ap (seated v) (store_after v.who q t k x word ∙ ap (λ (n : ℕ). wrote v.who q (first_words t n)) (sym (add-one k)))
 
 -- after the last one all words are stored
-pub store_last : {L : Type 0} (v u : View L) (q : ℕ) (t : Text) (k : ℕ) → u ≡ alone v (wrote (person v) q (first_words t k))
-    → k ≡ length t.body / 8 + min 1 (length t.body % 8) → u ≡ alone v (wrote (person v) q (text_words t))
+pub store_last : {L : Type 0} (v u : At L) (q : ℕ) (t : Text) (k : ℕ) → u ≡ seated v (wrote v.who q (first_words t k))
+    → k ≡ length t.body / 8 + min 1 (length t.body % 8) → u ≡ seated v (wrote v.who q (text_words t))
 store_last v u q t k so_far is =
     let long : ℕ = length t.body in let count : k ≡ (long + 7) / 8 = omega arith in
-    so_far ∙ ap (λ (n : ℕ). alone v (wrote (person v) q (first_words t n))) count
+    so_far ∙ ap (λ (n : ℕ). seated v (wrote v.who q (first_words t n))) count

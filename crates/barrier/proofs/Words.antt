@@ -6,12 +6,12 @@ use mathlib.Core.Option.{some, some-injective}
 use mir.Syntax.{w64}
 use lib.ListN.{get_elem?}
 use Rattle.venue_model.specs.History.{Message}
-use Rattle.ring_words.specs.declared.view.View.{View}
 use Rattle.ring_words.specs.declared.view.Load.{Load}
 use Rattle.ring_words.specs.Places.{in_row}
 use Rattle.ring_words.specs.Log.{IsEntry}
 use Rattle.ring_words.specs.Raw.{eight, raw_word, raw_count}
-use Rattle.ring_words.specs.Seats.{person, alone, load_of, looked}
+use Rattle.ring_words.specs.Seats.{load_of, looked}
+use Rattle.ring_words.specs.At.{At, seated}
 use Rattle.ring_words.proofs.Logs.{stands}
 use Rattle.ring_words.proofs.Raws.{word_bytes}
 use Rattle.ring_words.specs.declared.raw.Raw.{Raw}
@@ -35,19 +35,19 @@ head_fits seen s x low h = let e = stands seen s low in let at = h e.0 e.1 (has_
     let is = head_gateway e.0 x at in let most = at.1.message.to in omega arith
 
 -- one word more is loaded
-pub loads_more : {L : Type 0} (n : ℕ) (v u w : View L) (s : ℕ) (e : Message) (k m p x : ℕ)
-    → u ≡ alone v (after_loads n (person v) s e k) → w ≡ alone u (looked (person u) (in_row n s p) x)
-    → m ≡ suc k → p ≡ suc k → x ≡ raw_word e k → w ≡ alone v (after_loads n (person v) s e m)
+pub loads_more : {L : Type 0} (n : ℕ) (v u w : At L) (s : ℕ) (e : Message) (k m p x : ℕ)
+    → u ≡ seated v (after_loads n v.who s e k) → w ≡ seated u (looked u.who (in_row n s p) x)
+    → m ≡ suc k → p ≡ suc k → x ≡ raw_word e k → w ≡ seated v (after_loads n v.who s e m)
 loads_more n v u w s e k m p x before after m_is p_is x_is =
-    subst (λ (y : View _). w ≡ alone y (looked (person y) (in_row n s p) x)) before after
-    ∙ ap (λ (l : List Load). alone v (record (person v) { loads = l })) (append_assoc (person v).loads (word_loads n s e k) _
-    ∙ ap (λ (l : Load). (person v).loads ++ (word_loads n s e k ++ l ∷ [])) (λ i. load_of (in_row n s (p_is i)) (x_is i))
-    ∙ ap (λ (j : ℕ). (person v).loads ++ word_loads n s e j) (sym m_is))
+    subst (λ (y : At _). w ≡ seated y (looked y.who (in_row n s p) x)) before after
+    ∙ ap (λ (l : List Load). seated v (record v.who { loads = l })) (append_assoc v.who.loads (word_loads n s e k) _
+    ∙ ap (λ (l : Load). v.who.loads ++ (word_loads n s e k ++ l ∷ [])) (λ i. load_of (in_row n s (p_is i)) (x_is i))
+    ∙ ap (λ (j : ℕ). v.who.loads ++ word_loads n s e j) (sym m_is))
 
 -- loads leave what is seen
-pub still : {L : Type 0} (n : ℕ) (v u : View L) (s k : ℕ) (e : Message) → u ≡ alone v (after_loads n (person v) s e k)
-    → get_elem? (person v).seen s ≡ some e → get_elem? (person u).seen s ≡ some e
-still n v u s k e after at = subst (λ (y : View _). get_elem? (person y).seen s ≡ some e) (sym after) at
+pub still : {L : Type 0} (n : ℕ) (v u : At L) (s k : ℕ) (e : Message) → u ≡ seated v (after_loads n v.who s e k)
+    → get_elem? v.who.seen s ≡ some e → get_elem? u.who.seen s ≡ some e
+still n v u s k e after at = subst (λ (y : At _). get_elem? y.who.seen s ≡ some e) (sym after) at
 
 -- what the message has of words that the loop reads
 pub in_message : (e : Message) (r : Raw) (i last : ℕ) → IsHead e r → last ≡ div_ceil r.len 8 → i < last → (i + 1 < raw_count e) × (8 * i + 8 ≤ 320)
@@ -72,10 +72,10 @@ reads_whole e r buf i last h long ends past same = record {
 pub counted : (e : Message) (r : Raw) (i last : ℕ) → IsHead e r → last ≡ div_ceil r.len 8 → i ≤ last → last ≤ i → i + 1 ≡ raw_count e
 counted e r i last h ends le ge = let len = h.len in omega arith
 
-pub all_loaded : {L : Type 0} (n : ℕ) (v w : View L) (s k : ℕ) (d e : Message) → w ≡ alone v (after_loads n (person v) s d k)
-    → k ≡ raw_count d → d ≡ e → w ≡ alone v (after_loads n (person v) s e (raw_count e))
-all_loaded n v w s k d e after all same = after ∙ ap (λ (j : ℕ). alone v (after_loads n (person v) s d j)) all
-    ∙ ap (λ (m : Message). alone v (after_loads n (person v) s m (raw_count m))) same
+pub all_loaded : {L : Type 0} (n : ℕ) (v w : At L) (s k : ℕ) (d e : Message) → w ≡ seated v (after_loads n v.who s d k)
+    → k ≡ raw_count d → d ≡ e → w ≡ seated v (after_loads n v.who s e (raw_count e))
+all_loaded n v w s k d e after all same = after ∙ ap (λ (j : ℕ). seated v (after_loads n v.who s d j)) all
+    ∙ ap (λ (m : Message). seated v (after_loads n v.who s m (raw_count m))) same
 
 -- one entry stands at a sequence
 pub one_entry : (seen : List Message) (s : ℕ) (d e : Message) → get_elem? seen s ≡ some d → get_elem? seen s ≡ some e → d ≡ e

@@ -1,6 +1,6 @@
 //! How far a stage may read. What stands below is published, and stays in its row until the stage releases it.
 ghost use Rattle.std.specs.Prelude.{◌≡◌, length};
-ghost use Rattle.ring_words.specs.Seats.{person, alone};
+ghost use Rattle.ring_words.specs.At.{IsAt, Steps};
 ghost use Rattle.barrier.specs.Availability.{Shown, Gated};
 
 use ring_words::{ProcessSeat, Reader, ReaderSeat, Rings};
@@ -12,13 +12,12 @@ pub fn available<L: Logic, R: Reader, const N: usize, const M: usize, const G: u
     rings: &Rings<L, N, M, G>,
     seat: &mut ReaderSeat<L, R>,
 ) -> u64
-    requires table { seat.old.seat.table_id ≡ rings.now.table.shared.table_id }
-    ensures table { seat.new.seat.table_id ≡ seat.old.seat.table_id }
-    ensures known { result ≡ length (person seat.new.seat.me.0).seen }
-    ensures view { seat.new.seat.me.0 ≡ alone seat.old.seat.me.0 (person seat.new.seat.me.0) }
-    ensures shown { Shown N (person seat.old.seat.me.0) (person seat.new.seat.me.0) }
+    requires at { IsAt rings.now seat.old }
+    ensures known { result ≡ length seat.new.who.seen }
+    ensures step { Steps seat.old seat.new.who seat.new }
+    ensures shown { Shown N seat.old.who seat.new.who }
 {
-    for _ in seat.known()..seat.own() + N as u64 {
+    for _ in seat.known()..seat.own() + rings.rows() {
         if !rings.load_availability(seat) {
             return seat.known();
         }
@@ -32,11 +31,10 @@ pub fn commands_available<L: Logic, const N: usize, const M: usize, const G: usi
     rings: &Rings<L, N, M, G>,
     seat: &mut ProcessSeat<L>,
 ) -> u64
-    requires table { seat.old.seat.table_id ≡ rings.now.table.shared.table_id }
-    ensures table { seat.new.seat.table_id ≡ seat.old.seat.table_id }
-    ensures known { result ≡ length (person seat.new.seat.me.0).seen }
-    ensures view { seat.new.seat.me.0 ≡ alone seat.old.seat.me.0 (person seat.new.seat.me.0) }
-    ensures gated { Gated (person seat.old.seat.me.0) (person seat.new.seat.me.0) }
+    requires at { IsAt rings.now seat.old }
+    ensures known { result ≡ length seat.new.who.seen }
+    ensures step { Steps seat.old seat.new.who seat.new }
+    ensures gated { Gated seat.old.who seat.new.who }
 {
     rings.load_unmarshalled(seat);
     rings.load_journalled(seat);

@@ -1,12 +1,13 @@
 //! Commands on their way from the unmarshaller to the processor, in the row of their entry.
-ghost use Rattle.std.specs.Prelude.{Some, ◌≡◌, ◌<◌, ◌≤◌, length};
+ghost use Rattle.std.specs.Prelude.{◌≡◌, ◌<◌, ◌≤◌, length};
 ghost use mathlib.Core.Option.{some};
 ghost use lib.ListN.{get_elem?};
 ghost use Rattle.venue_model.specs.History.{Message};
 ghost use Rattle.venue_model.specs.Step.{IsCommand};
 ghost use Rattle.ring_words.specs.Log.{IsEntry};
 ghost use Rattle.ring_words.specs.Packing.{command_words, IsPackable};
-ghost use Rattle.ring_words.specs.Seats.{person, alone, wrote};
+ghost use Rattle.ring_words.specs.Seats.{wrote};
+ghost use Rattle.ring_words.specs.At.{IsAt, Steps};
 ghost use Rattle.barrier.specs.Commands.{after_command};
 
 use ring_words::{COMMAND_WORDS, ProcessSeat, Rings, UnmarshalSeat, pack, unpack, words_of};
@@ -21,13 +22,12 @@ pub fn write_command<L: Logic, const N: usize, const M: usize, const G: usize>(
     gateway: u8,
     command: &Command,
 )
-    requires table { seat.old.seat.table_id ≡ rings.now.table.shared.table_id }
-    requires from { (person seat.old.seat.me.0).own ≤ sequence }
-    requires to { sequence < length (person seat.old.seat.me.0).seen }
+    requires at { IsAt rings.now seat.old }
+    requires from { seat.old.who.own ≤ sequence }
+    requires to { sequence < length seat.old.who.seen }
     requires gateway { gateway < 16 }
     requires numbers { IsCommand command.now }
-    ensures table { seat.new.seat.table_id ≡ seat.old.seat.table_id }
-    ensures view { seat.new.seat.me.0 ≡ alone seat.old.seat.me.0 (wrote (person seat.old.seat.me.0) sequence (command_words gateway command.now)) }
+    ensures step { Steps seat.old (wrote seat.old.who sequence (command_words gateway command.now)) seat.new }
     ensures packable { IsPackable gateway command.now }
 {
     let packed = pack(gateway, command);
@@ -44,12 +44,13 @@ pub fn read_command<L: Logic, const N: usize, const M: usize, const G: usize>(
     seat: &mut ProcessSeat<L>,
     sequence: u64,
 ) -> (u8, Command)
-    requires table { seat.old.seat.table_id ≡ rings.now.table.shared.table_id }
-    requires from { (person seat.old.seat.me.0).own ≤ sequence }
-    requires to { sequence < length (person seat.old.seat.me.0).seen }
-    ensures table { seat.new.seat.table_id ≡ seat.old.seat.table_id }
-    ensures command { (logic : L) (e : Message) → seat.old.seat.me.0.logic ≡ Some logic → get_elem? (person seat.old.seat.me.0).seen sequence ≡ some e → (result.0 ≡ e.gateway) × (result.1 ≡ L.reads logic sequence e) × IsEntry e }
-    ensures view { (logic : L) (e : Message) → seat.old.seat.me.0.logic ≡ Some logic → get_elem? (person seat.old.seat.me.0).seen sequence ≡ some e → seat.new.seat.me.0 ≡ alone seat.old.seat.me.0 (after_command N (person seat.old.seat.me.0) sequence (command_words e.gateway (L.reads logic sequence e))) }
+    requires at { IsAt rings.now seat.old }
+    requires from { seat.old.who.own ≤ sequence }
+    requires to { sequence < length seat.old.who.seen }
+    ensures command { (e : Message) → get_elem? seat.old.who.seen sequence ≡ some e
+        → (result.0 ≡ e.gateway) × (result.1 ≡ L.reads rings.now.logic sequence e) × IsEntry e }
+    ensures step { (e : Message) → get_elem? seat.old.who.seen sequence ≡ some e
+        → Steps seat.old (after_command N seat.old.who sequence (command_words e.gateway (L.reads rings.now.logic sequence e))) seat.new }
 {
     let mut words = [0; COMMAND_WORDS];
     let head = rings.load_command(seat, sequence, 0);

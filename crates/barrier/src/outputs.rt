@@ -1,14 +1,15 @@
 //! Outputs on their way through the marshaller: it reads each one out of its row, and writes its text beside it.
-ghost use Rattle.std.specs.Prelude.{Some, ◌≡◌, ℕ, suc, ◌+◌, ◌<◌, ◌≤◌, List, ◌++◌, length};
+ghost use Rattle.std.specs.Prelude.{◌≡◌, suc, ◌+◌, ◌<◌, ◌≤◌, length};
 ghost use mathlib.Core.Option.{some};
 ghost use lib.ListN.{get_elem?};
-ghost use Rattle.venue_model.specs.History.{Message};
 ghost use Rattle.venue_model.specs.declared.outputs.Output.{Output};
 ghost use Rattle.ring_words.specs.OutputPacking.{output_words};
 ghost use Rattle.ring_words.specs.Texts.{text_words, IsPackableText};
 ghost use Rattle.ring_words.specs.Places.{published};
-ghost use Rattle.ring_words.specs.Seats.{person, alone, looked, knowing, wrote, moved};
+ghost use Rattle.ring_words.specs.Seats.{wrote, moved};
+ghost use Rattle.ring_words.specs.At.{IsAt, Steps};
 ghost use Rattle.ring_words.specs.Steps.{Shows, WroteText};
+ghost use Rattle.ring_words.specs.Finds.{FindsPublished};
 ghost use Rattle.barrier.specs.Outputs.{after_output};
 
 use ring_words::{
@@ -22,11 +23,9 @@ pub fn outputs_available<L: Logic, const N: usize, const M: usize, const G: usiz
     rings: &Rings<L, N, M, G>,
     seat: &mut MarshalSeat<L>,
 ) -> u64
-    requires table { seat.old.seat.table_id ≡ rings.now.table.shared.table_id }
-    ensures table { seat.new.seat.table_id ≡ seat.old.seat.table_id }
-    ensures view { (rest : List Message) × (seat.new.seat.me.0 ≡ alone seat.old.seat.me.0 (knowing (looked (person seat.old.seat.me.0) published result) rest))
-        × ((logic : L) → seat.old.seat.me.0.logic ≡ Some logic → result ≤ length (L.outputs logic ((person seat.old.seat.me.0).seen ++ rest))) }
-    ensures own { (person seat.old.seat.me.0).own ≤ result }
+    requires at { IsAt rings.now seat.old }
+    ensures found { FindsPublished (L.outputs rings.now.logic) seat.old result seat.new }
+    ensures own { seat.old.who.own ≤ result }
 {
     rings.load_published(seat)
 }
@@ -37,13 +36,12 @@ pub fn read_output<L: Logic, const N: usize, const M: usize, const G: usize>(
     seat: &mut MarshalSeat<L>,
     place: u64,
 ) -> Output
-    requires table { seat.old.seat.table_id ≡ rings.now.table.shared.table_id }
-    requires from { (person seat.old.seat.me.0).own ≤ place }
-    requires to { Shows published (person seat.old.seat.me.0) place }
-    ensures table { seat.new.seat.table_id ≡ seat.old.seat.table_id }
-    ensures output { (logic : L) (o : Output) → seat.old.seat.me.0.logic ≡ Some logic → get_elem? (L.outputs logic (person seat.old.seat.me.0).seen) place ≡ some o → result ≡ o }
-    ensures view { (logic : L) (o : Output) → seat.old.seat.me.0.logic ≡ Some logic → get_elem? (L.outputs logic (person seat.old.seat.me.0).seen) place ≡ some o
-        → seat.new.seat.me.0 ≡ alone seat.old.seat.me.0 (after_output N M (person seat.old.seat.me.0) place (output_words o)) }
+    requires at { IsAt rings.now seat.old }
+    requires from { seat.old.who.own ≤ place }
+    requires to { Shows published seat.old.who place }
+    ensures output { (o : Output) → get_elem? (L.outputs rings.now.logic seat.old.who.seen) place ≡ some o → result ≡ o }
+    ensures step { (o : Output) → get_elem? (L.outputs rings.now.logic seat.old.who.seen) place ≡ some o
+        → Steps seat.old (after_output N M seat.old.who place (output_words o)) seat.new }
 {
     let mut words = [0; OUTPUT_WORDS];
     for index in 0..4 {
@@ -65,12 +63,11 @@ pub fn write_text<L: Logic, const N: usize, const M: usize, const G: usize>(
     sending_time: u64,
     body: &[u8],
 )
-    requires table { seat.old.seat.table_id ≡ rings.now.table.shared.table_id }
-    requires from { (person seat.old.seat.me.0).own ≤ place }
-    requires to { Shows published (person seat.old.seat.me.0) place }
+    requires at { IsAt rings.now seat.old }
+    requires from { seat.old.who.own ≤ place }
+    requires to { Shows published seat.old.who place }
     requires most { length body.now ≤ 320 }
-    ensures table { seat.new.seat.table_id ≡ seat.old.seat.table_id }
-    ensures view { seat.new.seat.me.0 ≡ alone seat.old.seat.me.0 (wrote (person seat.old.seat.me.0) place (text_words (record { msg_type = msg_type; sending_time = sending_time; body = body.now }))) }
+    ensures step { Steps seat.old (wrote seat.old.who place (text_words (record { msg_type = msg_type; sending_time = sending_time; body = body.now }))) seat.new }
     ensures packable { IsPackableText (record { msg_type = msg_type; sending_time = sending_time; body = body.now }) }
 {
     let head = TextHead {
@@ -89,11 +86,10 @@ pub fn release_marshalled<L: Logic, const N: usize, const M: usize, const G: usi
     rings: &Rings<L, N, M, G>,
     seat: &mut MarshalSeat<L>,
 )
-    requires table { seat.old.seat.table_id ≡ rings.now.table.shared.table_id }
-    requires small { (person seat.old.seat.me.0).own + 1 < 18446744073709551616 }
-    requires text { (logic : L) × ((o : Output) × WroteText L.outputs L.text seat.old.seat.me.0 logic o) }
-    ensures table { seat.new.seat.table_id ≡ seat.old.seat.table_id }
-    ensures view { seat.new.seat.me.0 ≡ alone seat.old.seat.me.0 (moved (person seat.old.seat.me.0) (suc (person seat.old.seat.me.0).own)) }
+    requires at { IsAt rings.now seat.old }
+    requires small { seat.old.who.own + 1 < 18446744073709551616 }
+    requires text { (o : Output) × WroteText (L.outputs rings.now.logic) (L.text rings.now.logic) seat.old.who o }
+    ensures step { Steps seat.old (moved seat.old.who (suc seat.old.who.own)) seat.new }
 {
     rings.store_marshalled(seat);
 }

@@ -4,7 +4,7 @@ ghost use mathlib.Core.Option.{some};
 ghost use lib.ListN.{get_elem?};
 ghost use Rattle.venue_model.specs.History.{Message};
 ghost use Rattle.ring_words.specs.Raw.{raw_count};
-ghost use Rattle.ring_words.specs.Seats.{person, alone};
+ghost use Rattle.ring_words.specs.At.{IsAt, Steps};
 ghost use Rattle.barrier.specs.Reading.{IsHead, Reads, after_loads};
 
 use ring_words::{Raw, Reader, ReaderSeat, Rings};
@@ -16,12 +16,11 @@ fn read_head<L: Logic, R: Reader, const N: usize, const M: usize, const G: usize
     seat: &mut ReaderSeat<L, R>,
     sequence: u64,
 ) -> Raw
-    requires table { seat.old.seat.table_id ≡ rings.now.table.shared.table_id }
-    requires from { (person seat.old.seat.me.0).own ≤ sequence }
-    requires to { sequence < length (person seat.old.seat.me.0).seen }
-    ensures table { seat.new.seat.table_id ≡ seat.old.seat.table_id }
-    ensures view { (e : Message) → get_elem? (person seat.old.seat.me.0).seen sequence ≡ some e → seat.new.seat.me.0 ≡ alone seat.old.seat.me.0 (after_loads N (person seat.old.seat.me.0) sequence e 1) }
-    ensures head { (e : Message) → get_elem? (person seat.old.seat.me.0).seen sequence ≡ some e → IsHead e result }
+    requires at { IsAt rings.now seat.old }
+    requires from { seat.old.who.own ≤ sequence }
+    requires to { sequence < length seat.old.who.seen }
+    ensures step { (e : Message) → get_elem? seat.old.who.seen sequence ≡ some e → Steps seat.old (after_loads N seat.old.who sequence e 1) seat.new }
+    ensures head { (e : Message) → get_elem? seat.old.who.seen sequence ≡ some e → IsHead e result }
 {
     Raw::from_word(rings.load_raw(seat, sequence, 0))
 }
@@ -34,13 +33,12 @@ pub fn read_raw<L: Logic, R: Reader, const N: usize, const M: usize, const G: us
     sequence: u64,
     buf: &mut [u8; 320],
 ) -> Raw
-    requires table { seat.old.seat.table_id ≡ rings.now.table.shared.table_id }
-    requires from { (person seat.old.seat.me.0).own ≤ sequence }
-    requires to { sequence < length (person seat.old.seat.me.0).seen }
-    ensures table { seat.new.seat.table_id ≡ seat.old.seat.table_id }
+    requires at { IsAt rings.now seat.old }
+    requires from { seat.old.who.own ≤ sequence }
+    requires to { sequence < length seat.old.who.seen }
     ensures range { (1 ≤ result.gateway) × (result.gateway ≤ 8) × (1 ≤ result.len) × (result.len ≤ 320) }
-    ensures entry { (e : Message) → get_elem? (person seat.old.seat.me.0).seen sequence ≡ some e → Reads e result buf.new }
-    ensures view { (e : Message) → get_elem? (person seat.old.seat.me.0).seen sequence ≡ some e → seat.new.seat.me.0 ≡ alone seat.old.seat.me.0 (after_loads N (person seat.old.seat.me.0) sequence e (raw_count e)) }
+    ensures entry { (e : Message) → get_elem? seat.old.who.seen sequence ≡ some e → Reads e result buf.new }
+    ensures step { (e : Message) → get_elem? seat.old.who.seen sequence ≡ some e → Steps seat.old (after_loads N seat.old.who sequence e (raw_count e)) seat.new }
 {
     let raw = read_head(rings, seat, sequence);
     for index in 0..raw.len.div_ceil(8) {

@@ -1,7 +1,8 @@
 //! How a stage gives rows back: behind the processor gateways may claim them again, behind the others the processor may read.
 ghost use Rattle.std.specs.Prelude.{◌≡◌, ◌≤◌, suc, length, take};
 ghost use Rattle.venue_model.specs.History.{Message};
-ghost use Rattle.ring_words.specs.Seats.{person, alone, moved};
+ghost use Rattle.ring_words.specs.Seats.{moved};
+ghost use Rattle.ring_words.specs.At.{IsAt, Steps};
 ghost use Rattle.ring_words.specs.Steps.{WroteCommand, HasPublished};
 
 use ring_words::{JournalSeat, ProcessSeat, Rings, UnmarshalSeat};
@@ -14,12 +15,11 @@ pub fn release<L: Logic, const N: usize, const M: usize, const G: usize>(
     seat: &mut ProcessSeat<L>,
     upto: u64,
 )
-    requires table { seat.old.seat.table_id ≡ rings.now.table.shared.table_id }
-    requires from { (person seat.old.seat.me.0).own ≤ upto }
-    requires to { upto ≤ length (person seat.old.seat.me.0).seen }
-    requires outputs { (logic : L) × HasPublished L.outputs seat.old.seat.me.0 logic upto }
-    ensures table { seat.new.seat.table_id ≡ seat.old.seat.table_id }
-    ensures view { seat.new.seat.me.0 ≡ alone seat.old.seat.me.0 (moved (person seat.old.seat.me.0) upto) }
+    requires at { IsAt rings.now seat.old }
+    requires from { seat.old.who.own ≤ upto }
+    requires to { upto ≤ length seat.old.who.seen }
+    requires outputs { HasPublished (L.outputs rings.now.logic) seat.old.who upto }
+    ensures step { Steps seat.old (moved seat.old.who upto) seat.new }
 {
     rings.store_processed(seat, upto);
 }
@@ -29,10 +29,9 @@ pub fn release_written<L: Logic, const N: usize, const M: usize, const G: usize>
     rings: &Rings<L, N, M, G>,
     seat: &mut UnmarshalSeat<L>,
 )
-    requires table { seat.old.seat.table_id ≡ rings.now.table.shared.table_id }
-    requires command { (logic : L) × ((e : Message) × WroteCommand L.reads seat.old.seat.me.0 logic e) }
-    ensures table { seat.new.seat.table_id ≡ seat.old.seat.table_id }
-    ensures view { seat.new.seat.me.0 ≡ alone seat.old.seat.me.0 (moved (person seat.old.seat.me.0) (suc (person seat.old.seat.me.0).own)) }
+    requires at { IsAt rings.now seat.old }
+    requires command { (e : Message) × WroteCommand (L.reads rings.now.logic) seat.old.who e }
+    ensures step { Steps seat.old (moved seat.old.who (suc seat.old.who.own)) seat.new }
 {
     rings.store_unmarshalled(seat);
 }
@@ -45,12 +44,11 @@ pub fn release_kept<L: Logic, const N: usize, const M: usize, const G: usize, K:
     upto: u64,
     kept: &K,
 )
-    requires table { seat.old.seat.table_id ≡ rings.now.table.shared.table_id }
-    requires from { (person seat.old.seat.me.0).own ≤ upto }
-    requires to { upto ≤ length (person seat.old.seat.me.0).seen }
-    requires kept { K.keeps kept.now (take upto (person seat.old.seat.me.0).seen) }
-    ensures table { seat.new.seat.table_id ≡ seat.old.seat.table_id }
-    ensures view { seat.new.seat.me.0 ≡ alone seat.old.seat.me.0 (moved (person seat.old.seat.me.0) upto) }
+    requires at { IsAt rings.now seat.old }
+    requires from { seat.old.who.own ≤ upto }
+    requires to { upto ≤ length seat.old.who.seen }
+    requires kept { K.keeps kept.now (take upto seat.old.who.seen) }
+    ensures step { Steps seat.old (moved seat.old.who upto) seat.new }
 {
-    rings.store_journalled(seat, upto);
+    rings.store_journalled(seat, upto, kept);
 }

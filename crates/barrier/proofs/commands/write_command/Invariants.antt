@@ -1,7 +1,8 @@
 use Rattle.std.proofs.Common.{◌≡◌, take}
-use Rattle.ring_words.specs.Seats.{person, alone, wrote}
+use Rattle.ring_words.specs.Seats.{wrote}
+use Rattle.ring_words.specs.At.{IsAt, seated}
 use Rattle.barrier.proofs.commands.write_command.Given as goal
 
 abbrev pub invariant-loop-index : goal.invariant-loop-index
-invariant-loop-index g l = let v = l.fn.seat.seat.me.0 in
-    (l.seat.seat.table_id ≡ l.fn.seat.seat.table_id) × (l.seat.seat.me.0 ≡ alone v (wrote (person v) l.sequence (take l.index l.words)))
+invariant-loop-index g l = let v = l.fn.seat in
+    (IsAt l.rings l.seat) × (l.seat ≡ seated v (wrote v.who l.sequence (take l.index l.words)))
