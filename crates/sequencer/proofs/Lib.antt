@@ -1,4 +1,3 @@
-pub mod Numbers
 pub mod OutputWords
 pub mod Rooms
 pub mod Takings

@@ -4,9 +4,10 @@ use mathlib.Core.Option.{some, some-injective, some-ne-none}
 use lib.ListN.{get_elem?}
 use Rattle.ring_words.specs.declared.view.Load.{Load}
 use Rattle.ring_words.specs.declared.view.Person.{Person}
-use Rattle.ring_words.specs.declared.view.View.{View}
 use Rattle.ring_words.specs.Places.{taken}
-use Rattle.ring_words.specs.Seats.{person, alone, load_of, looked}
+use Rattle.ring_words.specs.Seats.{load_of, looked}
+use Rattle.ring_words.specs.At.{At, seated}
+use Rattle.ring_words.specs.At.{At, seated}
 use Rattle.ring_words.specs.Steps.{HasOutputRoom}
 use Rattle.ring_words.proofs.Logs.{stands, at_behind}
 use Rattle.sequencer.specs.Outputs.{taken_loads, least_from, least, HasLooked}
@@ -59,32 +60,32 @@ room_for g m p values place count free (suc i) inside = let to : suc i ≤ g = i
     (length p.loads + i, (load_of (taken (1 + i)) at.0, at_behind p.loads (taken_loads 1 values) i (length p.loads + i) _ refl (taken_at 1 values i at.0 at.1), ap taken number, omega arith))
 
 -- the taken words of all gateways below k were loaded, and `low` is the least of them
-pub record LookedBelow {L : Type 0} (m : ℕ) (v u : View L) (k low : ℕ) : Type 0 where
+pub record LookedBelow {L : Type 0} (m : ℕ) (v u : At L) (k low : ℕ) : Type 0 where
   pub values : List ℕ
   pub count : 1 + length values ≡ k
   pub some_there : 1 ≤ length values
-  pub view : u ≡ alone v (record (person v) { loads = (person v).loads ++ taken_loads 1 values })
+  pub view : u ≡ seated v (record v.who { loads = v.who.loads ++ taken_loads 1 values })
   pub low_is : least values ≡ low
-  pub below : low ≤ (person v).part.sequence
-  pub near : (person v).part.sequence ≤ low + m
+  pub below : low ≤ v.who.part.sequence
+  pub near : v.who.part.sequence ≤ low + m
 
-module _ {L : Type 0} (m : ℕ) (v : View L) where
+module _ {L : Type 0} (m : ℕ) (v : At L) where
   -- the first gateway's word was loaded
-  pub looks_first : (w : View L) (x : ℕ) → w ≡ alone v (looked (person v) (taken 1) x) → x ≤ (person v).part.sequence → (person v).part.sequence ≤ x + m → LookedBelow m v w 2 x
+  pub looks_first : (w : At L) (x : ℕ) → w ≡ seated v (looked v.who (taken 1) x) → x ≤ v.who.part.sequence → v.who.part.sequence ≤ x + m → LookedBelow m v w 2 x
   looks_first w x view most near = record { values = x ∷ []; count = refl; some_there = omega arith; view = view; low_is = refl; below = most; near = near }
 
   -- the next one's was loaded
-  pub looks_next : (u w : View L) (k low x after : ℕ) → LookedBelow m v u k low → w ≡ alone u (looked (person u) (taken k) x)
-      → x ≤ (person u).part.sequence → (person u).part.sequence ≤ x + m → after ≡ min low x → LookedBelow m v w (k + 1) after
+  pub looks_next : (u w : At L) (k low x after : ℕ) → LookedBelow m v u k low → w ≡ seated u (looked u.who (taken k) x)
+      → x ≤ u.who.part.sequence → u.who.part.sequence ≤ x + m → after ≡ min low x → LookedBelow m v w (k + 1) after
   looks_next u w k low x after r view most near is =
-      let p = person v in let place : (person u).part.sequence ≡ p.part.sequence = ap (λ (y : View L). (person y).part.sequence) r.view in
+      let p = v.who in let place : u.who.part.sequence ≡ p.part.sequence = ap (λ (y : At L). y.who.part.sequence) r.view in
       let more = least_more r.values x r.some_there in let low_is = r.low_is in let below = r.below in let close = r.near in
       let long = length-append r.values (x ∷ []) in let count = r.count in record {
         values = r.values ++ x ∷ [];
         count = omega arith;
         some_there = omega arith;
-        view = subst (λ (y : View L). w ≡ alone y (looked (person y) (taken k) x)) r.view view
-            ∙ ap (λ (l : List Load). alone v (record p { loads = l })) (append_assoc p.loads (taken_loads 1 r.values) (load_of (taken k) x ∷ [])
+        view = subst (λ (y : At L). w ≡ seated y (looked y.who (taken k) x)) r.view view
+            ∙ ap (λ (l : List Load). seated v (record p { loads = l })) (append_assoc p.loads (taken_loads 1 r.values) (load_of (taken k) x ∷ [])
             ∙ ap (λ (l : List Load). p.loads ++ l) (sym (taken_more 1 r.values x ∙ (λ i. taken_loads 1 r.values ++ load_of (taken (count i)) x ∷ []))));
         low_is = more ∙ (λ i. min (low_is i) x) ∙ sym is;
         below = omega arith;
@@ -92,9 +93,9 @@ module _ {L : Type 0} (m : ℕ) (v : View L) where
       }
 
   -- all were loaded
-  pub has_looked : (u : View L) (k low g answer : ℕ) → LookedBelow m v u k low → k ≡ g + 1 → answer + (person v).part.sequence ≡ low + m → HasLooked g m (person v) answer (person u)
+  pub has_looked : (u : At L) (k low g answer : ℕ) → LookedBelow m v u k low → k ≡ g + 1 → answer + v.who.part.sequence ≡ low + m → HasLooked g m v.who answer u.who
   has_looked u k low g answer r all is =
-      let p = person v in let at : person u ≡ record p { loads = p.loads ++ taken_loads 1 r.values } = ap (λ (y : View L). person y) r.view in
+      let p = v.who in let at : u.who ≡ record p { loads = p.loads ++ taken_loads 1 r.values } = ap (λ (y : At L). y.who) r.view in
       let count = r.count in let low_is = r.low_is in let below = r.below in let long : length r.values ≡ g = omega arith in record {
         values = r.values;
         count = long;
@@ -104,11 +105,11 @@ module _ {L : Type 0} (m : ℕ) (v : View L) where
       }
 
   -- so there is room for the places that the answer counts
-  pub has_free : (g answer : ℕ) (q : Person) → HasLooked g m (person v) answer q → (i : ℕ) → i < answer → HasOutputRoom g m q ((person v).part.sequence + i)
+  pub has_free : (g answer : ℕ) (q : Person) → HasLooked g m v.who answer q → (i : ℕ) → i < answer → HasOutputRoom g m q (v.who.part.sequence + i)
   has_free g answer q looked i below = let count = looked.count in let room = looked.room in
-      subst (λ (p : Person). HasOutputRoom g m p ((person v).part.sequence + i)) (sym looked.loads)
-      (room_for g m (person v) looked.values ((person v).part.sequence + i) count (omega (arith, room, below)))
+      subst (λ (p : Person). HasOutputRoom g m p (v.who.part.sequence + i)) (sym looked.loads)
+      (room_for g m v.who looked.values (v.who.part.sequence + i) count (omega (arith, room, below)))
 
   -- published is as before
-  pub place_kept : (u : View L) (k low : ℕ) → LookedBelow m v u k low → (person u).part.sequence ≡ (person v).part.sequence
-  place_kept u k low r = ap (λ (y : View L). (person y).part.sequence) r.view
+  pub place_kept : (u : At L) (k low : ℕ) → LookedBelow m v u k low → u.who.part.sequence ≡ v.who.part.sequence
+  place_kept u k low r = ap (λ (y : At L). y.who.part.sequence) r.view

@@ -1,5 +1,5 @@
 -- The words of an output's text, and its body in the buffer.
-use Rattle.std.proofs.Common.{Some, ◌≡◌, ℕ, zero, suc, ◌+◌, ◌*◌, ◌/◌, ◌<◌, ◌≤◌, List, [], ◌∷◌, ◌++◌, length, take, get_or, refl, sym, ap, subst, ◌∙◌, arith, append_assoc, length-append}
+use Rattle.std.proofs.Common.{◌≡◌, ℕ, zero, suc, ◌+◌, ◌*◌, ◌/◌, ◌<◌, ◌≤◌, List, [], ◌∷◌, ◌++◌, length, take, get_or, refl, sym, ap, subst, ◌∙◌, arith, append_assoc, length-append}
 use Rattle.std.proofs.lemmas.List.{ext_get_or, get_or-take, length-take-le}
 use Rattle.std.specs.Int.{div_ceil, to_be_bytes, from_be_bytes}
 use native.Mathlib.Decide.{ℕ_discrete}
@@ -12,53 +12,46 @@ use Rattle.venue_model.specs.Texts.{Text}
 use Rattle.venue_model.specs.declared.outputs.Output.{Output}
 use Rattle.ring_words.specs.declared.view.Load.{Load}
 use Rattle.ring_words.specs.declared.view.Person.{Person}
-use Rattle.ring_words.specs.declared.view.View.{View}
 use Rattle.ring_words.specs.Raw.{eight}
 use Rattle.ring_words.specs.Texts.{eights, text_words, IsPackableText}
-use Rattle.ring_words.specs.Seats.{person, alone, load_of, looked}
+use Rattle.ring_words.specs.Seats.{load_of, looked}
+use Rattle.ring_words.specs.At.{At, seated}
+use Rattle.ring_words.specs.At.{At, seated}
 use Rattle.ring_words.specs.Steps.{Shows}
 use Rattle.ring_words.proofs.Raws.{word_bytes}
 use Rattle.ring_words.proofs.Logs.{at_longer, at_behind}
 use Rattle.sequencer.specs.declared.take.Head.{Head}
-use Rattle.sequencer.specs.Outputs.{loading, IsHead, Carries}
-
--- the person only made loads
-abbrev pub OnlyLoaded : {L : Type 0} → View L → View L → Type 0
-OnlyLoaded v u = (ls : List Load) × (u ≡ alone v (loading (person v) ls))
+use Rattle.sequencer.specs.Outputs.{OnlyLoads, loading, IsHead, Carries}
 
 -- a load shows the same after more loads
 shows_behind : (k q : ℕ) (p : Person) (ls : List Load) → Shows k p q → Shows k (loading p ls) q
 shows_behind k q p ls shows = (shows.0, (shows.1.0, at_longer p.loads ls shows.0 shows.1.0 shows.1.1, shows.1.2, shows.1.3))
 
-module _ {L : Type 0} (v u : View L) (only : OnlyLoaded v u) where
+module _ {L : Type 0} (v u : At L) (only : OnlyLoads v u) where
   -- and then it only made loads again
-  pub more_loads : (w : View L) → OnlyLoaded u w → OnlyLoaded v w
+  pub more_loads : (w : At L) → OnlyLoads u w → OnlyLoads v w
   more_loads w more = (
     only.0 ++ more.0,
-    subst (λ (y : View L). w ≡ alone y (loading (person y) more.0)) only.1 more.1
-        ∙ ap (λ (l : List Load). alone v (record (person v) { loads = l })) (append_assoc (person v).loads only.0 more.0),
+    subst (λ (y : At L). w ≡ seated y (loading y.who more.0)) only.1 more.1
+        ∙ ap (λ (l : List Load). seated v (record v.who { loads = l })) (append_assoc v.who.loads only.0 more.0),
   )
 
   -- and then it made one more
-  pub one_load : (w : View L) (k x : ℕ) → w ≡ alone u (looked (person u) k x) → OnlyLoaded v w
+  pub one_load : (w : At L) (k x : ℕ) → w ≡ seated u (looked u.who k x) → OnlyLoads v w
   one_load w k x step = more_loads w (load_of k x ∷ [], step)
 
   -- what was shown is still shown
-  pub still_shows : (k q : ℕ) → Shows k (person v) q → Shows k (person u) q
-  still_shows k q shows = subst (λ (y : View L). Shows k (person y) q) (sym only.1) (shows_behind k q (person v) only.0 shows)
+  pub still_shows : (k q : ℕ) → Shows k v.who q → Shows k u.who q
+  still_shows k q shows = subst (λ (y : At L). Shows k y.who q) (sym only.1) (shows_behind k q v.who only.0 shows)
 
   -- the own word is as before
-  pub still_own : (q : ℕ) → (person v).own ≤ q → (person u).own ≤ q
-  still_own q from = subst (λ (y : View L). (person y).own ≤ q) (sym only.1) from
-
-  -- the logic is as before
-  pub still_by : (logic : L) → v.logic ≡ Some logic → u.logic ≡ Some logic
-  still_by logic by = subst (λ (y : View L). y.logic ≡ Some logic) (sym only.1) by
+  pub still_own : (q : ℕ) → v.who.own ≤ q → u.who.own ≤ q
+  still_own q from = subst (λ (y : At L). y.who.own ≤ q) (sym only.1) from
 
   -- the outputs that are known are as before
-  pub still_at : (outputs : L → List Message → List Output) (logic : L) (o : Output) (q : ℕ) → get_elem? (outputs logic (person v).seen) q ≡ some o
-      → get_elem? (outputs logic (person u).seen) q ≡ some o
-  still_at outputs logic o q at = subst (λ (y : View L). get_elem? (outputs logic (person y).seen) q ≡ some o) (sym only.1) at
+  pub still_at : (outputs : List Message → List Output) (o : Output) (q : ℕ) → get_elem? (outputs v.who.seen) q ≡ some o
+      → get_elem? (outputs u.who.seen) q ≡ some o
+  still_at outputs o q at = subst (λ (y : At L). get_elem? (outputs y.who.seen) q ≡ some o) (sym only.1) at
 
 -- so many words are taken
 length-eights : (bs : List ℕ) (n : ℕ) → length (eights bs n) ≡ n

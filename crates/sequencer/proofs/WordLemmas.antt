@@ -8,10 +8,11 @@ use mathlib.Core.Logic.{dite}
 use native.Mathlib.Decide.{ℕ_discrete}
 use Rattle.venue_model.specs.History.{Message}
 use Rattle.ring_words.specs.declared.view.Person.{Person}
-use Rattle.ring_words.specs.declared.view.View.{View}
 use Rattle.ring_words.specs.Log.{IsEntry}
 use Rattle.ring_words.specs.Raw.{eight, raw_word, raw_count, Spells}
-use Rattle.ring_words.specs.Seats.{person, alone, stored, marked, wrote}
+use Rattle.ring_words.specs.Seats.{stored, marked, wrote}
+use Rattle.ring_words.specs.At.{At, seated}
+use Rattle.ring_words.specs.At.{At, seated}
 use Rattle.ring_words.specs.Steps.{GoesOn}
 use Rattle.sequencer.specs.Words.{first_words, words_of}
 
@@ -49,29 +50,29 @@ store_after p s e j x is =
     let kept : take j ws ≡ ws = subst (λ (n : ℕ). take n ws ≡ ws) (length-first_words e j) (take-length ws) in
     ap (wrote p s) (ap (λ (v : List ℕ). v ++ x ∷ []) kept ∙ ap (λ (y : ℕ). ws ++ y ∷ []) is)
 
-module _ {L : Type 0} (v u w : View L) (s : ℕ) (e : Message) where
+module _ {L : Type 0} (v u w : At L) (s : ℕ) (e : Message) where
   -- one store more: word i of the bytes is word i + 1 of the message
-  pub store_next : (i x : ℕ) → u ≡ alone v (wrote (person v) s (first_words e (i + 1))) → x ≡ from_be_bytes w64 (eight e.bytes i)
-      → w ≡ alone u (stored (person u) s (i + 1) x) → w ≡ alone v (wrote (person v) s (first_words e (i + 1 + 1)))
+  pub store_next : (i x : ℕ) → u ≡ seated v (wrote v.who s (first_words e (i + 1))) → x ≡ from_be_bytes w64 (eight e.bytes i)
+      → w ≡ seated u (stored u.who s (i + 1) x) → w ≡ seated v (wrote v.who s (first_words e (i + 1 + 1)))
   store_next i x so_far word step =
-      let p = person v in
+      let p = v.who in
       let next : x ≡ raw_word e (i + 1) = word ∙ ap (raw_word e) (sym (add-one i)) in
       let more : wrote p s (first_words e (suc (i + 1))) ≡ wrote p s (first_words e (i + 1 + 1)) =
       ap (λ (n : ℕ). wrote p s (first_words e n)) (sym (add-one (i + 1))) in
-      rw so_far at step ∙ ap (alone v) (store_after p s e (i + 1) x next ∙ more)
+      rw so_far at step ∙ ap (seated v) (store_after p s e (i + 1) x next ∙ more)
 
   -- after the last one all words are stored
-  pub store_last : (n : ℕ) → u ≡ alone v (wrote (person v) s (first_words e (n + 1))) → n ≡ length e.bytes / 8 + min 1 (length e.bytes % 8)
-      → u ≡ alone v (wrote (person v) s (words_of e))
+  pub store_last : (n : ℕ) → u ≡ seated v (wrote v.who s (first_words e (n + 1))) → n ≡ length e.bytes / 8 + min 1 (length e.bytes % 8)
+      → u ≡ seated v (wrote v.who s (words_of e))
   store_last n so_far is =
       let long : ℕ = length e.bytes in let count : n + 1 ≡ suc ((long + 7) / 8) = omega arith in
-      so_far ∙ ap (λ (k : ℕ). alone v (wrote (person v) s (first_words e k))) count
+      so_far ∙ ap (λ (k : ℕ). seated v (wrote v.who s (first_words e k))) count
 
   -- then the row spells the message
-  pub row_spells : u ≡ alone v (wrote (person v) s (words_of e)) → Spells (person u).part.words e
+  pub row_spells : u ≡ seated v (wrote v.who s (words_of e)) → Spells u.who.part.words e
   row_spells written = rw written (spelled e)
 
   -- and availability publishes it
-  pub marks_message : u ≡ alone v (wrote (person v) s (words_of e)) → IsEntry e
-      → ((d : Message) → Spells (person u).part.words d → IsEntry d → w ≡ alone u (marked (person u) s d)) → w ≡ alone v (marked (person v) s e)
+  pub marks_message : u ≡ seated v (wrote v.who s (words_of e)) → IsEntry e
+      → ((d : Message) → Spells u.who.part.words d → IsEntry d → w ≡ seated u (marked u.who s d)) → w ≡ seated v (marked v.who s e)
   marks_message written entry step = rw written at (step e (row_spells written) entry)

@@ -1,5 +1,7 @@
 -- What the processor's look for room says, and what the taking of an output says.
 use Rattle.std.specs.Prelude.{◌≡◌, ◌≢◌, ℕ, suc, ◌+◌, ◌^◌, ◌<◌, ◌≤◌, List, [], ◌∷◌, ◌++◌, length, take, min}
+use mathlib.Core.Option.{some}
+use lib.ListN.{get_elem?}
 use Rattle.venue_model.specs.History.{Message}
 use Rattle.venue_model.specs.Texts.{Text}
 use Rattle.venue_model.specs.declared.outputs.Output.{Output}
@@ -7,6 +9,7 @@ use Rattle.ring_words.specs.declared.view.Load.{Load}
 use Rattle.ring_words.specs.declared.view.Person.{Person}
 use Rattle.ring_words.specs.Places.{marshalled, taken}
 use Rattle.ring_words.specs.Seats.{load_of}
+use Rattle.ring_words.specs.At.{At, Steps, number}
 use Rattle.ring_words.specs.Steps.{IsLegal}
 use Rattle.sequencer.specs.declared.take.Head.{Head}
 use Rattle.sequencer.specs.declared.take.Take.{Take}
@@ -73,3 +76,12 @@ abbrev pub Says : ℕ → Output → Text → Take → List ℕ → Type 0
 Says k o t (Mine head) buf = (o.to ≡ k) × Carries head buf t
 Says k o t Passed buf = o.to ≢ k
 Says k o t Nothing buf = ⊥
+
+module _ {L : Type 0} where
+  -- the seat only made loads
+  abbrev pub OnlyLoads : At L → At L → Type 0
+  OnlyLoads old new = (loads : List Load) × Steps old (loading old.who loads) new
+
+  -- the answer says the output that these have at the gateway's count, by its text
+  abbrev pub SaysOutput : List Output → (Output → ℕ → Text) → At L → Take → List ℕ → Type 0
+  SaysOutput outputs text seat answer buf = (o : Output) × (get_elem? outputs seat.who.own ≡ some o) × Says (number seat) o (text o seat.who.own) answer buf

@@ -1,10 +1,11 @@
 //! Claims of sequences: the first thing that a gateway does with a message for the venue.
-ghost use Rattle.std.specs.Prelude.{◌≡◌, ◌↔◌, ◌+◌, ◌^◌, ◌<◌, IfOk, IfErr, IsTrue};
+ghost use Rattle.std.specs.Prelude.{◌≡◌, ℕ, ◌↔◌, ◌+◌, ◌^◌, ◌<◌, IfOk, IfErr, IsTrue};
 ghost use Rattle.ring_words.specs.Log.{times};
-ghost use Rattle.ring_words.specs.Seats.{person};
+ghost use Rattle.ring_words.specs.At.{IsAt};
 ghost use Rattle.sequencer.specs.Claims.{Claimed, Refused};
 
 use ring_words::{GatewaySeat, Rings};
+use std::marker::Model;
 use thiserror::Error;
 use venue_model::Logic;
 
@@ -32,10 +33,16 @@ pub struct Claim {
     ghost small: { sequence < 2 ^ 48 },
 }
 
+impl Model for Claim {
+    ghost Value = { ℕ };
+
+    ghost view = { λ c. c.sequence };
+}
+
 impl Claim {
     /// The sequence: the message's place in the history, from 0.
     pub fn sequence(&self) -> u64
-        ensures value { result ≡ self.now.sequence }
+        ensures value { result ≡ self.now }
         ensures small { result < 2 ^ 48 }
     {
         self.sequence
@@ -56,12 +63,10 @@ pub fn try_claim<L: Logic, const N: usize, const M: usize, const G: usize>(
     rings: &Rings<L, N, M, G>,
     seat: &mut GatewaySeat<L>,
 ) -> Result<Claim, ClaimRefusal>
-    requires table { seat.old.seat.table_id ≡ rings.now.table.shared.table_id }
-    ensures table { seat.new.seat.table_id ≡ seat.old.seat.table_id }
-    ensures number { seat.new.number ≡ seat.old.number }
-    ensures claimed { IfOk result (λ claim. Claimed N seat.old.seat.me.0 claim.sequence seat.new.seat.me.0) }
-    ensures held { IfOk result (λ claim. 0 < times claim.sequence (person seat.new.seat.me.0).claims) }
-    ensures refused { IfErr result (λ refusal. Refused N seat.old.seat.me.0 refusal seat.new.seat.me.0) }
+    requires at { IsAt rings.now seat.old }
+    ensures claimed { IfOk result (λ claim. Claimed N seat.old claim seat.new) }
+    ensures held { IfOk result (λ claim. 0 < times claim seat.new.who.claims) }
+    ensures refused { IfErr result (λ refusal. Refused N seat.old refusal seat.new) }
 {
     let at = rings.load_claim(seat);
     if at == SEQUENCES {

@@ -1,7 +1,8 @@
 //! Publications: a gateway writes its message into the row that it claimed, and makes it available to the stages.
 ghost use Rattle.std.specs.Prelude.{◌≡◌, ◌<◌, ◌≤◌, length};
 ghost use Rattle.ring_words.specs.Log.{times};
-ghost use Rattle.ring_words.specs.Seats.{person, alone, marked, wrote};
+ghost use Rattle.ring_words.specs.Seats.{marked, wrote};
+ghost use Rattle.ring_words.specs.At.{IsAt, Steps, number};
 ghost use Rattle.sequencer.specs.Words.{words_of};
 
 use crate::claim::Claim;
@@ -15,12 +16,11 @@ fn store_words<L: Logic, const N: usize, const M: usize, const G: usize>(
     sequence: u64,
     bytes: &[u8],
 )
-    requires table { seat.old.seat.table_id ≡ rings.now.table.shared.table_id }
-    requires claimed { 0 < times sequence (person seat.old.seat.me.0).claims }
+    requires at { IsAt rings.now seat.old }
+    requires claimed { 0 < times sequence seat.old.who.claims }
     requires most { length bytes.now ≤ 320 }
-    ensures table { seat.new.seat.table_id ≡ seat.old.seat.table_id }
-    ensures number { seat.new.number ≡ seat.old.number }
-    ensures view { seat.new.seat.me.0 ≡ alone seat.old.seat.me.0 (wrote (person seat.old.seat.me.0) sequence (words_of (record { gateway = seat.old.number; bytes = bytes.now }))) }
+    ensures number { (1 ≤ number seat.old) × (number seat.old ≤ 8) }
+    ensures step { Steps seat.old (wrote seat.old.who sequence (words_of (record { gateway = number seat.old; bytes = bytes.now }))) seat.new }
 {
     let head = Raw {
         gateway: seat.number() as u8,
@@ -41,13 +41,11 @@ impl Claim {
         seat: &mut GatewaySeat<L>,
         bytes: &[u8],
     ) -> u64
-        requires table { seat.old.seat.table_id ≡ rings.now.table.shared.table_id }
-        requires claimed { 0 < times self.sequence (person seat.old.seat.me.0).claims }
+        requires at { IsAt rings.now seat.old }
+        requires claimed { 0 < times self seat.old.who.claims }
         requires bytes { (1 ≤ length bytes.now) × (length bytes.now ≤ 320) }
-        ensures sequence { result ≡ self.sequence }
-        ensures table { seat.new.seat.table_id ≡ seat.old.seat.table_id }
-        ensures number { seat.new.number ≡ seat.old.number }
-        ensures view { seat.new.seat.me.0 ≡ alone seat.old.seat.me.0 (marked (person seat.old.seat.me.0) self.sequence (record { gateway = seat.old.number; bytes = bytes.now })) }
+        ensures sequence { result ≡ self }
+        ensures step { Steps seat.old (marked seat.old.who self (record { gateway = number seat.old; bytes = bytes.now })) seat.new }
     {
         let Claim { sequence } = self;
         store_words(rings, seat, sequence, bytes);

@@ -1,14 +1,14 @@
 //! Outputs on their way to a client: its gateway takes the next one, or passes it over where it goes to another's.
-ghost use Rattle.std.specs.Prelude.{Some, ◌≡◌, ◌≢◌, ◌≤◌, List, length};
+ghost use Rattle.std.specs.Prelude.{◌≡◌, ◌≢◌, ◌≤◌, List, length};
 ghost use mathlib.Core.Option.{some};
 ghost use lib.ListN.{get_elem?};
 ghost use Rattle.venue_model.specs.History.{Message};
 ghost use Rattle.venue_model.specs.declared.outputs.Output.{Output};
-ghost use Rattle.ring_words.specs.declared.view.Load.{Load};
 ghost use Rattle.ring_words.specs.Places.{marshalled};
-ghost use Rattle.ring_words.specs.Seats.{person, alone, looked};
+ghost use Rattle.ring_words.specs.Seats.{looked};
+ghost use Rattle.ring_words.specs.At.{IsAt, Steps};
 ghost use Rattle.ring_words.specs.Steps.{Shows};
-ghost use Rattle.sequencer.specs.Outputs.{loading, IsHead, Carries, Says, TakesNext};
+ghost use Rattle.sequencer.specs.Outputs.{OnlyLoads, IsHead, Carries, TakesNext, SaysOutput};
 
 use ring_words::{GatewaySeat, Rings, TextHead};
 use venue_model::{Logic, OutputType};
@@ -39,14 +39,13 @@ fn read_head<L: Logic, const N: usize, const M: usize, const G: usize>(
     seat: &mut GatewaySeat<L>,
     place: u64,
 ) -> Head
-    requires table { seat.old.seat.table_id ≡ rings.now.table.shared.table_id }
-    requires from { (person seat.old.seat.me.0).own ≤ place }
-    requires to { Shows marshalled (person seat.old.seat.me.0) place }
-    ensures table { seat.new.seat.table_id ≡ seat.old.seat.table_id }
-    ensures view { (loads : List Load) × (seat.new.seat.me.0 ≡ alone seat.old.seat.me.0 (loading (person seat.old.seat.me.0) loads)) }
+    requires at { IsAt rings.now seat.old }
+    requires from { seat.old.who.own ≤ place }
+    requires to { Shows marshalled seat.old.who place }
+    ensures step { OnlyLoads seat.old seat.new }
     ensures most { result.len ≤ 320 }
-    ensures head { (logic : L) (o : Output) → seat.old.seat.me.0.logic ≡ Some logic → get_elem? (L.outputs logic (person seat.old.seat.me.0).seen) place ≡ some o
-        → IsHead result (L.text logic o place) }
+    ensures head { (o : Output) → get_elem? (L.outputs rings.now.logic seat.old.who.seen) place ≡ some o
+        → IsHead result (L.text rings.now.logic o place) }
 {
     let TextHead { msg_type, len } = TextHead::from_word(rings.load_text(seat, place, 0));
     let sending_time = rings.load_text(seat, place, 1);
@@ -65,13 +64,12 @@ fn read_text<L: Logic, const N: usize, const M: usize, const G: usize>(
     place: u64,
     buf: &mut [u8; 320],
 ) -> Head
-    requires table { seat.old.seat.table_id ≡ rings.now.table.shared.table_id }
-    requires from { (person seat.old.seat.me.0).own ≤ place }
-    requires to { Shows marshalled (person seat.old.seat.me.0) place }
-    ensures table { seat.new.seat.table_id ≡ seat.old.seat.table_id }
-    ensures view { (loads : List Load) × (seat.new.seat.me.0 ≡ alone seat.old.seat.me.0 (loading (person seat.old.seat.me.0) loads)) }
-    ensures text { (logic : L) (o : Output) → seat.old.seat.me.0.logic ≡ Some logic → get_elem? (L.outputs logic (person seat.old.seat.me.0).seen) place ≡ some o
-        → Carries result buf.new (L.text logic o place) }
+    requires at { IsAt rings.now seat.old }
+    requires from { seat.old.who.own ≤ place }
+    requires to { Shows marshalled seat.old.who place }
+    ensures step { OnlyLoads seat.old seat.new }
+    ensures text { (o : Output) → get_elem? (L.outputs rings.now.logic seat.old.who.seen) place ≡ some o
+        → Carries result buf.new (L.text rings.now.logic o place) }
 {
     let head = read_head(rings, seat, place);
     for index in 0..head.len.div_ceil(8) {
@@ -89,14 +87,11 @@ pub fn take_output<L: Logic, const N: usize, const M: usize, const G: usize>(
     seat: &mut GatewaySeat<L>,
     buf: &mut [u8; 320],
 ) -> Take
-    requires table { seat.old.seat.table_id ≡ rings.now.table.shared.table_id }
-    ensures table { seat.new.seat.table_id ≡ seat.old.seat.table_id }
-    ensures number { seat.new.number ≡ seat.old.number }
-    ensures nothing { result ≡ Take.Nothing → seat.new.seat.me.0 ≡ alone seat.old.seat.me.0 (looked (person seat.old.seat.me.0) marshalled (person seat.old.seat.me.0).own) }
-    ensures view { seat.new.seat.me.0 ≡ alone seat.old.seat.me.0 (person seat.new.seat.me.0) }
-    ensures taken { result ≢ Take.Nothing → (history : List Message) × TakesNext (length seat.old.seat.me.0.base) (person seat.old.seat.me.0) history (person seat.new.seat.me.0)
-        × ((logic : L) → seat.old.seat.me.0.logic ≡ Some logic → (o : Output) × (get_elem? (L.outputs logic history) (person seat.old.seat.me.0).own ≡ some o)
-        × Says seat.old.number o (L.text logic o (person seat.old.seat.me.0).own) result buf.new) }
+    requires at { IsAt rings.now seat.old }
+    ensures step { Steps seat.old seat.new.who seat.new }
+    ensures nothing { result ≡ Take.Nothing → seat.new.who ≡ looked seat.old.who marshalled seat.old.who.own }
+    ensures taken { result ≢ Take.Nothing → (history : List Message) × TakesNext (length rings.now.base) seat.old.who history seat.new.who
+        × SaysOutput (L.outputs rings.now.logic history) (L.text rings.now.logic) seat.old result buf.new }
 {
     let place = seat.taken();
     if rings.load_marshalled(seat) <= place {

@@ -1,8 +1,10 @@
-use Rattle.std.proofs.Common.{◌≡◌, ◌+◌}
-use Rattle.ring_words.specs.Seats.{person, alone, wrote}
+use Rattle.std.proofs.Common.{◌≡◌, ◌+◌, ◌≤◌}
+use Rattle.ring_words.specs.Seats.{wrote}
+use Rattle.ring_words.specs.At.{IsAt, seated, number}
+use Rattle.ring_words.specs.At.{IsAt, seated, number}
 use Rattle.sequencer.specs.Words.{first_words}
 use Rattle.sequencer.proofs.publish.store_words.Given as goal
 
 abbrev pub invariant-loop-index : goal.invariant-loop-index
-invariant-loop-index g l = (l.seat.seat.table_id ≡ l.fn.seat.seat.table_id) × (l.seat.number ≡ l.fn.seat.number)
-    × (l.seat.seat.me.0 ≡ alone l.fn.seat.seat.me.0 (wrote (person l.fn.seat.seat.me.0) l.sequence (first_words (record { gateway = l.fn.seat.number; bytes = l.bytes }) (l.index + 1))))
+invariant-loop-index g l = (IsAt l.rings l.seat) × ((1 ≤ number l.fn.seat) × (number l.fn.seat ≤ 8))
+    × (l.seat ≡ seated l.fn.seat (wrote l.fn.seat.who l.sequence (first_words (record { gateway = number l.fn.seat; bytes = l.bytes }) (l.index + 1))))
