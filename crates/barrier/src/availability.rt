@@ -1,5 +1,5 @@
 //! How far a stage may read. What stands below is published, and stays in its row until the stage releases it.
-ghost use Rattle.std.specs.Prelude.{◌≡◌, length};
+ghost use Rattle.std.specs.Prelude.{◌≡◌, ◌<◌, ◌≤◌, ◌^◌, length};
 ghost use Rattle.ring_words.specs.At.{IsAt, Steps};
 ghost use Rattle.barrier.specs.Availability.{Shown, Gated};
 
@@ -13,8 +13,9 @@ pub fn available<L: Logic, R: Reader, const N: usize, const M: usize, const G: u
     seat: &mut ReaderSeat<L, R>,
 ) -> u64
     requires at { IsAt rings.now seat.old }
-    ensures known { result ≡ length seat.new.who.seen }
+    ensures known { (result ≡ length seat.new.who.seen) × (result ≤ 2 ^ 48) }
     ensures step { Steps seat.old seat.new.who seat.new }
+    ensures some_row { 0 < N }
     ensures shown { Shown N seat.old.who seat.new.who }
 {
     for _ in seat.known()..seat.own() + rings.rows() {
@@ -32,7 +33,7 @@ pub fn commands_available<L: Logic, const N: usize, const M: usize, const G: usi
     seat: &mut ProcessSeat<L>,
 ) -> u64
     requires at { IsAt rings.now seat.old }
-    ensures known { result ≡ length seat.new.who.seen }
+    ensures known { (result ≡ length seat.new.who.seen) × (result ≤ 2 ^ 48) }
     ensures step { Steps seat.old seat.new.who seat.new }
     ensures gated { Gated seat.old.who seat.new.who }
 {

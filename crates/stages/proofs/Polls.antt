@@ -1,11 +1,11 @@
--- What a look for new entries leaves to a poll, and views that keep all but their person.
-use Rattle.std.proofs.Common.{◌≡◌, ◌≢◌, ◌⊎◌, inl, inr, ℕ, suc, ◌+◌, ◌<◌, ◌≤◌, List, [], ◌∷◌, length, refl, ap, sym, subst, ◌∙◌, length-append, arith, IsSome, Some, None, Option}
+-- What a look for new entries leaves to a poll, and seats that keep all but their person.
+use Rattle.std.proofs.Common.{◌≡◌, ◌≢◌, ◌⊎◌, inl, inr, ℕ, suc, ◌+◌, ◌<◌, ◌≤◌, List, [], ◌∷◌, length, refl, ap, sym, ◌∙◌, length-append, arith}
 use Rattle.std.proofs.lemmas.List.{append-nil}
 use Rattle.venue_model.specs.History.{Message}
 use Rattle.ring_words.specs.declared.view.Person.{Person}
-use Rattle.ring_words.specs.declared.view.View.{View}
 use Rattle.ring_words.specs.Places.{in_row}
-use Rattle.ring_words.specs.Seats.{person, alone, looked}
+use Rattle.ring_words.specs.Seats.{looked}
+use Rattle.ring_words.specs.At.{At, seated}
 use Rattle.barrier.specs.Availability.{grown, Shown}
 use Rattle.stages.specs.Turns.{NothingShown}
 
@@ -47,15 +47,6 @@ nothing_shown n v w some_row known near shown = by_case shown.2 where
         ),
       )
 
-module _ {L : Type 0} where
-  -- a view that was given another person has that person
-  pub has_person : (v w : View L) (q : Person) → w ≡ alone v q → w ≡ alone v (person w)
-  has_person v w q is = is ∙ ap (alone v) (sym (ap person is))
-
-  -- and its logic
-  pub some_logic : (v w : View L) (q : Person) → w ≡ alone v q → IsSome v.logic → IsSome w.logic
-  some_logic v w q is opened = subst (λ (z : View L). IsSome z.logic) (sym is) opened
-
-  pub the_logic : (o : Option L) → IsSome o → (x : L) × (o ≡ Some x)
-  the_logic (Some x) is = (x, refl)
-  the_logic None is = cc
+-- a seat whose person changed has that person, and is otherwise as it was
+pub has_person : {L : Type 0} (v w : At L) (q : Person) → w ≡ seated v q → w ≡ seated v w.who
+has_person v w q is = is ∙ ap (seated v) (sym (ap (λ (s : At _). s.who) is))

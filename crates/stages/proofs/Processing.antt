@@ -12,9 +12,8 @@ use Rattle.venue_model.proofs.Bounds.{requests_from-more, state-more, outputs-on
 use Rattle.fix_orders.specs.Reading.{reads}
 use Rattle.fix_orders.proofs.RangeLemmas.{reads_within}
 use Rattle.ring_words.specs.declared.view.Person.{Person}
-use Rattle.ring_words.specs.declared.view.View.{View}
 use Rattle.ring_words.specs.Log.{IsEntry}
-use Rattle.ring_words.specs.Seats.{person, alone}
+use Rattle.ring_words.specs.At.{At, seated}
 use Rattle.ring_words.specs.Packing.{command_words}
 use Rattle.ring_words.proofs.Logs.{stands}
 use Rattle.barrier.specs.Commands.{after_command}
@@ -77,67 +76,67 @@ has_room symbols h s is = let few = few-resting symbols (asked h) in let same = 
 -- A COMMAND THAT WAS READ
 
 -- it is that of the next entry
-pub record Took (n : ℕ) (v r : View Symbols) (s gateway : ℕ) (command : Command) : Type 0 where
-  pub place : s ≡ (person v).own
-  pub known : (person v).own < length (person v).seen
+pub record Took (n : ℕ) (v r : At Symbols) (s gateway : ℕ) (command : Command) : Type 0 where
+  pub place : s ≡ v.who.own
+  pub known : v.who.own < length v.who.seen
   pub entry : Message
-  pub at : get_elem? (person v).seen (person v).own ≡ some entry
+  pub at : get_elem? v.who.seen v.who.own ≡ some entry
   pub from : gateway ≡ entry.gateway
   pub command_is : command ≡ reads entry.bytes
-  pub view : r ≡ alone v (after_reading n (person v) entry)
+  pub view : r ≡ seated v (after_reading n v.who entry)
 
 -- the entry at s is e, of which these are gateway and command
-abbrev Reads : View Symbols → ℕ → ℕ → Command → Type 0
-Reads v s gateway command = (logic : Symbols) (e : Message) → v.logic ≡ Some logic → get_elem? (person v).seen s ≡ some e →
+abbrev Reads : At Symbols → ℕ → ℕ → Command → Type 0
+Reads v s gateway command = (e : Message) → get_elem? v.who.seen s ≡ some e →
     (gateway ≡ e.gateway) × (command ≡ reads e.bytes) × IsEntry e
 
 -- reading it led to the view r
-abbrev Loads : ℕ → View Symbols → View Symbols → ℕ → Type 0
-Loads n v r s = (logic : Symbols) (e : Message) → v.logic ≡ Some logic → get_elem? (person v).seen s ≡ some e →
-    r ≡ alone v (after_command n (person v) s (command_words e.gateway (reads e.bytes)))
+abbrev Loads : ℕ → At Symbols → At Symbols → ℕ → Type 0
+Loads n v r s = (e : Message) → get_elem? v.who.seen s ≡ some e →
+    r ≡ seated v (after_command n v.who s (command_words e.gateway (reads e.bytes)))
 
-module _ (v : View Symbols) (s gateway : ℕ) (command : Command) (symbols : Symbols) (logic : v.logic ≡ Some symbols)
-    (known : s < length (person v).seen) (is : Reads v s gateway command) where
+module _ (v : At Symbols) (s gateway : ℕ) (command : Command)
+    (known : s < length v.who.seen) (is : Reads v s gateway command) where
   -- the book may be asked to do it
   pub may_apply : (1 ≤ gateway) × (gateway ≤ 8) × IsCommand command
-  may_apply = let stood = stands (person v).seen s known in let read = is symbols stood.0 logic stood.1 in
+  may_apply = let stood = stands v.who.seen s known in let read = is stood.0 stood.1 in
       let from = read.0 in let entry = read.2.message in
       (omega (arith, from, entry.from), omega (arith, from, entry.to), subst IsCommand (sym read.1) (reads_within stood.0.bytes))
 
-  pub took : (n : ℕ) (r : View Symbols) → s ≡ (person v).own → Loads n v r s → Took n v r s gateway command
-  took n r place loads = let stood = stands (person v).seen s known in let e = stood.0 in let read = is symbols e logic stood.1 in
+  pub took : (n : ℕ) (r : At Symbols) → s ≡ v.who.own → Loads n v r s → Took n v r s gateway command
+  took n r place loads = let stood = stands v.who.seen s known in let e = stood.0 in let read = is e stood.1 in
       record {
         place = place;
-        known = subst (λ (t : ℕ). t < length (person v).seen) place known;
+        known = subst (λ (t : ℕ). t < length v.who.seen) place known;
         entry = e;
-        at = subst (λ (t : ℕ). get_elem? (person v).seen t ≡ some e) place stood.1;
+        at = subst (λ (t : ℕ). get_elem? v.who.seen t ≡ some e) place stood.1;
         from = read.0;
         command_is = read.1;
-        view = loads symbols e logic stood.1
-            ∙ ap (λ (t : ℕ). alone v (after_command n (person v) t (command_words e.gateway (reads e.bytes)))) place;
+        view = loads e stood.1
+            ∙ ap (λ (t : ℕ). seated v (after_command n v.who t (command_words e.gateway (reads e.bytes)))) place;
       }
 
 -- WHAT THE PROCESSOR KEEPS
 
 -- the book is that of the first entries, so many; of their outputs all but those left are published
-pub record Follows (v : View Symbols) (book : Book) (applied : ℕ) (left : List Output) : Type 0 where
+pub record Follows (v : At Symbols) (book : Book) (applied : ℕ) (left : List Output) : Type 0 where
   pub logic : v.logic ≡ Some book.symbols
-  pub state : book.state ≡ state_of book.symbols (take applied (person v).seen)
-  pub rest : drop (person v).part.sequence (outputs_of book.symbols (take applied (person v).seen)) ≡ left
-  pub published : length (outputs_of book.symbols (take applied (person v).seen)) ≡ (person v).part.sequence + length left
+  pub state : book.state ≡ state_of book.symbols (take applied v.who.seen)
+  pub rest : drop v.who.part.sequence (outputs_of book.symbols (take applied v.who.seen)) ≡ left
+  pub published : length (outputs_of book.symbols (take applied v.who.seen)) ≡ v.who.part.sequence + length left
 
 -- while the command behind those done is under way, its outputs are to be put
-pub left_to_put : (v : View Symbols) (book : Book) (applied : ℕ) (left : List Output) → Follows v book applied left → applied ≡ suc (person v).own
-    → to_put book.symbols (person v) ≡ left
+pub left_to_put : (v : At Symbols) (book : Book) (applied : ℕ) (left : List Output) → Follows v book applied left → applied ≡ suc v.who.own
+    → to_put book.symbols v.who ≡ left
 left_to_put v book applied left follows one =
-    ap (λ (k : ℕ). drop (person v).part.sequence (outputs_of book.symbols (take k (person v).seen))) (sym one) ∙ follows.rest
+    ap (λ (k : ℕ). drop v.who.part.sequence (outputs_of book.symbols (take k v.who.seen))) (sym one) ∙ follows.rest
 
 -- what is put behind nothing is all
 pub all_new : (out before more : List Output) → out ≡ before ++ more → before ≡ [] → out ≡ more
 all_new out before more told none = told ∙ ap (λ (l : List Output). l ++ more) none
 
 -- where no outputs are left of them
-pub at_rest : (v : View Symbols) (book : Book) (applied s : ℕ) (left : List Output) → Follows v book applied left → applied ≡ s → left ≡ [] → Follows v book s []
+pub at_rest : (v : At Symbols) (book : Book) (applied s : ℕ) (left : List Output) → Follows v book applied left → applied ≡ s → left ≡ [] → Follows v book s []
 at_rest v book applied s left follows at none = subst (λ (k : ℕ). Follows v book k []) at (subst (Follows v book applied) none follows)
 
 -- of a list that goes on, what is behind it
@@ -145,40 +144,40 @@ drop_front : {A : Type 0} (xs ys : List A) (n : ℕ) → length xs ≡ n → dro
 drop_front [] ys n is = ap (λ (k : ℕ). drop k ys) (sym is)
 drop_front (x ∷ xs) ys n is = ap (λ (k : ℕ). drop k (x ∷ xs ++ ys)) (sym is) ∙ drop_front xs ys (length xs) refl
 
-module _ (n : ℕ) (v r : View Symbols) (s gateway : ℕ) (command : Command) (took : Took n v r s gateway command) (book : Book)
+module _ (n : ℕ) (v r : At Symbols) (s gateway : ℕ) (command : Command) (took : Took n v r s gateway command) (book : Book)
     (follows : Follows v book s []) where
   abbrev this_step : Stepped
   this_step = step book.symbols book.state s (record { gateway = gateway; command = command })
 
-  before : Follows v book (person v).own []
+  before : Follows v book v.who.own []
   before = subst (λ (k : ℕ). Follows v book k []) took.place follows
 
   -- the book was asked what the entry asks, in the state of those before it
-  asked_so : this_step ≡ next book.symbols (person v) took.entry took.at took.known
+  asked_so : this_step ≡ next book.symbols v.who took.entry took.at took.known
   asked_so = ap (λ (t : ℕ). step book.symbols book.state t (record { gateway = gateway; command = command })) took.place
-      ∙ ap (λ (k : ℕ). step book.symbols book.state (person v).own (record { gateway = k; command = command })) took.from
-      ∙ ap (λ (d : Command). step book.symbols book.state (person v).own (record { gateway = took.entry.gateway; command = d })) took.command_is
-      ∙ ap (λ (z : State). step book.symbols z (person v).own (asks took.entry)) before.state
+      ∙ ap (λ (k : ℕ). step book.symbols book.state v.who.own (record { gateway = k; command = command })) took.from
+      ∙ ap (λ (d : Command). step book.symbols book.state v.who.own (record { gateway = took.entry.gateway; command = d })) took.command_is
+      ∙ ap (λ (z : State). step book.symbols z v.who.own (asks took.entry)) before.state
 
-  grown : outputs_of book.symbols (take (suc (person v).own) (person v).seen) ≡ outputs_of book.symbols (entries_done (person v)) ++ this_step.outputs
-  grown = next_outputs book.symbols (person v) took.entry took.at took.known
-      ∙ ap (λ (t : Stepped). outputs_of book.symbols (entries_done (person v)) ++ t.outputs) (sym asked_so)
+  grown : outputs_of book.symbols (take (suc v.who.own) v.who.seen) ≡ outputs_of book.symbols (entries_done v.who) ++ this_step.outputs
+  grown = next_outputs book.symbols v.who took.entry took.at took.known
+      ∙ ap (λ (t : Stepped). outputs_of book.symbols (entries_done v.who) ++ t.outputs) (sym asked_so)
 
   -- all before were published
-  all_out : length (outputs_of book.symbols (entries_done (person v))) ≡ (person v).part.sequence
+  all_out : length (outputs_of book.symbols (entries_done v.who)) ≡ v.who.part.sequence
   all_out = let all = before.published in omega (arith, all)
 
   -- the book follows with one entry more, and its outputs are left
   pub follows_on : (book' : Book) (left : List Output) (k : ℕ) → k ≡ suc s → book' ≡ record book { state = this_step.state } → left ≡ this_step.outputs
       → Follows r book' k left
   follows_on book' left k k_is stepped told =
-      subst (λ (z : View Symbols). Follows z book' k left) (sym took.view)
-      (subst (λ (b : Book). Follows (alone v (after_reading n (person v) took.entry)) b k left) (sym stepped)
-      (subst (λ (i : ℕ). Follows (alone v (after_reading n (person v) took.entry)) (record book { state = this_step.state }) i left)
+      subst (λ (z : At Symbols). Follows z book' k left) (sym took.view)
+      (subst (λ (b : Book). Follows (seated v (after_reading n v.who took.entry)) b k left) (sym stepped)
+      (subst (λ (i : ℕ). Follows (seated v (after_reading n v.who took.entry)) (record book { state = this_step.state }) i left)
       (sym (k_is ∙ ap suc took.place)) (record {
         logic = follows.logic;
-        state = ap (λ (t : Stepped). t.state) asked_so ∙ sym (next_state book.symbols (person v) took.entry took.at took.known);
-        rest = ap (drop (person v).part.sequence) grown ∙ drop_front _ _ _ all_out ∙ sym told;
-        published = ap length grown ∙ length-append (outputs_of book.symbols (entries_done (person v))) this_step.outputs
-            ∙ ap (λ (i : ℕ). i + length this_step.outputs) all_out ∙ ap (λ (l : List Output). (person v).part.sequence + length l) (sym told);
+        state = ap (λ (t : Stepped). t.state) asked_so ∙ sym (next_state book.symbols v.who took.entry took.at took.known);
+        rest = ap (drop v.who.part.sequence) grown ∙ drop_front _ _ _ all_out ∙ sym told;
+        published = ap length grown ∙ length-append (outputs_of book.symbols (entries_done v.who)) this_step.outputs
+            ∙ ap (λ (i : ℕ). i + length this_step.outputs) all_out ∙ ap (λ (l : List Output). v.who.part.sequence + length l) (sym told);
       })))

@@ -13,12 +13,13 @@ use Rattle.venue_model.specs.declared.outputs.Output.{Output}
 use Rattle.fix_orders.specs.Reading.{reads}
 use Rattle.ring_words.specs.declared.view.Load.{Load}
 use Rattle.ring_words.specs.declared.view.Person.{Person}
-use Rattle.ring_words.specs.declared.view.View.{View}
 use Rattle.ring_words.specs.Packing.{command_words}
 use Rattle.ring_words.specs.Places.{unmarshalled, journalled, taken, in_row}
 use Rattle.ring_words.specs.Rule.{at_place}
-use Rattle.ring_words.specs.Seats.{person, alone, load_of, looked, last_from}
+use Rattle.ring_words.specs.Seats.{load_of, looked, last_from}
+use Rattle.ring_words.specs.At.{Opened, At, IsAt, seated}
 use Rattle.ring_words.specs.Steps.{HasOutputRoom, Shows, lesser}
+use Rattle.ring_words.proofs.Loads.{some_is}
 use Rattle.ring_words.proofs.Views.{last_kept, last_loaded}
 use Rattle.barrier.specs.Availability.{Gated}
 use Rattle.barrier.specs.Commands.{command_loads}
@@ -70,14 +71,14 @@ last_shows k q p above = by_case (last_stood k 0 q p.loads above) where
   by_case (inr found) = found
 
 -- where a command was read that was seen journalled, it still is
-pub read_leaves : (n : ℕ) (v r : View Symbols) (s gateway : ℕ) (command : Command) → Took n v r s gateway command
-    → s < last_from journalled 0 (person v).loads → (person r).own < last_from journalled 0 (person r).loads
+pub read_leaves : (n : ℕ) (v r : At Symbols) (s gateway : ℕ) (command : Command) → Took n v r s gateway command
+    → s < last_from journalled 0 v.who.loads → r.who.own < last_from journalled 0 r.who.loads
 read_leaves n v r s gateway command took above =
     let place = took.place in
-    let own : (person r).own ≡ (person v).own = ap (λ (z : View Symbols). (person z).own) took.view in
-    let last : last_from journalled 0 (person r).loads ≡ last_from journalled 0 (person v).loads =
-    ap (λ (z : View Symbols). last_from journalled 0 (person z).loads) took.view
-    ∙ commands_leave n (person v).own 0 0 (command_words took.entry.gateway (reads took.entry.bytes)) (person v).loads in
+    let own : r.who.own ≡ v.who.own = ap (λ (z : At Symbols). z.who.own) took.view in
+    let last : last_from journalled 0 r.who.loads ≡ last_from journalled 0 v.who.loads =
+    ap (λ (z : At Symbols). last_from journalled 0 z.who.loads) took.view
+    ∙ commands_leave n v.who.own 0 0 (command_words took.entry.gateway (reads took.entry.bytes)) v.who.loads in
     omega (arith, above, place, own, last)
 
 -- OUTPUTS ONE BEHIND THE OTHER
@@ -107,36 +108,36 @@ read_stands [] i a is below = absurd (omega (arith, below))
 read_stands (x ∷ xs) zero a is below = ap some (sym is)
 read_stands (x ∷ xs) (suc i) a is below = read_stands xs i a is (omega (arith, below))
 
-module _ (v u : View Symbols) (k : ℕ) (is : u ≡ alone v (ahead (person v) k)) where
-  person_is : person u ≡ record (person v) { part = (ahead (person v) k).part }
-  person_is = ap person is ∙ (ahead_is (person v) k).0
+module _ (v u : At Symbols) (k : ℕ) (is : u ≡ seated v (ahead v.who k)) where
+  person_is : u.who ≡ record v.who { part = (ahead v.who k).part }
+  person_is = ap (λ (s : At _). s.who) is ∙ (ahead_is v.who k).0
 
-  place_is : (person u).part.sequence ≡ (person v).part.sequence + k
-  place_is = ap (λ (z : View Symbols). (person z).part.sequence) is ∙ ahead_place (person v) k
+  place_is : u.who.part.sequence ≡ v.who.part.sequence + k
+  place_is = ap (λ (z : At Symbols). z.who.part.sequence) is ∙ ahead_place v.who k
 
   -- there is room for one more
-  pub room_behind : (g m : ℕ) → HasOutputRoom g m (person v) ((person v).part.sequence + k) → HasOutputRoom g m (person u) (person u).part.sequence
-  room_behind g m room = subst (λ (q : Person). HasOutputRoom g m q (person u).part.sequence) (sym person_is)
-      (subst (HasOutputRoom g m (person v)) (sym place_is) room)
+  pub room_behind : (g m : ℕ) → HasOutputRoom g m v.who (v.who.part.sequence + k) → HasOutputRoom g m u.who u.who.part.sequence
+  room_behind g m room = subst (λ (q : Person). HasOutputRoom g m q u.who.part.sequence) (sym person_is)
+      (subst (HasOutputRoom g m v.who) (sym place_is) room)
 
   -- its entry was seen journalled
-  pub synced_behind : Shows journalled (person v) (person v).own → Shows journalled (person u) (person u).own
+  pub synced_behind : Shows journalled v.who v.who.own → Shows journalled u.who u.who.own
   synced_behind shown = subst (λ (q : Person). Shows journalled q q.own) (sym person_is) shown
 
   -- and it is the next output
   pub next_behind : (symbols : Symbols) (o : Output)
-      → get_elem? (outputs_of symbols (take (suc (person v).own) (person v).seen)) ((person v).part.sequence + k) ≡ some o
-      → get_elem? (outputs_of symbols (take (suc (person u).own) (person u).seen)) (person u).part.sequence ≡ some o
-  next_behind symbols o at = subst (λ (q : Person). get_elem? (outputs_of symbols (take (suc q.own) q.seen)) (person u).part.sequence ≡ some o) (sym person_is)
-      (subst (λ (s : ℕ). get_elem? (outputs_of symbols (take (suc (person v).own) (person v).seen)) s ≡ some o) (sym place_is) at)
-
-  -- of the same rings
-  pub logic_behind : (symbols : Symbols) → v.logic ≡ Some symbols → u.logic ≡ Some symbols
-  logic_behind symbols by = ap (λ (z : View Symbols). z.logic) is ∙ by
+      → get_elem? (outputs_of symbols (take (suc v.who.own) v.who.seen)) (v.who.part.sequence + k) ≡ some o
+      → get_elem? (outputs_of symbols (take (suc u.who.own) u.who.seen)) u.who.part.sequence ≡ some o
+  next_behind symbols o at = subst (λ (q : Person). get_elem? (outputs_of symbols (take (suc q.own) q.seen)) u.who.part.sequence ≡ some o) (sym person_is)
+      (subst (λ (s : ℕ). get_elem? (outputs_of symbols (take (suc v.who.own) v.who.seen)) s ≡ some o) (sym place_is) at)
 
   -- it was put
-  pub one_ahead : (w : View Symbols) → w ≡ alone u (at_place (person u) (suc (person u).part.sequence)) → w ≡ alone v (ahead (person v) (suc k))
-  one_ahead w put = put ∙ ap (λ (z : View Symbols). alone z (at_place (person z) (suc (person z).part.sequence))) is
+  pub one_ahead : (w : At Symbols) → w ≡ seated u (at_place u.who (suc u.who.part.sequence)) → w ≡ seated v (ahead v.who (suc k))
+  one_ahead w put = put ∙ ap (λ (z : At Symbols). seated z (at_place z.who (suc z.who.part.sequence))) is
+
+-- the logic of a seat's rings is the one that it is known to have
+pub same_logic : (rings : Opened Symbols) (v : At Symbols) (symbols : Symbols) → IsAt rings v → v.logic ≡ Some symbols → symbols ≡ rings.logic
+same_logic rings v symbols of_rings by = some_is symbols rings.logic (sym by ∙ ap (λ (s : At Symbols). s.logic) of_rings)
 
 -- ONE LOOK FOR ROOM
 
@@ -151,85 +152,85 @@ at_front (suc n) [] i a at = at
 at_front (suc n) (x ∷ xs) zero a at = at
 at_front (suc n) (x ∷ xs) (suc i) a at = at_front n xs i a at
 
-module _ (g m : ℕ) (v u : View Symbols) (room : ℕ) (looked : HasLooked g m (person v) room (person u)) (u_is : u ≡ alone v (person u)) where
-  looked_place : (person u).part.sequence ≡ (person v).part.sequence
+module _ (g m : ℕ) (v u : At Symbols) (room : ℕ) (looked : HasLooked g m v.who room u.who) (u_is : u ≡ seated v u.who) where
+  looked_place : u.who.part.sequence ≡ v.who.part.sequence
   looked_place = ap (λ (q : Person). q.part.sequence) looked.loads
 
   -- so many outputs have room
-  pub room_for_all : ((i : ℕ) → i < room → HasOutputRoom g m (person u) ((person v).part.sequence + i)) → (k : ℕ) → k ≤ room
-      → (i : ℕ) → i < k → HasOutputRoom g m (person u) ((person u).part.sequence + i)
-  room_for_all free k most i below = subst (λ (s : ℕ). HasOutputRoom g m (person u) (s + i)) (sym looked_place) (free i (omega (arith, below, most)))
+  pub room_for_all : ((i : ℕ) → i < room → HasOutputRoom g m u.who (v.who.part.sequence + i)) → (k : ℕ) → k ≤ room
+      → (i : ℕ) → i < k → HasOutputRoom g m u.who (u.who.part.sequence + i)
+  room_for_all free k most i below = subst (λ (s : ℕ). HasOutputRoom g m u.who (s + i)) (sym looked_place) (free i (omega (arith, below, most)))
 
   -- the value of journalled that was loaded last is as before
-  last_same : last_from journalled 0 (person u).loads ≡ last_from journalled 0 (person v).loads
-  last_same = ap (λ (q : Person). last_from journalled 0 q.loads) looked.loads ∙ looks_leave 1 0 looked.values (person v).loads
+  last_same : last_from journalled 0 u.who.loads ≡ last_from journalled 0 v.who.loads
+  last_same = ap (λ (q : Person). last_from journalled 0 q.loads) looked.loads ∙ looks_leave 1 0 looked.values v.who.loads
 
-  own_same : (person u).own ≡ (person v).own
+  own_same : u.who.own ≡ v.who.own
   own_same = ap (λ (q : Person). q.own) looked.loads
 
-  pub still_synced : (person v).own < last_from journalled 0 (person v).loads → Shows journalled (person u) (person u).own
+  pub still_synced : v.who.own < last_from journalled 0 v.who.loads → Shows journalled u.who u.who.own
   still_synced above = let last = last_same in let own = own_same in
-      last_shows journalled (person u).own (person u) (omega (arith, above, last, own))
+      last_shows journalled u.who.own u.who (omega (arith, above, last, own))
 
-  module _ (book : Book) (applied : ℕ) (left : List Output) (follows : Follows v book applied left) (one : applied ≡ suc (person v).own) where
+  module _ (book : Book) (applied : ℕ) (left : List Output) (follows : Follows v book applied left) (one : applied ≡ suc v.who.own) where
     -- what is left are the next outputs
     pub are_next : (most : ℕ) (i : ℕ) (o : Output) → get_elem? (take most left) i ≡ some o
-        → get_elem? (outputs_of book.symbols (take (suc (person u).own) (person u).seen)) ((person u).part.sequence + i) ≡ some o
+        → get_elem? (outputs_of book.symbols (take (suc u.who.own) u.who.seen)) (u.who.part.sequence + i) ≡ some o
     are_next most i o at =
         subst (λ (q : Person). get_elem? (outputs_of book.symbols (take (suc q.own) q.seen)) (q.part.sequence + i) ≡ some o) (sym looked.loads)
-        (subst (λ (k : ℕ). get_elem? (outputs_of book.symbols (take k (person v).seen)) ((person v).part.sequence + i) ≡ some o) one
-        (sym (at_drop (person v).part.sequence (outputs_of book.symbols (take applied (person v).seen)) i)
+        (subst (λ (k : ℕ). get_elem? (outputs_of book.symbols (take k v.who.seen)) (v.who.part.sequence + i) ≡ some o) one
+        (sym (at_drop v.who.part.sequence (outputs_of book.symbols (take applied v.who.seen)) i)
         ∙ ap (λ (l : List Output). get_elem? l i) follows.rest ∙ at_front most left i o at))
 
     pub has_logic : u.logic ≡ Some book.symbols
-    has_logic = ap (λ (z : View Symbols). z.logic) u_is ∙ follows.logic
+    has_logic = ap (λ (z : At Symbols). z.logic) u_is ∙ follows.logic
 
-    module _ (most : ℕ) (within : most ≤ length left) (w : View Symbols) (w_is : w ≡ alone u (ahead (person u) most)) where
-      pub all_view : w ≡ alone v (ahead (person u) most)
-      all_view = w_is ∙ ap (λ (z : View Symbols). alone z (ahead (person u) most)) u_is
+    module _ (most : ℕ) (within : most ≤ length left) (w : At Symbols) (w_is : w ≡ seated u (ahead u.who most)) where
+      pub all_view : w ≡ seated v (ahead u.who most)
+      all_view = w_is ∙ ap (λ (z : At Symbols). seated z (ahead u.who most)) u_is
 
-      put_is : person w ≡ record (person v) { loads = (person w).loads; part = (person w).part }
-      put_is = let is = ap person w_is ∙ (ahead_is (person u) most).0 in
-          is ∙ ap (λ (q : Person). record q { part = (ahead (person u) most).part }) looked.loads
-          ∙ (λ i. record (person v) { loads = (sym (ap (λ (q : Person). q.loads) (is ∙ ap (λ (q : Person). record q { part = (ahead (person u) most).part }) looked.loads))) i; part = (sym (ap (λ (q : Person). q.part) is)) i })
+      put_is : w.who ≡ record v.who { loads = w.who.loads; part = w.who.part }
+      put_is = let is = ap (λ (s : At _). s.who) w_is ∙ (ahead_is u.who most).0 in
+          is ∙ ap (λ (q : Person). record q { part = (ahead u.who most).part }) looked.loads
+          ∙ (λ i. record v.who { loads = (sym (ap (λ (q : Person). q.loads) (is ∙ ap (λ (q : Person). record q { part = (ahead u.who most).part }) looked.loads))) i; part = (sym (ap (λ (q : Person). q.part) is)) i })
 
-      place_after : (person w).part.sequence ≡ (person v).part.sequence + most
-      place_after = ap (λ (z : View Symbols). (person z).part.sequence) w_is ∙ ahead_place (person u) most ∙ ap (λ (s : ℕ). s + most) looked_place
+      place_after : w.who.part.sequence ≡ v.who.part.sequence + most
+      place_after = ap (λ (z : At Symbols). z.who.part.sequence) w_is ∙ ahead_place u.who most ∙ ap (λ (s : ℕ). s + most) looked_place
 
-      own_after : (person w).own ≡ (person v).own
+      own_after : w.who.own ≡ v.who.own
       own_after = ap (λ (q : Person). q.own) put_is
 
-      seen_after : (person w).seen ≡ (person v).seen
+      seen_after : w.who.seen ≡ v.who.seen
       seen_after = ap (λ (q : Person). q.seen) put_is
 
-      last_after : last_from journalled 0 (person w).loads ≡ last_from journalled 0 (person v).loads
-      last_after = ap (λ (z : View Symbols). last_from journalled 0 (person z).loads) w_is
-          ∙ ap (last_from journalled 0) (ahead_loads (person u) most) ∙ last_same
+      last_after : last_from journalled 0 w.who.loads ≡ last_from journalled 0 v.who.loads
+      last_after = ap (λ (z : At Symbols). last_from journalled 0 z.who.loads) w_is
+          ∙ ap (last_from journalled 0) (ahead_loads u.who most) ∙ last_same
 
-      outs_after : outputs_of book.symbols (take applied (person w).seen) ≡ outputs_of book.symbols (take applied (person v).seen)
+      outs_after : outputs_of book.symbols (take applied w.who.seen) ≡ outputs_of book.symbols (take applied v.who.seen)
       outs_after = ap (λ h. outputs_of book.symbols (take applied h)) seen_after
 
       -- the book follows, and the others are left
       pub follows_after : Follows w book applied (drop most left)
       follows_after = record {
-        logic = ap (λ (z : View Symbols). z.logic) w_is ∙ has_logic;
+        logic = ap (λ (z : At Symbols). z.logic) w_is ∙ has_logic;
         state = follows.state ∙ ap (λ h. state_of book.symbols (take applied h)) (sym seen_after);
-        rest = ap (λ (k : ℕ). drop k (outputs_of book.symbols (take applied (person w).seen))) place_after
-            ∙ ap (drop ((person v).part.sequence + most)) outs_after
-            ∙ sym (drop-drop most (person v).part.sequence (outputs_of book.symbols (take applied (person v).seen)))
+        rest = ap (λ (k : ℕ). drop k (outputs_of book.symbols (take applied w.who.seen))) place_after
+            ∙ ap (drop (v.who.part.sequence + most)) outs_after
+            ∙ sym (drop-drop most v.who.part.sequence (outputs_of book.symbols (take applied v.who.seen)))
             ∙ ap (drop most) follows.rest;
         published = let all = follows.published in let long = length-drop most left in let place = place_after in let outs = ap length outs_after in
             omega (arith, all, long, place, outs, within);
       }
 
       -- what the processor knows is as before
-      pub same_after : ((person w).own ≡ (person v).own) × (length (person w).seen ≡ length (person v).seen)
-          × (last_from journalled 0 (person w).loads ≡ last_from journalled 0 (person v).loads)
+      pub same_after : (w.who.own ≡ v.who.own) × (length w.who.seen ≡ length v.who.seen)
+          × (last_from journalled 0 w.who.loads ≡ last_from journalled 0 v.who.loads)
       same_after = (own_after, ap length seen_after, last_after)
 
       -- and as many were put as there was room for
-      pub were_put : 0 < length left → most ≡ min room (length left) → Puts m g (person v) left (person w)
-      were_put some_left is = inr (some_left, (room, (person u, looked, ap person w_is ∙ ap (ahead (person u)) is)))
+      pub were_put : 0 < length left → most ≡ min room (length left) → Puts m g v.who left w.who
+      were_put some_left is = inr (some_left, (room, (u.who, looked, ap (λ (s : At _). s.who) w_is ∙ ap (ahead u.who) is)))
 
 -- the outputs that are lent to be put
 pub lent : (put most : ℕ) (items now : List Output) → now ≡ items → take (put + most - put) (drop put now) ≡ take most (drop put items)
@@ -239,26 +240,26 @@ pub all_lent : (put most : ℕ) (items now : List Output) → now ≡ items → 
 all_lent put most items now is within = ap length (lent put most items now is) ∙ length-take-le most (drop put items) within
 
 -- what the processor is when so many were put of those left
-pub record AreGone (m g : ℕ) (p : Processor) (w : View Symbols) (most : ℕ) : Type 0 where
+pub record AreGone (m g : ℕ) (p : Processor) (w : At Symbols) (most : ℕ) : Type 0 where
   pub follows : Follows w p.book p.applied (drop (p.put + most) p.pending.items)
-  pub own : (person w).own ≡ (person p.seat.seat.me.0).own
-  pub seen : length (person w).seen ≡ length (person p.seat.seat.me.0).seen
-  pub last : last_from journalled 0 (person w).loads ≡ last_from journalled 0 (person p.seat.seat.me.0).loads
-  pub puts : Puts m g (person p.seat.seat.me.0) (drop p.put p.pending.items) (person w)
+  pub own : w.who.own ≡ p.seat.who.own
+  pub seen : length w.who.seen ≡ length p.seat.who.seen
+  pub last : last_from journalled 0 w.who.loads ≡ last_from journalled 0 p.seat.who.loads
+  pub puts : Puts m g p.seat.who (drop p.put p.pending.items) w.who
 
-pub of_processor : (p : Processor) → Follows p.seat.seat.me.0 p.book p.applied (drop p.put p.pending.items)
+pub of_processor : (p : Processor) → Follows p.seat p.book p.applied (drop p.put p.pending.items)
 of_processor p = record { logic = p.logic; state = p.state; rest = p.left; published = p.published }
 
-pub are_gone : (m g : ℕ) (p : Processor) (u w : View Symbols) (room most : ℕ) (now : List Output) → (person p.seat.seat.me.0).own < p.applied
-    → HasLooked g m (person p.seat.seat.me.0) room (person u) → u ≡ alone p.seat.seat.me.0 (person u) → now ≡ p.pending.items
+pub are_gone : (m g : ℕ) (p : Processor) (u w : At Symbols) (room most : ℕ) (now : List Output) → p.seat.who.own < p.applied
+    → HasLooked g m p.seat.who room u.who → u ≡ seated p.seat u.who → now ≡ p.pending.items
     → 0 < length (drop p.put p.pending.items) → most ≡ min room (length (drop p.put p.pending.items))
-    → w ≡ alone u (ahead (person u) (length (take (p.put + most - p.put) (drop p.put now)))) → AreGone m g p w most
+    → w ≡ seated u (ahead u.who (length (take (p.put + most - p.put) (drop p.put now)))) → AreGone m g p w most
 are_gone m g p u w room most now under_way looked u_is is some_there least put =
-    let v = p.seat.seat.me.0 in let left = drop p.put p.pending.items in let counts = p.counts in
-    let one : p.applied ≡ suc (person v).own = omega (arith, counts, under_way) in
+    let v = p.seat in let left = drop p.put p.pending.items in let counts = p.counts in
+    let one : p.applied ≡ suc v.who.own = omega (arith, counts, under_way) in
     let within : most ≤ length left = omega (arith, least) in
-    let w_is : w ≡ alone u (ahead (person u) most) =
-    put ∙ ap (λ (k : ℕ). alone u (ahead (person u) k)) (all_lent p.put most p.pending.items now is within) in
+    let w_is : w ≡ seated u (ahead u.who most) =
+    put ∙ ap (λ (k : ℕ). seated u (ahead u.who k)) (all_lent p.put most p.pending.items now is within) in
     let kept = same_after g m v u room looked u_is p.book p.applied left (of_processor p) one most within w w_is in
     record {
       follows = subst (Follows w p.book p.applied) (drop-drop most p.put p.pending.items)
@@ -294,44 +295,44 @@ took_own n applied v u (inr on) = ap (λ (p : Person). p.own) on.1
 
 -- a command is under way: it was taken up, or had been
 pub record UnderWay (n : ℕ) (p b : Processor) : Type 0 where
-  pub taken : TakesUp n p.applied (person p.seat.seat.me.0) (person b.seat.seat.me.0)
+  pub taken : TakesUp n p.applied p.seat.who b.seat.who
   pub same : b.book.symbols ≡ p.book.symbols
-  pub one : b.applied ≡ suc (person b.seat.seat.me.0).own
+  pub one : b.applied ≡ suc b.seat.who.own
 
-pub took_one : (n next : ℕ) (p b : Processor) (u : Person) → p.applied ≡ next → next ≡ (person p.seat.seat.me.0).own → Gated (person p.seat.seat.me.0) u
-    → (e : Message) × (get_elem? u.seen u.own ≡ some e) × (person b.seat.seat.me.0 ≡ after_reading n u e)
+pub took_one : (n next : ℕ) (p b : Processor) (u : Person) → p.applied ≡ next → next ≡ p.seat.who.own → Gated p.seat.who u
+    → (e : Message) × (get_elem? u.seen u.own ≡ some e) × (b.seat.who ≡ after_reading n u e)
     → (b.applied ≡ suc next) × (b.book.symbols ≡ p.book.symbols) → UnderWay n p b
 took_one n next p b u all own gated read applied =
-    let taken : TakesUp n p.applied (person p.seat.seat.me.0) (person b.seat.seat.me.0) = inl (all ∙ own, (u, gated, read)) in
+    let taken : TakesUp n p.applied p.seat.who b.seat.who = inl (all ∙ own, (u, gated, read)) in
     record { taken = taken; same = applied.1; one = applied.0 ∙ ap suc (own ∙ sym (took_own n p.applied _ _ taken)) }
 
-pub goes_on : (n : ℕ) (p : Processor) → (person p.seat.seat.me.0).own < p.applied → UnderWay n p p
+pub goes_on : (n : ℕ) (p : Processor) → p.seat.who.own < p.applied → UnderWay n p p
 goes_on n p under_way = let counts = p.counts in record { taken = inr (under_way, refl); same = refl; one = omega (arith, counts, under_way) }
 
 -- then its outputs that aren't published are those left in the list
-pub are_left : (n : ℕ) (p b : Processor) → UnderWay n p b → to_put p.book.symbols (person b.seat.seat.me.0) ≡ drop b.put b.pending.items
-are_left n p b begun = ap (λ (s : Symbols). to_put s (person b.seat.seat.me.0)) (sym begun.same)
-    ∙ left_to_put b.seat.seat.me.0 b.book b.applied _ (of_processor b) begun.one
+pub are_left : (n : ℕ) (p b : Processor) → UnderWay n p b → to_put p.book.symbols b.seat.who ≡ drop b.put b.pending.items
+are_left n p b begun = ap (λ (s : Symbols). to_put s b.seat.who) (sym begun.same)
+    ∙ left_to_put b.seat b.book b.applied _ (of_processor b) begun.one
 
 -- and they were put
-pub put_on : (n m g : ℕ) (p b q : Processor) → UnderWay n p b → Puts m g (person b.seat.seat.me.0) (drop b.put b.pending.items) (person q.seat.seat.me.0)
-    → Puts m g (person b.seat.seat.me.0) (to_put p.book.symbols (person b.seat.seat.me.0)) (person q.seat.seat.me.0)
-put_on n m g p b q begun puts = subst (λ (l : List Output). Puts m g (person b.seat.seat.me.0) l (person q.seat.seat.me.0)) (sym (are_left n p b begun)) puts
+pub put_on : (n m g : ℕ) (p b q : Processor) → UnderWay n p b → Puts m g b.seat.who (drop b.put b.pending.items) q.seat.who
+    → Puts m g b.seat.who (to_put p.book.symbols b.seat.who) q.seat.who
+put_on n m g p b q begun puts = subst (λ (l : List Output). Puts m g b.seat.who l q.seat.who) (sym (are_left n p b begun)) puts
 
 module _ (n : ℕ) (p b q : Processor) (begun : UnderWay n p b) (kept : (q.applied ≡ b.applied) × (q.book ≡ b.book))
-    (own : (person q.seat.seat.me.0).own ≡ (person b.seat.seat.me.0).own) where
-  pub still_one : q.applied ≡ suc (person q.seat.seat.me.0).own
+    (own : q.seat.who.own ≡ b.seat.who.own) where
+  pub still_one : q.applied ≡ suc q.seat.who.own
   still_one = kept.0 ∙ begun.one ∙ ap suc (sym own)
 
-  still_left : to_put p.book.symbols (person q.seat.seat.me.0) ≡ drop q.put q.pending.items
-  still_left = ap (λ (s : Symbols). to_put s (person q.seat.seat.me.0)) (sym (ap (λ (b : Book). b.symbols) kept.1 ∙ begun.same))
-      ∙ left_to_put q.seat.seat.me.0 q.book q.applied _ (of_processor q) still_one
+  still_left : to_put p.book.symbols q.seat.who ≡ drop q.put q.pending.items
+  still_left = ap (λ (s : Symbols). to_put s q.seat.who) (sym (ap (λ (b : Book). b.symbols) kept.1 ∙ begun.same))
+      ∙ left_to_put q.seat q.book q.applied _ (of_processor q) still_one
 
   -- where all are put, none is to be put; and the other way round
-  pub none_to_put : q.put ≡ vec_len q.pending → to_put p.book.symbols (person q.seat.seat.me.0) ≡ []
+  pub none_to_put : q.put ≡ vec_len q.pending → to_put p.book.symbols q.seat.who ≡ []
   none_to_put all = let long = q.pending.ok.0 in still_left ∙ drop_all q.put q.pending.items (omega (arith, long, all))
 
-  pub all_were_put : to_put p.book.symbols (person q.seat.seat.me.0) ≡ [] → q.put ≡ vec_len q.pending
+  pub all_were_put : to_put p.book.symbols q.seat.who ≡ [] → q.put ≡ vec_len q.pending
   all_were_put none =
       let long = q.pending.ok.0 in let within = q.within in let rest = length-drop q.put q.pending.items in
       let nil : length (drop q.put q.pending.items) ≡ 0 = ap length (sym still_left ∙ none) in omega (arith, long, within, rest, nil)

@@ -1,8 +1,8 @@
 use Rattle.std.proofs.Common.{◌≡◌}
-use Rattle.ring_words.specs.Seats.{person, alone}
+use Rattle.ring_words.specs.At.{IsAt, seated}
 use Rattle.stages.specs.Processes.{ahead}
 use Rattle.stages.proofs.processor.put_all.Given as goal
 
 abbrev pub invariant-loop-output : goal.invariant-loop-output
-invariant-loop-output g l = (l.seat.seat.table_id ≡ l.fn.seat.seat.table_id)
-    × (l.seat.seat.me.0 ≡ alone l.fn.seat.seat.me.0 (ahead (person l.fn.seat.seat.me.0) l.output-index))
+invariant-loop-output g l = (IsAt l.rings l.seat)
+    × (l.seat ≡ seated l.fn.seat (ahead l.fn.seat.who l.output-index))

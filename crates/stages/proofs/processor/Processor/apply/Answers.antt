@@ -1,6 +1,6 @@
 -- The command that was read is that of the next entry: the book follows when it is done, and its outputs are left.
 use Rattle.std.proofs.Common.{◌≡◌, ℕ, ◌+◌, length, take, ap, subst, ◌∙◌, arith, add-one}
-use Rattle.ring_words.specs.Seats.{person}
+use Rattle.ring_words.specs.At.{At}
 use Rattle.book.specs.Standing.{Below}
 use Rattle.stages.proofs.Polls.{has_person}
 use Rattle.stages.proofs.Processing.{behind, has_room, took, may_apply, all_new, at_rest, follows_on}
@@ -9,36 +9,36 @@ use Rattle.stages.proofs.processor.Processor.apply.Goals as goal
 
 pub apply-requires-clause-behind : goal.apply-requires-clause-behind
 apply-requires-clause-behind g c = let p = c.args.self.now in
-    subst (λ (k : ℕ). Below k p.book.state.orders) c.requires.all (behind p.book.symbols p.applied (person p.seat.seat.me.0).seen p.book.state p.state)
+    subst (λ (k : ℕ). Below k p.book.state.orders) c.requires.all (behind p.book.symbols p.applied p.seat.who.seen p.book.state p.state)
 
 pub apply-requires-clause-from : goal.apply-requires-clause-from
 apply-requires-clause-from g c = let p = c.args.self.now in
-    (may_apply p.seat.seat.me.0 _ _ _ _ p.logic c.requires.known c.read_command-gateway.ensures.command).0
+    (may_apply p.seat _ _ _ c.requires.known c.read_command-gateway.ensures.command).0
 
 pub apply-requires-clause-to : goal.apply-requires-clause-to
 apply-requires-clause-to g c = let p = c.args.self.now in
-    (may_apply p.seat.seat.me.0 _ _ _ _ p.logic c.requires.known c.read_command-gateway.ensures.command).1
+    (may_apply p.seat _ _ _ c.requires.known c.read_command-gateway.ensures.command).1
 
 pub apply-requires-clause-command : goal.apply-requires-clause-command
 apply-requires-clause-command g c = let p = c.args.self.now in
-    (may_apply p.seat.seat.me.0 _ _ _ _ p.logic c.requires.known c.read_command-gateway.ensures.command).2
+    (may_apply p.seat _ _ _ c.requires.known c.read_command-gateway.ensures.command).2
 
 pub unreachable-requires : goal.unreachable-requires
 unreachable-requires g c = let p = c.args.self.now in
-    let enough = has_room p.book.symbols (take p.applied (person p.seat.seat.me.0).seen) p.book.state p.state in
+    let enough = has_room p.book.symbols (take p.applied p.seat.who.seen) p.book.state p.state in
     let full = c.in-Err.ensures.full in let none = c.clear.ensures.len in let same = c.clear.ensures.capacity in let room = p.room in
     omega (arith, enough, full, none, same, room)
 
 pub invariant_of-self : goal.invariant_of-self
 invariant_of-self g c = let p = c.args.self.now in let read = c.read_command-gateway.ensures in
-    let took = took p.seat.seat.me.0 _ _ _ _ p.logic c.requires.known read.command g.row.N _ c.requires.next read.view in
-    let follows = at_rest p.seat.seat.me.0 p.book p.applied c.args.next _ (record { logic = p.logic; state = p.state; rest = p.left; published = p.published })
+    let took = took p.seat _ _ _ c.requires.known read.command g.row.N _ c.requires.next read.step in
+    let follows = at_rest p.seat p.book p.applied c.args.next _ (record { logic = p.logic; state = p.state; rest = p.left; published = p.published })
     c.requires.all (p.whole (c.requires.all ∙ c.requires.next)) in
     let told = all_new _ _ _ c.in-Ok.ensures.told c.clear.ensures.items in
     let on = follows_on g.row.N _ _ _ _ _ took p.book follows c.apply.new.self c.apply.new.out.items (c.args.next + 1) (add-one c.args.next) c.in-Ok.ensures.state told in
     let place = took.place in let known = took.known in
-    let own : (person c.read_command-gateway.new.seat.seat.me.0).own ≡ (person p.seat.seat.me.0).own = ap (λ z. (person z).own) took.view in
-    let seen : length (person c.read_command-gateway.new.seat.seat.me.0).seen ≡ length (person p.seat.seat.me.0).seen = ap (λ z. length (person z).seen) took.view in
+    let own : c.read_command-gateway.new.seat.who.own ≡ p.seat.who.own = ap (λ z. z.who.own) took.view in
+    let seen : length c.read_command-gateway.new.seat.who.seen ≡ length p.seat.who.seen = ap (λ z. length z.who.seen) took.view in
     let kept = c.apply.ensures.room in let same = c.clear.ensures.capacity in let room = p.room in
     record {
       logic = on.logic;
@@ -52,12 +52,12 @@ invariant_of-self g c = let p = c.args.self.now in let read = c.read_command-gat
       room = omega (arith, kept, same, room);
     }
 
-pub returns-clause-view : goal.returns-clause-view
-returns-clause-view g c = let p = c.args.self.now in let read = c.read_command-gateway.ensures in
-    let took = took p.seat.seat.me.0 _ _ _ _ p.logic c.requires.known read.command g.row.N _ c.requires.next read.view in
-    has_person p.seat.seat.me.0 _ _ took.view
+pub returns-clause-step : goal.returns-clause-step
+returns-clause-step g c = let p = c.args.self.now in let read = c.read_command-gateway.ensures in
+    let took = took p.seat _ _ _ c.requires.known read.command g.row.N _ c.requires.next read.step in
+    has_person p.seat _ _ took.view
 
 pub returns-clause-read : goal.returns-clause-read
 returns-clause-read g c = let p = c.args.self.now in let read = c.read_command-gateway.ensures in
-    let took = took p.seat.seat.me.0 _ _ _ _ p.logic c.requires.known read.command g.row.N _ c.requires.next read.view in
-    (took.entry, took.at, ap person took.view)
+    let took = took p.seat _ _ _ c.requires.known read.command g.row.N _ c.requires.next read.step in
+    (took.entry, took.at, ap (λ (s : At _). s.who) took.view)
