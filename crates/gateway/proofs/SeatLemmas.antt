@@ -7,104 +7,124 @@ use Rattle.venue_model.specs.History.{Message}
 use Rattle.venue_model.specs.Requests.{Symbols}
 use Rattle.venue_model.specs.declared.outputs.Output.{Output}
 use Rattle.book.specs.Histories.{outputs_of}
-use Rattle.ring_words.specs.declared.seats.GatewaySeat.{GatewaySeat}
+use Rattle.ring_words.specs.At.{Opened, At, IsAt, Steps, seated, number}
 use Rattle.ring_words.specs.declared.view.Load.{Load}
 use Rattle.ring_words.specs.declared.view.Person.{Person}
-use Rattle.ring_words.specs.declared.view.View.{View}
-use Rattle.ring_words.specs.Places.{marshalled}
-use Rattle.ring_words.specs.Seats.{person, alone, looked, load_of}
-use Rattle.sequencer.specs.Outputs.{TakesNext, Says}
+use Rattle.ring_words.specs.Places.{marshalled, number_of}
+use Rattle.ring_words.specs.Seats.{looked, load_of}
+use Rattle.sequencer.specs.Outputs.{TakesNext, Says, SaysOutput}
 use Rattle.sequencer.specs.declared.take.Take.{Take}
 use Rattle.sequencer.specs.declared.take.Take.TheVariants.{Mine, Passed, Nothing}
 use Rattle.gateway.specs.Ledgers.{loading, TakeTells}
-use Rattle.gateway.specs.Seats.{symbols_of, given, KnowsOutputs, messages_of, taken_by, ledger_at, TakesOne, Looks, Uses}
+use Rattle.gateway.specs.Seats.{symbols_of, given, HasSeen, messages_of, taken_by, ledger_of, TakesOne, Looks, StaysSeated, Uses}
 use Rattle.gateway.proofs.Carried.{carried}
 use Rattle.gateway.proofs.OutputSymbols.{tells_spelled}
 use Rattle.gateway.proofs.TakenLemmas.{taken_mine, taken_other, still_within, still_small}
 
 -- a holder who has seen and taken as much, and has no claim left, knows as much
-knows_still : (v : View Symbols) (q : Person) → q.own ≡ (person v).own → q.seen ≡ (person v).seen → q.claims ≡ [] → KnowsOutputs v → KnowsOutputs (alone v q)
-knows_still v q own seen spent knows = record {
+knows_still : (s : At Symbols) (q : Person) → q.own ≡ s.who.own → q.seen ≡ s.who.seen → q.claims ≡ [] → HasSeen s → HasSeen (seated s q)
+knows_still s q own seen spent knows = record {
   logic = knows.logic;
-  from = subst (λ (n : ℕ). given v ≤ n) (sym own) knows.from;
+  from = subst (λ (n : ℕ). given s ≤ n) (sym own) knows.from;
   few = subst (λ (n : ℕ). n ≤ 2 ^ 62) (sym own) knows.few;
-  to = subst (λ (n : ℕ). n ≤ length (outputs_of (symbols_of v) q.seen)) (sym own)
-      (subst (λ (h : List Message). (person v).own ≤ length (outputs_of (symbols_of v) h)) (sym seen) knows.to);
+  to = subst (λ (n : ℕ). n ≤ length (outputs_of (symbols_of s) q.seen)) (sym own)
+      (subst (λ (h : List Message). s.who.own ≤ length (outputs_of (symbols_of s) h)) (sym seen) knows.to);
   spent = spent;
 }
 
+-- the seat of these rings knows their logic
+logic_at : (rings : Opened Symbols) (s : At Symbols) → IsAt rings s → symbols_of s ≡ rings.logic
+logic_at rings s at = ap (λ (a : At Symbols). symbols_of a) at
+
+base_at : (rings : Opened Symbols) (s : At Symbols) → IsAt rings s → rings.base ≡ s.base
+base_at rings s at = sym (ap (λ (a : At Symbols). a.base) at)
+
 -- the clause of a call that took an output or passed it over
-abbrev pub Takes : View Symbols → Person → ℕ → Take → List ℕ → Type 0
-Takes v q k take body = (history : List Message) × TakesNext (length v.base) (person v) history q
-    × ((symbols : Symbols) → v.logic ≡ Some symbols → (o : Output) × (get_elem? (outputs_of symbols history) (person v).own ≡ some o)
-    × Says k o (text_bytes o (person v).own) take body)
+abbrev pub Takes : Opened Symbols → At Symbols → At Symbols → Take → List ℕ → Type 0
+Takes rings s t take body = (history : List Message) × TakesNext (length rings.base) s.who history t.who
+    × SaysOutput (outputs_of rings.logic history) text_bytes s take body
 
-module _ (k : ℕ) (v w : View Symbols) (knows : KnowsOutputs v) (view : w ≡ alone v (person w)) where
+module _ (rings : Opened Symbols) (s t : At Symbols) (at : IsAt rings s) (step : Steps s t.who t) where
   -- the output and its history
-  one : (take : Take) (body : List ℕ) → Takes v (person w) k take body
-      → (o : Output) × TakesOne v w o × Says k o (text_bytes o (person v).own) take body
-  one take body taken =
-      let output = taken.2 (symbols_of v) knows.logic in
-      (output.0, record { history = taken.0; takes = taken.1; next = output.1; others = view }, output.2)
+  one : (take : Take) (body : List ℕ) → Takes rings s t take body
+      → (o : Output) × TakesOne s t o × Says (number s) o (text_bytes o s.who.own) take body
+  one take body (history, takes, says) =
+      let said = subst (λ (l : Symbols). SaysOutput (outputs_of l history) text_bytes s take body) (sym (logic_at rings s at)) says in
+      (said.0, record {
+        history = history;
+        takes = subst (λ (h : List Message). TakesNext (length h) s.who history t.who) (base_at rings s at) takes;
+        next = said.1;
+        others = step;
+      }, said.2)
 
-  pub looks_so : (take : Take) (body : List ℕ) → (take ≡ Nothing → w ≡ alone v (looked (person v) marshalled (person v).own))
-      → (take ≢ Nothing → Takes v (person w) k take body) → Looks k v w body take
+  pub looks_so : (take : Take) (body : List ℕ) → (take ≡ Nothing → t.who ≡ looked s.who marshalled s.who.own)
+      → (take ≢ Nothing → Takes rings s t take body) → Looks s t body take
   looks_so (Mine head) body nothing taken =
       let o = one (Mine head) body (taken (λ is. cc)) in
-      (o.0, o.1, o.2.0, carried head body o.0 (person v).own (tells_spelled (symbols_of v) o.1.history (person v).own o.0 o.1.next) o.2.1)
+      (o.0, o.1, o.2.0, carried head body o.0 s.who.own (tells_spelled (symbols_of s) o.1.history s.who.own o.0 o.1.next) o.2.1)
   looks_so Passed body nothing taken = let o = one Passed body (taken (λ is. cc)) in (o.0, o.1, o.2)
-  looks_so Nothing body nothing taken = nothing refl
+  looks_so Nothing body nothing taken = step ∙ ap (seated s) (nothing refl)
 
-module _ (n k : ℕ) (v w : View Symbols) (knows : KnowsOutputs v) (o : Output) (t : TakesOne v w o) where
-  small : (person v).own + 1 ≤ 2 ^ 62
-  small = still_small k (symbols_of v) v.base t.history (person v) (person w) o (length v.base) t.takes t.next
+module _ (n : ℕ) (s t : At Symbols) (knows : HasSeen s) (o : Output) (one : TakesOne s t o) where
+  small : s.who.own + 1 ≤ 2 ^ 62
+  small = still_small (number s) (symbols_of s) s.base one.history s.who t.who o (length s.base) one.takes one.next
 
-  taken_keeps : KnowsOutputs w
+  taken_keeps : HasSeen t
   taken_keeps =
-      let own : (person w).own ≡ suc (person v).own = ap (λ (p : Person). p.own) t.takes.taken in
+      let own : t.who.own ≡ suc s.who.own = ap (λ (p : Person). p.own) one.takes.taken in
       let from = knows.from in
-      subst KnowsOutputs (sym t.others) (record {
+      subst HasSeen (sym one.others) (record {
         logic = knows.logic;
         from = omega (arith, from, own);
-        to = still_within k (symbols_of v) v.base t.history (person v) (person w) o (length v.base) t.takes t.next;
+        to = still_within (number s) (symbols_of s) s.base one.history s.who t.who o (length s.base) one.takes one.next;
         few = let most = small in omega (arith, most, own);
-        spent = ap (λ (p : Person). p.claims) t.takes.taken ∙ knows.spent;
+        spent = ap (λ (p : Person). p.claims) one.takes.taken ∙ knows.spent;
       })
 
   -- the ledger with one output more, of these texts
-  retold : (texts : List Said) → taken_by k (symbols_of v) v.base (person w) ≡ texts → (ls : List Load)
-      × (ledger_at n k w ≡ record (loading (ledger_at n k v) ls) { taken = texts; count = (person v).own + 1 })
+  retold : (texts : List Said) → taken_by (number s) (symbols_of s) s.base t.who ≡ texts → (ls : List Load)
+      × (ledger_of n t ≡ record (loading (ledger_of n s) ls) { taken = texts; count = s.who.own + 1 })
   retold texts told =
-      let sends : messages_of (person w).mine ≡ messages_of (person v).mine = ap (λ (p : Person). messages_of p.mine) t.takes.taken in
-      let own : (person w).own ≡ suc (person v).own = ap (λ (p : Person). p.own) t.takes.taken in
-      let count : (person w).own ≡ (person v).own + 1 = omega (arith, own) in
-      let ls : List Load = load_of marshalled t.takes.value ∷ t.takes.loads in
-      let loads : (person w).loads ≡ (person v).loads ++ ls = ap (λ (p : Person). p.loads) t.takes.taken in (
+      let sends : messages_of t.who.mine ≡ messages_of s.who.mine = ap (λ (p : Person). messages_of p.mine) one.takes.taken in
+      let own : t.who.own ≡ suc s.who.own = ap (λ (p : Person). p.own) one.takes.taken in
+      let count : t.who.own ≡ s.who.own + 1 = omega (arith, own) in
+      let ls : List Load = load_of marshalled one.takes.value ∷ one.takes.loads in
+      let loads : t.who.loads ≡ s.who.loads ++ ls = ap (λ (p : Person). p.loads) one.takes.taken in
+      let role : number_of t.who.role ≡ number s = ap (λ (p : Person). number_of p.role) one.takes.taken in
+      let now : taken_by (number_of t.who.role) (symbols_of s) s.base t.who ≡ texts = ap (λ (k : ℕ). taken_by k (symbols_of s) s.base t.who) role ∙ told in (
         ls,
-        ap (ledger_at n k) t.others ∙ (λ i. record { rows = n; published = sends i; taken = told i; count = count i; loads = loads i }),
+        ap (ledger_of n) one.others ∙ (λ i. record { rows = n; published = sends i; taken = now i; count = count i; loads = loads i }),
       )
 
-  taken_more : o.to ≡ k → taken_by k (symbols_of v) v.base (person w) ≡ taken_by k (symbols_of v) v.base (person v) ++ text o (person v).own ∷ []
-  taken_more is = taken_mine k (symbols_of v) v.base t.history (person v) (person w) o (length v.base) t.takes t.next knows.from knows.to is
+  taken_more : o.to ≡ number s → taken_by (number s) (symbols_of s) s.base t.who ≡ taken_by (number s) (symbols_of s) s.base s.who ++ text o s.who.own ∷ []
+  taken_more is = taken_mine (number s) (symbols_of s) s.base one.history s.who t.who o (length s.base) one.takes one.next knows.from knows.to is
 
-  taken_same : o.to ≢ k → taken_by k (symbols_of v) v.base (person w) ≡ taken_by k (symbols_of v) v.base (person v)
-  taken_same other = taken_other k (symbols_of v) v.base t.history (person v) (person w) o (length v.base) t.takes t.next knows.from knows.to other
+  taken_same : o.to ≢ number s → taken_by (number s) (symbols_of s) s.base t.who ≡ taken_by (number s) (symbols_of s) s.base s.who
+  taken_same other = taken_other (number s) (symbols_of s) s.base one.history s.who t.who o (length s.base) one.takes one.next knows.from knows.to other
 
-module _ (n k : ℕ) (v w : View Symbols) (knows : KnowsOutputs v) where
-  pub looks_keeps : (take : Take) (body : List ℕ) → Looks k v w body take → KnowsOutputs w
-  looks_keeps (Mine head) body (o, t, is, carries) = taken_keeps n k v w knows o t
-  looks_keeps Passed body (o, t, other) = taken_keeps n k v w knows o t
-  looks_keeps Nothing body is = subst KnowsOutputs (sym is) (knows_still v _ refl refl knows.spent knows)
+module _ (n : ℕ) (s t : At Symbols) (knows : HasSeen s) where
+  pub looks_keeps : (take : Take) (body : List ℕ) → Looks s t body take → HasSeen t
+  looks_keeps (Mine head) body (o, one, is, carries) = taken_keeps n s t knows o one
+  looks_keeps Passed body (o, one, other) = taken_keeps n s t knows o one
+  looks_keeps Nothing body is = subst HasSeen (sym is) (knows_still s _ refl refl knows.spent knows)
 
-  pub looks_tells : (take : Take) (body : List ℕ) → Looks k v w body take → TakeTells (ledger_at n k v) (ledger_at n k w) body take
-  looks_tells (Mine head) body (o, t, is, carries) =
-      let more = retold n k v w knows o t _ (taken_more n k v w knows o t is) in
-      (text o (person v).own, carries, small n k v w knows o t, more.0, more.1)
-  looks_tells Passed body (o, t, other) =
-      let more = retold n k v w knows o t _ (taken_same n k v w knows o t other) in
-      (small n k v w knows o t, more.0, more.1)
-  looks_tells Nothing body is = ap (ledger_at n k) is
+  pub looks_tells : (take : Take) (body : List ℕ) → Looks s t body take → TakeTells (ledger_of n s) (ledger_of n t) body take
+  looks_tells (Mine head) body (o, one, is, carries) =
+      let more = retold n s t knows o one _ (taken_more n s t knows o one is) in
+      (text o s.who.own, carries, small n s t knows o one, more.0, more.1)
+  looks_tells Passed body (o, one, other) =
+      let more = retold n s t knows o one _ (taken_same n s t knows o one other) in
+      (small n s t knows o one, more.0, more.1)
+  looks_tells Nothing body is = ap (ledger_of n) is
+
+-- a look leaves the seat at its rings, and its gateway's
+pub looks_stays : (s t : At Symbols) (take : Take) (body : List ℕ) → Looks s t body take → StaysSeated s t
+looks_stays s t (Mine head) body (o, one, is, carries) = record { rings = one.others; role = ap (λ (p : Person). p.role) one.takes.taken }
+looks_stays s t Passed body (o, one, other) = record { rings = one.others; role = ap (λ (p : Person). p.role) one.takes.taken }
+looks_stays s t Nothing body is =
+    let who : t.who ≡ looked s.who marshalled s.who.own = ap (λ (a : At Symbols). a.who) is in
+    record { rings = is ∙ ap (seated s) (sym who); role = ap (λ (p : Person). p.role) who }
 
 -- a seat that wasn't used
-pub unused : (n : ℕ) (s : GatewaySeat Symbols) → Uses n s s
-unused n s = record { stays = record { table = refl; number = refl }; between = s.seat.me.0; enters = inl refl; looks = inl refl }
+pub unused : (n : ℕ) (s : At Symbols) → Uses n s s
+unused n s = record { stays = record { rings = refl; role = refl }; between = s; enters = inl refl; looks = inl refl }

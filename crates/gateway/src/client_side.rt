@@ -57,7 +57,8 @@ enum Heard {
 }
 
 impl ClientSide {
-    ghost use Rattle.gateway.specs.Seats.{HasSeen, StaysSeated, MayEnter, MayLook, Uses, holder, ledger_of};
+    ghost use Rattle.ring_words.specs.At.{IsAt};
+    ghost use Rattle.gateway.specs.Seats.{HasSeen, StaysSeated, MayEnter, MayLook, Uses, ledger_of};
     ghost use Rattle.gateway.specs.Turns.{Turn, GoesWith};
     ghost use Rattle.gateway.specs.Gateways.{begun, Hears, Publishes, Reads, HandsOn, PassesOver, Rests, Stuck};
     ghost use Rattle.gateway.specs.Moves.{fresh};
@@ -109,12 +110,12 @@ impl ClientSide {
         wire: &mut W,
     ) -> Turned
         requires live { self.old.live ≡ true }
-        requires table { seat.old.seat.table_id ≡ rings.now.table.shared.table_id }
+        requires at { IsAt rings.now seat.old }
         requires seen { HasSeen seat.old }
-        requires mate { GoesWith self.old.session self.old.passed (holder seat.old).own }
+        requires mate { GoesWith self.old.session self.old.passed seat.old.who.own }
         ensures turn { Turn self.old self.new (W.tells wire.old) (W.tells wire.new) (ledger_of N seat.old) (ledger_of N seat.new) result }
         ensures seen { HasSeen seat.new }
-        ensures mate { GoesWith self.new.session self.new.passed (holder seat.new).own }
+        ensures mate { GoesWith self.new.session self.new.passed seat.new.who.own }
         ensures uses { Uses N seat.old seat.new }
     {
         let stood = self.session.unsent();
@@ -143,7 +144,7 @@ impl ClientSide {
         seat: &mut GatewaySeat<BookLogic>,
         wire: &mut W,
     ) -> Heard
-        requires table { seat.old.seat.table_id ≡ rings.now.table.shared.table_id }
+        requires at { IsAt rings.now seat.old }
         requires seen { HasSeen seat.old }
         requires open { self.old.session.closing ≡ None }
         requires silent { self.old.session.outgoing ≡ [] }
@@ -151,7 +152,7 @@ impl ClientSide {
         ensures hears { Hears self.old self.new (W.tells wire.old) (W.tells wire.new) (ledger_of N seat.old) (ledger_of N seat.new) result }
         ensures seen { HasSeen seat.new }
         ensures stays { StaysSeated seat.old seat.new }
-        ensures enters { MayEnter N seat.old.number seat.old.seat.me.0 seat.new.seat.me.0 }
+        ensures enters { MayEnter N seat.old seat.new }
     {
         if self.session.is_holding() {
             return self.publish(rings, seat);
@@ -171,7 +172,7 @@ impl ClientSide {
         rings: &Rings<BookLogic, N, M, G>,
         seat: &mut GatewaySeat<BookLogic>,
     ) -> Heard
-        requires table { seat.old.seat.table_id ≡ rings.now.table.shared.table_id }
+        requires at { IsAt rings.now seat.old }
         requires seen { HasSeen seat.old }
         requires open { self.old.session.closing ≡ None }
         requires held { self.old.session.held ≢ None }
@@ -180,7 +181,7 @@ impl ClientSide {
         ensures publishes { Publishes self.old self.new (ledger_of N seat.old) (ledger_of N seat.new) result }
         ensures seen { HasSeen seat.new }
         ensures stays { StaysSeated seat.old seat.new }
-        ensures enters { MayEnter N seat.old.number seat.old.seat.me.0 seat.new.seat.me.0 }
+        ensures enters { MayEnter N seat.old seat.new }
     {
         let answer = try_publish(rings, seat, self.session.message());
         self.session.settle(answer);
@@ -212,16 +213,16 @@ impl ClientSide {
         rings: &Rings<BookLogic, N, M, G>,
         seat: &mut GatewaySeat<BookLogic>,
     ) -> bool
-        requires table { seat.old.seat.table_id ≡ rings.now.table.shared.table_id }
+        requires at { IsAt rings.now seat.old }
         requires seen { HasSeen seat.old }
         requires room { length self.old.session.outgoing ≤ 512 }
         requires number { self.old.session.number < 2 ^ 63 }
-        requires passed { self.old.passed ≤ (holder seat.old).own }
-        requires few { (holder seat.old).own ≤ 2 ^ 62 }
+        requires passed { self.old.passed ≤ seat.old.who.own }
+        requires few { seat.old.who.own ≤ 2 ^ 62 }
         ensures hands_on { HandsOn self.old self.new (ledger_of N seat.old) (ledger_of N seat.new) result }
         ensures seen { HasSeen seat.new }
         ensures stays { StaysSeated seat.old seat.new }
-        ensures looks { MayLook seat.old.number seat.old.seat.me.0 seat.new.seat.me.0 }
+        ensures looks { MayLook seat.old seat.new }
     {
         if self.session.closing().is_some() {
             return false;
@@ -247,14 +248,14 @@ impl ClientSide {
         rings: &Rings<BookLogic, N, M, G>,
         seat: &mut GatewaySeat<BookLogic>,
     ) -> bool
-        requires table { seat.old.seat.table_id ≡ rings.now.table.shared.table_id }
+        requires at { IsAt rings.now seat.old }
         requires seen { HasSeen seat.old }
-        requires mate { GoesWith self.old.session self.old.passed (holder seat.old).own }
+        requires mate { GoesWith self.old.session self.old.passed seat.old.who.own }
         ensures passes { PassesOver self.old self.new (ledger_of N seat.old) (ledger_of N seat.new) result }
         ensures seen { HasSeen seat.new }
-        ensures mate { GoesWith self.new.session self.new.passed (holder seat.new).own }
+        ensures mate { GoesWith self.new.session self.new.passed seat.new.who.own }
         ensures stays { StaysSeated seat.old seat.new }
-        ensures looks { MayLook seat.old.number seat.old.seat.me.0 seat.new.seat.me.0 }
+        ensures looks { MayLook seat.old seat.new }
     {
         match take(rings, seat, &mut [0; 320]) {
             Take::Mine(_) => {

@@ -28,6 +28,7 @@ impl Model for Gateway {
 }
 
 impl Gateway {
+    ghost use Rattle.ring_words.specs.At.{IsAt, number};
     ghost use Rattle.gateway.specs.AtRings.{Idles};
     ghost use Rattle.gateway.specs.Delivers.{Begins, Continues};
     ghost use Rattle.gateway.specs.Gateways.{begun};
@@ -41,7 +42,7 @@ impl Gateway {
         seat: GatewaySeat<BookLogic>,
     ) -> Result<Gateway, (AllocError, GatewaySeat<BookLogic>)>
         requires { HasSeen seat }
-        ensures made { IfOk result (λ g. g ≡ record { front = record (begun seat.number 0) { live = false }; seat = seat }) }
+        ensures made { IfOk result (λ g. g ≡ record { front = record (begun (number seat) 0) { live = false }; seat = seat }) }
         ensures back { IfErr result (λ e. e.1 ≡ seat) }
     {
         match ClientSide::new(alloc, seat.number() as u8) {
@@ -52,7 +53,7 @@ impl Gateway {
 
     /// Begins a new session of the client.
     pub fn begin(&mut self)
-        ensures new { self.new ≡ record self.old { front = begun self.old.seat.number self.old.front.passed } }
+        ensures new { self.new ≡ record self.old { front = begun (number self.old.seat) self.old.front.passed } }
         ensures begins { Begins self.new }
     {
         self.client.begin();
@@ -65,7 +66,7 @@ impl Gateway {
         wire: &mut W,
     ) -> Turned
         requires live { self.old.front.live ≡ true }
-        requires table { self.old.seat.seat.table_id ≡ rings.now.table.shared.table_id }
+        requires at { IsAt rings.now self.old.seat }
         ensures turn { Turn self.old.front self.new.front (W.tells wire.old) (W.tells wire.new) (ledger_of N self.old.seat) (ledger_of N self.new.seat) result }
         ensures delivers { Continues N self.old self.new (W.tells wire.old) (W.tells wire.new) }
         ensures uses { Uses N self.old.seat self.new.seat }
@@ -79,7 +80,7 @@ impl Gateway {
         rings: &Rings<BookLogic, N, M, G>,
     ) -> Turned
         requires off { self.old.front.live ≡ false }
-        requires table { self.old.seat.seat.table_id ≡ rings.now.table.shared.table_id }
+        requires at { IsAt rings.now self.old.seat }
         ensures idles { Idles self.old.front self.new.front (ledger_of N self.old.seat) (ledger_of N self.new.seat) result }
         ensures off { self.new.front.live ≡ false }
         ensures looks { LooksOnce self.old.seat self.new.seat }

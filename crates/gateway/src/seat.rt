@@ -3,6 +3,7 @@
 ghost use Rattle.std.specs.Prelude.{◌≡◌, ◌≤◌, length};
 ghost use Rattle.gateway.specs.Ledgers.{PublishTells, TakeTells, type_text};
 ghost use Rattle.gateway.specs.Messages.{IsTypeText};
+ghost use Rattle.ring_words.specs.At.{IsAt};
 ghost use Rattle.gateway.specs.Seats.{HasSeen, StaysSeated, Enters, Looks, ledger_of};
 
 use book::BookLogic;
@@ -27,13 +28,13 @@ pub fn try_publish<const N: usize, const M: usize, const G: usize>(
     seat: &mut GatewaySeat<BookLogic>,
     message: &[u8],
 ) -> TryPublish
-    requires table { seat.old.seat.table_id ≡ rings.now.table.shared.table_id }
+    requires at { IsAt rings.now seat.old }
     requires seen { HasSeen seat.old }
     requires some { 1 ≤ length message.now }
     requires most { length message.now ≤ 320 }
     ensures stays { StaysSeated seat.old seat.new }
     ensures seen { HasSeen seat.new }
-    ensures enters { Enters N seat.old.number seat.old.seat.me.0 seat.new.seat.me.0 message.now result }
+    ensures enters { Enters N seat.old seat.new message.now result }
     ensures tells { PublishTells (ledger_of N seat.old) (ledger_of N seat.new) message.now result }
 {
     match try_claim(rings, seat) {
@@ -52,11 +53,11 @@ pub fn take<const N: usize, const M: usize, const G: usize>(
     seat: &mut GatewaySeat<BookLogic>,
     body: &mut [u8; 320],
 ) -> Take
-    requires table { seat.old.seat.table_id ≡ rings.now.table.shared.table_id }
+    requires at { IsAt rings.now seat.old }
     requires seen { HasSeen seat.old }
     ensures stays { StaysSeated seat.old seat.new }
     ensures seen { HasSeen seat.new }
-    ensures looks { Looks seat.old.number seat.old.seat.me.0 seat.new.seat.me.0 body.new result }
+    ensures looks { Looks seat.old seat.new body.new result }
     ensures tells { TakeTells (ledger_of N seat.old) (ledger_of N seat.new) body.new result }
 {
     take_output(rings, seat, body)

@@ -82,7 +82,7 @@ impl<L: Logic, const N: usize, const M: usize, const G: usize> Rings<L, N, M, G>
         requires small { sequence < 2 ^ 48 }
         requires row { seat.old.who.part.sequence ≡ sequence }
         requires message { (e : Message) × Spells seat.old.who.part.words e × IsEntry e × (e.gateway ≡ number seat.old) }
-        ensures view { (e : Message) → Spells seat.old.who.part.words e → IsEntry e → Steps seat.old (marked seat.old.who sequence e) seat.new }
+        ensures step { (e : Message) → Spells seat.old.who.part.words e → IsEntry e → Steps seat.old (marked seat.old.who sequence e) seat.new }
     {
         let place = self.row_word(sequence, 0);
         self.table

@@ -2,7 +2,7 @@
 use Rattle.std.proofs.Common.{ap, sym, ◌∙◌, subst, false, true≢false, rules, nat_lt, length}
 use Rattle.gateway.specs.declared.ending.Turned.{Turned}
 use Rattle.gateway.specs.Gateways.{front}
-use Rattle.gateway.specs.Seats.{holder, ledger_of}
+use Rattle.gateway.specs.Seats.{ledger_of}
 use Rattle.gateway.specs.Turns.{Front, Turn, GoesWith}
 use Rattle.gateway.proofs.SeatLemmas.{unused}
 use Rattle.gateway.proofs.TurnLemmas.{turn-failed, turn-stuck, turn-closed, turn-unheard, mate-unheard, turn-rested, mate-rested}
@@ -57,8 +57,8 @@ returns-then-eq-clause-mate g c =
     let tells = g.W.Wire.tells in
     let ledger = ledger_of g.row.N in
     let bytes = c.in-All.ensures.bytes in
-    let mate = subst (λ (f : Front). GoesWith f.session f.passed (holder c.args.seat.now).own) (sym c.self.view_is) c.requires.mate in
-    subst (λ (f : Front). GoesWith f.session f.passed (holder c.hear-heard.new.seat).own) (sym c.over-then-eq.ensures.gone)
+    let mate = subst (λ (f : Front). GoesWith f.session f.passed c.args.seat.now.who.own) (sym c.self.view_is) c.requires.mate in
+    subst (λ (f : Front). GoesWith f.session f.passed c.hear-heard.new.seat.who.own) (sym c.over-then-eq.ensures.gone)
     (mate-unheard (front c.self.inside) c.hear-heard.new.self c.flush-flushed.new.self (tells c.args.wire.now) (tells c.flush-flushed.new.wire) (tells c.hear-heard.new.wire)
     (ledger c.args.seat.now) (ledger c.hear-heard.new.seat) bytes.0 c.hear-heard.result bytes.1 c.flush-flushed.ensures.others bytes.2.0 bytes.2.1 c.hear-heard.ensures.hears mate)
 
@@ -80,7 +80,7 @@ returns-clause-mate g c =
     let tells = g.W.Wire.tells in
     let ledger = ledger_of g.row.N in
     let bytes = c.in-All.ensures.bytes in
-    let mate = subst (λ (f : Front). GoesWith f.session f.passed (holder c.args.seat.now).own) (sym c.self.view_is) c.requires.mate in
+    let mate = subst (λ (f : Front). GoesWith f.session f.passed c.args.seat.now.who.own) (sym c.self.view_is) c.requires.mate in
     mate-rested (front c.self.inside) c.hear-heard.new.self c.flush-flushed.new.self (tells c.args.wire.now) (tells c.flush-flushed.new.wire) (tells c.hear-heard.new.wire)
     (ledger c.args.seat.now) (ledger c.hear-heard.new.seat) bytes.0 c.hear-heard.result bytes.1 c.flush-flushed.ensures.others bytes.2.0 bytes.2.1 c.hear-heard.ensures.hears
     (ledger c.hand_on-took.new.seat) c.hand_on-took.new.self c.hand_on-took.result c.hand_on-took.ensures.hands_on c.rest.new.self c.rest.ensures.others mate
