@@ -1,40 +1,34 @@
--- The venue's rings as they are opened: their size is right, and each seat begins behind the same history.
-use Rattle.std.proofs.Common.{◌≡◌, ℕ, ◌&&◌, true, List, [], ◌∷◌, ◌++◌, length, refl, ap, arith, length-append}
+-- The venue's rings as they are opened: their size is right, and the one gateway's seat is alone in its list.
+use Rattle.std.proofs.Common.{◌≡◌, ℕ, ◌&&◌, true, List, [], ◌∷◌, ◌++◌, length, refl, ap, sym, ◌∙◌, arith, length-append}
 use mathlib.Core.Option.{some}
 use lib.Count.{ones, ones_in}
 use lib.ListN.{get_elem?}
-use Rattle.venue_model.specs.History.{Message}
-use Rattle.venue_model.specs.Requests.{Symbols}
-use Rattle.ring_words.specs.declared.view.Role.{Role}
-use Rattle.ring_words.specs.declared.view.Role.TheVariants.{Gateway}
-use Rattle.ring_words.specs.Crew.{stage_view, process_view, marshal_view}
-use Rattle.ring_words.specs.Rule.{newcomer, view_of}
+use Rattle.ring_words.specs.At.{Opened, At, IsAt, Steps, at, seated}
 use Rattle.ring_words.specs.Sizes.{ring_size}
-use Rattle.venued.specs.VenueRings.{new_gateway}
-
--- what is popped off a list of one is that one
-pub only_one : {A : Type 0} (xs front : List A) (x : A) → xs ≡ front ++ x ∷ [] → length xs ≡ 1 → get_elem? xs 0 ≡ some x
-only_one xs [] x e n = rw e refl
-only_one xs (f ∷ fs) x e n = absurd (omega (arith, simp length-append at (ap length e)))
+use Rattle.ring_words.specs.declared.view.Person.{Person}
 
 -- the rings have a right size
 pub right_size : (ring_size 1024 && ring_size 1024) ≡ true
 unfolding ones ones_in
 right_size = refl
 
-module _ (logic symbols : Symbols) (same : logic ≡ symbols) (base : List Message) where
-  -- the gateway's seat
-  pub gateway_begins : (given : ℕ) → view_of logic base (newcomer (Gateway 1) base given ∷ []) ≡ view_of symbols base (new_gateway base given ∷ [])
-  gateway_begins given = λ k. view_of (same k) base (newcomer (Gateway 1) base given ∷ [])
+-- a list of one, whose element is known by its place, is that
+pub only_one : {A : Type 0} (xs : List A) (x : A) → length xs ≡ 1 → ((y : A) → get_elem? xs 0 ≡ some y → y ≡ x) → xs ≡ x ∷ []
+only_one [] x n is = absurd (omega (arith, n))
+only_one (y ∷ []) x n is = ap (λ z. z ∷ []) (is y refl)
+only_one (y ∷ z ∷ xs) x n is = absurd (omega (arith, n))
 
-  -- that of a stage which reads what gateways publish
-  pub stage_begins : (role : Role) → stage_view logic base role ≡ stage_view symbols base role
-  stage_begins role = λ k. stage_view (same k) base role
+-- what is popped off it is that one, and nothing is left
+pub popped : {A : Type 0} (xs front : List A) (x y : A) → xs ≡ front ++ x ∷ [] → xs ≡ y ∷ [] → (x ≡ y) × (front ≡ [])
+popped xs [] x y split is = let one : x ∷ [] ≡ y ∷ [] = sym split ∙ is in (cc, refl)
+popped xs (f ∷ []) x y split is = let two : f ∷ x ∷ [] ≡ y ∷ [] = sym split ∙ is in cc
+popped xs (f ∷ g ∷ front) x y split is = let more : f ∷ g ∷ (front ++ x ∷ []) ≡ y ∷ [] = sym split ∙ is in cc
 
-  -- the processor's
-  pub process_begins : (given : ℕ) → process_view logic base given ≡ process_view symbols base given
-  process_begins given = λ k. process_view (same k) base given
+module _ {L : Type 0} (rings : Opened L) where
+  -- a seat of these rings is at them
+  pub is_at : (s : At L) (p : Person) → s ≡ at rings p → IsAt rings s
+  is_at s p is = is ∙ ap (at rings) (sym (ap (λ (a : At L). a.who) is))
 
-  -- and the marshaller's
-  pub marshal_begins : (given : ℕ) → marshal_view logic base given ≡ marshal_view symbols base given
-  marshal_begins given = λ k. marshal_view (same k) base given
+  -- and so it is after a step
+  pub still_at : (s t : At L) → IsAt rings s → Steps s t.who t → IsAt rings t
+  still_at s t before step = step ∙ ap (λ (a : At L). seated a t.who) before

@@ -1,32 +1,70 @@
 -- What a crash leaves while the venue serves: turn by turn, a journal that begins with the history at the start.
-use Rattle.std.proofs.Common.{◌≡◌, ◌∙◌, ◌⊎◌, inl, inr, Bool, true, false, ℕ, ◌^◌, ◌≤◌, List, length, refl, sym, subst, arith}
-use Rattle.atomic_table.specs.Seated.{TableId}
+use Rattle.std.proofs.Common.{◌≡◌, ◌∙◌, ◌⊎◌, inl, inr, Bool, true, false, ℕ, suc, ◌+◌, ◌^◌, ◌≤◌, List, [], ◌++◌, length, refl, ap, sym, subst, arith, append-nil}
 use Rattle.venue_model.specs.Counts.{Rose}
 use Rattle.venue_model.specs.History.{History}
 use Rattle.venue_model.specs.Requests.{Symbols}
 use Rattle.venue_model.proofs.Growth.{few-told-by}
 use Rattle.fix_orders.specs.Reading.{reads}
-use Rattle.journal.specs.Disk.{Told, LeavesOnly}
+use Rattle.journal.specs.Disk.{Told, Only, LeavesOnly}
+use Rattle.journal.specs.Format.{IsJournal}
 use Rattle.journal.proofs.Moments.{started, joined, weaker}
-use Rattle.ring_words.specs.declared.seats.GatewaySeat.{GatewaySeat}
-use Rattle.gateway.specs.Seats.{KnowsOutputs, HasSeen}
+use Rattle.journal.specs.Journals.{IsJournalFrom}
+use Rattle.book.specs.Histories.{outputs_of}
+use Rattle.ring_words.specs.At.{Opened, At, number}
+use Rattle.ring_words.specs.declared.view.Person.{Person}
+use Rattle.ring_words.specs.Rule.{newcomer}
+use Rattle.ring_words.specs.declared.view.Role.TheVariants.{Journal, Gateway}
+use Rattle.stages.specs.declared.turn.Turn.{Turn}
+use Rattle.stages.specs.Turns.{Journals}
+use Rattle.gateway.specs.AtRings.{AtRings}
+use Rattle.gateway.specs.Delivers.{Start, Course, Delivers}
+use Rattle.gateway.specs.Gateways.{begun}
+use Rattle.gateway.specs.Ledgers.{Ledger}
+use Rattle.gateway.specs.Turns as turns
+use Rattle.gateway.specs.Turns.{Front}
+use Rattle.gateway.specs.Wires as wires
+use Rattle.gateway.specs.declared.ending.Reason.{Reason}
+use Rattle.gateway.specs.declared.ending.Turned.{Turned}
+use Rattle.gateway.specs.declared.ending.Turned.TheVariants.{Worked, Quiet, Ended}
+use Rattle.gateway.specs.Seats.{HasSeen}
+use Rattle.venued.specs.Crashes.{Behind}
+use Rattle.venued.specs.Rounds.{Whole, Honesty, Round, Rounds}
+use Rattle.venued.specs.Serving.{LeavesFrom}
+use Rattle.venued.specs.Opened.{AreBehind}
 use Rattle.venued.specs.VenueRings.{IsFirst}
+use Rattle.venued.proofs.JournallerLemmas.{polled, leaves_behind}
 use Rattle.venued.specs.Venues.{IsJournalBehind}
 
 -- a file that a crash might have left at the start, or the journal of a history that begins with this one
 abbrev pub LeftOrBehind : Told → History → List ℕ → Type 0
 LeftOrBehind old base file = old.may_leave file ⊎ IsJournalBehind base file
 
+-- a file that a crash might have left at the start, or the journal of a history that begins with that of the file then
+abbrev LeftOrJournal : Told → List ℕ → Type 0
+LeftOrJournal old file = old.may_leave file ⊎ ((base : History) × IsJournal old.file base × IsJournalBehind base file)
+
 -- before the first call of the disk
 pub at_start : (old : Told) (base : History) → ((c : List ℕ) → old.left_since old.moment c → old.may_leave c) → LeavesOnly old old (LeftOrBehind old base)
 at_start old base only_now = started old (LeftOrBehind old base) (λ c left. inl (only_now c left))
 
--- behind one poll more
-pub behind_poll : (old mid new : Told) (base from : History) → LeavesOnly old mid (LeftOrBehind old base) → from ≡ base
-    → LeavesOnly mid new (IsJournalBehind from) → LeavesOnly old new (LeftOrBehind old base)
-behind_poll old mid new base from so_far same poll =
+-- behind one poll more, in which the journaller did this
+pub behind_poll : (old mid new : Told) (base from : History) (t : Turn) (v w : Person) → LeavesOnly old mid (LeftOrBehind old base) → from ≡ base
+    → Behind from v → Journals 1024 t v w → LeavesOnly mid new (IsJournalFrom v.own w.seen) → LeavesOnly old new (LeftOrBehind old base)
+behind_poll old mid new base from t v w so_far same behind journals poll =
     joined old mid new (LeftOrBehind old base) so_far
-    (weaker mid new (IsJournalBehind from) (LeftOrBehind old base) poll (λ c is. inr (subst (λ (h : History). IsJournalBehind h c) same is)))
+    (weaker mid new (IsJournalBehind from) (LeftOrBehind old base) (leaves_behind from v w mid new behind (polled 1024 t v w journals) poll)
+    (λ c is. inr (subst (λ (h : History). IsJournalBehind h c) same is)))
+
+-- the journaller of a venue that was opened behind a history
+pub behind_opened : (base : History) → Behind base (newcomer Journal base (length base))
+behind_opened base = record { rest = []; seen = sym (append-nil base); kept = omega arith }
+
+-- a session that a turn didn't end lives
+pub lives : (old new : Front) (wire wire' : wires.Told) (desk desk' : Ledger) (turned : Turned) → turns.Turn old new wire wire' desk desk' turned →
+    ((reason : Reason) → turned ≡ Ended reason → ⊥) → new.live ≡ true
+lives old new wire wire' desk desk' Worked turn other = turn.means.1.live
+lives old new wire wire' desk desk' Quiet turn other = turn.means.1.live
+lives old new wire wire' desk desk' (Ended reason) turn other = absurd (other reason refl)
 
 -- a poll in which a journal fails that had not failed yet has raised its disk's count
 pub risen : (failed : Bool) (old mid new : ℕ) → failed ≡ false → mid ≡ old → (failed ≡ true) ⊎ Rose mid new → Rose old new
@@ -34,8 +72,42 @@ risen failed old mid new ready same (inl was) = let no : true ≡ false = sym wa
 risen failed old mid new ready same (inr rose) = subst (λ (n : ℕ). Rose n new) same rose
 
 -- the seat of gateway 1 knows the symbols, and has counted the outputs of the history at the start, which are few
-pub first_seen : (symbols : Symbols) (base : History) (table : TableId) (seat : GatewaySeat Symbols) → IsFirst symbols base table seat → length base ≤ 2 ^ 48
-    → HasSeen seat
-first_seen symbols base table seat first short =
+pub first_seen : (symbols : Symbols) (base : History) (rings : Opened Symbols) (seat : At Symbols) → AreBehind symbols base rings → IsFirst rings seat
+    → length base ≤ 2 ^ 48 → HasSeen seat
+first_seen symbols base rings seat behind first short =
     let told = few-told-by (λ sequence m. reads m.bytes) symbols base in
-    subst KnowsOutputs (sym first.view) (record { logic = refl; from = omega arith; to = omega arith; few = omega (arith, told, short) })
+    let given : rings.given ≡ length (outputs_of rings.logic rings.base) =
+    behind.given ∙ ap (λ (l : Symbols). length (outputs_of l base)) (sym behind.logic) ∙ ap (λ (h : History). length (outputs_of rings.logic h)) (sym behind.base_is) in
+    let few : rings.given ≤ 2 ^ 62 = let is = behind.given in omega (arith, told, short, is) in
+    subst HasSeen (sym first) (record { logic = refl; from = omega (arith, given); to = omega (arith, given); few = few; spent = refl })
+
+-- one round more
+pub next_round : {D : Type 0} (disk : Honesty D) (n : ℕ) (s t u : Whole D) → Rounds disk n s t → Round disk t u → Rounds disk (n + 1) s u
+next_round disk n s t u so_far round =
+    let next : suc n ≡ n + 1 = omega arith in
+    subst (λ (k : ℕ). Rounds disk k s u) next (t, so_far, round)
+
+-- a session goes on with a wire that tells the same
+pub told_again : (start : Start) (front : Front) (old new : wires.Told) (desk : Ledger) (c : Course) → new ≡ old → Delivers start front old desk c
+    → Delivers start front new desk c
+told_again start front old new desk c same = subst (λ (t : wires.Told). Delivers start front t desk c) (sym same)
+
+-- a session that is begun at the seat of gateway 1
+pub began : (rings : Opened Symbols) (g h : AtRings) (seat : At Symbols) → g ≡ record { front = record (begun (number seat) 0) { live = false }; seat = seat }
+    → h ≡ record g { front = begun (number g.seat) g.front.passed } → IsFirst rings seat → (h.front ≡ begun 1 0) × (h.seat ≡ seat)
+began rings g h seat made new first =
+    let one : number seat ≡ 1 = ap number first in (
+      ap (λ (a : AtRings). a.front) new ∙ ap (λ (a : AtRings). begun (number a.seat) a.front.passed) made ∙ ap (λ (n : ℕ). begun n 0) one,
+      ap (λ (a : AtRings). a.seat) new ∙ ap (λ (a : AtRings). a.seat) made,
+    )
+
+-- what a crash leaves of a disk that was opened, and then served from
+pub serve_leaves : (old mid new : Told) (base : History) → LeavesOnly old mid old.may_leave → mid.file ≡ old.file → Only mid.file mid.may_leave
+    → IsJournal old.file base → LeavesOnly mid new (LeftOrBehind mid base) → LeavesFrom old new
+serve_leaves old mid new base opened same only journal served =
+    joined old mid new (LeftOrJournal old) (weaker old mid old.may_leave (LeftOrJournal old) opened (λ c left. inl left))
+    (weaker mid new (LeftOrBehind mid base) (LeftOrJournal old) served (λ c is. elim is [
+      | inl left ↦ inr (base, journal, ([], subst (λ (file : List ℕ). IsJournal file (base ++ [])) (sym (only c left ∙ same))
+          (subst (IsJournal old.file) (sym (append-nil base)) journal)))
+      | inr behind ↦ inr (base, journal, behind)
+    ]))

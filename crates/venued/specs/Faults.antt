@@ -1,5 +1,5 @@
 -- Which fault of the command line a fault of the symbols is, and which of the venue one of its journal.
-use Rattle.std.specs.Prelude.{ℕ}
+use Rattle.std.specs.Prelude.{ℕ, Result, Ok, Err}
 use Rattle.journal.specs.declared.fault.JournalFault.{JournalFault}
 use Rattle.journal.specs.declared.fault.JournalFault.TheVariants as journals
 use Rattle.venue_model.specs.declared.symbols.LimitsFault.{LimitsFault}
@@ -24,3 +24,8 @@ abbrev pub status_of : ServeFault → ℕ
 status_of (serve.Journal fault) = 1
 status_of serve.Memory = 1
 status_of serve.JournalFailed = 2
+
+-- and of a session's end
+abbrev pub status_of_end : Result (Unit {0}) ServeFault → ℕ
+status_of_end (Ok done) = 0
+status_of_end (Err fault) = status_of fault

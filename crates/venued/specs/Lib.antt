@@ -3,5 +3,8 @@ pub mod Faults
 pub mod VenueRings
 pub mod Opened
 pub mod Venues
+pub mod Crashes
+pub mod Rounds
+pub mod Finishing
 pub mod Serving
 pub mod VenueInsides

@@ -1,19 +1,64 @@
--- What a run of the mode `-` comes to: its status, by the wire and the disk, and what a crash within it leaves.
-use Rattle.std.specs.Prelude.{◌≡◌, ◌⊎◌, ℕ}
+-- What a run of the mode `-` comes to.
+use Rattle.std.specs.Prelude.{◌≡◌, ◌⊎◌, ℕ, Result}
 use Rattle.venue_model.specs.Counts.{Rose}
 use Rattle.venue_model.specs.History.{History}
-use Rattle.journal.specs.Disk as disks
-use Rattle.journal.specs.Disk.{LeavesOnly}
+use Rattle.venue_model.specs.Requests.{Symbols}
+use Rattle.gateway.specs.AtRings.{AtRings}
+use Rattle.gateway.specs.Delivers.{Course, Delivers, starts}
+use Rattle.gateway.specs.Gateways.{begun}
+use Rattle.gateway.specs.Seats.{ledger_of}
+use Rattle.gateway.specs.Wires as wires
+use Rattle.journal.specs.Disk.{Told, LeavesOnly}
 use Rattle.journal.specs.Format.{IsJournal}
-use Rattle.gateway.specs.Wires.{Told}
-use Rattle.venued.specs.Venues.{IsJournalBehind}
-
--- of the wire before and after, and of how many calls of the disk had failed: at 0 none failed; at 1 no byte moved; at 2 one failed
-abbrev pub Serves : Told → Told → ℕ → ℕ → ℕ → Type 0
-Serves wire wire_after failed failed_after status =
-    ((status ≡ 0) × (failed_after ≡ failed)) ⊎ (((status ≡ 1) × (wire_after ≡ wire)) ⊎ ((status ≡ 2) × Rose failed failed_after))
+use Rattle.ring_words.specs.declared.close.Summary.{Summary}
+use Rattle.venued.specs.Faults.{status_of_end}
+use Rattle.venued.specs.Finishing.{Finished}
+use Rattle.venued.specs.Opened.{AreBehind}
+use Rattle.venued.specs.Rounds.{Whole, Honesty, Served}
+use Rattle.venued.specs.VenueRings.{IsFirst}
+use Rattle.venued.specs.Venues.{IsJournalBehind, opened}
+use Rattle.venued.specs.declared.fault.ServeFault.{ServeFault}
 
 -- A crash at any moment since old leaves a file that it might have left then, or the journal of a history that begins with that of the
 -- file then.
-abbrev pub LeavesFrom : disks.Told → disks.Told → Type 0
+abbrev pub LeavesFrom : Told → Told → Type 0
 LeavesFrom old new = LeavesOnly old new (λ file. old.may_leave file ⊎ ((base : History) × IsJournal old.file base × IsJournalBehind base file))
+
+-- of the wire before and after, and of how many calls of the disk had failed: at 0 none failed; at 1 no byte moved; at 2 one failed
+abbrev pub IsStatus : wires.Told → wires.Told → ℕ → ℕ → ℕ → Type 0
+IsStatus wire wire_after failed failed_after status =
+    ((status ≡ 0) × (failed_after ≡ failed)) ⊎ (((status ≡ 1) × (wire_after ≡ wire)) ⊎ ((status ≡ 2) × Rose failed failed_after))
+
+-- what a run is handed and gives back: its disk, and what its wire tells
+pub record Outside (D : Type 0) : Type 0 where
+  pub disk : D
+  pub wire : wires.Told
+
+module _ {D : Type 0} where
+  -- Gateway 1 has begun a session, and nothing was done: the venue stands behind the journal's history, and so does the gateway's seat.
+  pub record Opens (symbols : Symbols) (disk : Honesty D) (old : Outside D) (s : Whole D) : Type 0 where
+    pub venue : s.venue ≡ opened s.venue.rings s.venue.disk
+    pub behind : AreBehind symbols s.venue.rings.base s.venue.rings
+    pub seat : IsFirst s.venue.rings s.gateway.seat
+    pub session : s.gateway.front ≡ begun 1 0
+    pub wire : s.wire ≡ old.wire
+    pub journal : disk.honest old.disk → IsJournal (disk.tells old.disk).file s.venue.rings.base
+
+  -- The session was served. It ended by itself (or 2 ^ 64 - 1 rounds were taken), or the journal failed. What the client sent, was given and was written
+  -- is the course of the session; and one log tells of all.
+  pub record Serves (symbols : Symbols) (disk : Honesty D) (old new : Outside D) (result : Result (Unit {0}) ServeFault) : Type 0 where
+    pub start : Whole D
+    pub end : Whole D
+    pub opens : Opens symbols disk old start
+    pub serves : Served disk start end result
+    pub course : Course
+    pub delivers : Delivers (starts 1024 start.gateway start.wire) end.gateway.front end.wire (ledger_of 1024 end.gateway.seat) course
+    pub summary : Summary
+    pub finished : Finished end.gateway.seat end.venue (disk.honest end.venue.disk) (disk.tells end.venue.disk) summary
+    pub wire : new.wire ≡ end.wire
+    pub disk_is : new.disk ≡ end.venue.disk
+
+  -- what the program's status says: 1 where the session didn't begin, and else how it ended
+  abbrev pub EndsWith : Symbols → Honesty D → Outside D → Outside D → ℕ → Type 0
+  EndsWith symbols disk old new status =
+      (status ≡ 1) ⊎ ((result : Result (Unit {0}) ServeFault) × (status ≡ status_of_end result) × Serves symbols disk old new result)

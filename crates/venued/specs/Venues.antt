@@ -1,9 +1,8 @@
 -- The venue behind its gateway: what contracts see of it, and what its polls do.
 use Rattle.std.specs.Prelude.{◌≡◌, ℕ, ◌↔◌, Bool, false, List, ◌++◌, length}
-use Rattle.atomic_table.specs.Seated.{TableId}
 use Rattle.venue_model.specs.History.{History}
 use Rattle.venue_model.specs.Requests.{Symbols}
-use Rattle.book.specs.Histories.{outputs_of}
+use Rattle.ring_words.specs.At.{Opened}
 use Rattle.ring_words.specs.declared.view.Person.{Person}
 use Rattle.ring_words.specs.declared.view.Role.TheVariants.{Unmarshal, Journal, Marshal}
 use Rattle.ring_words.specs.Rule.{newcomer, processor}
@@ -15,14 +14,11 @@ use Rattle.stages.specs.Processes.{Processes}
 use Rattle.stages.specs.Marshals.{Marshals}
 use Rattle.venued.specs.declared.polled.Polled.{Polled}
 use Rattle.venued.specs.declared.polled.Polled.TheVariants as polls
-use Rattle.venued.specs.VenueRings.{new_stage}
 
--- The table of the rings; the venue's symbols, and the history that it was opened with; the disk, and whether the journal on it failed; and what each
--- stage knows of the rings, and how many entries the processor's book has.
+-- The rings, with the symbols and the history that they were opened with; the disk, and whether the journal on it failed; and what each stage knows of
+-- the rings, and how many entries the processor's book has.
 pub record OneVenue (D : Type 0) : Type 0 where
-  pub table : TableId
-  pub symbols : Symbols
-  pub base : History
+  pub rings : Opened Symbols
   pub disk : D
   pub failed : Bool
   pub unmarshaller : Person
@@ -43,19 +39,17 @@ IsSaid unmarshalled journalled processed marshalled polled =
     ↔ ((unmarshalled ≡ turns.Idle) × (journalled ≡ turns.Idle) × (processed ≡ turns.Idle) × (marshalled ≡ turns.Idle)))
 
 module _ {D : Type 0} where
-  -- the venue behind this history, and its disk: each seat as the rings were opened with it, and the outputs of the history counted
-  abbrev pub opened : Symbols → TableId → History → D → OneVenue D
-  opened symbols table base disk = record {
-    table = table;
-    symbols = symbols;
-    base = base;
+  -- the venue of these rings, as they were opened, and its disk: each stage has done just the history that they were opened with
+  abbrev pub opened : Opened Symbols → D → OneVenue D
+  opened rings disk = record {
+    rings = rings;
     disk = disk;
     failed = false;
-    unmarshaller = new_stage Unmarshal base;
-    journaller = new_stage Journal base;
-    processor = processor base (length (outputs_of symbols base));
-    applied = length base;
-    marshaller = newcomer Marshal base (length (outputs_of symbols base));
+    unmarshaller = newcomer Unmarshal rings.base (length rings.base);
+    journaller = newcomer Journal rings.base (length rings.base);
+    processor = processor rings.base rings.given;
+    applied = length rings.base;
+    marshaller = newcomer Marshal rings.base rings.given;
   }
 
   -- each stage polled once, and nothing else moved; the answer says whether the journal failed, and whether all were
@@ -67,7 +61,7 @@ module _ {D : Type 0} where
     pub marshalled : Turn
     pub unmarshals : Unmarshals 1024 unmarshalled old.unmarshaller new.unmarshaller
     pub journals : Journals 1024 journalled old.journaller new.journaller
-    pub processes : Processes 1024 1024 1 old.symbols processed old.processor old.applied new.processor new.applied
-    pub marshals : Marshals 1024 1024 old.symbols marshalled old.marshaller new.marshaller
+    pub processes : Processes 1024 1024 1 old.rings.logic processed old.processor old.applied new.processor new.applied
+    pub marshals : Marshals 1024 1024 old.rings.logic marshalled old.marshaller new.marshaller
     pub answer : IsSaid unmarshalled journalled processed marshalled polled
     pub others : new ≡ record old { disk = new.disk; failed = new.failed; unmarshaller = new.unmarshaller; journaller = new.journaller; processor = new.processor; applied = new.applied; marshaller = new.marshaller }

@@ -1,8 +1,12 @@
 //! The mode `-`: one client's session over a wire, its turns and the polls of the stages taken one behind the other on this thread.
-ghost use Rattle.std.specs.Prelude.{◌≡◌, ◌≢◌, ◌⊎◌, true, false, IfErr, OnOk, OnErr};
+ghost use Rattle.std.specs.Prelude.{◌≡◌, ◌⊎◌, true, false, OnOk, OnErr};
+ghost use Rattle.ring_words.specs.At.{IsAt};
 ghost use Rattle.venue_model.specs.Counts.{Rose};
 ghost use Rattle.journal.specs.Disk.{Both, LeavesOnly};
-ghost use Rattle.venued.specs.Serving.{LeavesFrom, Serves};
+ghost use Rattle.venued.specs.Faults.{status_of_end};
+ghost use Rattle.venued.specs.Rounds.{Served};
+ghost use Rattle.venued.specs.Crashes.{Behind};
+ghost use Rattle.venued.specs.Serving.{LeavesFrom, IsStatus, EndsWith};
 ghost use Rattle.venued.specs.Venues.{IsJournalBehind};
 
 use crate::fault::ServeFault;
@@ -14,6 +18,9 @@ use journal::JournalDisk;
 use std::alloc::{AllocError, Global};
 use std::io::Write;
 
+ghost use Rattle.gateway.specs.Delivers.{Start, Course, Delivers};
+ghost use Rattle.gateway.specs.Seats.{ledger_of};
+
 /// Serves the client of gateway 1 until its session ends, behind the history of the journal on the disk, and gives the disk back. Answers
 /// the program's status: 0; 1, with the fault's line, where the journal can't be opened or room was refused, before a byte is read or
 /// written; 2, with the line of the journal, where that failed. All room is taken before the session begins.
@@ -24,7 +31,9 @@ pub fn serve<D: JournalDisk, W: Wire, E: Write>(
     wire: &mut W,
     err: &mut E,
 ) -> (u8, D)
-    ensures status { Serves (W.tells wire.old) (W.tells wire.new) (D.failed disk) (D.failed result.1) result.0 }
+    ensures status { IsStatus (W.tells wire.old) (W.tells wire.new) (D.failed disk) (D.failed result.1) result.0 }
+    ensures served { EndsWith words.now.limits (record { honest = D.honest; tells = D.tells }) (record { disk = disk; wire = W.tells wire.old })
+        (record { disk = result.1; wire = W.tells wire.new }) result.0 }
     ensures honest { Both (D.honest disk) (D.honest result.1) }
     ensures any_moment { D.honest disk → LeavesFrom (D.tells disk) (D.tells result.1) }
 {
@@ -32,15 +41,17 @@ pub fn serve<D: JournalDisk, W: Wire, E: Write>(
         Ok(opened) => opened,
         Err((fault, disk)) => return (ServeFault::from(fault).say(err), disk),
     };
-    let Ok(mut gateway) = Gateway::new(alloc, seat) else {
-        return (ServeFault::Memory.say(err), venue.end());
+    let mut gateway = match Gateway::new(alloc, seat) {
+        Ok(gateway) => gateway,
+        Err((_, seat)) => {
+            let (_, disk) = venue.finish(seat);
+            return (ServeFault::Memory.say(err), disk);
+        }
     };
     gateway.begin();
-    let status = match take_turns(&mut gateway, &mut venue, wire) {
-        Ok(()) => 0,
-        Err(fault) => fault.say(err),
-    };
-    (status, venue.end())
+    let status = status_of(take_turns(&mut gateway, &mut venue, wire), err);
+    let (_, disk) = venue.finish(gateway.end());
+    (status, disk)
 }
 
 /// Prints the line for wrong words, and gives the status for it. A line that can't be printed is let go.
@@ -49,6 +60,16 @@ pub fn refuse<E: Write>(fault: WordsFault, err: &mut E) -> u8
 {
     let _ = writeln!(err, "{fault}");
     1
+}
+
+/// The program's status for the end of the turns, with the fault's line where there is one.
+fn status_of<E: Write>(end: Result<(), ServeFault>, err: &mut E) -> u8
+    ensures { result ≡ status_of_end end }
+{
+    match end {
+        Ok(()) => 0,
+        Err(fault) => fault.say(err),
+    }
 }
 
 /// Takes turns, each with a poll behind it, until the session ends or the journal fails. The session ends also after
@@ -60,25 +81,30 @@ fn take_turns<D: JournalDisk, W: Wire>(
     wire: &mut W,
 ) -> Result<(), ServeFault>
     requires live { gateway.old.front.live ≡ true }
-    requires table { gateway.old.seat.seat.table_id ≡ venue.old.table }
+    requires at { IsAt venue.old.rings gateway.old.seat }
     requires ready { venue.old.failed ≡ false }
+    requires behind { Behind venue.old.rings.base venue.old.journaller }
     ensures honest { Both (D.honest venue.old.disk) (D.honest venue.new.disk) }
     ensures any_moment { D.honest venue.old.disk →
-        LeavesOnly (D.tells venue.old.disk) (D.tells venue.new.disk) (λ file. (D.tells venue.old.disk).may_leave file ⊎ IsJournalBehind venue.old.base file) }
-    ensures fault { IfErr result (λ fault. fault ≡ ServeFault.JournalFailed) }
+        LeavesOnly (D.tells venue.old.disk) (D.tells venue.new.disk) (λ file. (D.tells venue.old.disk).may_leave file ⊎ IsJournalBehind venue.old.rings.base file) }
+    ensures served { Served (record { honest = D.honest; tells = D.tells }) (record { gateway = gateway.old; venue = venue.old; wire = W.tells wire.old })
+        (record { gateway = gateway.new; venue = venue.new; wire = W.tells wire.new }) result }
+    ensures delivers { (start : Start) (c : Course) → Delivers start gateway.old.front (W.tells wire.old) (ledger_of 1024 gateway.old.seat) c →
+        (d : Course) × Delivers start gateway.new.front (W.tells wire.new) (ledger_of 1024 gateway.new.seat) d }
+    ensures stays { IsAt venue.new.rings gateway.new.seat × (gateway.new.seat.who.role ≡ gateway.old.seat.who.role) }
     ensures failed { OnErr result (Rose (D.failed venue.old.disk) (D.failed venue.new.disk)) }
     ensures counts { OnOk result (D.failed venue.new.disk ≡ D.failed venue.old.disk) }
 {
-    'turns: for _ in 0..u64::MAX {
+    for _round in 0..u64::MAX {
         let turned = gateway.turn(venue.rings(), wire);
         if let Turned::Ended(_) = turned {
             return Ok(());
         }
-        match venue.poll() {
-            Polled::JournalFailed => return Err(ServeFault::JournalFailed),
-            Polled::Idle => wire.rest(turned == Turned::Quiet),
-            Polled::Worked => wire.rest(false),
+        let polled = venue.poll();
+        if polled == Polled::JournalFailed {
+            return Err(ServeFault::JournalFailed);
         }
+        wire.rest(turned == Turned::Quiet && polled == Polled::Idle);
     }
     Ok(())
 }

@@ -1,10 +1,14 @@
 //! The venue behind its gateway: rings, and the stages at them. A message that the gateway published goes from stage to stage, and what comes
 //! of it back into the output ring. All polls are taken in turn on the session's thread.
-ghost use Rattle.std.specs.Prelude.{◌≡◌, ◌≢◌, ◌≤◌, ◌^◌, ◌⊎◌, true, false, length, IfOk, IfErr};
+ghost use Rattle.std.specs.Prelude.{◌≡◌, ◌≢◌, ◌≤◌, ◌^◌, ◌⊎◌, [], true, false, length, IfOk, IfErr};
+ghost use Rattle.ring_words.specs.At.{IsAt};
+ghost use Rattle.ring_words.specs.declared.view.Role.TheVariants.{Gateway};
 ghost use Rattle.venue_model.specs.Counts.{Rose};
 ghost use Rattle.journal.specs.Disk.{Both, Only, LeavesOnly};
 ghost use Rattle.journal.specs.Format.{IsJournal};
-ghost use Rattle.journal.specs.Journals.{Explains};
+ghost use Rattle.journal.specs.Journals.{Explains, IsJournalFrom};
+ghost use Rattle.venued.specs.Finishing.{Finished};
+ghost use Rattle.venued.specs.Opened.{AreBehind};
 ghost use Rattle.venued.specs.Venues.{IsSaid};
 ghost use Rattle.venued.specs.VenueRings.{IsFirst};
 
@@ -13,13 +17,13 @@ use crate::recovered::{Recovered, recover};
 use crate::rings::VenueRings;
 use book::BookLogic;
 use journal::{Journal, JournalDisk, JournalFault};
-use ring_words::GatewaySeat;
+use ring_words::{GatewaySeat, Seats, Summary};
 use stages::{Journaller, Marshaller, Processor, Turn, Unmarshaller};
 use std::alloc::Global;
 use std::marker::Model;
 use venue_model::Limits;
 
-/// The rings, and the stages at their seats. Contracts see a `OneVenue`.
+/// The rings, the stages at their seats, and room for the gateway's seat when it comes back. Contracts see a `OneVenue`.
 #[derive(Drop)]
 pub struct Venue<D: JournalDisk> {
     rings: VenueRings,
@@ -27,6 +31,7 @@ pub struct Venue<D: JournalDisk> {
     journaller: Journaller<D>,
     processor: Processor,
     marshaller: Marshaller,
+    home: Vec<GatewaySeat<BookLogic>>,
 }
 
 impl<D: JournalDisk> Model for Venue<D> {
@@ -34,22 +39,21 @@ impl<D: JournalDisk> Model for Venue<D> {
 
     ghost Value = { OneVenue D };
 
-    ghost use Rattle.ring_words.specs.Seats.{person};
-    ghost use Rattle.venued.specs.VenueInsides.{one_venue, AreSeated, KeepsVenue};
+    ghost use Rattle.std.specs.Prelude.{◌≡◌, ◌≤◌, [], vec_capacity};
+    ghost use Rattle.venued.specs.VenueInsides.{one_venue, KeepsVenue};
 
-    ghost view = { λ d. one_venue d.rings.table.shared.table_id d.processor (person d.unmarshaller.seat.seat.me.0)
-        (person d.journaller.seat.seat.me.0) (person d.marshaller.seat.seat.me.0) d.journaller.journal.disk d.journaller.journal.failed };
+    ghost view = { λ d. one_venue d.rings d.processor d.unmarshaller.seat d.journaller.seat d.marshaller.seat
+        d.journaller.journal.disk d.journaller.journal.failed };
 
-    ghost invariant = { λ d. AreSeated d.rings.table.shared.table_id d.unmarshaller.seat.seat.table_id
-        d.journaller.seat.seat.table_id d.processor.seat.seat.table_id d.marshaller.seat.seat.table_id
-        × KeepsVenue d.processor.book.symbols d.processor.seat.seat.me.0.base d.marshaller.seat.seat.me.0 (person d.journaller.seat.seat.me.0) };
+    ghost invariant = { λ d. KeepsVenue d.rings d.unmarshaller.seat d.journaller.seat d.processor.seat d.marshaller.seat
+        × (d.home.items ≡ []) × (1 ≤ vec_capacity d.home) };
 }
 
 /// A venue, and its gateway's seat.
 pub type VenueAndSeat<D> = (Venue<D>, GatewaySeat<BookLogic>);
 
 impl<D: JournalDisk> Venue<D> {
-    ghost use Rattle.venued.specs.Venues.{opened, IsJournalBehind, Polls};
+    ghost use Rattle.venued.specs.Venues.{opened, Polls};
 
     /// The venue of these symbols, behind the history of the journal on this disk, which is replayed, and the seat of gateway 1. A fault gives the
     /// disk back; those that there are, are the faults of `Journal::open`, and 44 also where other memory is refused.
@@ -58,11 +62,11 @@ impl<D: JournalDisk> Venue<D> {
         limits: &Limits,
         disk: D,
     ) -> Result<VenueAndSeat<D>, (JournalFault, D)>
-        ensures opened { IfOk result (λ v. v.0 ≡ opened limits.now v.0.table v.0.base v.0.disk) }
-        ensures seat { IfOk result (λ v. IsFirst limits.now v.0.base v.0.table v.1) }
-        ensures few { IfOk result (λ v. length v.0.base ≤ 2 ^ 48) }
+        ensures opened { IfOk result (λ v. (v.0 ≡ opened v.0.rings v.0.disk) × AreBehind limits.now v.0.rings.base v.0.rings) }
+        ensures seat { IfOk result (λ v. IsFirst v.0.rings v.1) }
+        ensures few { IfOk result (λ v. length v.0.rings.base ≤ 2 ^ 48) }
         ensures honest { IfOk result (λ v. Both (D.honest disk) (D.honest v.0.disk)) }
-        ensures history { D.honest disk → IfOk result (λ v. IsJournal (D.tells disk).file v.0.base) }
+        ensures history { D.honest disk → IfOk result (λ v. IsJournal (D.tells disk).file v.0.rings.base) }
         ensures file { D.honest disk → IfOk result (λ v. (D.tells v.0.disk).file ≡ (D.tells disk).file) }
         ensures durable { D.honest disk → IfOk result (λ v. Only (D.tells v.0.disk).file (D.tells v.0.disk).may_leave) }
         ensures any_moment { D.honest disk → IfOk result (λ v. LeavesOnly (D.tells disk) (D.tells v.0.disk) (D.tells disk).may_leave) }
@@ -78,25 +82,29 @@ impl<D: JournalDisk> Venue<D> {
         };
         let Recovered {
             rings,
-            gateway,
+            gateways: mut home,
             unmarshal,
             journal: seat,
             processor,
             marshal,
         } = recovered;
+        let Some(gateway) = home.pop() else {
+            unreachable!();
+        };
         let venue = Venue {
             rings,
             unmarshaller: Unmarshaller::new(unmarshal),
             journaller: Journaller::new(seat, journal),
             processor,
             marshaller: Marshaller::new(marshal),
+            home,
         };
         Ok((venue, gateway))
     }
 
     /// The rings, for the gateway's turns.
     pub fn rings(&self) -> &VenueRings
-        ensures { result.now.table.shared.table_id ≡ self.now.table }
+        ensures { result.now ≡ self.now.rings }
     {
         &self.rings
     }
@@ -108,7 +116,7 @@ impl<D: JournalDisk> Venue<D> {
         ensures polls { Polls self.old self.new result }
         ensures honest { Both (D.honest self.old.disk) (D.honest self.new.disk) }
         ensures any_moment { D.honest self.old.disk →
-            LeavesOnly (D.tells self.old.disk) (D.tells self.new.disk) (IsJournalBehind self.old.base) }
+            LeavesOnly (D.tells self.old.disk) (D.tells self.new.disk) (IsJournalFrom self.old.journaller.own self.new.journaller.seen) }
         ensures cause { result ≡ Polled.JournalFailed → (self.old.failed ≡ true) ⊎ Rose (D.failed self.old.disk) (D.failed self.new.disk) }
         ensures ready { result ≢ Polled.JournalFailed → (self.new.failed ≡ false) × (D.failed self.new.disk ≡ D.failed self.old.disk) }
     {
@@ -119,13 +127,33 @@ impl<D: JournalDisk> Venue<D> {
         polled(unmarshalled, journalled, processed, marshalled)
     }
 
-    /// Gives the disk back.
-    pub fn end(self) -> D
-        ensures { result ≡ self.disk }
+    /// Ends the venue, when its gateway's seat has come back: the rings close, and the disk is given back with what had been done.
+    pub fn finish(self, gateway: GatewaySeat<BookLogic>) -> (Summary, D)
+        requires at { IsAt self.rings gateway }
+        requires first { gateway.who.role ≡ Gateway 1 }
+        requires spent { gateway.who.claims ≡ [] }
+        ensures disk { result.1 ≡ self.disk }
+        ensures finished { Finished gateway self (D.honest self.disk) (D.tells self.disk) result.0 }
     {
-        let Venue { journaller, .. } = self;
-        let (_, journal) = journaller.end();
-        journal.end()
+        let Venue {
+            rings,
+            unmarshaller,
+            journaller,
+            processor,
+            marshaller,
+            home: mut gateways,
+        } = self;
+        gateways.push_reserved(gateway);
+        let (journal, kept) = journaller.end();
+        let (process, _) = processor.end();
+        let seats = Seats {
+            gateways,
+            unmarshal: unmarshaller.end(),
+            journal,
+            process,
+            marshal: marshaller.end(),
+        };
+        (rings.close(seats), kept.end())
     }
 }
 
