@@ -12,7 +12,7 @@ use crate::appending::{append_again, block_of, file_length};
 use crate::fault::Fault;
 use crate::rate::Rate;
 use crate::words::read_folder;
-use journal::{FileDisk, Journal, format};
+use journal::{Journal, SystemFolder, open_journal};
 use std::process::ExitCode;
 use std::{env, fs};
 
@@ -25,8 +25,8 @@ fn measure(rt: &HostRuntime, path: &str, count: usize) -> Result<Rate, Fault>
     requires { (1 ≤ count) × (count ≤ 4096) }
 {
     let block = block_of(rt.alloc(), count)?;
-    let mut disk = FileDisk::make(rt, path)?;
-    format(&mut disk)?;
+    let mut folder = SystemFolder::new(rt, path)?;
+    let disk = open_journal(&mut folder)?;
     let (mut journal, base) = Journal::open(rt.alloc(), disk).map_err(|(fault, _)| fault)?;
     if !base.is_empty() {
         return Err(Fault::Device);

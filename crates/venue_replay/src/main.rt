@@ -4,10 +4,7 @@
 ghost use Rattle.std.specs.Prelude.{◌≡◌, ◌↔◌};
 ghost use Rattle.std.specs.IoError.{error_kind};
 
-mod disk;
-
-use crate::disk::{open, unopened};
-use journal::StandardStreams;
+use journal::{FileDisk, StandardStreams, open_to_read};
 use replay::{Job, ReplayFault, refuse, report};
 use std::io::{BufWriter, ErrorKind};
 use std::process::ExitCode;
@@ -39,11 +36,11 @@ fn run(rt: &HostRuntime, job: &Job) -> u8 {
     };
     let _streams = match StandardStreams::hold(rt) {
         Ok(streams) => streams,
-        Err(error) => return refuse(unopened(&error), &mut err),
+        Err(fault) => return refuse(fault.into(), &mut err),
     };
-    match open(rt, job.journal.as_str()) {
-        Ok(disk) => report(rt.alloc(), job, disk, &mut out, &mut err).0,
-        Err(fault) => refuse(fault, &mut err),
+    match open_to_read(rt, job.journal.as_str()) {
+        Ok(file) => report(rt.alloc(), job, FileDisk::new(file), &mut out, &mut err).0,
+        Err(fault) => refuse(fault.into(), &mut err),
     }
 }
 

@@ -5,7 +5,6 @@ ghost use Rattle.std.specs.Prelude.{◌≡◌, ◌↔◌};
 ghost use Rattle.std.specs.IoError.{error_kind};
 
 mod fault;
-mod journal_file;
 mod polled;
 mod recovered;
 mod rings;
@@ -13,11 +12,12 @@ mod serve;
 mod venue;
 mod words;
 
-use crate::journal_file::{open_journal, unopened};
+use crate::fault::ServeFault;
 use crate::serve::{refuse, serve};
 use crate::words::{Words, WordsFault};
 use gateway::StdWire;
-use journal::StandardStreams;
+use journal::{FileDisk, StandardStreams, SystemFolder, open_journal};
+use std::fs::{File, Files};
 use std::io::{ErrorKind, Stderr};
 use std::process::ExitCode;
 use std::rt::Env;
@@ -40,13 +40,25 @@ fn unread(error: &io::Error) -> WordsFault
     }
 }
 
+/// Opens the file of the journal of this name, or makes it.
+fn open_file<R: Files<File = File> + AllocGlobal>(
+    rt: &R,
+    path: &str,
+) -> Result<FileDisk<File>, ServeFault> {
+    let Ok(mut folder) = SystemFolder::new(rt, path) else {
+        return Err(ServeFault::Memory);
+    };
+    let disk = open_journal(&mut folder)?;
+    Ok(disk)
+}
+
 /// Opens the journal, and serves over standard input and output: the program's status.
 fn run(rt: &HostRuntime, words: &Words, err: &mut Stderr) -> u8 {
     let _streams = match StandardStreams::hold(rt) {
         Ok(streams) => streams,
-        Err(error) => return unopened(&error).say(err),
+        Err(fault) => return ServeFault::from(fault).say(err),
     };
-    let disk = match open_journal(rt, words.journal.as_str()) {
+    let disk = match open_file(rt, words.journal.as_str()) {
         Ok(disk) => disk,
         Err(fault) => return fault.say(err),
     };
