@@ -31,7 +31,8 @@ import sys
 import tempfile
 import threading
 
-ROOT = os.path.dirname(os.path.dirname(os.path.abspath(__file__)))
+import crates
+from crates import ROOT
 
 # At most so many functions are asked for at once.
 MOST = 10
@@ -127,45 +128,24 @@ class Edit:
 
 
 class Crate:
-    """A crate, with its files, its edits and what it stands on: crates, and names of the kit's libraries."""
+    """A crate, with its files, its edits, the crates that it stands on, lowest first, and what a check of it is told."""
 
-    def __init__(self, name, deps, kit):
-        self.name, self.deps, self.kit, self.folder = name, deps, kit, f"{ROOT}/crates/{name}"
+    def __init__(self, name, below, kit, words):
+        self.name, self.below, self.kit, self.words, self.folder = name, below, kit, words, f"{ROOT}/crates/{name}"
         self.texts, self.calls = {}, {}
         for part in ("src", "specs", "proofs"):
             for path in glob.glob(f"{self.folder}/{part}/**/*.*t", recursive=True):
                 with open(path, encoding="utf-8") as it:
                     self.texts[os.path.relpath(path, self.folder)] = it.read()
         self.functions = functions_of(self.texts)
-        self.rlib = f"{self.folder}/out/rlib/{name}.rlib"
 
     def edits(self, place):
         return [Edit(it) for it in sorted(glob.glob(f"{self.folder}/{place}/*.edit"))]
 
-    def below(self):
-        """The crates that this one stands on, those at the bottom first."""
-        found = {}
-        for dep in self.deps:
-            if isinstance(dep, Crate):
-                found.update({it.name: it for it in [*dep.below(), dep]})
-        return list(found.values())
-
-    def words(self):
-        """What a check of a copy of the crate is told."""
-        root = "src/main.rt" if "src/main.rt" in self.texts else "src/lib.rt"
-        words = ["--crate-name", self.name, root, "--extern", f"std={self.kit}/rlibs/std.rlib"]
-        for dep in self.deps:
-            own = isinstance(dep, Crate)
-            words += ["--extern", f"{dep.name}={dep.rlib}" if own else f"{dep}={self.kit}/rlibs/{dep}.rlib"]
-        for folder in [f"{self.kit}/rlibs", *(os.path.dirname(it.rlib) for it in self.below())]:
-            words += ["-L", f"dependency={folder}"]
-        words += ["--antt-project", f"{self.kit}/rattle/logic/antt-project.json"]
-        return [*words, "--logic-built", f"{self.kit}/logic_built", "--links", f"{self.name}=", "--jobs", "1"]
-
     def is_made(self):
         """Whether the library is newer than its sources and those below."""
-        made = f"{self.rlib}/format"
-        files = [f"{it.folder}/{file}" for it in [*self.below(), self] for file in it.texts]
+        made = f"{crates.library(self.name)}/format"
+        files = [f"{it.folder}/{file}" for it in [*self.below, self] for file in it.texts]
         return os.path.isfile(made) and max(map(os.path.getmtime, files)) <= os.path.getmtime(made)
 
     def called(self, function):
@@ -361,7 +341,7 @@ class Work:
 
     def check(self, kept, batch):
         """Checks a copy of the crate with these edits in it."""
-        words = [f"{self.crate.kit}/bin/rattle", "check", *self.crate.words(), "--incremental", kept]
+        words = [f"{self.crate.kit}/bin/rattle", "check", *self.crate.words, "--incremental", kept]
         for name in sorted({it.short for edit in batch for it in edit.changed}):
             words += ["--only", name]
         with tempfile.TemporaryDirectory(prefix="edits-") as room:
@@ -383,27 +363,23 @@ class Work:
         print(f"refused {who} by {why}" if is_refused else f"FAILED {who}: {why}", flush=True)
 
 
-def crates_of(kit):
+def all_crates():
     """The crates of crates.txt by name."""
-    lines, crates = {}, {}
-    with open(f"{ROOT}/crates.txt", encoding="utf-8") as it:
-        for line in it:
-            head, _, deps = line.partition("#")[0].partition(":")
-            if head.strip():
-                lines[head.split()[0]] = deps.split()
+    kit, names, found = crates.kit(), crates.listed(), {}
 
     def made(name):
-        if name not in crates:
-            crates[name] = Crate(name, [made(it) if it in lines else it for it in lines[name]], kit)
-        return crates[name]
+        if name not in found:
+            below = [made(it) for it in crates.below(name, names)]
+            found[name] = Crate(name, below, kit, crates.words(name, names, kit))
+        return found[name]
 
-    return {name: made(name) for name in lines}
+    return {name: made(name) for name in names}
 
 
-def chosen_of(crates, asked):
+def chosen_of(taken, asked):
     """The edits that are asked for, by crate."""
     places = ["must-fail", "edits"] if asked.names else ["must-fail"] if asked.must_fail else ["edits"]
-    chosen = {crate: [edit for place in places for edit in crate.edits(place)] for crate in crates}
+    chosen = {crate: [edit for place in places for edit in crate.edits(place)] for crate in taken}
     if asked.names:
         found = {it for crate in chosen for edit in chosen[crate] for it in names_of(crate, edit)}
         if unknown := {*asked.names} - found:
@@ -432,7 +408,7 @@ def drawn(chosen):
 
 def tried(chosen, budget, log):
     """Tries the edits, some crates side by side, and gives the status."""
-    for library in {it.name: it for crate in chosen for it in crate.below()}.values():
+    for library in {it.name: it for crate in chosen for it in crate.below}.values():
         if not library.is_made():
             said, status = budget.run(["rt", "lib", "--jobs", "1"], library.folder)
             if status:
@@ -471,9 +447,9 @@ def listed(chosen):
                 print(f"{crate.name}/{edit.name}: BAD EDIT: {why}")
 
 
-def promises(crates):
+def promises(taken):
     """Prints a Markdown list of all edits by crate and function, those in must-fail in bold type."""
-    for crate in crates:
+    for crate in taken:
         rows = {}
         for place, mark in ("must-fail", "**"), ("edits", ""):
             for edit in crate.edits(place):
@@ -508,11 +484,10 @@ def arguments():
 
 def main():
     asked = arguments()
-    kit = os.path.dirname(subprocess.run(["rt", "doc"], stdout=subprocess.PIPE, text=True, check=True).stdout.strip())
-    crates = crates_of(kit)
-    if unknown := {*(asked.crate or [])} - {*crates}:
+    known = all_crates()
+    if unknown := {*(asked.crate or [])} - {*known}:
         sys.exit(f"edits.py: crates.txt has no crate {', '.join(sorted(unknown))}")
-    taken = [it for it in crates.values() if not asked.crate or it.name in asked.crate]
+    taken = [it for it in known.values() if not asked.crate or it.name in asked.crate]
     if asked.promises:
         return promises(taken)
     chosen = chosen_of(taken, asked)
