@@ -6,7 +6,7 @@ use Rattle.gateway.specs.Answers.{Logon, Heartbeat, Logout}
 use Rattle.gateway.specs.Session.{Item, Answer, Output, is_logon, is_last, orderly, outputs_in, Standing, At}
 use Rattle.gateway.specs.Ledgers.{Ledger}
 use Rattle.gateway.specs.Wires.{Told, grown}
-use Rattle.gateway.specs.Turns.{Front, Moved, Takes, Turn}
+use Rattle.gateway.specs.Turns.{world, Front, Moved, Takes, Turn}
 use Rattle.gateway.specs.declared.ending.Turned.{Turned}
 use Rattle.gateway.specs.Delivers.{Course, nothing_yet, further, Start, Delivers}
 use Rattle.gateway.proofs.WireLemmas.{grown-append, grown-nil}
@@ -48,7 +48,7 @@ begins front wire desk at none = record {
 }
 
 module _ (start : Start) (old new : Front) (wire wire' : Told) (desk desk' : Ledger) (answer : Turned) (c : Course)
-    (turn : Turn old new wire wire' desk desk' answer) (so_far : Delivers start old wire desk c) where
+    (turn : Turn (world old wire desk) (world new wire' desk') answer) (so_far : Delivers start old wire desk c) where
   abbrev m : Moved
   m = turn.moved
 

@@ -12,7 +12,7 @@ use Rattle.gateway.specs.Ledgers.{Ledger, loading}
 use Rattle.gateway.specs.Verdict.{Verdict, Welcome, Beat, Hold, Pass, Leave, Refuse, verdict}
 use Rattle.gateway.specs.Session.{Standing, At}
 use Rattle.gateway.specs.Moves.{heard}
-use Rattle.gateway.specs.Turns.{Front, Moved, nothing_moved, Moves, Counts, ClosesBy, farewell}
+use Rattle.gateway.specs.Turns.{world, Front, Moved, nothing_moved, Moves, Counts, ClosesBy, farewell}
 use Rattle.gateway.specs.Parts.{Tries, Listens, Unheard, HeardFrame, HeardFault}
 use Rattle.gateway.specs.HeardOf.{heard_of}
 use Rattle.gateway.specs.Gateways.{Hears, HeardSo, Reads, ReadSo}
@@ -51,7 +51,7 @@ module _ (old new : Front) (desk desk' : Ledger) (is_open : old.session.closing 
 
   -- the message held went to the desk
   pub publish-hears : (answer : TryPublish) → Tries old.session new.session desk desk' answer →
-      (wire : Told) → Hears old new wire wire desk desk' (heard_of answer)
+      (wire : Told) → Hears (world old wire desk) (world new wire desk') (heard_of answer)
   publish-hears Done tries wire = record {
     moved = record nothing_moved { messages = tries.message ∷ [] };
     step = record {
@@ -225,7 +225,7 @@ module _ (old mid : Front) (wire wire' : Told) (desk : Ledger) (is_open : old.se
   session_stays = ap (λ (f : Front). f.session) reads.others
 
   read-so : (a : Heard) → ReadSo old mid wire wire' reads.got a → (a ≡ Failed) ⊎ (mid.waiting ≡ []) →
-      HeardSo old mid wire wire' desk desk (record nothing_moved { got = reads.got }) a
+      HeardSo (world old wire desk) (world mid wire' desk) (record nothing_moved { got = reads.got }) a
   read-so Something so why = λ same. so (ap (λ (m : Moved). m.got) same)
   read-so Nothing so (inl failed) = cc
   read-so Nothing (none, inl stood) (inr empty) =
@@ -234,7 +234,7 @@ module _ (old mid : Front) (wire wire' : Told) (desk : Ledger) (is_open : old.se
   read-so Failed so why = so.1
 
   -- the wire failed, or nothing stands to be fed
-  pub read-hears : (answer ≡ Failed) ⊎ (mid.waiting ≡ []) → Hears old mid wire wire' desk desk answer
+  pub read-hears : (answer ≡ Failed) ⊎ (mid.waiting ≡ []) → Hears (world old wire desk) (world mid wire' desk) answer
   read-hears why = record {
     moved = record nothing_moved { got = reads.got };
     step = record {
@@ -263,7 +263,7 @@ module _ (old mid : Front) (wire wire' : Told) (desk : Ledger) (is_open : old.se
   pub feed-hears : answer ≢ Failed → (new : Front) (n : ℕ) → Listens mid.session new.session mid.waiting n →
       new ≡ record mid { session = new.session; waiting = new.waiting } → new.waiting ≡ drop n mid.waiting →
       length new.session.outgoing ≤ length mid.session.outgoing + 412 →
-      Hears old new wire wire' desk desk Something
+      Hears (world old wire desk) (world new wire' desk) Something
   feed-hears alive new n listens others rest room =
       let fed = fed-so old.session new.session (take n mid.waiting) is_open free
       (subst (λ (s : Standing). (Unheard s new.session (take n mid.waiting) ⊎ HeardFrame s new.session (take n mid.waiting)) ⊎ HeardFault s new.session (take n mid.waiting)) session_stays listens.hears) in
@@ -299,7 +299,7 @@ module _ (old mid : Front) (wire wire' : Told) (desk : Ledger) (is_open : old.se
       Listens mid.session new.session piece n →
       new ≡ record mid { session = new.session; waiting = new.waiting } → new.waiting ≡ drop n mid.waiting →
       length new.session.outgoing ≤ length mid.session.outgoing + 412 →
-      Hears old new wire wire' desk desk Something
+      Hears (world old wire desk) (world new wire' desk) Something
   fed-hears alive piece new n piece_is listens =
       feed-hears alive new n (subst (λ p. Listens mid.session new.session p n) piece_is listens)
 

@@ -4,7 +4,7 @@ use Rattle.fix_orders.specs.Text.{Said}
 use Rattle.gateway.specs.Wires.{Told, grown}
 use Rattle.gateway.specs.Ledgers.{Ledger}
 use Rattle.gateway.specs.Session.{Standing, At}
-use Rattle.gateway.specs.Turns.{Moved, nothing_moved, Moves, Step}
+use Rattle.gateway.specs.Turns.{place, Moved, nothing_moved, Moves, Step}
 use Rattle.gateway.proofs.Standings.{at-flushed}
 use Rattle.gateway.proofs.WireLemmas.{grown-append, grown-nil}
 
@@ -36,7 +36,7 @@ moves-then a b c m n first second input messages outs written at =
     (second (input ++ m.fed) (messages ++ m.messages) (outs ++ m.handed) (written ++ m.put) (first input messages outs written at))
 
 pub step-then : (a b c : Standing) (u v w : List ℕ) (p q r : Told) (d e f : Ledger) (m n : Moved) →
-    Step a b u v p q d e m → Step b c v w q r e f n → Step a c u w p r d f (both m n)
+    Step (place a u p d) (place b v q e) m → Step (place b v q e) (place c w r f) n → Step (place a u p d) (place c w r f) (both m n)
 step-then a b c u v w p q r d e f m n first second = record {
   moves = moves-then a b c m n first.moves second.moves;
   input = append_assoc m.fed n.fed w ∙ ap (λ x. m.fed ++ x) second.input ∙ sym (append_assoc m.fed v n.got)
@@ -57,7 +57,7 @@ moves-nothing s input messages outs written at =
 pub flush-step : (old new : Standing) (waiting put : List ℕ) (wire wire' : Told) (desk : Ledger) →
     old.outgoing ≡ put ++ new.outgoing → new ≡ record old { outgoing = new.outgoing } →
     wire'.gave ≡ wire.gave → wire'.took ≡ grown wire.took put →
-    Step old new waiting waiting wire wire' desk desk (record nothing_moved { put = put })
+    Step (place old waiting wire desk) (place new waiting wire' desk) (record nothing_moved { put = put })
 flush-step old new waiting put wire wire' desk split new_is gave took = record {
   moves = λ input messages outs written at.
       subst (λ (s : Standing). At s (input ++ []) (messages ++ []) (outs ++ []) (written ++ put)) (sym new_is)

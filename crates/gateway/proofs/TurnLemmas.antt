@@ -18,7 +18,7 @@ use Rattle.gateway.specs.Ledgers.{Ledger, loading}
 use Rattle.gateway.specs.Flushing.{Flushes}
 use Rattle.gateway.specs.Session.{Standing}
 use Rattle.gateway.specs.Sessions.{ClosesItself}
-use Rattle.gateway.specs.Turns.{Front, Moved, nothing_moved, Step, Takes, WasRefused, WasExhausted, FoundNone, ClosesBy, Silence, Hearing, IsQuiet, GoesOn, EndedBy, Means, CountsTurns, Attends, Turn, Counts, GoesWith}
+use Rattle.gateway.specs.Turns.{place, world, Front, Moved, nothing_moved, Step, Takes, WasRefused, WasExhausted, FoundNone, ClosesBy, Silence, Hearing, IsQuiet, GoesOn, EndedBy, Means, CountsTurns, Attends, Turn, Counts, GoesWith}
 use Rattle.gateway.specs.Gateways.{Hears, HeardSo, HandsOn, TookSo, Waits, Rests, RestsSo, Stuck, StuckSo}
 use Rattle.gateway.proofs.StepLemmas.{both, step-then, flush-step}
 use Rattle.gateway.proofs.WireLemmas.{grown-nil}
@@ -58,7 +58,7 @@ no_rest [] rest e = sym e
 no_rest (b ∷ put) rest e = no_rest put rest cc
 
 -- a session that has ended needn't attend to anything
-over-attends : (old new : Front) (wire wire' : Told) (desk desk' : Ledger) (m : Moved) → new.live ≡ false → Attends old new wire wire' desk desk' m
+over-attends : (old new : Front) (wire wire' : Told) (desk desk' : Ledger) (m : Moved) → new.live ≡ false → Attends (world old wire desk) (world new wire' desk') m
 over-attends old new wire wire' desk desk' m over = record {
   listens = λ live. absurd (true≢false (sym live ∙ over));
   looks = λ live. absurd (true≢false (sym live ∙ over));
@@ -70,10 +70,10 @@ module _ (old : Front) (session : Standing) (wire wire' : Told) (desk : Ledger) 
     (session_is : session ≡ record old.session { outgoing = session.outgoing })
     (gave : wire'.gave ≡ wire.gave) (took : wire'.took ≡ grown wire.took put) (ends : wire'.ends ≡ wire.ends) (deaf : ℕ) (live : Bool) where
   flushed-turn : (answer : Turned) → (wire'.failures ≢ wire.failures → answer ≡ Ended WireFailed) →
-      Attends old (record old { session = session; deaf = deaf; live = live }) wire wire' desk desk (record nothing_moved { put = put }) →
-      Means old (record old { session = session; deaf = deaf; live = live }) wire wire' desk desk (record nothing_moved { put = put }) answer →
-      CountsTurns old (record old { session = session; deaf = deaf; live = live }) wire wire' desk desk (record nothing_moved { put = put }) →
-      Turn old (record old { session = session; deaf = deaf; live = live }) wire wire' desk desk answer
+      Attends (world old wire desk) (world (record old { session = session; deaf = deaf; live = live }) wire' desk) (record nothing_moved { put = put }) →
+      Means (world old wire desk) (world (record old { session = session; deaf = deaf; live = live }) wire' desk) (record nothing_moved { put = put }) answer →
+      CountsTurns (world old wire desk) (world (record old { session = session; deaf = deaf; live = live }) wire' desk) (record nothing_moved { put = put }) →
+      Turn (world old wire desk) (world (record old { session = session; deaf = deaf; live = live }) wire' desk) answer
   flushed-turn answer fails attends means counts = record {
     moved = record nothing_moved { put = put };
     step = flush-step old.session session old.waiting put wire wire' desk split session_is gave took;
@@ -92,7 +92,7 @@ no_more desk A more = absurd (omega (arith, more))
 
 -- a session is over: its counts are as they were, or the first began again
 over-counts : (old new : Front) (wire wire' : Told) (desk desk' : Ledger) (m : Moved) → new.live ≡ false → (new.deaf ≡ 0) ⊎ (new.deaf ≡ old.deaf) →
-    new.idle ≡ old.idle → CountsTurns old new wire wire' desk desk' m
+    new.idle ≡ old.idle → CountsTurns (world old wire desk) (world new wire' desk') m
 over-counts old new wire wire' desk desk' m over deaf idle = record {
   deaf = elim deaf [ inl zero ↦ inl zero | inr same ↦ inr (inl same) ];
   idle = inr (inl idle);
@@ -105,7 +105,7 @@ over-counts old new wire wire' desk desk' m over deaf idle = record {
 pub turn-failed : (old : Front) (session : Standing) (wire wire' : Told) (desk : Ledger) →
     session ≡ record old.session { outgoing = session.outgoing } →
     Flushes old.session.outgoing session.outgoing wire wire' flushed.Failed →
-    Turn old (record old { session = session; live = false }) wire wire' desk desk (Ended WireFailed)
+    Turn (world old wire desk) (world (record old { session = session; live = false }) wire' desk) (Ended WireFailed)
 turn-failed old session wire wire' desk session_is (put, split, (rose, tells)) =
     flushed-turn old session wire wire' desk put split session_is (ap (λ (t : Told). t.gave) tells) (ap (λ (t : Told). t.took) tells) (ap (λ (t : Told). t.ends) tells)
     old.deaf false (Ended WireFailed) (λ more. refl) (over-attends old (record old { session = session; live = false }) wire wire' desk desk (record nothing_moved { put = put }) refl) (rose, refl)
@@ -115,7 +115,7 @@ turn-failed old session wire wire' desk session_is (put, split, (rose, tells)) =
 stuck-means : (old new : Front) (wire wire' : Told) (desk : Ledger) (put : List ℕ) (wrote : Bool) (answer : Turned) →
     old.session.outgoing ≡ put ++ new.session.outgoing → new.session.outgoing ≢ [] → old.live ≡ true →
     wrote ≡ nat_lt (length new.session.outgoing) (length old.session.outgoing) → Rose wire.full_writes wire'.full_writes →
-    StuckSo old new wrote answer → Means old new wire wire' desk desk (record nothing_moved { put = put }) answer
+    StuckSo old new wrote answer → Means (world old wire desk) (world new wire' desk) (record nothing_moved { put = put }) answer
 stuck-means old new wire wire' desk put wrote Worked split left live wrote_is rose so = (
   inl (λ same. wrote_some old.session.outgoing put new.session.outgoing split (sym wrote_is ∙ so.1) (ap (λ (m : Moved). m.put) same)),
   record { live = so.0 ∙ live; unsaid = λ closing. left },
@@ -144,7 +144,7 @@ stuck-so old session new wrote (Ended reason) stuck = stuck.so
 stuck-counts : (old new : Front) (wire wire' : Told) (desk : Ledger) (put : List ℕ) (wrote : Bool) (answer : Turned) →
     old.session.outgoing ≡ put ++ new.session.outgoing → new.session.outgoing ≢ [] → new.idle ≡ old.idle →
     wrote ≡ nat_lt (length new.session.outgoing) (length old.session.outgoing) → Rose wire.full_writes wire'.full_writes →
-    StuckSo old new wrote answer → CountsTurns old new wire wire' desk desk (record nothing_moved { put = put })
+    StuckSo old new wrote answer → CountsTurns (world old wire desk) (world new wire' desk) (record nothing_moved { put = put })
 stuck-counts old new wire wire' desk put wrote Worked split left idle wrote_is rose so = record {
   deaf = inl so.2;
   idle = inr (inl idle);
@@ -174,10 +174,10 @@ pub turn-stuck : (old : Front) (session : Standing) (new : Front) (wire wire' : 
     Flushes old.session.outgoing session.outgoing wire wire' flushed.Full →
     wrote ≡ nat_lt (length session.outgoing) (length old.session.outgoing) →
     Stuck (record old { session = session }) new wrote answer →
-    Turn old new wire wire' desk desk answer
+    Turn (world old wire desk) (world new wire' desk) answer
 turn-stuck old session new wire wire' desk wrote answer session_is live (put, split, (left, rose, tells)) wrote_is stuck =
     let end = record old { session = session; deaf = new.deaf; live = new.live } in
-    subst (λ (f : Front). Turn old f wire wire' desk desk answer) (sym stuck.others)
+    subst (λ (f : Front). Turn (world old wire desk) (world f wire' desk) answer) (sym stuck.others)
     (flushed-turn old session wire wire' desk put split session_is (ap (λ (t : Told). t.gave) tells) (ap (λ (t : Told). t.took) tells) (ap (λ (t : Told). t.ends) tells)
     new.deaf new.live answer (λ more. absurd (more (ap (λ (t : Told). t.failures) tells)))
     (record { listens = λ lives all. absurd (left (no_rest put session.outgoing (all ∙ split))); looks = λ lives all. absurd (left (no_rest put session.outgoing (all ∙ split))) })
@@ -198,7 +198,7 @@ pub turn-closed : (old : Front) (session : Standing) (wire wire' : Told) (desk :
     session ≡ record old.session { outgoing = session.outgoing } →
     Flushes old.session.outgoing session.outgoing wire wire' flushed.All →
     ClosesItself reason → session.closing ≡ Some reason →
-    Turn old (record old { session = session; deaf = 0; live = false }) wire wire' desk desk (Ended reason)
+    Turn (world old wire desk) (world (record old { session = session; deaf = 0; live = false }) wire' desk) (Ended reason)
 turn-closed old session wire wire' desk reason session_is (put, split, (none, tells)) own closing =
     flushed-turn old session wire wire' desk put split session_is (ap (λ (t : Told). t.gave) tells) (ap (λ (t : Told). t.took) tells) (ap (λ (t : Told). t.ends) tells)
     0 false (Ended reason) (λ more. absurd (more (ap (λ (t : Told). t.failures) tells)))
@@ -245,14 +245,14 @@ module _ (old h : Front) (session : Standing) (wire wire' wire'' : Told) (desk d
     (split : old.session.outgoing ≡ put ++ session.outgoing)
     (session_is : session ≡ record old.session { outgoing = session.outgoing })
     (none : session.outgoing ≡ []) (tells : wire' ≡ record wire { took = grown wire.took put })
-    (hears : Hears (record old { session = session; deaf = 0 }) h wire' wire'' desk desk' answer) where
-  flush_step : Step old.session session old.waiting old.waiting wire wire' desk desk (record nothing_moved { put = put })
+    (hears : Hears (world (record old { session = session; deaf = 0 }) wire' desk) (world h wire'' desk') answer) where
+  flush_step : Step (place old.session old.waiting wire desk) (place session old.waiting wire' desk) (record nothing_moved { put = put })
   flush_step = flush-step old.session session old.waiting put wire wire' desk split session_is (ap (λ (t : Told). t.gave) tells) (ap (λ (t : Told). t.took) tells)
 
   abbrev heard-moved : Moved
   heard-moved = both (record nothing_moved { put = put }) hears.moved
 
-  heard-step : Step old.session h.session old.waiting h.waiting wire wire'' desk desk' heard-moved
+  heard-step : Step (place old.session old.waiting wire desk) (place h.session h.waiting wire'' desk') heard-moved
   heard-step = step-then old.session session h.session old.waiting old.waiting h.waiting wire wire' wire'' desk desk desk'
       (record nothing_moved { put = put }) hears.moved flush_step hears.step
 
@@ -270,9 +270,9 @@ module _ (old h : Front) (session : Standing) (wire wire' wire'' : Told) (desk d
   heard_closes = subst (λ n. ClosesBy old.closed h.closed n wire''.ends) (ap (λ (t : Told). t.ends) tells) hears.closes
 
   -- the wire failed in the read
-  pub turn-unheard : answer ≡ Failed → Turn old (record h { live = false }) wire wire'' desk desk' (Ended WireFailed)
+  pub turn-unheard : answer ≡ Failed → Turn (world old wire desk) (world (record h { live = false }) wire'' desk') (Ended WireFailed)
   turn-unheard failed =
-      let rose : Rose wire'.failures wire''.failures = subst (λ (a : Heard). HeardSo (record old { session = session; deaf = 0 }) h wire' wire'' desk desk' hears.moved a) failed hears.so in
+      let rose : Rose wire'.failures wire''.failures = subst (λ (a : Heard). HeardSo (world (record old { session = session; deaf = 0 }) wire' desk) (world h wire'' desk') hears.moved a) failed hears.so in
       record {
         moved = heard-moved;
         step = heard-step;
@@ -300,7 +300,7 @@ module _ (old h : Front) (session : Standing) (wire wire' wire'' : Told) (desk d
     abbrev all-moved : Moved
     all-moved = both heard-moved given-moved
 
-    hand-step : Step h.session t.session h.waiting t.waiting wire'' wire'' desk' desk'' given-moved
+    hand-step : Step (place h.session h.waiting wire'' desk') (place t.session t.waiting wire'' desk'') given-moved
     hand-step = record {
       moves = hands.moves;
       input = ap (λ (f : Front). f.waiting) hands.others ∙ sym (append-nil h.waiting);
@@ -310,7 +310,7 @@ module _ (old h : Front) (session : Standing) (wire wire' wire'' : Told) (desk d
       gateway = hands.gateway;
     }
 
-    all-step : Step old.session t.session old.waiting t.waiting wire wire'' desk desk'' all-moved
+    all-step : Step (place old.session old.waiting wire desk) (place t.session t.waiting wire'' desk'') all-moved
     all-step = step-then old.session h.session t.session old.waiting h.waiting t.waiting wire wire'' wire'' desk desk' desk''
         heard-moved given-moved heard-step hand-step
 
@@ -369,7 +369,7 @@ module _ (old h : Front) (session : Standing) (wire wire' wire'' : Told) (desk d
     silent_all : (end : Front) → end.waiting ≡ t.waiting → end.closed ≡ t.closed →
         ((old.session.held ≢ None) × WasRefused desk desk')
         ⊎ ((old.session.held ≡ None) × (h.waiting ≡ []) × (Rose wire.empty_reads wire''.empty_reads ⊎ (h.closed ≡ true))) →
-        Silence old end wire wire'' desk desk''
+        Silence (world old wire desk) (world end wire'' desk'')
     silent_all end waiting_end closed_end (inl (held, refused)) =
         inl (held, later-refused desk desk' desk'' hands.loaded (ap (λ (l : Ledger). l.loads) hands.ledger) refused)
     silent_all end waiting_end closed_end (inr (free, fed, why)) = inr (
@@ -382,7 +382,7 @@ module _ (old h : Front) (session : Standing) (wire wire' wire'' : Told) (desk d
         (((old.session.held ≢ None) × WasRefused desk desk')
         ⊎ ((old.session.held ≡ None) × (h.waiting ≡ []) × (Rose wire.empty_reads wire''.empty_reads ⊎ (h.closed ≡ true)))) →
         end.session ≡ t.session → end.waiting ≡ t.waiting → end.closed ≡ t.closed →
-        IsQuiet old end wire wire'' desk desk'' all-moved
+        IsQuiet (world old wire desk) (world end wire'' desk'') all-moved
     quiet-all end written heard (handed, stays, uncounted, looked) silence session_end waiting_end closed_end = record {
       still = still_all written heard handed;
       stuck = λ stood. absurd (stood (split ∙ ap (λ p. p ++ session.outgoing) written ∙ none));
@@ -393,7 +393,7 @@ module _ (old h : Front) (session : Standing) (wire wire' wire'' : Told) (desk d
     }
 
     -- what was heard, if it wasn't something and the wire didn't fail
-    heard-nothing : (a : Heard) → a ≢ Something → a ≢ Failed → HeardSo (record old { session = session; deaf = 0 }) h wire' wire'' desk desk' hears.moved a →
+    heard-nothing : (a : Heard) → a ≢ Something → a ≢ Failed → HeardSo (world (record old { session = session; deaf = 0 }) wire' desk) (world h wire'' desk') hears.moved a →
         (hears.moved ≡ nothing_moved) × (((old.session.held ≢ None) × WasRefused desk desk')
         ⊎ ((old.session.held ≡ None) × (h.waiting ≡ []) × (Rose wire.empty_reads wire''.empty_reads ⊎ (h.closed ≡ true))))
     heard-nothing Something other alive so = absurd (other refl)
@@ -415,7 +415,7 @@ module _ (old h : Front) (session : Standing) (wire wire' wire'' : Told) (desk d
 
     -- the counts of a turn that wrote all
     all-counts : (end : Front) (wrote : Bool) (b : Bool) → took ≡ b → wrote ≡ nat_lt (length session.outgoing) (length old.session.outgoing) →
-        end ≡ record t { idle = end.idle; live = end.live } → Waits t end wrote b → CountsTurns old end wire wire'' desk desk'' all-moved
+        end ≡ record t { idle = end.idle; live = end.live } → Waits t end wrote b → CountsTurns (world old wire desk) (world end wire'' desk'') all-moved
     all-counts end true b took_is wrote_is end_is waits = record {
       deaf = inl (end_deaf end end_is);
       idle = inl waits;
@@ -449,8 +449,8 @@ module _ (old h : Front) (session : Standing) (wire wire' wire'' : Told) (desk d
         }
 
     -- a turn that went on behind its writes listened
-    all-listens : (end : Front) (a : Heard) → a ≢ Failed → HeardSo (record old { session = session; deaf = 0 }) h wire' wire'' desk desk' hears.moved a →
-        end.waiting ≡ t.waiting → end.closed ≡ t.closed → Hearing all-moved ⊎ Silence old end wire wire'' desk desk''
+    all-listens : (end : Front) (a : Heard) → a ≢ Failed → HeardSo (world (record old { session = session; deaf = 0 }) wire' desk) (world h wire'' desk') hears.moved a →
+        end.waiting ≡ t.waiting → end.closed ≡ t.closed → Hearing all-moved ⊎ Silence (world old wire desk) (world end wire'' desk'')
     all-listens end Something alive so waiting_end closed_end = inl (hearing_all (some_heard hears.moved so hears.unwritten hears.unhanded))
     all-listens end Nothing alive so waiting_end closed_end = inr (silent_all end waiting_end closed_end (heard-nothing Nothing (λ is. cc) alive so).1)
     all-listens end Failed alive so waiting_end closed_end = absurd (alive refl)
@@ -472,13 +472,13 @@ module _ (old h : Front) (session : Standing) (wire wire' wire'' : Told) (desk d
     all-means : (end : Front) (wrote : Bool) (turned : Turned) →
         wrote ≡ nat_lt (length session.outgoing) (length old.session.outgoing) → answer ≢ Failed → t.live ≡ true → old.session.closing ≡ None →
         end ≡ record t { idle = end.idle; live = end.live } → RestsSo t end wrote answer took turned →
-        Means old end wire wire'' desk desk'' all-moved turned
+        Means (world old wire desk) (world end wire'' desk'') all-moved turned
     all-means end wrote Worked wrote_is alive live is_open end_is (same, inl did) =
         (inl (λ still. wrote_some old.session.outgoing put session.outgoing split (sym wrote_is ∙ did) (unwritten_all still)), goes-on end (same ∙ live) is_open)
     all-means end wrote Worked wrote_is alive live is_open end_is (same, inr (inl did)) =
         (inr (subst (λ n. n < desk''.count) count_same (subst (λ (b : Bool). TookSo h t desk' desk'' hands.handed b) did hands.so)), goes-on end (same ∙ live) is_open)
     all-means end wrote Worked wrote_is alive live is_open end_is (same, inr (inr did)) =
-        (inl (λ still. (subst (λ (a : Heard). HeardSo (record old { session = session; deaf = 0 }) h wire' wire'' desk desk' hears.moved a) did hears.so) (unheard_all still)), goes-on end (same ∙ live) is_open)
+        (inl (λ still. (subst (λ (a : Heard). HeardSo (world (record old { session = session; deaf = 0 }) wire' desk) (world h wire'' desk') hears.moved a) did hears.so) (unheard_all still)), goes-on end (same ∙ live) is_open)
     all-means end wrote Quiet wrote_is alive live is_open end_is (same, no_bytes, no_output, no_news) =
         let silent = heard-nothing answer no_news alive hears.so in (
           quiet-all end (wrote_none old.session.outgoing put session.outgoing split (sym wrote_is ∙ no_bytes)) silent.0
@@ -491,14 +491,14 @@ module _ (old h : Front) (session : Standing) (wire wire' wire'' : Told) (desk d
 
     pub turn-rested : (end : Front) (wrote : Bool) (turned : Turned) →
         wrote ≡ nat_lt (length session.outgoing) (length old.session.outgoing) → answer ≢ Failed → old.live ≡ true → session.closing ≡ None →
-        Rests t end wrote answer took turned → Turn old end wire wire'' desk desk'' turned
+        Rests t end wrote answer took turned → Turn (world old wire desk) (world end wire'' desk'') turned
     turn-rested end wrote turned wrote_is alive live is_open rests =
         let session_end = ap (λ (f : Front). f.session) rests.others in
         let t_live : t.live ≡ true = ap (λ (f : Front). f.live) hands.others ∙ ap (λ (f : Front). f.live) hears.others ∙ live in
         record {
           moved = all-moved;
-          step = subst (λ (s : Standing). Step old.session s old.waiting end.waiting wire wire'' desk desk'' all-moved) (sym session_end)
-              (subst (λ w. Step old.session t.session old.waiting w wire wire'' desk desk'' all-moved) (sym (ap (λ (f : Front). f.waiting) rests.others)) all-step);
+          step = subst (λ (s : Standing). Step (place old.session old.waiting wire desk) (place s end.waiting wire'' desk'') all-moved) (sym session_end)
+              (subst (λ w. Step (place old.session old.waiting wire desk) (place t.session w wire'' desk'') all-moved) (sym (ap (λ (f : Front). f.waiting) rests.others)) all-step);
           takes = subst (λ (s : Standing). Takes s.logged_on old end desk desk'' all-moved.handed) (sym session_end) (record {
             these = all-takes.these;
             taken = all-takes.taken;

@@ -13,7 +13,7 @@ use Rattle.ring_words.specs.declared.view.Load.{Load}
 use Rattle.ring_words.specs.Places.{marshalled}
 use Rattle.ring_words.specs.Seats.{load_of}
 use Rattle.gateway.specs.Ledgers.{Ledger, loading}
-use Rattle.gateway.specs.Turns.{Front, Moved, nothing_moved, Moves, Step, Takes, Counts, WasExhausted, ClosesBy, Silence}
+use Rattle.gateway.specs.Turns.{Front, World, world, place_of, Moved, nothing_moved, Moves, Step, Takes, Counts, WasExhausted, ClosesBy, Silence}
 use Rattle.gateway.specs.Moves.{fresh}
 
 abbrev pub front : Inside → Front
@@ -45,31 +45,31 @@ begun gateway passed = record {
 }
 
 -- what was heard
-abbrev pub HeardSo : Front → Front → Told → Told → Ledger → Ledger → Moved → Heard → Type 0
-HeardSo old new wire wire_after desk desk_after m Something = m ≢ nothing_moved
-HeardSo old new wire wire_after desk desk_after m Nothing = (m ≡ nothing_moved) × Silence old new wire wire_after desk desk_after
-HeardSo old new wire wire_after desk desk_after m Failed = Rose wire.failures wire_after.failures
+abbrev pub HeardSo : World → World → Moved → Heard → Type 0
+HeardSo old new m Something = m ≢ nothing_moved
+HeardSo old new m Nothing = (m ≡ nothing_moved) × Silence old new
+HeardSo old new m Failed = Rose old.wire.failures new.wire.failures
 
 -- the part of a turn that publishes, or reads and hears
-pub record Hears (old new : Front) (wire wire_after : Told) (desk desk_after : Ledger) (answer : Heard) : Type 0 where
+pub record Hears (old new : World) (answer : Heard) : Type 0 where
   pub moved : Moved
-  pub step : Step old.session new.session old.waiting new.waiting wire wire_after desk desk_after moved
-  pub others : new ≡ record old { session = new.session; waiting = new.waiting; closed = new.closed }
+  pub step : Step (place_of old) (place_of new) moved
+  pub others : new.front ≡ record old.front { session = new.front.session; waiting = new.front.waiting; closed = new.front.closed }
   pub loaded : List Load
-  pub ledger : desk_after ≡ record (loading desk loaded) { published = desk_after.published }
+  pub ledger : new.desk ≡ record (loading old.desk loaded) { published = new.desk.published }
   pub unwritten : moved.put ≡ []
   pub unhanded : moved.handed ≡ []
-  pub counts : (count : ℕ) → Counts old.session count → Counts new.session count
-  pub room : length new.session.outgoing ≤ 512
-  pub next : new.session.number ≤ old.session.number + 1
-  pub lost : new.session.closing ≡ Some Exhausted → (old.session.held ≢ None) × WasExhausted desk desk_after
-  pub closes : ClosesBy old.closed new.closed wire.ends wire_after.ends
-  pub alive : answer ≢ Failed → wire_after.failures ≡ wire.failures
-  pub so : HeardSo old new wire wire_after desk desk_after moved answer
+  pub counts : (count : ℕ) → Counts old.front.session count → Counts new.front.session count
+  pub room : length new.front.session.outgoing ≤ 512
+  pub next : new.front.session.number ≤ old.front.session.number + 1
+  pub lost : new.front.session.closing ≡ Some Exhausted → (old.front.session.held ≢ None) × WasExhausted old.desk new.desk
+  pub closes : ClosesBy old.front.closed new.front.closed old.wire.ends new.wire.ends
+  pub alive : answer ≢ Failed → new.wire.failures ≡ old.wire.failures
+  pub so : HeardSo old new moved answer
 
 -- the message held was tried to publish, and the wire wasn't touched
 abbrev pub Publishes : Front → Front → Ledger → Ledger → Heard → Type 0
-Publishes old new desk desk_after answer = (wire : Told) → Hears old new wire wire desk desk_after answer
+Publishes old new desk desk_after answer = (wire : Told) → Hears (world old wire desk) (world new wire desk_after) answer
 
 -- what a read gave
 abbrev pub ReadSo : Front → Front → Told → Told → List ℕ → Heard → Type 0

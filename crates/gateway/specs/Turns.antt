@@ -25,6 +25,28 @@ pub record Front : Type 0 where
   pub passed : ℕ
   pub live : Bool
 
+-- what there is around a turn: the side towards the client, what the wire tells, and what the seat at the rings tells
+pub record World : Type 0 where
+  pub front : Front
+  pub wire : Told
+  pub desk : Ledger
+
+abbrev pub world : Front → Told → Ledger → World
+world front wire desk = record { front = front; wire = wire; desk = desk }
+
+-- where a part of a turn stands: the session, the bytes read and not yet fed, and what wire and seat tell
+pub record Place : Type 0 where
+  pub session : Standing
+  pub waiting : List ℕ
+  pub wire : Told
+  pub desk : Ledger
+
+abbrev pub place : Standing → List ℕ → Told → Ledger → Place
+place session waiting wire desk = record { session = session; waiting = waiting; wire = wire; desk = desk }
+
+abbrev pub place_of : World → Place
+place_of w = place w.front.session w.front.waiting w.wire w.desk
+
 -- what moves in a part of a turn: bytes fed to the session, bytes that the wire gave and took, messages published,
 -- and outputs handed to the session
 pub record Moved : Type 0 where
@@ -46,13 +68,13 @@ Moves old new m =
 
 -- the session moves so; what was fed and what is left is what stood in the buffer and what the wire gave; the wire
 -- and the desk tell the rest
-pub record Step (old new : Standing) (waiting waiting_after : List ℕ) (wire wire_after : Told) (desk desk_after : Ledger) (m : Moved) : Type 0 where
-  pub moves : Moves old new m
-  pub input : m.fed ++ waiting_after ≡ waiting ++ m.got
-  pub gave : wire_after.gave ≡ grown wire.gave m.got
-  pub took : wire_after.took ≡ grown wire.took m.put
-  pub published : desk_after.published ≡ desk.published ++ m.messages
-  pub gateway : new.gateway ≡ old.gateway
+pub record Step (old new : Place) (m : Moved) : Type 0 where
+  pub moves : Moves old.session new.session m
+  pub input : m.fed ++ new.waiting ≡ old.waiting ++ m.got
+  pub gave : new.wire.gave ≡ grown old.wire.gave m.got
+  pub took : new.wire.took ≡ grown old.wire.took m.put
+  pub published : new.desk.published ≡ old.desk.published ++ m.messages
+  pub gateway : new.session.gateway ≡ old.session.gateway
 
 -- the outputs taken in a turn: those of a session that is logged on are handed to it, others are passed over
 pub record Takes (on : Bool) (old new : Front) (desk desk_after : Ledger) (handed : List Said) : Type 0 where
@@ -83,10 +105,10 @@ ClosesBy closed closed_after ends ends_after =
 
 -- why nothing was heard: a message is held whose claim was refused; or none is, nothing is left of what was read, and a read answered Nothing or
 -- the client has closed its side
-abbrev pub Silence : Front → Front → Told → Told → Ledger → Ledger → Type 0
-Silence old new wire wire_after desk desk_after =
-    ((old.session.held ≢ None) × WasRefused desk desk_after)
-    ⊎ ((old.session.held ≡ None) × (new.waiting ≡ []) × (Rose wire.empty_reads wire_after.empty_reads ⊎ (new.closed ≡ true)))
+abbrev pub Silence : World → World → Type 0
+Silence old new =
+    ((old.front.session.held ≢ None) × WasRefused old.desk new.desk)
+    ⊎ ((old.front.session.held ≡ None) × (new.front.waiting ≡ []) × (Rose old.wire.empty_reads new.wire.empty_reads ⊎ (new.front.closed ≡ true)))
 
 -- something was heard: bytes were read or fed, or a message published
 abbrev pub Hearing : Moved → Type 0
@@ -94,12 +116,12 @@ Hearing m = (m.got ≢ []) ⊎ ((m.fed ≢ []) ⊎ (m.messages ≢ []))
 
 -- Nothing moved in the turn, and this is why. Bytes stood to be written, and a write answered Nothing. Or there was nothing to hear; and, unless the
 -- session closes, there was no output.
-pub record IsQuiet (old new : Front) (wire wire_after : Told) (desk desk_after : Ledger) (m : Moved) : Type 0 where
+pub record IsQuiet (old new : World) (m : Moved) : Type 0 where
   pub still : m ≡ nothing_moved
-  pub stuck : old.session.outgoing ≢ [] → Rose wire.full_writes wire_after.full_writes
-  pub unheard : old.session.outgoing ≡ [] → Silence old new wire wire_after desk desk_after
-  pub untaken : desk_after.count ≡ desk.count
-  pub unhanded : old.session.outgoing ≡ [] → new.session.closing ≡ None → FoundNone desk desk_after
+  pub stuck : old.front.session.outgoing ≢ [] → Rose old.wire.full_writes new.wire.full_writes
+  pub unheard : old.front.session.outgoing ≡ [] → Silence old new
+  pub untaken : new.desk.count ≡ old.desk.count
+  pub unhanded : old.front.session.outgoing ≡ [] → new.front.session.closing ≡ None → FoundNone old.desk new.desk
 
 -- something moved: a byte was read, fed or written, a message published, an output taken or passed over
 abbrev pub Moving : Moved → Ledger → Ledger → Type 0
@@ -120,39 +142,41 @@ pub record GoesOn (old new : Front) : Type 0 where
   pub unsaid : old.session.closing ≢ None → new.session.outgoing ≢ []
 
 -- what the answer of a turn means
-abbrev pub Means : Front → Front → Told → Told → Ledger → Ledger → Moved → Turned → Type 0
-Means old new wire wire_after desk desk_after m Worked = Moving m desk desk_after × GoesOn old new
-Means old new wire wire_after desk desk_after m Quiet = IsQuiet old new wire wire_after desk desk_after m × GoesOn old new
-Means old new wire wire_after desk desk_after m (Ended reason) = EndedBy new wire wire_after reason × (new.live ≡ false)
+abbrev pub Means : World → World → Moved → Turned → Type 0
+Means old new m Worked = Moving m old.desk new.desk × GoesOn old.front new.front
+Means old new m Quiet = IsQuiet old new m × GoesOn old.front new.front
+Means old new m (Ended reason) = EndedBy new.front old.wire new.wire reason × (new.front.live ≡ false)
 
 -- How the counts of turns in a row move. The one that ends a session with 55 rises where no byte of those that stand to be written goes out, and begins
 -- again where one does; the one that ends it with 51 rises, once the client has closed its side, where nothing was written and no output was there, and
 -- begins again where all that stood to be written was, or an output was taken or passed over.
-pub record CountsTurns (old new : Front) (wire wire_after : Told) (desk desk_after : Ledger) (m : Moved) : Type 0 where
-  pub deaf : (new.deaf ≡ 0) ⊎ ((new.deaf ≡ old.deaf)
-      ⊎ ((new.deaf ≡ old.deaf + 1) × (old.session.outgoing ≢ []) × (m.put ≡ []) × Rose wire.full_writes wire_after.full_writes))
-  pub idle : (new.idle ≡ 0) ⊎ ((new.idle ≡ old.idle)
-      ⊎ ((new.idle ≡ old.idle + 1) × (new.closed ≡ true) × (m.put ≡ []) × FoundNone desk desk_after))
-  pub wrote : new.live ≡ true → m.put ≢ [] → new.deaf ≡ 0
-  pub wrote_all : new.live ≡ true → m.put ≢ [] → new.session.outgoing ≡ [] → new.idle ≡ 0
-  pub took : new.live ≡ true → desk.count < desk_after.count → new.idle ≡ 0
+pub record CountsTurns (old new : World) (m : Moved) : Type 0 where
+  pub deaf : (new.front.deaf ≡ 0) ⊎ ((new.front.deaf ≡ old.front.deaf)
+      ⊎ ((new.front.deaf ≡ old.front.deaf + 1) × (old.front.session.outgoing ≢ []) × (m.put ≡ []) × Rose old.wire.full_writes new.wire.full_writes))
+  pub idle : (new.front.idle ≡ 0) ⊎ ((new.front.idle ≡ old.front.idle)
+      ⊎ ((new.front.idle ≡ old.front.idle + 1) × (new.front.closed ≡ true) × (m.put ≡ []) × FoundNone old.desk new.desk))
+  pub wrote : new.front.live ≡ true → m.put ≢ [] → new.front.deaf ≡ 0
+  pub wrote_all : new.front.live ≡ true → m.put ≢ [] → new.front.session.outgoing ≡ [] → new.front.idle ≡ 0
+  pub took : new.front.live ≡ true → old.desk.count < new.desk.count → new.front.idle ≡ 0
 
 -- A turn that wrote all that stood to be written, and didn't end the session, listened; and, unless the session closes now, it looked for an output.
-pub record Attends (old new : Front) (wire wire_after : Told) (desk desk_after : Ledger) (m : Moved) : Type 0 where
-  pub listens : new.live ≡ true → m.put ≡ old.session.outgoing → Hearing m ⊎ Silence old new wire wire_after desk desk_after
-  pub looks : new.live ≡ true → m.put ≡ old.session.outgoing → new.session.closing ≡ None → (desk.count < desk_after.count) ⊎ FoundNone desk desk_after
+pub record Attends (old new : World) (m : Moved) : Type 0 where
+  pub listens : new.front.live ≡ true → m.put ≡ old.front.session.outgoing → Hearing m ⊎ Silence old new
+  pub looks : new.front.live ≡ true → m.put ≡ old.front.session.outgoing → new.front.session.closing ≡ None
+      → (old.desk.count < new.desk.count) ⊎ FoundNone old.desk new.desk
 
 -- a whole turn
-pub record Turn (old new : Front) (wire wire_after : Told) (desk desk_after : Ledger) (answer : Turned) : Type 0 where
+pub record Turn (old new : World) (answer : Turned) : Type 0 where
   pub moved : Moved
-  pub step : Step old.session new.session old.waiting new.waiting wire wire_after desk desk_after moved
-  pub takes : Takes new.session.logged_on old new desk desk_after moved.handed
-  pub means : Means old new wire wire_after desk desk_after moved answer
-  pub counts : CountsTurns old new wire wire_after desk desk_after moved
-  pub attends : Attends old new wire wire_after desk desk_after moved
-  pub closes : ClosesBy old.closed new.closed wire.ends wire_after.ends
-  pub fails : wire_after.failures ≢ wire.failures → answer ≡ Ended WireFailed
-  pub lost : old.session.closing ≡ None → new.session.closing ≡ Some Exhausted → (old.session.held ≢ None) × WasExhausted desk desk_after
+  pub step : Step (place_of old) (place_of new) moved
+  pub takes : Takes new.front.session.logged_on old.front new.front old.desk new.desk moved.handed
+  pub means : Means old new moved answer
+  pub counts : CountsTurns old new moved
+  pub attends : Attends old new moved
+  pub closes : ClosesBy old.front.closed new.front.closed old.wire.ends new.wire.ends
+  pub fails : new.wire.failures ≢ old.wire.failures → answer ≡ Ended WireFailed
+  pub lost : old.front.session.closing ≡ None → new.front.session.closing ≡ Some Exhausted
+      → (old.front.session.held ≢ None) × WasExhausted old.desk new.desk
 
 -- a closing session has said one message more
 abbrev pub farewell : Option Reason → ℕ

@@ -59,7 +59,7 @@ enum Heard {
 impl ClientSide {
     ghost use Rattle.ring_words.specs.At.{IsAt};
     ghost use Rattle.gateway.specs.Seats.{HasSeen, StaysSeated, MayEnter, MayLook, Uses, ledger_of};
-    ghost use Rattle.gateway.specs.Turns.{Turn, GoesWith};
+    ghost use Rattle.gateway.specs.Turns.{world, Turn, GoesWith};
     ghost use Rattle.gateway.specs.Gateways.{begun, Hears, Publishes, Reads, HandsOn, PassesOver, Rests, Stuck};
     ghost use Rattle.gateway.specs.Moves.{fresh};
     ghost use Rattle.gateway.specs.Session.{At};
@@ -113,7 +113,7 @@ impl ClientSide {
         requires at { IsAt rings.now seat.old }
         requires seen { HasSeen seat.old }
         requires mate { GoesWith self.old.session self.old.passed seat.old.who.own }
-        ensures turn { Turn self.old self.new (W.tells wire.old) (W.tells wire.new) (ledger_of N seat.old) (ledger_of N seat.new) result }
+        ensures turn { Turn (world self.old (W.tells wire.old) (ledger_of N seat.old)) (world self.new (W.tells wire.new) (ledger_of N seat.new)) result }
         ensures seen { HasSeen seat.new }
         ensures mate { GoesWith self.new.session self.new.passed seat.new.who.own }
         ensures uses { Uses N seat.old seat.new }
@@ -149,7 +149,7 @@ impl ClientSide {
         requires open { self.old.session.closing ≡ None }
         requires silent { self.old.session.outgoing ≡ [] }
         requires number { self.old.session.number < 2 ^ 63 }
-        ensures hears { Hears self.old self.new (W.tells wire.old) (W.tells wire.new) (ledger_of N seat.old) (ledger_of N seat.new) result }
+        ensures hears { Hears (world self.old (W.tells wire.old) (ledger_of N seat.old)) (world self.new (W.tells wire.new) (ledger_of N seat.new)) result }
         ensures seen { HasSeen seat.new }
         ensures stays { StaysSeated seat.old seat.new }
         ensures enters { MayEnter N seat.old seat.new }

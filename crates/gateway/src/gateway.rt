@@ -33,7 +33,7 @@ impl Gateway {
     ghost use Rattle.gateway.specs.Delivers.{Begins, Continues};
     ghost use Rattle.gateway.specs.Gateways.{begun};
     ghost use Rattle.gateway.specs.Seats.{HasSeen, LooksOnce, Uses, ledger_of};
-    ghost use Rattle.gateway.specs.Turns.{Turn};
+    ghost use Rattle.gateway.specs.Turns.{world, Turn};
 
     /// The gateway of a seat that `Rings::open` made, or that a gateway gave back. All its room is made here; no session is begun. Where room is
     /// refused, the seat comes back.
@@ -67,7 +67,7 @@ impl Gateway {
     ) -> Turned
         requires live { self.old.front.live ≡ true }
         requires at { IsAt rings.now self.old.seat }
-        ensures turn { Turn self.old.front self.new.front (W.tells wire.old) (W.tells wire.new) (ledger_of N self.old.seat) (ledger_of N self.new.seat) result }
+        ensures turn { Turn (world self.old.front (W.tells wire.old) (ledger_of N self.old.seat)) (world self.new.front (W.tells wire.new) (ledger_of N self.new.seat)) result }
         ensures delivers { Continues N self.old self.new (W.tells wire.old) (W.tells wire.new) }
         ensures uses { Uses N self.old.seat self.new.seat }
     {

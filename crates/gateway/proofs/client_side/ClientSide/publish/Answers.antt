@@ -4,7 +4,7 @@ use Rattle.gateway.specs.declared.client_side.Heard.{Heard}
 use Rattle.gateway.specs.Gateways.{front, Hears}
 use Rattle.gateway.specs.Parts.{Tries}
 use Rattle.gateway.specs.Seats.{ledger_of}
-use Rattle.gateway.specs.Turns.{Front}
+use Rattle.gateway.specs.Turns.{world, Front}
 use Rattle.gateway.proofs.HearLemmas.{publish-hears}
 use Rattle.gateway.proofs.client_side.ClientSide.publish.Goals as goal
 
@@ -21,7 +21,7 @@ returns-clause-publishes g c =
       tells = c.try_publish-answer.ensures.tells;
       settles = c.settle.ensures.settles;
     } in
-    λ wire. subst (λ (f : Front). Hears f new wire wire (ledger c.args.seat.now) (ledger c.try_publish-answer.new.seat) c.heard_of.result) c.self.view_is
-    (subst (λ (a : Heard). Hears old new wire wire (ledger c.args.seat.now) (ledger c.try_publish-answer.new.seat) a) (sym c.heard_of.ensures)
+    λ wire. subst (λ (f : Front). Hears (world f wire (ledger c.args.seat.now)) (world new wire (ledger c.try_publish-answer.new.seat)) c.heard_of.result) c.self.view_is
+    (subst (λ (a : Heard). Hears (world old wire (ledger c.args.seat.now)) (world new wire (ledger c.try_publish-answer.new.seat)) a) (sym c.heard_of.ensures)
     (publish-hears old new (ledger c.args.seat.now) (ledger c.try_publish-answer.new.seat) is_open silent c.settle.ensures.room refl
     c.try_publish-answer.result tries wire))

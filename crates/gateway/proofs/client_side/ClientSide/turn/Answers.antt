@@ -3,7 +3,7 @@ use Rattle.std.proofs.Common.{ap, sym, ◌∙◌, subst, false, true≢false, ru
 use Rattle.gateway.specs.declared.ending.Turned.{Turned}
 use Rattle.gateway.specs.Gateways.{front}
 use Rattle.gateway.specs.Seats.{ledger_of}
-use Rattle.gateway.specs.Turns.{Front, Turn, GoesWith}
+use Rattle.gateway.specs.Turns.{world, Front, Turn, GoesWith}
 use Rattle.gateway.proofs.SeatLemmas.{unused}
 use Rattle.gateway.proofs.TurnLemmas.{turn-failed, turn-stuck, turn-closed, turn-unheard, mate-unheard, turn-rested, mate-rested}
 use Rattle.gateway.proofs.client_side.ClientSide.turn.Goals as goal
@@ -13,9 +13,9 @@ returns-in-Failed-clause-turn g c =
     let tells = g.W.Wire.tells in
     let desk = ledger_of g.row.N c.args.seat.now in
     let new = record (front c.self.inside) { session = c.flush-flushed.new.self; live = false } in
-    subst (λ (f : Front). Turn f c.over.new.self (tells c.args.wire.now) (tells c.flush-flushed.new.wire) desk desk c.over.result) c.self.view_is
-    (subst (λ (n : Front). Turn (front c.self.inside) n (tells c.args.wire.now) (tells c.flush-flushed.new.wire) desk desk c.over.result) (sym c.over.ensures.gone)
-    (subst (λ (a : Turned). Turn (front c.self.inside) new (tells c.args.wire.now) (tells c.flush-flushed.new.wire) desk desk a) (sym c.over.ensures.says)
+    subst (λ (f : Front). Turn (world f (tells c.args.wire.now) desk) (world c.over.new.self (tells c.flush-flushed.new.wire) desk) c.over.result) c.self.view_is
+    (subst (λ (n : Front). Turn (world (front c.self.inside) (tells c.args.wire.now) desk) (world n (tells c.flush-flushed.new.wire) desk) c.over.result) (sym c.over.ensures.gone)
+    (subst (λ (a : Turned). Turn (world (front c.self.inside) (tells c.args.wire.now) desk) (world new (tells c.flush-flushed.new.wire) desk) a) (sym c.over.ensures.says)
     (turn-failed (front c.self.inside) c.flush-flushed.new.self (tells c.args.wire.now) (tells c.flush-flushed.new.wire) desk
     c.flush-flushed.ensures.others c.in-Failed.ensures.bytes)))
 
@@ -24,7 +24,7 @@ returns-in-Full-clause-turn g c =
     let tells = g.W.Wire.tells in
     let desk = ledger_of g.row.N c.args.seat.now in
     let live = ap (λ (f : Front). f.live) c.self.view_is ∙ c.requires.live in
-    subst (λ (f : Front). Turn f c.stuck.new.self (tells c.args.wire.now) (tells c.flush-flushed.new.wire) desk desk c.stuck.result) c.self.view_is
+    subst (λ (f : Front). Turn (world f (tells c.args.wire.now) desk) (world c.stuck.new.self (tells c.flush-flushed.new.wire) desk) c.stuck.result) c.self.view_is
     (turn-stuck (front c.self.inside) c.flush-flushed.new.self c.stuck.new.self (tells c.args.wire.now) (tells c.flush-flushed.new.wire) desk
     _ c.stuck.result c.flush-flushed.ensures.others live c.in-Full.ensures.bytes
     (ap (λ n. nat_lt n c.unsent-stood.result) c.unsent.ensures ∙ ap (nat_lt (length c.flush-flushed.new.self.outgoing)) c.unsent-stood.ensures) c.stuck.ensures)
@@ -34,9 +34,9 @@ returns-in-Some-clause-turn g c =
     let tells = g.W.Wire.tells in
     let desk = ledger_of g.row.N c.args.seat.now in
     let new = record (front c.self.inside) { session = c.flush-flushed.new.self; deaf = 0; live = false } in
-    subst (λ (f : Front). Turn f c.over-in-Some.new.self (tells c.args.wire.now) (tells c.flush-flushed.new.wire) desk desk c.over-in-Some.result) c.self.view_is
-    (subst (λ (n : Front). Turn (front c.self.inside) n (tells c.args.wire.now) (tells c.flush-flushed.new.wire) desk desk c.over-in-Some.result) (sym c.over-in-Some.ensures.gone)
-    (subst (λ (a : Turned). Turn (front c.self.inside) new (tells c.args.wire.now) (tells c.flush-flushed.new.wire) desk desk a) (sym c.over-in-Some.ensures.says)
+    subst (λ (f : Front). Turn (world f (tells c.args.wire.now) desk) (world c.over-in-Some.new.self (tells c.flush-flushed.new.wire) desk) c.over-in-Some.result) c.self.view_is
+    (subst (λ (n : Front). Turn (world (front c.self.inside) (tells c.args.wire.now) desk) (world n (tells c.flush-flushed.new.wire) desk) c.over-in-Some.result) (sym c.over-in-Some.ensures.gone)
+    (subst (λ (a : Turned). Turn (world (front c.self.inside) (tells c.args.wire.now) desk) (world new (tells c.flush-flushed.new.wire) desk) a) (sym c.over-in-Some.ensures.says)
     (turn-closed (front c.self.inside) c.flush-flushed.new.self (tells c.args.wire.now) (tells c.flush-flushed.new.wire) desk c.in-Some.reason
     c.flush-flushed.ensures.others c.in-All.ensures.bytes c.in-Some.ensures.own (sym c.in-Some.ensures.value))))
 
@@ -46,9 +46,9 @@ returns-then-eq-clause-turn g c =
     let ledger = ledger_of g.row.N in
     let bytes = c.in-All.ensures.bytes in
     let new = record c.hear-heard.new.self { live = false } in
-    subst (λ (f : Front). Turn f c.over-then-eq.new.self (tells c.args.wire.now) (tells c.hear-heard.new.wire) (ledger c.args.seat.now) (ledger c.hear-heard.new.seat) c.over-then-eq.result) c.self.view_is
-    (subst (λ (n : Front). Turn (front c.self.inside) n (tells c.args.wire.now) (tells c.hear-heard.new.wire) (ledger c.args.seat.now) (ledger c.hear-heard.new.seat) c.over-then-eq.result) (sym c.over-then-eq.ensures.gone)
-    (subst (λ (a : Turned). Turn (front c.self.inside) new (tells c.args.wire.now) (tells c.hear-heard.new.wire) (ledger c.args.seat.now) (ledger c.hear-heard.new.seat) a) (sym c.over-then-eq.ensures.says)
+    subst (λ (f : Front). Turn (world f (tells c.args.wire.now) (ledger c.args.seat.now)) (world c.over-then-eq.new.self (tells c.hear-heard.new.wire) (ledger c.hear-heard.new.seat)) c.over-then-eq.result) c.self.view_is
+    (subst (λ (n : Front). Turn (world (front c.self.inside) (tells c.args.wire.now) (ledger c.args.seat.now)) (world n (tells c.hear-heard.new.wire) (ledger c.hear-heard.new.seat)) c.over-then-eq.result) (sym c.over-then-eq.ensures.gone)
+    (subst (λ (a : Turned). Turn (world (front c.self.inside) (tells c.args.wire.now) (ledger c.args.seat.now)) (world new (tells c.hear-heard.new.wire) (ledger c.hear-heard.new.seat)) a) (sym c.over-then-eq.ensures.says)
     (turn-unheard (front c.self.inside) c.hear-heard.new.self c.flush-flushed.new.self (tells c.args.wire.now) (tells c.flush-flushed.new.wire) (tells c.hear-heard.new.wire)
     (ledger c.args.seat.now) (ledger c.hear-heard.new.seat) bytes.0 c.hear-heard.result bytes.1 c.flush-flushed.ensures.others bytes.2.0 bytes.2.1 c.hear-heard.ensures.hears (search rules))))
 
@@ -68,7 +68,7 @@ returns-clause-turn g c =
     let ledger = ledger_of g.row.N in
     let bytes = c.in-All.ensures.bytes in
     let live = ap (λ (f : Front). f.live) c.self.view_is ∙ c.requires.live in
-    subst (λ (f : Front). Turn f c.rest.new.self (tells c.args.wire.now) (tells c.hear-heard.new.wire) (ledger c.args.seat.now) (ledger c.hand_on-took.new.seat) c.rest.result) c.self.view_is
+    subst (λ (f : Front). Turn (world f (tells c.args.wire.now) (ledger c.args.seat.now)) (world c.rest.new.self (tells c.hear-heard.new.wire) (ledger c.hand_on-took.new.seat)) c.rest.result) c.self.view_is
     (turn-rested (front c.self.inside) c.hear-heard.new.self c.flush-flushed.new.self (tells c.args.wire.now) (tells c.flush-flushed.new.wire) (tells c.hear-heard.new.wire)
     (ledger c.args.seat.now) (ledger c.hear-heard.new.seat) bytes.0 c.hear-heard.result bytes.1 c.flush-flushed.ensures.others bytes.2.0 bytes.2.1 c.hear-heard.ensures.hears
     (ledger c.hand_on-took.new.seat) c.hand_on-took.new.self c.hand_on-took.result c.hand_on-took.ensures.hands_on c.rest.new.self _ c.rest.result

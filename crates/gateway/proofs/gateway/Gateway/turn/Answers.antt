@@ -2,7 +2,7 @@
 use Rattle.std.proofs.Common.{subst}
 use Rattle.gateway.specs.AtRings.{AtRings}
 use Rattle.gateway.specs.Seats.{ledger_of}
-use Rattle.gateway.specs.Turns.{Turn}
+use Rattle.gateway.specs.Turns.{world, Turn}
 use Rattle.gateway.proofs.DeliversLemmas.{delivers}
 use Rattle.gateway.proofs.gateway.Gateway.turn.Goals as goal
 
@@ -10,7 +10,7 @@ pub returns-clause-delivers : goal.returns-clause-delivers
 returns-clause-delivers g c start course so_far =
     let tells = g.W.Wire.tells in
     let ledger = ledger_of g.row.N in
-    let turn = subst (λ (a : AtRings). Turn a.front c.turn.new.self (tells c.args.wire.now) (tells c.turn.new.wire) (ledger a.seat) (ledger c.turn.new.seat) c.turn.result)
+    let turn = subst (λ (a : AtRings). Turn (world a.front (tells c.args.wire.now) (ledger a.seat)) (world c.turn.new.self (tells c.turn.new.wire) (ledger c.turn.new.seat)) c.turn.result)
         c.self.view_is c.turn.ensures.turn in
     delivers start c.args.self.now.front c.turn.new.self (tells c.args.wire.now) (tells c.turn.new.wire) (ledger c.args.self.now.seat) (ledger c.turn.new.seat)
     c.turn.result course turn so_far
