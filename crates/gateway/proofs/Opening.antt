@@ -6,7 +6,7 @@ use Rattle.fix_frame.specs.Stream.{BeginsNoFrame}
 use Rattle.fix_orders.specs.Text.{Said}
 use Rattle.gateway.specs.declared.ending.Reason.{Reason}
 use Rattle.gateway.specs.Answers.{Judgement, judgement, judged, last_time, time_after, no_time, goes_on, replies_of, Ending}
-use Rattle.gateway.specs.Session.{Standing, Spoken, Held, At}
+use Rattle.gateway.specs.Session.{Standing, speaker, Spoken, Held, At}
 use Rattle.gateway.specs.Moves.{fresh}
 
 -- one more frame judged
@@ -32,23 +32,23 @@ pub record Open (s : Standing) (input : List ℕ) (messages : List (List ℕ)) (
   pub bodies : AllByRecursion (IsBody most_in) frames
   pub all_go_on : list_all (λ j. goes_on j.verdict) (judged s.gateway 0 no_time frames) ≡ true
   pub partial : BeginsNoFrame s.under_way
-  pub spoken : Spoken s.gateway s.number s.logged_on false (written ++ s.outgoing) (flat_map replies_of (judged s.gateway 0 no_time frames)) outs
+  pub spoken : Spoken (speaker s.gateway s.number s.logged_on false) (written ++ s.outgoing) (flat_map replies_of (judged s.gateway 0 no_time frames)) outs
   pub held : Held s.held None messages (judged s.gateway 0 no_time frames)
   pub accepted : s.accepted ≡ length frames
   pub time : s.time ≡ last_time no_time frames
 
 -- at a session that isn't closing the last judgement is missing, and the rest is the message under way
-open_ending : (gateway accepted : ℕ) (last : List ℕ) (before : List Judgement) (rest under_way : List ℕ) (lasts : List Judgement) (closing : Option Reason) →
-    closing ≡ None → Ending gateway accepted last before rest under_way closing lasts →
+open_ending : (gateway : ℕ) (frames : List (List Field)) (rest under_way : List ℕ) (lasts : List Judgement) (closing : Option Reason) →
+    closing ≡ None → Ending gateway frames rest under_way closing lasts →
     (lasts ≡ []) × (under_way ≡ rest) × BeginsNoFrame rest
-open_ending gateway accepted last before rest under_way lasts closing is_open ending =
-    subst (λ c. Ending gateway accepted last before rest under_way c lasts) is_open ending
+open_ending gateway frames rest under_way lasts closing is_open ending =
+    subst (λ c. Ending gateway frames rest under_way c lasts) is_open ending
 
 pub opened : (s : Standing) (input : List ℕ) (messages : List (List ℕ)) (outs : List Said) (written : List ℕ) →
     s.closing ≡ None → At s input messages outs written → Open s input messages outs written
 opened s input messages outs written is_open at =
     let js = judged s.gateway 0 no_time at.frames in
-    let ending = open_ending s.gateway (length at.frames) (last_time no_time at.frames) js at.answers.rest s.under_way at.lasts s.closing is_open at.answers.ending in
+    let ending = open_ending s.gateway at.frames at.answers.rest s.under_way at.lasts s.closing is_open at.answers.ending in
     let replies_are : flat_map replies_of (js ++ at.lasts) ≡ flat_map replies_of js =
     ap (λ l. flat_map replies_of (js ++ l)) ending.0 ∙ ap (flat_map replies_of) (append-nil js) in
     record {
@@ -57,8 +57,8 @@ opened s input messages outs written is_open at =
       bodies = at.answers.bodies;
       all_go_on = at.answers.accepted;
       partial = subst BeginsNoFrame (sym ending.1) ending.2;
-      spoken = subst (λ (c : Bool). Spoken s.gateway s.number s.logged_on c (written ++ s.outgoing) (flat_map replies_of js) outs) (ap is_some is_open)
-          (subst (λ rs. Spoken s.gateway s.number s.logged_on (is_some s.closing) (written ++ s.outgoing) rs outs) replies_are at.spoken);
+      spoken = subst (λ (c : Bool). Spoken (speaker s.gateway s.number s.logged_on c) (written ++ s.outgoing) (flat_map replies_of js) outs) (ap is_some is_open)
+          (subst (λ rs. Spoken (speaker s.gateway s.number s.logged_on (is_some s.closing)) (written ++ s.outgoing) rs outs) replies_are at.spoken);
       held = subst (λ (c : Option Reason). Held s.held c messages js) is_open at.held;
       accepted = at.accepted;
       time = at.time;
@@ -76,11 +76,11 @@ closed s input messages outs written is_open at =
         cut = at.cut;
         bodies = at.bodies;
         accepted = at.all_go_on;
-        ending = subst (λ (c : Option Reason). Ending s.gateway (length at.frames) (last_time no_time at.frames) js s.under_way s.under_way c [])
+        ending = subst (λ (c : Option Reason). Ending s.gateway at.frames s.under_way s.under_way c [])
             (sym is_open) (refl, refl, at.partial);
       };
-      spoken = subst (λ (c : Bool). Spoken s.gateway s.number s.logged_on c (written ++ s.outgoing) (flat_map replies_of (js ++ [])) outs) (sym (ap is_some is_open))
-          (subst (λ l. Spoken s.gateway s.number s.logged_on false (written ++ s.outgoing) (flat_map replies_of l) outs) (sym (append-nil js)) at.spoken);
+      spoken = subst (λ (c : Bool). Spoken (speaker s.gateway s.number s.logged_on c) (written ++ s.outgoing) (flat_map replies_of (js ++ [])) outs) (sym (ap is_some is_open))
+          (subst (λ l. Spoken (speaker s.gateway s.number s.logged_on false) (written ++ s.outgoing) (flat_map replies_of l) outs) (sym (append-nil js)) at.spoken);
       held = subst (λ (c : Option Reason). Held s.held c messages js) (sym is_open) at.held;
       accepted = at.accepted;
       time = at.time;

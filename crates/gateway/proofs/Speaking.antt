@@ -4,7 +4,7 @@ use Rattle.std.specs.Cmp.Derive.{both_true}
 use Rattle.std.specs.List.{list_any}
 use Rattle.fix_orders.specs.Text.{Said}
 use Rattle.gateway.specs.Answers.{Reply, Logon, Heartbeat, Logout}
-use Rattle.gateway.specs.Session.{Spoken, Item, Answer, Output, said_of, said_by, replies_in, outputs_in, numbered, message_text, is_logon, is_logout, orderly}
+use Rattle.gateway.specs.Session.{speaker, Spoken, Item, Answer, Output, said_of, said_by, replies_in, outputs_in, numbered, message_text, is_logon, is_logout, orderly}
 use Rattle.gateway.proofs.Lists.{and_left, and_right, flat_map-push, list_any-push, length-push}
 
 -- the bytes of one more item
@@ -39,9 +39,8 @@ orderly-push on (Output said ∷ items) item order none this =
 
 -- one more item is said
 pub spoken-item : {gateway number : ℕ} {on : Bool} {bytes : List ℕ} {replies : List Reply} {outs : List Said} (item : Item) →
-    Spoken gateway number on false bytes replies outs → orderly on (item ∷ []) ≡ true →
-    Spoken gateway (number + 1) (on || is_logon item) (is_logout item) (bytes ++ message_text gateway number (said_of item))
-    (replies ++ replies_in item) (outs ++ outputs_in item)
+    Spoken (speaker gateway number on false) bytes replies outs → orderly on (item ∷ []) ≡ true →
+    Spoken (speaker gateway (number + 1) (on || is_logon item) (is_logout item)) (bytes ++ message_text gateway number (said_of item)) (replies ++ replies_in item) (outs ++ outputs_in item)
 spoken-item {gateway} {number} {on} {bytes} item spoken allowed = record {
   items = spoken.items ++ item ∷ [];
   says = record {
@@ -58,38 +57,38 @@ spoken-item {gateway} {number} {on} {bytes} item spoken allowed = record {
   logout = ap (λ b. b || is_logout item) spoken.logout ∙ sym (list_any-push is_logout spoken.items item);
 }
 
-module _ {gateway number : ℕ} {on : Bool} {bytes : List ℕ} {replies : List Reply} {outs : List Said} (spoken : Spoken gateway number on false bytes replies outs) where
+module _ {gateway number : ℕ} {on : Bool} {bytes : List ℕ} {replies : List Reply} {outs : List Said} (spoken : Spoken (speaker gateway number on false) bytes replies outs) where
   -- an output is handed on to a client that is logged on
   pub spoken-output : (said : Said) → on ≡ true →
-      Spoken gateway (number + 1) on false (bytes ++ message_text gateway number said) replies (outs ++ said ∷ [])
+      Spoken (speaker gateway (number + 1) on false) (bytes ++ message_text gateway number said) replies (outs ++ said ∷ [])
   spoken-output said logged_on =
       let spoke = spoken-item (Output said) spoken (ap (λ b. b && true) logged_on) in
-      subst (λ (b : Bool). Spoken gateway (number + 1) b false (bytes ++ message_text gateway number said) replies (outs ++ said ∷ [])) (or_false on)
-      (subst (λ (rs : List Reply). Spoken gateway (number + 1) (on || false) false (bytes ++ message_text gateway number said) rs (outs ++ said ∷ [])) (append-nil replies) spoke)
+      subst (λ (b : Bool). Spoken (speaker gateway (number + 1) b false) (bytes ++ message_text gateway number said) replies (outs ++ said ∷ [])) (or_false on)
+      (subst (λ (rs : List Reply). Spoken (speaker gateway (number + 1) (on || false) false) (bytes ++ message_text gateway number said) rs (outs ++ said ∷ [])) (append-nil replies) spoke)
 
   spoken-reply : (reply : Reply) → orderly on (Answer reply ∷ []) ≡ true →
-      Spoken gateway (number + 1) (on || is_logon (Answer reply)) (is_logout (Answer reply)) (bytes ++ message_text gateway number (said_by reply)) (replies ++ reply ∷ []) outs
+      Spoken (speaker gateway (number + 1) (on || is_logon (Answer reply)) (is_logout (Answer reply))) (bytes ++ message_text gateway number (said_by reply)) (replies ++ reply ∷ []) outs
   spoken-reply reply allowed =
-      subst (λ (os : List Said). Spoken gateway (number + 1) (on || is_logon (Answer reply)) (is_logout (Answer reply)) (bytes ++ message_text gateway number (said_by reply)) (replies ++ reply ∷ []) os)
+      subst (λ (os : List Said). Spoken (speaker gateway (number + 1) (on || is_logon (Answer reply)) (is_logout (Answer reply))) (bytes ++ message_text gateway number (said_by reply)) (replies ++ reply ∷ []) os)
       (append-nil outs) (spoken-item (Answer reply) spoken allowed)
 
   -- a Logon is answered
   pub spoken-logon : (time : List ℕ) →
-      Spoken gateway (number + 1) true false (bytes ++ message_text gateway number (said_by (Logon time))) (replies ++ Logon time ∷ []) outs
+      Spoken (speaker gateway (number + 1) true false) (bytes ++ message_text gateway number (said_by (Logon time))) (replies ++ Logon time ∷ []) outs
   spoken-logon time =
-      subst (λ (b : Bool). Spoken gateway (number + 1) b false (bytes ++ message_text gateway number (said_by (Logon time))) (replies ++ Logon time ∷ []) outs)
+      subst (λ (b : Bool). Spoken (speaker gateway (number + 1) b false) (bytes ++ message_text gateway number (said_by (Logon time))) (replies ++ Logon time ∷ []) outs)
       (or_true on false) (spoken-reply (Logon time) refl)
 
   -- a TestRequest is answered
   pub spoken-heartbeat : (time echo : List ℕ) →
-      Spoken gateway (number + 1) on false (bytes ++ message_text gateway number (said_by (Heartbeat time echo))) (replies ++ Heartbeat time echo ∷ []) outs
+      Spoken (speaker gateway (number + 1) on false) (bytes ++ message_text gateway number (said_by (Heartbeat time echo))) (replies ++ Heartbeat time echo ∷ []) outs
   spoken-heartbeat time echo =
-      subst (λ (b : Bool). Spoken gateway (number + 1) b false (bytes ++ message_text gateway number (said_by (Heartbeat time echo))) (replies ++ Heartbeat time echo ∷ []) outs)
+      subst (λ (b : Bool). Spoken (speaker gateway (number + 1) b false) (bytes ++ message_text gateway number (said_by (Heartbeat time echo))) (replies ++ Heartbeat time echo ∷ []) outs)
       (or_false on) (spoken-reply (Heartbeat time echo) refl)
 
   -- a Logout is said
   pub spoken-logout : (time text : List ℕ) →
-      Spoken gateway (number + 1) on true (bytes ++ message_text gateway number (said_by (Logout time text))) (replies ++ Logout time text ∷ []) outs
+      Spoken (speaker gateway (number + 1) on true) (bytes ++ message_text gateway number (said_by (Logout time text))) (replies ++ Logout time text ∷ []) outs
   spoken-logout time text =
-      subst (λ (b : Bool). Spoken gateway (number + 1) b true (bytes ++ message_text gateway number (said_by (Logout time text))) (replies ++ Logout time text ∷ []) outs)
+      subst (λ (b : Bool). Spoken (speaker gateway (number + 1) b true) (bytes ++ message_text gateway number (said_by (Logout time text))) (replies ++ Logout time text ∷ []) outs)
       (or_false on) (spoken-reply (Logout time text) refl)

@@ -10,7 +10,7 @@ use Rattle.gateway.specs.declared.ending.Reason.TheVariants.{LoggedOut, Refused,
 use Rattle.gateway.specs.declared.refusal.Refusal.TheVariants as refusal
 use Rattle.gateway.specs.Verdict.{Verdict, Welcome, Beat, Hold, Pass, Leave, Refuse, verdict, refusal_text}
 use Rattle.gateway.specs.Answers.{Judgement, judgement, judged, last_time, time_after, no_time, goes_on, Reply, Logon, Heartbeat, Logout, replies_of, replies_by, held_of, held_by, fault_judgement, exhausted_judgement, Ending}
-use Rattle.gateway.specs.Session.{Standing, Spoken, said_by, message_text, Waits, Held, At}
+use Rattle.gateway.specs.Session.{Standing, speaker, Spoken, said_by, message_text, Waits, Held, At}
 use Rattle.gateway.specs.Moves.{saying, closing_by, refusing, accepting, heard}
 use Rattle.gateway.proofs.Lists.{flat_map-push, list_all-push, AllByRecursion-push, length-push}
 use Rattle.gateway.proofs.Speaking.{spoken-output, spoken-logon, spoken-heartbeat, spoken-logout}
@@ -33,7 +33,7 @@ module _ (s : Standing) (input : List ℕ) (messages : List (List ℕ)) (outs : 
     frames = at.frames;
     lasts = at.lasts;
     answers = at.answers;
-    spoken = subst (λ bytes. Spoken s.gateway s.number s.logged_on (is_some s.closing) bytes (flat_map replies_of (judged s.gateway 0 no_time at.frames ++ at.lasts)) outs)
+    spoken = subst (λ bytes. Spoken (speaker s.gateway s.number s.logged_on (is_some s.closing)) bytes (flat_map replies_of (judged s.gateway 0 no_time at.frames ++ at.lasts)) outs)
         (ap (λ o. written ++ o) split ∙ sym (append_assoc written put rest)) at.spoken;
     held = at.held;
     accepted = at.accepted;
@@ -70,7 +70,7 @@ module _ (s : Standing) (input : List ℕ) (messages : List (List ℕ)) (outs : 
         bodies = o.bodies;
         all_go_on = o.all_go_on;
         partial = o.partial;
-        spoken = subst (λ (b : List ℕ). Spoken s.gateway (s.number + 1) s.logged_on false b (flat_map replies_of (judged s.gateway 0 no_time o.frames)) (outs ++ said ∷ []))
+        spoken = subst (λ (b : List ℕ). Spoken (speaker s.gateway (s.number + 1) s.logged_on false) b (flat_map replies_of (judged s.gateway 0 no_time o.frames)) (outs ++ said ∷ []))
             (append_assoc written s.outgoing (message_text s.gateway s.number said)) (spoken-output o.spoken said logged_on);
         held = o.held;
         accepted = o.accepted;
@@ -97,7 +97,7 @@ module _ (s : Standing) (input : List ℕ) (messages : List (List ℕ)) (outs : 
   -- the session closes with a Logout, for what it has heard last
   module _ (o : Open s input messages outs written) (free : s.held ≡ None) where
     at-ended : (reason : Reason) → reason ≢ Exhausted → (j : Judgement) (text bytes left : List ℕ) → replies_of j ≡ Logout j.time text ∷ [] →
-        Ending s.gateway (length o.frames) (last_time no_time o.frames) (judged s.gateway 0 no_time o.frames) (s.under_way ++ bytes) left (Some reason) (j ∷ []) →
+        Ending s.gateway o.frames (s.under_way ++ bytes) left (Some reason) (j ∷ []) →
         At (closing_by reason j.time text (record s { under_way = left })) (input ++ bytes) messages outs written
     at-ended reason other j text bytes left says ending =
         let js = judged s.gateway 0 no_time o.frames in
@@ -114,8 +114,8 @@ module _ (s : Standing) (input : List ℕ) (messages : List (List ℕ)) (outs : 
             accepted = o.all_go_on;
             ending = ending;
           };
-          spoken = subst (λ rs. Spoken s.gateway (s.number + 1) s.logged_on true (written ++ (s.outgoing ++ message_text s.gateway s.number (said_by (Logout j.time text)))) rs outs) (sym replies_are)
-              (subst (λ (b : List ℕ). Spoken s.gateway (s.number + 1) s.logged_on true b (flat_map replies_of js ++ Logout j.time text ∷ []) outs)
+          spoken = subst (λ rs. Spoken (speaker s.gateway (s.number + 1) s.logged_on true) (written ++ (s.outgoing ++ message_text s.gateway s.number (said_by (Logout j.time text)))) rs outs) (sym replies_are)
+              (subst (λ (b : List ℕ). Spoken (speaker s.gateway (s.number + 1) s.logged_on true) b (flat_map replies_of js ++ Logout j.time text ∷ []) outs)
               (append_assoc written s.outgoing (message_text s.gateway s.number (said_by (Logout j.time text)))) (spoken-logout o.spoken j.time text));
           held = subst (λ (h : Option (List ℕ)). Held h (Some reason) messages js) (sym free) (inl (other, published));
           accepted = o.accepted;
@@ -146,7 +146,7 @@ module _ (s : Standing) (input : List ℕ) (messages : List (List ℕ)) (outs : 
       -- it is accepted
       at-accepted : (outgoing : List ℕ) (number : ℕ) (on : Bool) (held : Option (List ℕ)) →
           goes_on the_judgement.verdict ≡ true →
-          Spoken s.gateway number on false (written ++ outgoing) (flat_map replies_of (judged s.gateway 0 no_time o.frames) ++ replies_of the_judgement) outs →
+          Spoken (speaker s.gateway number on false) (written ++ outgoing) (flat_map replies_of (judged s.gateway 0 no_time o.frames) ++ replies_of the_judgement) outs →
           Held held None messages (judged s.gateway 0 no_time o.frames ++ the_judgement ∷ []) →
           s.closing ≡ None →
           At (record (accepting (time_after s.time frame) s) { outgoing = outgoing; number = number; logged_on = on; held = held }) (input ++ bytes) messages outs written
@@ -160,29 +160,29 @@ module _ (s : Standing) (input : List ℕ) (messages : List (List ℕ)) (outs : 
             bodies = AllByRecursion-push (IsBody most_in) o.frames frame o.bodies body;
             all_go_on = subst (λ l. list_all (λ j. goes_on j.verdict) l ≡ true) (sym judged_so) (list_all-push (λ j. goes_on j.verdict) js the_judgement o.all_go_on goes);
             partial = no_frame_in_nothing;
-            spoken = subst (λ l. Spoken s.gateway number on false (written ++ outgoing) (flat_map replies_of l) outs) (sym judged_so)
-                (subst (λ rs. Spoken s.gateway number on false (written ++ outgoing) rs outs) (sym (flat_map-push replies_of js the_judgement)) spoken);
+            spoken = subst (λ l. Spoken (speaker s.gateway number on false) (written ++ outgoing) (flat_map replies_of l) outs) (sym judged_so)
+                (subst (λ rs. Spoken (speaker s.gateway number on false) (written ++ outgoing) rs outs) (sym (flat_map-push replies_of js the_judgement)) spoken);
             held = subst (λ l. Held held None messages l) (sym judged_so) holds;
             accepted = omega (arith, o.accepted, length-push o.frames frame);
             time = ap (λ t. time_after t frame) o.time ∙ sym (last_time-push no_time o.frames frame);
           })
 
       -- nothing is said to it
-      silent : replies_of the_judgement ≡ [] → Spoken s.gateway s.number s.logged_on false (written ++ s.outgoing) (flat_map replies_of (judged s.gateway 0 no_time o.frames) ++ replies_of the_judgement) outs
+      silent : replies_of the_judgement ≡ [] → Spoken (speaker s.gateway s.number s.logged_on false) (written ++ s.outgoing) (flat_map replies_of (judged s.gateway 0 no_time o.frames) ++ replies_of the_judgement) outs
       silent none =
           let replies = flat_map replies_of (judged s.gateway 0 no_time o.frames) in
-          subst (λ (rs : List Reply). Spoken s.gateway s.number s.logged_on false (written ++ s.outgoing) rs outs)
+          subst (λ (rs : List Reply). Spoken (speaker s.gateway s.number s.logged_on false) (written ++ s.outgoing) rs outs)
           (sym (ap (λ rs. replies ++ rs) none ∙ append-nil replies)) o.spoken
 
       -- a reply is said to it
       replied : (reply : Reply) (on : Bool) → replies_of the_judgement ≡ reply ∷ [] →
-          Spoken s.gateway (s.number + 1) on false ((written ++ s.outgoing) ++ message_text s.gateway s.number (said_by reply)) (flat_map replies_of (judged s.gateway 0 no_time o.frames) ++ reply ∷ []) outs →
-          Spoken s.gateway (s.number + 1) on false (written ++ (s.outgoing ++ message_text s.gateway s.number (said_by reply))) (flat_map replies_of (judged s.gateway 0 no_time o.frames) ++ replies_of the_judgement) outs
+          Spoken (speaker s.gateway (s.number + 1) on false) ((written ++ s.outgoing) ++ message_text s.gateway s.number (said_by reply)) (flat_map replies_of (judged s.gateway 0 no_time o.frames) ++ reply ∷ []) outs →
+          Spoken (speaker s.gateway (s.number + 1) on false) (written ++ (s.outgoing ++ message_text s.gateway s.number (said_by reply))) (flat_map replies_of (judged s.gateway 0 no_time o.frames) ++ replies_of the_judgement) outs
       replied reply on one spoken =
           let replies = flat_map replies_of (judged s.gateway 0 no_time o.frames) in
           let bytes_are = append_assoc written s.outgoing (message_text s.gateway s.number (said_by reply)) in
-          subst (λ (rs : List Reply). Spoken s.gateway (s.number + 1) on false (written ++ (s.outgoing ++ message_text s.gateway s.number (said_by reply))) (replies ++ rs) outs) (sym one)
-          (subst (λ (b : List ℕ). Spoken s.gateway (s.number + 1) on false b (replies ++ reply ∷ []) outs) bytes_are spoken)
+          subst (λ (rs : List Reply). Spoken (speaker s.gateway (s.number + 1) on false) (written ++ (s.outgoing ++ message_text s.gateway s.number (said_by reply))) (replies ++ rs) outs) (sym one)
+          (subst (λ (b : List ℕ). Spoken (speaker s.gateway (s.number + 1) on false) b (replies ++ reply ∷ []) outs) bytes_are spoken)
 
       -- it isn't to be held
       not_held : held_of the_judgement ≡ [] → Held s.held None messages (judged s.gateway 0 no_time o.frames ++ the_judgement ∷ [])
@@ -268,8 +268,8 @@ module _ (s : Standing) (input : List ℕ) (messages : List (List ℕ)) (outs : 
           accepted = o.all_go_on;
           ending = (waits.before, waits.last, waits.judgements_are, waits.hold, refl);
         };
-        spoken = subst (λ rs. Spoken s.gateway (s.number + 1) s.logged_on true (written ++ (s.outgoing ++ message_text s.gateway s.number (said_by (Logout s.time text)))) rs outs) (sym replies_are)
-            (subst (λ (b : List ℕ). Spoken s.gateway (s.number + 1) s.logged_on true b (flat_map replies_of js ++ Logout s.time text ∷ []) outs)
+        spoken = subst (λ rs. Spoken (speaker s.gateway (s.number + 1) s.logged_on true) (written ++ (s.outgoing ++ message_text s.gateway s.number (said_by (Logout s.time text)))) rs outs) (sym replies_are)
+            (subst (λ (b : List ℕ). Spoken (speaker s.gateway (s.number + 1) s.logged_on true) b (flat_map replies_of js ++ Logout s.time text ∷ []) outs)
             (append_assoc written s.outgoing (message_text s.gateway s.number (said_by (Logout s.time text)))) (spoken-logout o.spoken s.time text));
         held = inr (refl, message, waits);
         accepted = o.accepted;

@@ -109,22 +109,21 @@ EndsAtFrame gateway accepted last rest j =
 abbrev pub EndsAtFault : List ℕ → List ℕ → Judgement → Type 0
 EndsAtFault last rest j = (fault : FrameFault) × (at : ℕ) × Faults rest at fault × (j ≡ fault_judgement last fault)
 
--- How the session ends by itself, if it does, behind so many accepted frames, whose judgements are `before`, and
--- what its last judgement is. Where it goes on, the rest is the message under way.
-abbrev pub Ending : ℕ → ℕ → List ℕ → List Judgement → List ℕ → List ℕ → Option Reason → List Judgement → Type 0
-Ending gateway accepted last before rest under_way None lasts =
-    (lasts ≡ []) × (under_way ≡ rest) × BeginsNoFrame rest
-Ending gateway accepted last before rest under_way (Some LoggedOut) lasts =
-    (j : Judgement) × EndsAtFrame gateway accepted last rest j × (j.verdict ≡ Leave) × (lasts ≡ j ∷ [])
-Ending gateway accepted last before rest under_way (Some Refused) lasts =
-    (j : Judgement) × (EndsAtFrame gateway accepted last rest j ⊎ EndsAtFault last rest j)
+-- How the session ends by itself, if it does, behind these accepted frames, and what its last judgement is. Where it goes on, the rest is the message
+-- under way.
+abbrev pub Ending : ℕ → List (List Field) → List ℕ → List ℕ → Option Reason → List Judgement → Type 0
+Ending gateway frames rest under_way None lasts = (lasts ≡ []) × (under_way ≡ rest) × BeginsNoFrame rest
+Ending gateway frames rest under_way (Some LoggedOut) lasts =
+    (j : Judgement) × EndsAtFrame gateway (length frames) (last_time no_time frames) rest j × (j.verdict ≡ Leave) × (lasts ≡ j ∷ [])
+Ending gateway frames rest under_way (Some Refused) lasts =
+    (j : Judgement) × (EndsAtFrame gateway (length frames) (last_time no_time frames) rest j ⊎ EndsAtFault (last_time no_time frames) rest j)
     × (goes_on j.verdict ≡ false) × (j.verdict ≡ Leave → ⊥) × (lasts ≡ j ∷ [])
-Ending gateway accepted last before rest under_way (Some Exhausted) lasts =
-    (earlier : List Judgement) × (j : Judgement) × (before ≡ earlier ++ j ∷ []) × (j.verdict ≡ Hold)
+Ending gateway frames rest under_way (Some Exhausted) lasts =
+    (earlier : List Judgement) × (j : Judgement) × (judged gateway 0 no_time frames ≡ earlier ++ j ∷ []) × (j.verdict ≡ Hold)
     × (lasts ≡ exhausted_judgement j ∷ [])
-Ending gateway accepted last before rest under_way (Some Closed) lasts = ⊥
-Ending gateway accepted last before rest under_way (Some WireFailed) lasts = ⊥
-Ending gateway accepted last before rest under_way (Some Stalled) lasts = ⊥
+Ending gateway frames rest under_way (Some Closed) lasts = ⊥
+Ending gateway frames rest under_way (Some WireFailed) lasts = ⊥
+Ending gateway frames rest under_way (Some Stalled) lasts = ⊥
 
 -- The input is these frames, each accepted, and then a rest; the session's last judgement is the one that ends it.
 -- Nothing follows that.
@@ -133,4 +132,4 @@ pub record Answers (gateway : ℕ) (input under_way : List ℕ) (closing : Optio
   pub cut : input ≡ flat_map frame_text frames ++ rest
   pub bodies : AllByRecursion (IsBody most_in) frames
   pub accepted : list_all (λ j. goes_on j.verdict) (judged gateway 0 no_time frames) ≡ true
-  pub ending : Ending gateway (length frames) (last_time no_time frames) (judged gateway 0 no_time frames) rest under_way closing lasts
+  pub ending : Ending gateway frames rest under_way closing lasts

@@ -100,14 +100,24 @@ pub record Standing : Type 0 where
   pub logged_on : Bool
   pub closing : Option Reason
 
+-- who speaks: its gateway, the next MsgSeqNum, whether it is logged on, and whether it closes
+pub record Speaker : Type 0 where
+  pub gateway : ℕ
+  pub number : ℕ
+  pub logged_on : Bool
+  pub closing : Bool
+
+abbrev pub speaker : ℕ → ℕ → Bool → Bool → Speaker
+speaker gateway number logged_on closing = record { gateway = gateway; number = number; logged_on = logged_on; closing = closing }
+
 -- What a session knows of what it said: these bytes are the session of some items, the next MsgSeqNum counts them, it
 -- is logged on where a Logon stands among them, and closing where a Logout does.
-pub record Spoken (gateway number : ℕ) (logged_on closing : Bool) (bytes : List ℕ) (replies : List Reply) (outs : List Said) : Type 0 where
+pub record Spoken (by : Speaker) (bytes : List ℕ) (replies : List Reply) (outs : List Said) : Type 0 where
   pub items : List Item
-  pub says : Session gateway replies outs bytes items
-  pub next : number ≡ 1 + length items
-  pub logon : logged_on ≡ list_any is_logon items
-  pub logout : closing ≡ list_any is_logout items
+  pub says : Session by.gateway replies outs bytes items
+  pub next : by.number ≡ 1 + length items
+  pub logon : by.logged_on ≡ list_any is_logon items
+  pub logout : by.closing ≡ list_any is_logout items
 
 -- the last judged frame is the message, and all those to hold before it are published
 pub record Waits (message : List ℕ) (messages : List (List ℕ)) (judgements : List Judgement) : Type 0 where
@@ -132,7 +142,7 @@ pub record At (s : Standing) (input : List ℕ) (messages : List (List ℕ)) (ou
   pub frames : List (List Field)
   pub lasts : List Judgement
   pub answers : Answers s.gateway input s.under_way s.closing frames lasts
-  pub spoken : Spoken s.gateway s.number s.logged_on (is_some s.closing) (written ++ s.outgoing) (flat_map replies_of (judged s.gateway 0 no_time frames ++ lasts)) outs
+  pub spoken : Spoken (speaker s.gateway s.number s.logged_on (is_some s.closing)) (written ++ s.outgoing) (flat_map replies_of (judged s.gateway 0 no_time frames ++ lasts)) outs
   pub held : Held s.held s.closing messages (judged s.gateway 0 no_time frames)
   pub accepted : s.accepted ≡ length frames
   pub time : s.time ≡ last_time no_time frames
