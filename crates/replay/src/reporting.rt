@@ -2,7 +2,7 @@
 ghost use Rattle.std.specs.Prelude.{◌≡◌, ◌⊎◌, ◌≤◌, length, OnOk};
 ghost use Rattle.std.specs.Io.KnownBytes.{Appends};
 ghost use Rattle.venue_model.specs.History.{History};
-ghost use Rattle.journal.specs.Disk.{Both, Only, LeavesOnly};
+ghost use Rattle.journal.specs.Disk.{Only, OnlyRead};
 ghost use Rattle.replay.specs.Lines.{report_text, Reports};
 ghost use Rattle.replay.specs.Replays.{IsReplay};
 
@@ -30,10 +30,8 @@ pub fn report<D: JournalDisk, O: Write, E: Write>(
         Reports (D.honest disk) (D.tells disk).file job.now.limits job.now.subject (O.contents out.old) (O.contents out.new) }
     ensures quiet { result.0 ≡ 0 → err.new ≡ err.old }
     ensures counts { result.0 ≡ 0 → D.failed result.1 ≡ D.failed disk }
-    ensures honest { Both (D.honest disk) (D.honest result.1) }
-    ensures file { D.honest disk → (D.tells result.1).file ≡ (D.tells disk).file }
+    ensures read { OnlyRead (D.honest disk) (D.honest result.1) (D.tells disk) (D.tells result.1) }
     ensures durable { result.0 ≡ 0 → D.honest disk → Only (D.tells result.1).file (D.tells result.1).may_leave }
-    ensures any_moment { D.honest disk → LeavesOnly (D.tells disk) (D.tells result.1) (D.tells disk).may_leave }
 {
     let mut disk = disk;
     let status = match replay(alloc, &mut disk, &job.limits) {

@@ -4,9 +4,8 @@ ghost use Rattle.std.specs.Prelude.{◌≡◌, ◌≢◌, ◌≤◌, ◌^◌, �
 ghost use Rattle.ring_words.specs.At.{IsAt};
 ghost use Rattle.ring_words.specs.declared.view.Role.TheVariants.{Gateway};
 ghost use Rattle.venue_model.specs.Counts.{Rose};
-ghost use Rattle.journal.specs.Disk.{Both, Only, LeavesOnly};
-ghost use Rattle.journal.specs.Format.{IsJournal};
-ghost use Rattle.journal.specs.Journals.{Explains, IsJournalFrom};
+ghost use Rattle.journal.specs.Disk.{AnyMoment, OnlyRead};
+ghost use Rattle.journal.specs.Journals.{Explains, IsOpened, IsJournalFrom};
 ghost use Rattle.venued.specs.Finishing.{Finished};
 ghost use Rattle.venued.specs.Opened.{AreBehind};
 ghost use Rattle.venued.specs.Venues.{IsSaid};
@@ -64,17 +63,10 @@ impl<D: JournalDisk> Venue<D> {
     ) -> Result<VenueAndSeat<D>, (JournalFault, D)>
         ensures opened { IfOk result (λ v. (v.0 ≡ opened v.0.rings v.0.disk) × AreBehind limits.now v.0.rings.base v.0.rings) }
         ensures seat { IfOk result (λ v. IsFirst v.0.rings v.1) }
-        ensures few { IfOk result (λ v. length v.0.rings.base ≤ 2 ^ 48) }
-        ensures honest { IfOk result (λ v. Both (D.honest disk) (D.honest v.0.disk)) }
-        ensures history { D.honest disk → IfOk result (λ v. IsJournal (D.tells disk).file v.0.rings.base) }
-        ensures file { D.honest disk → IfOk result (λ v. (D.tells v.0.disk).file ≡ (D.tells disk).file) }
-        ensures durable { D.honest disk → IfOk result (λ v. Only (D.tells v.0.disk).file (D.tells v.0.disk).may_leave) }
-        ensures any_moment { D.honest disk → IfOk result (λ v. LeavesOnly (D.tells disk) (D.tells v.0.disk) (D.tells disk).may_leave) }
+        ensures disk { IfOk result (λ v. IsOpened (D.honest disk) (D.honest v.0.disk) (D.tells disk) (D.tells v.0.disk) v.0.rings.base) }
         ensures counts { IfOk result (λ v. D.failed v.0.disk ≡ D.failed disk) }
-        ensures honest_refused { IfErr result (λ e. Both (D.honest disk) (D.honest e.1)) }
+        ensures refused { IfErr result (λ e. OnlyRead (D.honest disk) (D.honest e.1) (D.tells disk) (D.tells e.1)) }
         ensures fault { IfErr result (λ e. Explains (D.honest disk) (D.tells disk).file (D.failed disk) (D.failed e.1) e.0) }
-        ensures file_refused { D.honest disk → IfErr result (λ e. (D.tells e.1).file ≡ (D.tells disk).file) }
-        ensures any_moment_refused { D.honest disk → IfErr result (λ e. LeavesOnly (D.tells disk) (D.tells e.1) (D.tells disk).may_leave) }
     {
         let (journal, entries) = Journal::open(alloc, disk)?;
         let Ok(recovered) = recover(alloc, limits, &entries) else {
@@ -114,9 +106,8 @@ impl<D: JournalDisk> Venue<D> {
     /// Where the journal failed it isn't processed.
     pub fn poll(&mut self) -> Polled
         ensures polls { Polls self.old self.new result }
-        ensures honest { Both (D.honest self.old.disk) (D.honest self.new.disk) }
-        ensures any_moment { D.honest self.old.disk →
-            LeavesOnly (D.tells self.old.disk) (D.tells self.new.disk) (IsJournalFrom self.old.journaller.own self.new.journaller.seen) }
+        ensures any_moment { AnyMoment (D.honest self.old.disk) (D.honest self.new.disk) (D.tells self.old.disk) (D.tells self.new.disk)
+            (IsJournalFrom self.old.journaller.own self.new.journaller.seen) }
         ensures cause { result ≡ Polled.JournalFailed → (self.old.failed ≡ true) ⊎ Rose (D.failed self.old.disk) (D.failed self.new.disk) }
         ensures ready { result ≢ Polled.JournalFailed → (self.new.failed ≡ false) × (D.failed self.new.disk ≡ D.failed self.old.disk) }
     {

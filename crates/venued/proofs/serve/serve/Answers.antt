@@ -11,7 +11,7 @@ use Rattle.venued.proofs.ServingLemmas.{first_seen, began, serve_leaves}
 use Rattle.venued.proofs.serve.serve.Goals as goal
 
 pub new-requires : goal.new-requires
-new-requires g c = first_seen _ _ _ _ c.in-Ok.ensures.opened.1 c.in-Ok.ensures.seat c.in-Ok.ensures.few
+new-requires g c = first_seen _ _ _ _ c.in-Ok.ensures.opened.1 c.in-Ok.ensures.seat c.in-Ok.ensures.disk.few
 
 pub returns-clause-served : goal.returns-clause-served
 returns-clause-served g c =
@@ -32,7 +32,7 @@ returns-clause-served g c =
         seat = subst (λ (s : At Symbols). IsFirst venue.rings s) (sym first.1) opened.seat;
         session = first.0;
         wire = refl;
-        journal = opened.history;
+        journal = opened.disk.history;
       };
       serves = c.take_turns.ensures.served;
       course = course.0;
@@ -47,7 +47,8 @@ pub returns-clause-any_moment : goal.returns-clause-any_moment
 returns-clause-any_moment g c honest =
     let tells = g.D.JournalDisk.tells in
     let opened = c.in-Ok.ensures in
+    let read = opened.disk.read in
     let venue = c.in-Ok.opened.0 in
     subst (λ (d : g.row.D.Denot). LeavesFrom (tells c.args.disk) (tells d)) (sym c.finish-disk-2.ensures.disk)
-    (serve_leaves (tells c.args.disk) (tells venue.disk) (tells c.take_turns.new.venue.disk) venue.rings.base (opened.any_moment honest) (opened.file honest)
-    (opened.durable honest) (opened.history honest) (c.take_turns.ensures.any_moment (opened.honest.0 honest)))
+    (serve_leaves (tells c.args.disk) (tells venue.disk) (tells c.take_turns.new.venue.disk) venue.rings.base (read.any_moment.leaves honest) (read.file honest)
+    (opened.disk.durable honest) (opened.disk.history honest) (c.take_turns.ensures.any_moment (read.any_moment.honest.0 honest)))

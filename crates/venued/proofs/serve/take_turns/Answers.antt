@@ -58,18 +58,18 @@ loop-round-preserved g c =
       ready = ready.0;
       rings = rings ∙ before.rings;
       behind = subst (λ (r : Opened Symbols). Behind r.base new.journaller) (sym rings) (still_behind old.rings.base old.journaller new.journaller before.behind grows);
-      honest = (λ h. polled.honest.0 (before.honest.0 h), λ h. before.honest.1 (polled.honest.1 h));
+      honest = (λ h. polled.any_moment.honest.0 (before.honest.0 h), λ h. before.honest.1 (polled.any_moment.honest.1 h));
       counts = ready.1 ∙ before.counts;
       leaves = λ h. behind_poll (tells c.args.venue.now.disk) (tells old.disk) (tells new.disk)
           c.args.venue.now.rings.base old.rings.base polled.polls.journalled _ _ (before.leaves h) (ap (λ (r : Opened Symbols). r.base) before.rings) before.behind polled.polls.journals
-          (polled.any_moment (before.honest.0 h));
+          (polled.any_moment.leaves (before.honest.0 h));
       rounds = next_round disk c.loop-round._round start now then before.rounds (record {
         between = between;
         turned = c.turn-turned.result;
         polled = c.poll-polled.result;
         turns = record { turn = turned.turn; uses = turned.uses; others = refl };
         lives = live;
-        polls = record { polls = polled.polls; leaves = polled.any_moment; others = ap (λ (w : Told). record between { venue = new; wire = w }) c.rest.ensures };
+        polls = record { polls = polled.polls; leaves = polled.any_moment.leaves; others = ap (λ (w : Told). record between { venue = new; wire = w }) c.rest.ensures };
         keeps = keeps;
       });
       delivers = λ from course so_far.
@@ -111,17 +111,17 @@ returns-then-eq g c =
     let polled = c.poll-polled.ensures in
     let failed : c.poll-polled.result ≡ JournalFailed = search rules in
     record {
-      honest = (λ h. polled.honest.0 (before.honest.0 h), λ h. before.honest.1 (polled.honest.1 h));
+      honest = (λ h. polled.any_moment.honest.0 (before.honest.0 h), λ h. before.honest.1 (polled.any_moment.honest.1 h));
       any_moment = λ h. behind_poll (tells c.args.venue.now.disk) (tells c.loop-round.venue.disk) (tells c.poll-polled.new.self.disk)
           c.args.venue.now.rings.base c.loop-round.venue.rings.base polled.polls.journalled _ _ (before.leaves h) (ap (λ (r : Opened Symbols). r.base) before.rings) before.behind polled.polls.journals
-          (polled.any_moment (before.honest.0 h));
+          (polled.any_moment.leaves (before.honest.0 h));
       served = record {
         count = c.loop-round._round;
         last = _;
         rounds = before.rounds;
         finale = (refl, record { gateway = c.turn-turned.new.self; venue = c.loop-round.venue; wire = g.W.Wire.tells c.turn-turned.new.wire }, c.turn-turned.result,
             record { turn = turned.turn; uses = turned.uses; others = refl },
-            record { polls = subst (λ (p : Polled). Polls c.loop-round.venue c.poll-polled.new.self p) failed polled.polls; leaves = polled.any_moment; others = refl });
+            record { polls = subst (λ (p : Polled). Polls c.loop-round.venue c.poll-polled.new.self p) failed polled.polls; leaves = polled.any_moment.leaves; others = refl });
       };
       delivers = λ start course so_far.
           let d = before.delivers start course so_far in
