@@ -1,15 +1,23 @@
 -- Whatever a crash leaves behind the venue's end holds all that the gateway has seen.
-use Rattle.std.proofs.Common.{◌≡◌, ℕ, zero, suc, ◌+◌, ◌<◌, ◌≤◌, List, [], ◌∷◌, length, take, refl, sym, subst, ◌∙◌, arith}
+use Rattle.std.proofs.Common.{◌≡◌, ℕ, zero, suc, ◌+◌, ◌<◌, ◌≤◌, List, [], ◌∷◌, length, take, refl, ap, sym, subst, ◌∙◌, arith}
 use mathlib.Core.Option.{some, some-ne-none, some-injective}
 use lib.ListN.{get_elem?}
 use Rattle.venue_model.specs.History.{History, Message}
 use Rattle.journal.specs.Journals.{IsJournalFrom}
 use Rattle.ring_words.specs.At.{Opened, At, IsAt}
 use Rattle.ring_words.specs.Crew.{AreGateways}
-use Rattle.ring_words.specs.Ending.{IsBeginning, AreSpent}
+use Rattle.ring_words.specs.Ending.{IsBeginning, AreSpent, Ended, stages_of}
 use Rattle.ring_words.specs.declared.view.Role.TheVariants.{Gateway}
 use Rattle.ring_words.proofs.Logs.{within}
-use Rattle.venued.specs.Finishing.{Survives}
+use Rattle.book.specs.Histories.{outputs_of}
+use Rattle.ring_words.specs.declared.close.Summary.{Summary}
+use Rattle.ring_words.specs.declared.seats.Seats.{Seats}
+use Rattle.ring_words.specs.declared.view.Person.{Person}
+use Rattle.stages.specs.Kept.{KeepsDone}
+use Rattle.venue_model.specs.Requests.{Symbols}
+use Rattle.journal.specs.Disk.{Told}
+use Rattle.venued.specs.Finishing.{Survives, Finished}
+use Rattle.venued.specs.Venues.{OneVenue}
 
 -- what stands in a front stands in the whole, and what stands there early enough stands in the front
 in_front : (n : ℕ) (h : History) (s : ℕ) (e : Message) → get_elem? (take n h) s ≡ some e → get_elem? h s ≡ some e
@@ -62,3 +70,22 @@ module _ {L : Type 0} (rings : Opened L) (seat : At L) where
 
   pub are_spent : (items : List (At L)) → items ≡ seat ∷ [] → seat.who.claims ≡ [] → AreSpent items
   are_spent items is none = subst (λ (all : List (At L)). AreSpent all) (sym is) (one_spent none)
+
+-- the venue is finished: one log tells of these seats
+pub finished : {D : Type 0} (seat : At Symbols) (v : OneVenue D) (honest : Type 0) (disk : Told) (s : Summary) (seats : Seats Symbols) →
+    seats.gateways.items ≡ seat ∷ [] → stages_of seats ≡ v.processor ∷ v.unmarshaller ∷ v.journaller ∷ v.marshaller ∷ [] → seats.journal.who ≡ v.journaller →
+    Ended (outputs_of v.rings.logic) v.rings.base seats s → (honest → KeepsDone disk v.journaller) → Finished seat v honest disk s
+finished seat v honest disk s seats gateways stages journal ended keeps =
+    let first : get_elem? seats.gateways.items 0 ≡ some seat = ap (λ (l : List (At Symbols)). get_elem? l 0) gateways in
+    let third : get_elem? (stages_of seats) 2 ≡ some v.journaller = ap (λ (l : List Person). get_elem? l 2) stages in
+    let seen = ended.seen 0 seat first in
+    let own : seats.journal.who.own ≡ v.journaller.own = ap (λ (p : Person). p.own) journal in
+    let most = seen.1 in
+    record {
+      seats = seats;
+      gateways = gateways;
+      stages = stages;
+      ended = ended;
+      survives = λ h file left. survives seat.who.seen v.journaller.seen ended.log v.journaller.own seen.0 (omega (arith, most, own))
+          (ended.known 2 v.journaller third) file (keeps h file left);
+    }

@@ -60,11 +60,10 @@ pub behind_opened : (base : History) → Behind base (newcomer Journal base (len
 behind_opened base = record { rest = []; seen = sym (append-nil base); kept = omega arith }
 
 -- a session that a turn didn't end lives
-pub lives : (old new : Front) (wire wire' : wires.Told) (desk desk' : Ledger) (turned : Turned) → turns.Turn old new wire wire' desk desk' turned →
-    ((reason : Reason) → turned ≡ Ended reason → ⊥) → new.live ≡ true
-lives old new wire wire' desk desk' Worked turn other = turn.means.1.live
-lives old new wire wire' desk desk' Quiet turn other = turn.means.1.live
-lives old new wire wire' desk desk' (Ended reason) turn other = absurd (other reason refl)
+pub lives : (old new : turns.World) (turned : Turned) → turns.Turn old new turned → ((reason : Reason) → turned ≡ Ended reason → ⊥) → new.front.live ≡ true
+lives old new Worked turn other = turn.means.1.live
+lives old new Quiet turn other = turn.means.1.live
+lives old new (Ended reason) turn other = absurd (other reason refl)
 
 -- a poll in which a journal fails that had not failed yet has raised its disk's count
 pub risen : (failed : Bool) (old mid new : ℕ) → failed ≡ false → mid ≡ old → (failed ≡ true) ⊎ Rose mid new → Rose old new

@@ -2,7 +2,7 @@
 use Rattle.std.specs.Prelude.{◌≡◌, ◌≢◌, ◌⊎◌, ℕ, zero, suc, ◌^◌, ◌-◌, true, Result, Ok, Err}
 use Rattle.gateway.specs.AtRings.{AtRings}
 use Rattle.gateway.specs.Seats.{Uses, ledger_of}
-use Rattle.gateway.specs.Turns.{Turn}
+use Rattle.gateway.specs.Turns.{World, world, Turn}
 use Rattle.gateway.specs.Wires as wires
 use Rattle.gateway.specs.declared.ending.Reason.{Reason}
 use Rattle.gateway.specs.declared.ending.Turned.{Turned}
@@ -27,9 +27,13 @@ pub record Honesty (D : Type 0) : Type 1 where
   pub tells : D → Told
 
 module _ {D : Type 0} where
+  -- what there is around a turn of the gateway
+  abbrev pub around : Whole D → World
+  around s = world s.gateway.front s.wire (ledger_of 1024 s.gateway.seat)
+
   -- the gateway took a turn, and that was all
   pub record TakesTurn (s t : Whole D) (turned : Turned) : Type 0 where
-    pub turn : Turn s.gateway.front t.gateway.front s.wire t.wire (ledger_of 1024 s.gateway.seat) (ledger_of 1024 t.gateway.seat) turned
+    pub turn : Turn (around s) (around t) turned
     pub uses : Uses 1024 s.gateway.seat t.gateway.seat
     pub others : t.venue ≡ s.venue
 

@@ -44,7 +44,7 @@ loop-round-preserved g c =
     let keeps : c.poll-polled.result ≢ JournalFailed = λ is. true≢false (sym (rw is at c.eq.ensures) ∙ c.if-eq.false) in
     let ready = polled.ready keeps in
     let rings : new.rings ≡ old.rings = ap (λ (v : OneVenue g.row.D.Denot). v.rings) polled.polls.others in
-    let live = lives _ _ _ _ _ _ c.turn-turned.result turned.turn c.in_default.not-Ended in
+    let live = lives _ _ c.turn-turned.result turned.turn c.in_default.not-Ended in
     let disk : Honesty g.row.D.Denot = record { honest = g.D.JournalDisk.honest; tells = tells } in
     let start : Whole g.row.D.Denot = record { gateway = c.args.gateway.now; venue = c.args.venue.now; wire = wire c.args.wire.now } in
     let now : Whole g.row.D.Denot = record { gateway = c.loop-round.gateway; venue = old; wire = wire c.loop-round.wire } in

@@ -1,5 +1,5 @@
 -- Each seat stays at the rings, and each stage's poll is its own.
-use Rattle.std.proofs.Common.{subst}
+use Rattle.std.proofs.Common.{refl, subst}
 use Rattle.venue_model.specs.Requests.{Symbols}
 use Rattle.stages.specs.Processes.{Processes}
 use Rattle.venued.proofs.OpenedLemmas.{still_at}
@@ -21,4 +21,21 @@ invariant_of-self g c =
     )
 
 pub returns-clause-polls : goal.returns-clause-polls
-returns-clause-polls g c = ?polls
+returns-clause-polls g c =
+    let rings = c.self.inside.rings in
+    let held = c.self.invariant.0 in
+    let p = c.self.inside.processor in
+    let q = c.poll-processed.new.self in
+    rw (← c.self.view_is) (record {
+      unmarshalled = c.poll-unmarshalled.result;
+      journalled = c.poll-journalled.result;
+      processed = c.poll-processed.result;
+      marshalled = c.poll-marshalled.result;
+      unmarshals = c.poll-unmarshalled.ensures.turn;
+      journals = c.poll-journalled.ensures.turn;
+      processes = subst (λ (l : Symbols). Processes 1024 1024 1 l c.poll-processed.result p.seat.who p.applied q.seat.who q.applied)
+          (symbols_are rings p held.processor_at) c.poll-processed.ensures.turn;
+      marshals = c.poll-marshalled.ensures.turn;
+      answer = c.polled.ensures;
+      others = refl;
+    })
