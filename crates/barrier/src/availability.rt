@@ -1,6 +1,6 @@
 //! How far a stage may read. What stands below is published, and stays in its row until the stage releases it.
 ghost use Rattle.std.specs.Prelude.{◌≡◌, ◌<◌, ◌≤◌, ◌^◌, length};
-ghost use Rattle.ring_words.specs.At.{IsAt, Steps};
+ghost use Rattle.ring_words.specs.At.{IsAt, SamePlace};
 ghost use Rattle.barrier.specs.Availability.{Shown, Gated};
 
 use ring_words::{ProcessSeat, Reader, ReaderSeat, Rings};
@@ -14,7 +14,7 @@ pub fn available<L: Logic, R: Reader, const N: usize, const M: usize, const G: u
 ) -> u64
     requires at { IsAt rings.now seat.old }
     ensures known { (result ≡ length seat.new.who.seen) × (result ≤ 2 ^ 48) }
-    ensures step { Steps seat.old seat.new.who seat.new }
+    ensures step { SamePlace seat.old seat.new }
     ensures some_row { 0 < N }
     ensures shown { Shown N seat.old.who seat.new.who }
 {
@@ -34,7 +34,7 @@ pub fn commands_available<L: Logic, const N: usize, const M: usize, const G: usi
 ) -> u64
     requires at { IsAt rings.now seat.old }
     ensures known { (result ≡ length seat.new.who.seen) × (result ≤ 2 ^ 48) }
-    ensures step { Steps seat.old seat.new.who seat.new }
+    ensures step { SamePlace seat.old seat.new }
     ensures gated { Gated seat.old.who seat.new.who }
 {
     rings.load_unmarshalled(seat);

@@ -38,6 +38,10 @@ module _ {L : Type 0} where
   abbrev pub Steps : At L → Person → At L → Type 0
   Steps old q new = new ≡ seated old q
 
+  -- two seats of the same rings, or one seat before and after: the person is all that may differ
+  abbrev pub SamePlace : At L → At L → Type 0
+  SamePlace one other = Steps one other.who other
+
   -- the number of a gateway's seat
   abbrev pub number : At L → ℕ
   number seat = number_of seat.who.role

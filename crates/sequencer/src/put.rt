@@ -5,7 +5,7 @@ ghost use lib.ListN.{get_elem?};
 ghost use Rattle.ring_words.specs.Places.{journalled};
 ghost use Rattle.ring_words.specs.Rule.{at_place};
 ghost use Rattle.ring_words.specs.Seats.{wrote};
-ghost use Rattle.ring_words.specs.At.{IsAt, Steps};
+ghost use Rattle.ring_words.specs.At.{IsAt, Steps, SamePlace};
 ghost use Rattle.ring_words.specs.Steps.{HasOutputRoom, Shows};
 ghost use Rattle.sequencer.specs.Outputs.{HasLooked};
 
@@ -19,7 +19,7 @@ pub fn room<L: Logic, const N: usize, const M: usize, const G: usize>(
     seat: &mut ProcessSeat<L>,
 ) -> u64
     requires at { IsAt rings.now seat.old }
-    ensures step { Steps seat.old seat.new.who seat.new }
+    ensures step { SamePlace seat.old seat.new }
     ensures looked { HasLooked G M seat.old.who result seat.new.who }
     ensures free { (i : ℕ) → i < result → HasOutputRoom G M seat.new.who (seat.old.who.part.sequence + i) }
 {

@@ -6,7 +6,7 @@ ghost use Rattle.venue_model.specs.History.{Message};
 ghost use Rattle.venue_model.specs.declared.outputs.Output.{Output};
 ghost use Rattle.ring_words.specs.Places.{marshalled};
 ghost use Rattle.ring_words.specs.Seats.{looked};
-ghost use Rattle.ring_words.specs.At.{IsAt, Steps};
+ghost use Rattle.ring_words.specs.At.{IsAt, SamePlace};
 ghost use Rattle.ring_words.specs.Steps.{Shows};
 ghost use Rattle.sequencer.specs.Outputs.{OnlyLoads, IsHead, Carries, TakesNext, SaysOutput};
 
@@ -88,7 +88,7 @@ pub fn take_output<L: Logic, const N: usize, const M: usize, const G: usize>(
     buf: &mut [u8; 320],
 ) -> Take
     requires at { IsAt rings.now seat.old }
-    ensures step { Steps seat.old seat.new.who seat.new }
+    ensures step { SamePlace seat.old seat.new }
     ensures nothing { result ≡ Take.Nothing → seat.new.who ≡ looked seat.old.who marshalled seat.old.who.own }
     ensures taken { result ≢ Take.Nothing → (history : List Message) × TakesNext (length rings.now.base) seat.old.who history seat.new.who
         × SaysOutput (L.outputs rings.now.logic history) (L.text rings.now.logic) seat.old result buf.new }
