@@ -3,3 +3,4 @@ pub mod JournallerLemmas
 pub mod VenueLemmas
 pub mod ServingLemmas
 pub mod FinishLemmas
+pub mod RunningLemmas

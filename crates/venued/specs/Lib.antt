@@ -8,3 +8,4 @@ pub mod Rounds
 pub mod Finishing
 pub mod Serving
 pub mod VenueInsides
+pub mod Running

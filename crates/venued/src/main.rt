@@ -1,4 +1,4 @@
-//! The venue's program: it reads its words, opens the journal, then serves one client over a wire, standard input and output.
+//! The venue's program: it reads its words, and runs over the folder of its journal, standard input and output.
 #![tactic(auto)]
 
 ghost use Rattle.std.specs.Prelude.{◌≡◌, ◌↔◌};
@@ -8,16 +8,17 @@ mod fault;
 mod polled;
 mod recovered;
 mod rings;
+mod running;
 mod serve;
 mod venue;
 mod words;
 
 use crate::fault::ServeFault;
-use crate::serve::{refuse, serve};
+use crate::running::run;
+use crate::serve::refuse;
 use crate::words::{Words, WordsFault};
 use gateway::StdWire;
-use journal::{FileDisk, StandardStreams, SystemFolder, open_journal};
-use std::fs::{File, Files};
+use journal::{StandardStreams, SystemFolder};
 use std::io::{ErrorKind, Stderr};
 use std::process::ExitCode;
 use std::rt::Env;
@@ -40,37 +41,24 @@ fn unread(error: &io::Error) -> WordsFault
     }
 }
 
-/// Opens the file of the journal of this name, or makes it.
-fn open_file<R: Files<File = File> + AllocGlobal>(
-    rt: &R,
-    path: &str,
-) -> Result<FileDisk<File>, ServeFault> {
-    let Ok(mut folder) = SystemFolder::new(rt, path) else {
-        return Err(ServeFault::Memory);
-    };
-    let disk = open_journal(&mut folder)?;
-    Ok(disk)
-}
-
-/// Opens the journal, and serves over standard input and output: the program's status.
-fn run(rt: &HostRuntime, words: &Words, err: &mut Stderr) -> u8 {
+/// Runs over the folder of the journal's name, standard input and output: the program's status.
+fn start(rt: &HostRuntime, words: &Words, err: &mut Stderr) -> u8 {
     let _streams = match StandardStreams::hold(rt) {
         Ok(streams) => streams,
         Err(fault) => return ServeFault::from(fault).say(err),
     };
-    let disk = match open_file(rt, words.journal.as_str()) {
-        Ok(disk) => disk,
-        Err(fault) => return fault.say(err),
+    let Ok(mut folder) = SystemFolder::new(rt, words.journal.as_str()) else {
+        return ServeFault::Memory.say(err);
     };
     let mut wire = StdWire::new(rt.stdin(), rt.stdout());
-    let (status, _) = serve(rt.alloc(), words, disk, &mut wire, err);
+    let (status, _) = run(rt.alloc(), words, &mut folder, &mut wire, err);
     status
 }
 
 fn main(rt: HostRuntime) -> ExitCode {
     let mut err = rt.stderr();
     let status = match read_words(&rt) {
-        Ok(words) => run(&rt, &words, &mut err),
+        Ok(words) => start(&rt, &words, &mut err),
         Err(fault) => refuse(fault, &mut err),
     };
     ExitCode::from(status)
