@@ -1,5 +1,5 @@
 -- What the parts that hear come to.
-use Rattle.std.proofs.Common.{◌≡◌, ◌≢◌, ◌⊎◌, inl, inr, ℕ, zero, suc, ◌+◌, ◌≤◌, Bool, false, List, [], ◌∷◌, ◌++◌, length, take, drop, refl, ap, sym, subst, ◌∙◌, arith, append-nil, take-append-drop, Option, Some, None, is_some}
+use Rattle.std.proofs.Common.{◌≡◌, ◌≢◌, ◌⊎◌, inl, inr, ℕ, zero, suc, ◌+◌, ◌^◌, ◌<◌, ◌≤◌, Bool, false, List, [], ◌∷◌, ◌++◌, length, take, drop, refl, ap, sym, subst, ◌∙◌, arith, append-nil, take-append-drop, Option, Some, None, is_some}
 use Rattle.fix_orders.specs.Text.{Said}
 use Rattle.ring_words.specs.declared.view.Load.{Load}
 use Rattle.gateway.specs.declared.ending.Reason.TheVariants as reason
@@ -8,7 +8,9 @@ use Rattle.gateway.specs.declared.seat.TryPublish.TheVariants.{Done, Refused, Ex
 use Rattle.gateway.specs.declared.client_side.Heard.{Heard}
 use Rattle.gateway.specs.declared.client_side.Heard.TheVariants.{Something, Nothing, Failed}
 use Rattle.gateway.specs.Wires.{Told}
-use Rattle.gateway.specs.Ledgers.{Ledger, loading}
+use Rattle.ring_words.specs.Places.{claim, processed}
+use Rattle.ring_words.specs.Seats.{load_of}
+use Rattle.gateway.specs.Ledgers.{Ledger, loading, IsClaimed, IsRefused}
 use Rattle.gateway.specs.Verdict.{Verdict, Welcome, Beat, Hold, Pass, Leave, Refuse, verdict}
 use Rattle.gateway.specs.Session.{Standing, At}
 use Rattle.gateway.specs.Moves.{heard}
@@ -49,7 +51,18 @@ module _ (old new : Front) (desk desk' : Ledger) (is_open : old.session.closing 
   unclosed : (wire : Told) → ClosesBy old.closed new.closed wire.ends wire.ends
   unclosed wire = inl (ap (λ (f : Front). f.closed) others, refl)
 
-  -- the message held went to the desk
+  -- the claim word that was loaded first is below 2 ^ 48 where a sequence was claimed, or the claim was refused
+  abbrev Below : List Load → Type 0
+  Below ls = (value : ℕ) × (more : List Load) × (ls ≡ load_of claim value ∷ more) × (value ≡ 2 ^ 48 → new.session.closing ≡ Some reason.Exhausted)
+
+  claimed_below : (ls : List Load) → IsClaimed desk.rows ls → Below ls
+  claimed_below ls (s, p, is, room, few) = (s, load_of processed p ∷ load_of claim s ∷ [], is, λ most. absurd (omega (arith, most, few)))
+
+  refused_below : (ls : List Load) → IsRefused desk.rows ls → Below ls
+  refused_below ls (inl (s, p, is, full, few)) = (s, load_of processed p ∷ [], is, λ most. absurd (omega (arith, most, few)))
+  refused_below ls (inr (s, p, t, is, room, few, late)) = (s, load_of processed p ∷ load_of claim t ∷ [], is, λ most. absurd (omega (arith, most, few)))
+
+  -- it was tried to publish the message held
   pub publish-hears : (answer : TryPublish) → Tries old.session new.session desk desk' answer →
       (wire : Told) → Hears (world old wire desk) (world new wire desk') (heard_of answer)
   publish-hears Done tries wire = record {
@@ -63,12 +76,12 @@ module _ (old new : Front) (desk desk' : Ledger) (is_open : old.session.closing 
       input = waiting_stays ∙ sym (append-nil old.waiting);
       gave = sym (grown-nil wire.gave);
       took = sym (grown-nil wire.took);
-      published = ap (λ (l : Ledger). l.published) tries.tells.1;
+      published = ap (λ (l : Ledger). l.published) tries.tells.2;
       gateway = ap (λ (s : Standing). s.gateway) tries.settles;
     };
     others = others_full;
     loaded = tries.tells.0;
-    ledger = tries.tells.1 ∙ ap (λ ps. record (loading desk tries.tells.0) { published = ps }) (sym (ap (λ (l : Ledger). l.published) tries.tells.1));
+    ledger = tries.tells.2 ∙ ap (λ ps. record (loading desk tries.tells.0) { published = ps }) (sym (ap (λ (l : Ledger). l.published) tries.tells.2));
     unwritten = refl;
     unhanded = refl;
     counts = λ count counts. subst (λ (s : Standing). Counts s count) (sym tries.settles) counts;
@@ -77,7 +90,8 @@ module _ (old new : Front) (desk desk' : Ledger) (is_open : old.session.closing 
     lost = λ is. absurd (let stays = ap (λ (s : Standing). s.closing) tries.settles in cc);
     closes = unclosed wire;
     alive = λ other. refl;
-    so = λ same. let none = ap (λ (m : Moved). m.messages) same in cc;
+    tried = λ holds. claimed_below tries.tells.0 tries.tells.1;
+    so = inr (λ none. cc);
   }
   publish-hears Refused tries wire = record {
     moved = nothing_moved;
@@ -98,6 +112,7 @@ module _ (old new : Front) (desk desk' : Ledger) (is_open : old.session.closing 
     room = room_left;
     next = let number : new.session.number ≡ old.session.number = ap (λ (s : Standing). s.number) tries.settles in omega arith;
     lost = λ is. absurd (let stays = ap (λ (s : Standing). s.closing) tries.settles in cc);
+    tried = λ holds. refused_below tries.tells.0 tries.tells.1;
     closes = unclosed wire;
     alive = λ other. refl;
     so = (refl, inl (held_is_some old.session tries.message tries.holds, (tries.tells.0, inl tries.tells.1, [], all_loads desk desk' tries.tells.0 (ap (λ (l : Ledger). l.loads) tries.tells.2))));
@@ -127,6 +142,7 @@ module _ (old new : Front) (desk desk' : Ledger) (is_open : old.session.closing 
     next = let number : new.session.number ≡ old.session.number + 1 = ap (λ (s : Standing). s.number) tries.settles in omega arith;
     lost = λ is.
         (held_is_some old.session tries.message tries.holds, (tries.tells.0, tries.tells.1, [], all_loads desk desk' tries.tells.0 (ap (λ (l : Ledger). l.loads) tries.tells.2)));
+    tried = λ holds. (2 ^ 48, [], tries.tells.1, λ is. ap (λ (s : Standing). s.closing) tries.settles);
     closes = unclosed wire;
     alive = λ other. refl;
     so = (refl, inl (held_is_some old.session tries.message tries.holds, (tries.tells.0, inr tries.tells.1, [], all_loads desk desk' tries.tells.0 (ap (λ (l : Ledger). l.loads) tries.tells.2))));
@@ -213,6 +229,11 @@ module _ (old new : Standing) (fed : List ℕ) (is_open : old.closing ≡ None) 
   fed-so (inl (inr h)) = fed-frame h
   fed-so (inr h) = fed-fault h
 
+-- what is left of nothing is nothing
+no_end : (xs ys : List ℕ) → xs ++ ys ≡ [] → ys ≡ []
+no_end [] ys e = e
+no_end (x ∷ xs) ys e = cc
+
 -- a front of bytes that aren't none isn't none
 front_is_some : (bytes : List ℕ) (n : ℕ) → 1 ≤ n → n ≤ length bytes → take n bytes ≢ []
 front_is_some bytes zero some within = absurd (omega arith)
@@ -226,7 +247,8 @@ module _ (old mid : Front) (wire wire' : Told) (desk : Ledger) (is_open : old.se
 
   read-so : (a : Heard) → ReadSo old mid wire wire' reads.got a → (a ≡ Failed) ⊎ (mid.waiting ≡ []) →
       HeardSo (world old wire desk) (world mid wire' desk) (record nothing_moved { got = reads.got }) a
-  read-so Something so why = λ same. so (ap (λ (m : Moved). m.got) same)
+  read-so Something so (inl failed) = cc
+  read-so Something so (inr empty) = absurd (so (no_end old.waiting reads.got (sym reads.waiting ∙ empty)))
   read-so Nothing so (inl failed) = cc
   read-so Nothing (none, inl stood) (inr empty) =
       absurd (stood (sym (append-nil old.waiting) ∙ ap (λ g. old.waiting ++ g) (sym none) ∙ sym reads.waiting ∙ empty))
@@ -254,6 +276,7 @@ module _ (old mid : Front) (wire wire' : Told) (desk : Ledger) (is_open : old.se
     room = let none : length mid.session.outgoing ≡ 0 = ap (λ (s : Standing). length s.outgoing) session_stays ∙ ap length silent in omega arith;
     next = let number : mid.session.number ≡ old.session.number = ap (λ (s : Standing). s.number) session_stays in omega arith;
     lost = λ is. absurd (let stays = ap (λ (s : Standing). s.closing) session_stays in cc);
+    tried = λ holds. absurd (holds free);
     closes = reads.closes;
     alive = reads.alive;
     so = read-so answer reads.so why;
@@ -291,7 +314,8 @@ module _ (old mid : Front) (wire wire' : Told) (desk : Ledger) (is_open : old.se
         lost = λ is. absurd (fed.unlost is);
         closes = subst (λ (c : Bool). ClosesBy old.closed c wire.ends wire'.ends) (sym (ap (λ (f : Front). f.closed) others)) reads.closes;
         alive = λ other. reads.alive alive;
-        so = λ same. front_is_some mid.waiting n listens.some listens.within (ap (λ (m : Moved). m.fed) same);
+        tried = λ holds. absurd (holds free);
+        so = inl (free, front_is_some mid.waiting n listens.some listens.within);
       }
 
   -- the same, as the code hands on what was read

@@ -12,13 +12,13 @@ use Rattle.gateway.specs.declared.client_side.Heard.TheVariants.{Something, Noth
 use Rattle.venue_model.specs.Counts.{Rose}
 use Rattle.gateway.specs.Wires.{Told, grown}
 use Rattle.ring_words.specs.declared.view.Load.{Load}
-use Rattle.ring_words.specs.Places.{marshalled}
+use Rattle.ring_words.specs.Places.{claim, marshalled}
 use Rattle.ring_words.specs.Seats.{load_of}
 use Rattle.gateway.specs.Ledgers.{Ledger, loading}
 use Rattle.gateway.specs.Flushing.{Flushes}
 use Rattle.gateway.specs.Session.{Standing}
 use Rattle.gateway.specs.Sessions.{ClosesItself}
-use Rattle.gateway.specs.Turns.{place, world, Front, Moved, nothing_moved, Step, Takes, WasRefused, WasExhausted, FoundNone, ClosesBy, Silence, Hearing, IsQuiet, GoesOn, EndedBy, Means, CountsTurns, Attends, Turn, Counts, GoesWith}
+use Rattle.gateway.specs.Turns.{World, place, world, Front, Moved, nothing_moved, Step, Takes, WasRefused, WasExhausted, FoundNone, ClosesBy, Silence, Hearing, IsQuiet, GoesOn, EndedBy, Means, CountsTurns, Attends, Turn, Counts, GoesWith}
 use Rattle.gateway.specs.Gateways.{Hears, HeardSo, HandsOn, TookSo, Waits, Rests, RestsSo, Stuck, StuckSo}
 use Rattle.gateway.proofs.StepLemmas.{both, step-then, flush-step}
 use Rattle.gateway.proofs.WireLemmas.{grown-nil}
@@ -60,9 +60,17 @@ no_rest (b ∷ put) rest e = no_rest put rest cc
 -- a session that has ended needn't attend to anything
 over-attends : (old new : Front) (wire wire' : Told) (desk desk' : Ledger) (m : Moved) → new.live ≡ false → Attends (world old wire desk) (world new wire' desk') m
 over-attends old new wire wire' desk desk' m over = record {
+  writes = λ live. absurd (true≢false (sym live ∙ over));
   listens = λ live. absurd (true≢false (sym live ∙ over));
   looks = λ live. absurd (true≢false (sym live ∙ over));
 }
+
+-- where nothing was loaded it wasn't seen that no sequence was left
+unloaded : (desk : Ledger) → WasExhausted desk desk → ⊥
+unloaded desk (ls, is, rest, loads) =
+    let long : length desk.loads ≡ length desk.loads + length (ls ++ rest) = ap length loads ∙ length-append desk.loads (ls ++ rest) in
+    let more : length (ls ++ rest) ≡ suc (length rest) = ap (λ l. length (l ++ rest)) is in
+    absurd (omega (arith, long, more))
 
 -- Bytes went out, or none could; the gateway ends or goes on without hearing.
 module _ (old : Front) (session : Standing) (wire wire' : Told) (desk : Ledger) (put : List ℕ)
@@ -72,7 +80,7 @@ module _ (old : Front) (session : Standing) (wire wire' : Told) (desk : Ledger) 
   flushed-turn : (answer : Turned) → (wire'.failures ≢ wire.failures → answer ≡ Ended WireFailed) →
       Attends (world old wire desk) (world (record old { session = session; deaf = deaf; live = live }) wire' desk) (record nothing_moved { put = put }) →
       Means (world old wire desk) (world (record old { session = session; deaf = deaf; live = live }) wire' desk) (record nothing_moved { put = put }) answer →
-      CountsTurns (world old wire desk) (world (record old { session = session; deaf = deaf; live = live }) wire' desk) (record nothing_moved { put = put }) →
+      CountsTurns (world old wire desk) (world (record old { session = session; deaf = deaf; live = live }) wire' desk) (record nothing_moved { put = put }) answer →
       Turn (world old wire desk) (world (record old { session = session; deaf = deaf; live = live }) wire' desk) answer
   flushed-turn answer fails attends means counts = record {
     moved = record nothing_moved { put = put };
@@ -84,6 +92,7 @@ module _ (old : Front) (session : Standing) (wire wire' : Told) (desk : Ledger) 
     closes = inl (refl, ends);
     fails = fails;
     lost = λ is_open is. absurd (let stays = ap (λ (s : Standing). s.closing) session_is in cc);
+    exhausts = λ holds none. absurd (unloaded desk none);
   }
 
 -- a count that didn't rise rose by nothing
@@ -91,11 +100,14 @@ no_more : (desk : Ledger) (A : Type 0) → desk.count < desk.count → A
 no_more desk A more = absurd (omega (arith, more))
 
 -- a session is over: its counts are as they were, or the first began again
-over-counts : (old new : Front) (wire wire' : Told) (desk desk' : Ledger) (m : Moved) → new.live ≡ false → (new.deaf ≡ 0) ⊎ (new.deaf ≡ old.deaf) →
-    new.idle ≡ old.idle → CountsTurns (world old wire desk) (world new wire' desk') m
-over-counts old new wire wire' desk desk' m over deaf idle = record {
+over-counts : (old new : Front) (wire wire' : Told) (desk desk' : Ledger) (m : Moved) (answer : Turned) → new.live ≡ false → (new.deaf ≡ 0) ⊎ (new.deaf ≡ old.deaf) →
+    new.idle ≡ old.idle → (answer ≢ Ended WireFailed → old.session.outgoing ≢ [] → m.put ≢ []) → (answer ≢ Ended WireFailed → new.session.closing ≢ None) →
+    CountsTurns (world old wire desk) (world new wire' desk') m answer
+over-counts old new wire wire' desk desk' m answer over deaf idle all closes = record {
   deaf = elim deaf [ inl zero ↦ inl zero | inr same ↦ inr (inl same) ];
   idle = inr (inl idle);
+  deaf_rises = λ other stood none. absurd (all other stood none);
+  idle_rises = λ other closed is_open. absurd (closes other is_open);
   wrote = λ live. absurd (true≢false (sym live ∙ over));
   wrote_all = λ live. absurd (true≢false (sym live ∙ over));
   took = λ live. absurd (true≢false (sym live ∙ over));
@@ -109,7 +121,8 @@ pub turn-failed : (old : Front) (session : Standing) (wire wire' : Told) (desk :
 turn-failed old session wire wire' desk session_is (put, split, (rose, tells)) =
     flushed-turn old session wire wire' desk put split session_is (ap (λ (t : Told). t.gave) tells) (ap (λ (t : Told). t.took) tells) (ap (λ (t : Told). t.ends) tells)
     old.deaf false (Ended WireFailed) (λ more. refl) (over-attends old (record old { session = session; live = false }) wire wire' desk desk (record nothing_moved { put = put }) refl) (rose, refl)
-    (over-counts old (record old { session = session; live = false }) wire wire' desk desk (record nothing_moved { put = put }) refl (inr refl) refl)
+    (over-counts old (record old { session = session; live = false }) wire wire' desk desk (record nothing_moved { put = put }) (Ended WireFailed) refl (inr refl) refl
+    (λ other. absurd (other refl)) (λ other. absurd (other refl)))
 
 -- the wire took no more in the flush
 stuck-means : (old new : Front) (wire wire' : Told) (desk : Ledger) (put : List ℕ) (wrote : Bool) (answer : Turned) →
@@ -131,7 +144,8 @@ stuck-means old new wire wire' desk put wrote Quiet split left live wrote_is ros
   record { live = so.0 ∙ live; unsaid = λ closing. left },
 )
 stuck-means old new wire wire' desk put wrote (Ended reason) split left live wrote_is rose so =
-    subst (λ (r : Reason). EndedBy new wire wire' r × (new.live ≡ false)) (sym so.1) (so.2, so.0)
+    let full = so.2 in let more = so.4 in
+    subst (λ (r : Reason). EndedBy (world old wire desk) (world new wire' desk) r × (new.live ≡ false)) (sym so.1) ((so.2, omega (arith, full, more)), so.0)
 
 -- what the stuck part says of the gateway before the flush, and of its end
 stuck-so : (old : Front) (session : Standing) (new : Front) (wrote : Bool) (answer : Turned) → Stuck (record old { session = session }) new wrote answer →
@@ -144,28 +158,34 @@ stuck-so old session new wrote (Ended reason) stuck = stuck.so
 stuck-counts : (old new : Front) (wire wire' : Told) (desk : Ledger) (put : List ℕ) (wrote : Bool) (answer : Turned) →
     old.session.outgoing ≡ put ++ new.session.outgoing → new.session.outgoing ≢ [] → new.idle ≡ old.idle →
     wrote ≡ nat_lt (length new.session.outgoing) (length old.session.outgoing) → Rose wire.full_writes wire'.full_writes →
-    StuckSo old new wrote answer → CountsTurns (world old wire desk) (world new wire' desk) (record nothing_moved { put = put })
+    StuckSo old new wrote answer → CountsTurns (world old wire desk) (world new wire' desk) (record nothing_moved { put = put }) answer
 stuck-counts old new wire wire' desk put wrote Worked split left idle wrote_is rose so = record {
   deaf = inl so.2;
   idle = inr (inl idle);
+  deaf_rises = λ other stood none. absurd (wrote_some old.session.outgoing put new.session.outgoing split (sym wrote_is ∙ so.1) none);
+  idle_rises = λ other closed is_open silent. absurd (left (no_end put new.session.outgoing (sym split ∙ silent)));
   wrote = λ live some. so.2;
-  wrote_all = λ live some none. absurd (left none);
+  wrote_all = λ live some all. absurd (left (no_rest put new.session.outgoing (all ∙ split)));
   took = λ live more. no_more desk _ more;
 }
 stuck-counts old new wire wire' desk put wrote Quiet split left idle wrote_is rose so =
     let none = wrote_none old.session.outgoing put new.session.outgoing split (sym wrote_is ∙ so.1) in record {
       deaf = inr (inr (so.2, (λ silent. left (no_end put new.session.outgoing (sym split ∙ silent))), none, rose));
       idle = inr (inl idle);
+      deaf_rises = λ other stood unput. so.2;
+      idle_rises = λ other closed is_open silent. absurd (left (no_end put new.session.outgoing (sym split ∙ silent)));
       wrote = λ live some. absurd (some none);
-      wrote_all = λ live some silent. absurd (left silent);
+      wrote_all = λ live some all. absurd (some none);
       took = λ live more. no_more desk _ more;
     }
 stuck-counts old new wire wire' desk put wrote (Ended reason) split left idle wrote_is rose so =
     let none = wrote_none old.session.outgoing put new.session.outgoing split (sym wrote_is ∙ so.3) in record {
       deaf = inr (inr (so.4, (λ silent. left (no_end put new.session.outgoing (sym split ∙ silent))), none, rose));
       idle = inr (inl idle);
+      deaf_rises = λ other stood unput. so.4;
+      idle_rises = λ other closed is_open silent. absurd (left (no_end put new.session.outgoing (sym split ∙ silent)));
       wrote = λ live some. absurd (some none);
-      wrote_all = λ live some silent. absurd (left silent);
+      wrote_all = λ live some all. absurd (some none);
       took = λ live more. no_more desk _ more;
     }
 
@@ -180,19 +200,19 @@ turn-stuck old session new wire wire' desk wrote answer session_is live (put, sp
     subst (λ (f : Front). Turn (world old wire desk) (world f wire' desk) answer) (sym stuck.others)
     (flushed-turn old session wire wire' desk put split session_is (ap (λ (t : Told). t.gave) tells) (ap (λ (t : Told). t.took) tells) (ap (λ (t : Told). t.ends) tells)
     new.deaf new.live answer (λ more. absurd (more (ap (λ (t : Told). t.failures) tells)))
-    (record { listens = λ lives all. absurd (left (no_rest put session.outgoing (all ∙ split))); looks = λ lives all. absurd (left (no_rest put session.outgoing (all ∙ split))) })
+    (record { writes = λ lives. inr (rose, refl, refl); listens = λ lives all. absurd (left (no_rest put session.outgoing (all ∙ split))); looks = λ lives all. absurd (left (no_rest put session.outgoing (all ∙ split))) })
     (stuck-means old end wire wire' desk put wrote answer split left live wrote_is rose (stuck-so old session new wrote answer stuck))
     (stuck-counts old end wire wire' desk put wrote answer split left refl wrote_is rose (stuck-so old session new wrote answer stuck)))
 
 -- the session was closing, and all is written
-closed-by : (new : Front) (wire wire' : Told) (reason : Reason) → ClosesItself reason → new.session.closing ≡ Some reason → new.session.outgoing ≡ [] →
-    EndedBy new wire wire' reason
-closed-by new wire wire' LoggedOut own closing none = (closing, none)
-closed-by new wire wire' Refused own closing none = (closing, none)
-closed-by new wire wire' Exhausted own closing none = (closing, none)
-closed-by new wire wire' Closed own closing none = absurd own
-closed-by new wire wire' WireFailed own closing none = absurd own
-closed-by new wire wire' Stalled own closing none = absurd own
+closed-by : (old new : World) (reason : Reason) → ClosesItself reason → new.front.session.closing ≡ Some reason → new.front.session.outgoing ≡ [] →
+    EndedBy old new reason
+closed-by old new LoggedOut own closing none = (closing, none)
+closed-by old new Refused own closing none = (closing, none)
+closed-by old new Exhausted own closing none = (closing, none)
+closed-by old new Closed own closing none = absurd own
+closed-by old new WireFailed own closing none = absurd own
+closed-by old new Stalled own closing none = absurd own
 
 pub turn-closed : (old : Front) (session : Standing) (wire wire' : Told) (desk : Ledger) (reason : Reason) →
     session ≡ record old.session { outgoing = session.outgoing } →
@@ -202,13 +222,9 @@ pub turn-closed : (old : Front) (session : Standing) (wire wire' : Told) (desk :
 turn-closed old session wire wire' desk reason session_is (put, split, (none, tells)) own closing =
     flushed-turn old session wire wire' desk put split session_is (ap (λ (t : Told). t.gave) tells) (ap (λ (t : Told). t.took) tells) (ap (λ (t : Told). t.ends) tells)
     0 false (Ended reason) (λ more. absurd (more (ap (λ (t : Told). t.failures) tells)))
-    (over-attends old (record old { session = session; deaf = 0; live = false }) wire wire' desk desk (record nothing_moved { put = put }) refl) (closed-by (record old { session = session; deaf = 0; live = false }) wire wire' reason own closing none, refl)
-    (over-counts old (record old { session = session; deaf = 0; live = false }) wire wire' desk desk (record nothing_moved { put = put }) refl (inl refl) refl)
-
--- a list is empty or it isn't
-none_or_some : {X : Type 0} (xs : List X) → (xs ≡ []) ⊎ (xs ≢ [])
-none_or_some [] = inl refl
-none_or_some (x ∷ xs) = inr (λ none. cc)
+    (over-attends old (record old { session = session; deaf = 0; live = false }) wire wire' desk desk (record nothing_moved { put = put }) refl) (closed-by (world old wire desk) (world (record old { session = session; deaf = 0; live = false }) wire' desk) reason own closing none, refl)
+    (over-counts old (record old { session = session; deaf = 0; live = false }) wire wire' desk desk (record nothing_moved { put = put }) (Ended reason) refl (inl refl) refl
+    (λ other stood unput. stood (split ∙ ap (λ p. p ++ session.outgoing) unput ∙ none)) (λ other is_open. cc))
 
 -- nothing fed, read, written, published or handed on is nothing moved
 is_still : (m : Moved) → m.fed ≡ [] → m.got ≡ [] → m.put ≡ [] → m.messages ≡ [] → m.handed ≡ [] → m ≡ nothing_moved
@@ -218,18 +234,18 @@ is_still m fed got put messages handed =
     ∙ ap (λ x. record m { fed = []; got = []; put = []; messages = x }) messages
     ∙ ap (λ x. record m { fed = []; got = []; put = []; messages = []; handed = x }) handed
 
--- where something moved, and nothing was written or handed on, something was heard
-some_heard : (m : Moved) → m ≢ nothing_moved → m.put ≡ [] → m.handed ≡ [] → Hearing m
-some_heard m some put handed = elim (none_or_some m.got) [
-  | inr got ↦ inl got
-  | inl no_bytes ↦ elim (none_or_some m.fed) [
-    | inr fed ↦ inr (inl fed)
-    | inl unfed ↦ elim (none_or_some m.messages) [
-      | inr messages ↦ inr (inr messages)
-      | inl unpublished ↦ absurd (some (is_still m unfed no_bytes put unpublished handed))
-    ]
-  ]
-]
+-- where something was heard, something moved
+hearing_moves : (old : World) (m : Moved) → Hearing old m → m ≢ nothing_moved
+hearing_moves old m (inl (free, fed)) same = fed (ap (λ (n : Moved). n.fed) same)
+hearing_moves old m (inr messages) same = messages (ap (λ (n : Moved). n.messages) same)
+
+-- lists that go on alike from the same beginning, and the values of loads that stand first
+cancel_left : (xs ys zs : List Load) → xs ++ ys ≡ xs ++ zs → ys ≡ zs
+cancel_left [] ys zs e = e
+cancel_left (x ∷ xs) ys zs e = cancel_left xs ys zs cc
+
+first_value : (k l : Load) (ks ls : List Load) → k ∷ ks ≡ l ∷ ls → k.value ≡ l.value
+first_value k l ks ls e = let same : k ≡ l = cc in ap (λ (m : Load). m.value) same
 
 -- a claim that was refused, and what was loaded behind it
 later-refused : (desk desk' desk'' : Ledger) (more : List Load) → desk''.loads ≡ desk'.loads ++ more → WasRefused desk desk' → WasRefused desk desk''
@@ -265,6 +281,17 @@ module _ (old h : Front) (session : Standing) (wire wire' wire'' : Told) (desk d
   lost_heard : h.session.closing ≡ Some Exhausted → (old.session.held ≢ None) × WasExhausted desk desk'
   lost_heard is = let lost = hears.lost is in ((λ none. lost.0 (ap (λ (s : Standing). s.held) session_is ∙ none)), lost.1)
 
+  -- it was seen that no sequence was left: then the message held is lost, and the session closes
+  heard_exhausts : (desk'' : Ledger) (more : List Load) → desk''.loads ≡ desk'.loads ++ more → old.session.held ≢ None → WasExhausted desk desk'' →
+      h.session.closing ≡ Some Exhausted
+  heard_exhausts desk'' more grown holds (ls, is, rest, loads) =
+      let tried = hears.tried (λ free. holds (sym (ap (λ (s : Standing). s.held) session_is) ∙ free)) in
+      let all : desk.loads ++ (hears.loaded ++ more) ≡ desk.loads ++ (ls ++ rest) =
+      sym (append_assoc desk.loads hears.loaded more) ∙ ap (λ l. l ++ more) (sym (ap (λ (l : Ledger). l.loads) hears.ledger)) ∙ sym grown ∙ loads in
+      let same : load_of claim tried.0 ∷ (tried.1 ++ more) ≡ load_of claim (2 ^ 48) ∷ rest =
+      ap (λ l. l ++ more) (sym tried.2) ∙ cancel_left desk.loads (hears.loaded ++ more) (ls ++ rest) all ∙ ap (λ l. l ++ rest) is in
+      tried.3 (first_value (load_of claim tried.0) (load_of claim (2 ^ 48)) (tried.1 ++ more) rest same)
+
   -- the client's side closed in the read, or didn't
   heard_closes : ClosesBy old.closed h.closed wire.ends wire''.ends
   heard_closes = subst (λ n. ClosesBy old.closed h.closed n wire''.ends) (ap (λ (t : Told). t.ends) tells) hears.closes
@@ -279,10 +306,12 @@ module _ (old h : Front) (session : Standing) (wire wire' wire'' : Told) (desk d
         takes = subst (λ (t : List Said). Takes h.session.logged_on old (record h { live = false }) desk desk' t) (sym hears.unhanded)
             (no_takes h.session.logged_on old (record h { live = false }) desk desk' (ap (λ (l : Ledger). l.taken) hears.ledger) (ap (λ (f : Front). f.passed) hears.others));
         means = (subst (λ n. Rose n wire''.failures) (ap (λ (t : Told). t.failures) tells) rose, refl);
-        counts = over-counts old (record h { live = false }) wire wire'' desk desk' heard-moved refl (inl (ap (λ (f : Front). f.deaf) hears.others)) (ap (λ (f : Front). f.idle) hears.others);
+        counts = over-counts old (record h { live = false }) wire wire'' desk desk' heard-moved (Ended WireFailed) refl (inl (ap (λ (f : Front). f.deaf) hears.others)) (ap (λ (f : Front). f.idle) hears.others)
+            (λ other. absurd (other refl)) (λ other. absurd (other refl));
         attends = over-attends old (record h { live = false }) wire wire'' desk desk' heard-moved refl;
         closes = heard_closes;
         fails = λ more. refl;
+        exhausts = λ holds none. heard_exhausts desk' [] (sym (append-nil desk'.loads)) holds none;
         lost = λ is_open is. lost_heard is;
       }
 
@@ -360,10 +389,10 @@ module _ (old h : Front) (session : Standing) (wire wire' wire'' : Told) (desk d
         )
 
     -- what was heard, in the whole turn
-    hearing_all : Hearing hears.moved → Hearing all-moved
-    hearing_all (inl got) = inl (λ none. got (sym (append-nil hears.moved.got) ∙ none))
-    hearing_all (inr (inl fed)) = inr (inl (λ none. fed (sym (append-nil hears.moved.fed) ∙ none)))
-    hearing_all (inr (inr messages)) = inr (inr (λ none. messages (sym (append-nil hears.moved.messages) ∙ none)))
+    hearing_all : Hearing (world (record old { session = session; deaf = 0 }) wire' desk) hears.moved → Hearing (world old wire desk) all-moved
+    hearing_all (inl (free, fed)) =
+        inl (sym (ap (λ (s : Standing). s.held) session_is) ∙ free, λ none. fed (sym (append-nil hears.moved.fed) ∙ none))
+    hearing_all (inr messages) = inr (λ none. messages (sym (append-nil hears.moved.messages) ∙ none))
 
     -- why nothing was heard, in the whole turn
     silent_all : (end : Front) → end.waiting ≡ t.waiting → end.closed ≡ t.closed →
@@ -413,29 +442,55 @@ module _ (old h : Front) (session : Standing) (wire wire' wire'' : Told) (desk d
     end_deaf : (end : Front) → end ≡ record t { idle = end.idle; live = end.live } → end.deaf ≡ 0
     end_deaf end end_is = ap (λ (f : Front). f.deaf) end_is ∙ ap (λ (f : Front). f.deaf) hands.others ∙ ap (λ (f : Front). f.deaf) hears.others
 
+    -- what was put in all is what stood to be written
+    put_all : all-moved.put ≡ old.session.outgoing
+    put_all = append-nil (put ++ hears.moved.put) ∙ ap (λ p. put ++ p) hears.unwritten ∙ ap (λ p. put ++ p) (sym none) ∙ sym split
+
+    -- where nothing stood to be written nothing was
+    silent_put : old.session.outgoing ≡ [] → put ≡ []
+    silent_put silent = no_front put session.outgoing (sym split ∙ silent)
+
+    -- the second count rises
+    idle_rises : (end : Front) (wrote : Bool) (b : Bool) → took ≡ b → wrote ≡ nat_lt (length session.outgoing) (length old.session.outgoing) →
+        end ≡ record t { idle = end.idle; live = end.live } → Waits t end wrote b → end.closed ≡ true → end.session.closing ≡ None →
+        old.session.outgoing ≡ [] → desk''.count ≡ desk.count → end.idle ≡ old.idle + 1
+    idle_rises end true b took_is wrote_is end_is waits closed is_open silent same =
+        absurd (wrote_some old.session.outgoing put session.outgoing split (sym wrote_is) (silent_put silent))
+    idle_rises end false true took_is wrote_is end_is waits closed is_open silent same =
+        let more = subst (λ n. n < desk''.count) count_same (subst (λ (b : Bool). TookSo h t desk' desk'' hands.handed b) took_is hands.so) in
+        absurd (omega (arith, more, same))
+    idle_rises end false false took_is wrote_is end_is (inl (stays, never)) closed is_open silent same =
+        absurd (never (sym (ap (λ (f : Front). f.closed) end_is) ∙ closed) (sym (ap (λ (f : Front). f.session.closing) end_is) ∙ is_open))
+    idle_rises end false false took_is wrote_is end_is (inr (more, closed_is, open_is)) closed is_open silent same =
+        more ∙ ap (λ n. n + 1) (ap (λ (f : Front). f.idle) hands.others ∙ ap (λ (f : Front). f.idle) hears.others)
+
     -- the counts of a turn that wrote all
-    all-counts : (end : Front) (wrote : Bool) (b : Bool) → took ≡ b → wrote ≡ nat_lt (length session.outgoing) (length old.session.outgoing) →
-        end ≡ record t { idle = end.idle; live = end.live } → Waits t end wrote b → CountsTurns (world old wire desk) (world end wire'' desk'') all-moved
-    all-counts end true b took_is wrote_is end_is waits = record {
+    all-counts : (end : Front) (wrote : Bool) (b : Bool) (turned : Turned) → took ≡ b → wrote ≡ nat_lt (length session.outgoing) (length old.session.outgoing) →
+        end ≡ record t { idle = end.idle; live = end.live } → Waits t end wrote b → CountsTurns (world old wire desk) (world end wire'' desk'') all-moved turned
+    all-counts end true b turned took_is wrote_is end_is waits = record {
       deaf = inl (end_deaf end end_is);
       idle = inl waits;
+      deaf_rises = λ other stood unput. absurd (stood (sym put_all ∙ unput));
+      idle_rises = λ other. idle_rises end true b took_is wrote_is end_is waits;
       wrote = λ live some. end_deaf end end_is;
-      wrote_all = λ live some silent. waits;
+      wrote_all = λ live some all. waits;
       took = λ live more. waits;
     }
-    all-counts end false true took_is wrote_is end_is waits = record {
+    all-counts end false true turned took_is wrote_is end_is waits = record {
       deaf = inl (end_deaf end end_is);
       idle = inl waits;
+      deaf_rises = λ other stood unput. absurd (stood (sym put_all ∙ unput));
+      idle_rises = λ other. idle_rises end false true took_is wrote_is end_is waits;
       wrote = λ live some. end_deaf end end_is;
-      wrote_all = λ live some silent. waits;
+      wrote_all = λ live some all. waits;
       took = λ live more. waits;
     }
-    all-counts end false false took_is wrote_is end_is waits =
+    all-counts end false false turned took_is wrote_is end_is waits =
         let none = unput_all (wrote_none old.session.outgoing put session.outgoing split (sym wrote_is)) in
         let nothing = subst (λ (b : Bool). TookSo h t desk' desk'' hands.handed b) took_is hands.so in record {
           deaf = inl (end_deaf end end_is);
           idle = elim waits [
-            | inl same ↦ inr (inl (same ∙ ap (λ (f : Front). f.idle) hands.others ∙ ap (λ (f : Front). f.idle) hears.others))
+            | inl (same, never) ↦ inr (inl (same ∙ ap (λ (f : Front). f.idle) hands.others ∙ ap (λ (f : Front). f.idle) hears.others))
             | inr (more, closed, is_open) ↦ inr (inr (
               more ∙ ap (λ n. n + 1) (ap (λ (f : Front). f.idle) hands.others ∙ ap (λ (f : Front). f.idle) hears.others),
               ap (λ (f : Front). f.closed) end_is ∙ closed,
@@ -443,15 +498,17 @@ module _ (old h : Front) (session : Standing) (wire wire' wire'' : Told) (desk d
               found nothing is_open,
             ))
           ];
+          deaf_rises = λ other stood unput. absurd (stood (sym put_all ∙ unput));
+          idle_rises = λ other. idle_rises end false false took_is wrote_is end_is waits;
           wrote = λ live some. end_deaf end end_is;
-          wrote_all = λ live some silent. absurd (some none);
+          wrote_all = λ live some all. absurd (some none);
           took = λ live more. let same = nothing.2 in absurd (omega (arith, more, same, count_same));
         }
 
     -- a turn that went on behind its writes listened
     all-listens : (end : Front) (a : Heard) → a ≢ Failed → HeardSo (world (record old { session = session; deaf = 0 }) wire' desk) (world h wire'' desk') hears.moved a →
-        end.waiting ≡ t.waiting → end.closed ≡ t.closed → Hearing all-moved ⊎ Silence (world old wire desk) (world end wire'' desk'')
-    all-listens end Something alive so waiting_end closed_end = inl (hearing_all (some_heard hears.moved so hears.unwritten hears.unhanded))
+        end.waiting ≡ t.waiting → end.closed ≡ t.closed → Hearing (world old wire desk) all-moved ⊎ Silence (world old wire desk) (world end wire'' desk'')
+    all-listens end Something alive so waiting_end closed_end = inl (hearing_all so)
     all-listens end Nothing alive so waiting_end closed_end = inr (silent_all end waiting_end closed_end (heard-nothing Nothing (λ is. cc) alive so).1)
     all-listens end Failed alive so waiting_end closed_end = absurd (alive refl)
 
@@ -478,7 +535,7 @@ module _ (old h : Front) (session : Standing) (wire wire' wire'' : Told) (desk d
     all-means end wrote Worked wrote_is alive live is_open end_is (same, inr (inl did)) =
         (inr (subst (λ n. n < desk''.count) count_same (subst (λ (b : Bool). TookSo h t desk' desk'' hands.handed b) did hands.so)), goes-on end (same ∙ live) is_open)
     all-means end wrote Worked wrote_is alive live is_open end_is (same, inr (inr did)) =
-        (inl (λ still. (subst (λ (a : Heard). HeardSo (world (record old { session = session; deaf = 0 }) wire' desk) (world h wire'' desk') hears.moved a) did hears.so) (unheard_all still)), goes-on end (same ∙ live) is_open)
+        (inl (λ still. hearing_moves (world (record old { session = session; deaf = 0 }) wire' desk) hears.moved (subst (λ (a : Heard). HeardSo (world (record old { session = session; deaf = 0 }) wire' desk) (world h wire'' desk') hears.moved a) did hears.so) (unheard_all still)), goes-on end (same ∙ live) is_open)
     all-means end wrote Quiet wrote_is alive live is_open end_is (same, no_bytes, no_output, no_news) =
         let silent = heard-nothing answer no_news alive hears.so in (
           quiet-all end (wrote_none old.session.outgoing put session.outgoing split (sym wrote_is ∙ no_bytes)) silent.0
@@ -486,8 +543,9 @@ module _ (old h : Front) (session : Standing) (wire wire' wire'' : Told) (desk d
               (ap (λ (f : Front). f.session) end_is) (ap (λ (f : Front). f.waiting) end_is) (ap (λ (f : Front). f.closed) end_is),
           goes-on end (same ∙ live) is_open,
         )
-    all-means end wrote (Ended reason) wrote_is alive live is_open end_is (same, why, closed, last) =
-        (subst (λ (r : Reason). EndedBy end wire wire'' r) (sym why) (ap (λ (f : Front). f.closed) end_is ∙ closed, last), same)
+    all-means end wrote (Ended reason) wrote_is alive live is_open end_is (same, why, closed, last, before) =
+        (subst (λ (r : Reason). EndedBy (world old wire desk) (world end wire'' desk'') r) (sym why) (ap (λ (f : Front). f.closed) end_is ∙ closed, last,
+        sym (ap (λ (f : Front). f.idle) hands.others ∙ ap (λ (f : Front). f.idle) hears.others) ∙ before), same)
 
     pub turn-rested : (end : Front) (wrote : Bool) (turned : Turned) →
         wrote ≡ nat_lt (length session.outgoing) (length old.session.outgoing) → answer ≢ Failed → old.live ≡ true → session.closing ≡ None →
@@ -506,13 +564,16 @@ module _ (old h : Front) (session : Standing) (wire wire' wire'' : Told) (desk d
             passed = ap (λ (f : Front). f.passed) rests.others ∙ all-takes.passed;
           });
           means = all-means end wrote turned wrote_is alive t_live (sym (ap (λ (s : Standing). s.closing) session_is) ∙ is_open) rests.others rests.so;
-          counts = all-counts end wrote took refl wrote_is rests.others rests.waits;
+          counts = all-counts end wrote took turned refl wrote_is rests.others rests.waits;
           attends = record {
+            writes = λ lives. inl put_all;
             listens = λ lives all. all-listens end answer alive hears.so (ap (λ (f : Front). f.waiting) rests.others) (ap (λ (f : Front). f.closed) rests.others);
             looks = λ lives all still_open. all-looks end took hands.so (sym (ap (λ (s : Standing). s.closing) session_end) ∙ still_open);
           };
           closes = all_closes end (ap (λ (f : Front). f.closed) rests.others);
           fails = λ more. absurd (more (hears.alive alive ∙ ap (λ (t : Told). t.failures) tells));
+          exhausts = λ holds seen.
+              ap (λ (s : Standing). s.closing) session_end ∙ hands.closing ∙ heard_exhausts desk'' hands.loaded (ap (λ (l : Ledger). l.loads) hands.ledger) holds seen;
           lost = λ open_before is.
               let lost = lost_heard (sym hands.closing ∙ sym (ap (λ (s : Standing). s.closing) session_end) ∙ is) in
               (lost.0, later-exhausted desk desk' desk'' hands.loaded (ap (λ (l : Ledger). l.loads) hands.ledger) lost.1);

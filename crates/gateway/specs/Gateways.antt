@@ -10,10 +10,10 @@ use Rattle.gateway.specs.declared.client_side.ClientSide.TheInside.{Inside}
 use Rattle.venue_model.specs.Counts.{Rose}
 use Rattle.gateway.specs.Wires.{Told, grown}
 use Rattle.ring_words.specs.declared.view.Load.{Load}
-use Rattle.ring_words.specs.Places.{marshalled}
+use Rattle.ring_words.specs.Places.{claim, marshalled}
 use Rattle.ring_words.specs.Seats.{load_of}
 use Rattle.gateway.specs.Ledgers.{Ledger, loading}
-use Rattle.gateway.specs.Turns.{Front, World, world, place_of, Moved, nothing_moved, Moves, Step, Takes, Counts, WasExhausted, ClosesBy, Silence}
+use Rattle.gateway.specs.Turns.{Front, World, world, place_of, Moved, nothing_moved, Moves, Step, Takes, Counts, WasExhausted, ClosesBy, Hearing, Silence}
 use Rattle.gateway.specs.Moves.{fresh}
 
 abbrev pub front : Inside → Front
@@ -46,7 +46,7 @@ begun gateway passed = record {
 
 -- what was heard
 abbrev pub HeardSo : World → World → Moved → Heard → Type 0
-HeardSo old new m Something = m ≢ nothing_moved
+HeardSo old new m Something = Hearing old m
 HeardSo old new m Nothing = (m ≡ nothing_moved) × Silence old new
 HeardSo old new m Failed = Rose old.wire.failures new.wire.failures
 
@@ -63,6 +63,8 @@ pub record Hears (old new : World) (answer : Heard) : Type 0 where
   pub room : length new.front.session.outgoing ≤ 512
   pub next : new.front.session.number ≤ old.front.session.number + 1
   pub lost : new.front.session.closing ≡ Some Exhausted → (old.front.session.held ≢ None) × WasExhausted old.desk new.desk
+  pub tried : old.front.session.held ≢ None → (value : ℕ) × (more : List Load) × (loaded ≡ load_of claim value ∷ more)
+      × (value ≡ 2 ^ 48 → new.front.session.closing ≡ Some Exhausted)
   pub closes : ClosesBy old.front.closed new.front.closed old.wire.ends new.wire.ends
   pub alive : answer ≢ Failed → new.wire.failures ≡ old.wire.failures
   pub so : HeardSo old new moved answer
@@ -129,13 +131,15 @@ pub record PassesOver (old new : Front) (desk desk_after : Ledger) (took : Bool)
 abbrev pub RestsSo : Front → Front → Bool → Heard → Bool → Turned → Type 0
 RestsSo old new wrote heard took Worked = (new.live ≡ old.live) × ((wrote ≡ true) ⊎ (took ≡ true) ⊎ (heard ≡ Something))
 RestsSo old new wrote heard took Quiet = (new.live ≡ old.live) × (wrote ≡ false) × (took ≡ false) × (heard ≢ Something)
-RestsSo old new wrote heard took (Ended reason) = (new.live ≡ false) × (reason ≡ Closed) × (old.closed ≡ true) × (new.idle ≡ 1000)
+RestsSo old new wrote heard took (Ended reason) = (new.live ≡ false) × (reason ≡ Closed) × (old.closed ≡ true) × (new.idle ≡ 1000) × (old.idle ≡ 999)
 
 -- how it counts turns behind the client's end
 abbrev pub Waits : Front → Front → Bool → Bool → Type 0
 Waits old new true took = new.idle ≡ 0
 Waits old new false true = new.idle ≡ 0
-Waits old new false false = (new.idle ≡ old.idle) ⊎ ((new.idle ≡ old.idle + 1) × (old.closed ≡ true) × (old.session.closing ≡ None))
+Waits old new false false =
+    ((new.idle ≡ old.idle) × (old.closed ≡ true → old.session.closing ≡ None → ⊥))
+    ⊎ ((new.idle ≡ old.idle + 1) × (old.closed ≡ true) × (old.session.closing ≡ None))
 
 pub record Rests (old new : Front) (wrote : Bool) (heard : Heard) (took : Bool) (answer : Turned) : Type 0 where
   pub waits : Waits old new wrote took

@@ -29,10 +29,14 @@ abbrev pub loading : Ledger → List Load → Ledger
 loading l ls = record l { loads = l.loads ++ ls }
 
 -- A claim in a ring of n rows came too early: the claim word was s, then the processed word was p, and all rows from p on were claimed. Or too late: there
--- was room for s, but then the claim word was t, above s.
+-- was room for s, but then the claim word was t, above s. Sequences are left
 abbrev pub IsRefused : ℕ → List Load → Type 0
-IsRefused n ls = ((s p : ℕ) × (ls ≡ load_of claim s ∷ load_of processed p ∷ []) × (s ≡ p + n))
-    ⊎ ((s p t : ℕ) × (ls ≡ load_of claim s ∷ load_of processed p ∷ load_of claim t ∷ []) × (s < p + n) × (s < t))
+IsRefused n ls = ((s p : ℕ) × (ls ≡ load_of claim s ∷ load_of processed p ∷ []) × (s ≡ p + n) × (s < 2 ^ 48))
+    ⊎ ((s p t : ℕ) × (ls ≡ load_of claim s ∷ load_of processed p ∷ load_of claim t ∷ []) × (s < p + n) × (s < 2 ^ 48) × (s < t))
+
+-- a sequence was claimed: the claim word was s, below 2 ^ 48, then the processed word was some p that left room, and then the claim word still was s
+abbrev pub IsClaimed : ℕ → List Load → Type 0
+IsClaimed n ls = (s p : ℕ) × (ls ≡ load_of claim s ∷ load_of processed p ∷ load_of claim s ∷ []) × (s < p + n) × (s < 2 ^ 48)
 
 -- no sequence was left to claim
 abbrev pub IsExhausted : List Load → Type 0
@@ -40,7 +44,7 @@ IsExhausted ls = ls ≡ load_of claim (2 ^ 48) ∷ []
 
 -- what a try to publish with this answer tells
 abbrev pub PublishTells : Ledger → Ledger → List ℕ → TryPublish → Type 0
-PublishTells old new message Done = (ls : List Load) × (new ≡ record (loading old ls) { published = old.published ++ message ∷ [] })
+PublishTells old new message Done = (ls : List Load) × IsClaimed old.rows ls × (new ≡ record (loading old ls) { published = old.published ++ message ∷ [] })
 PublishTells old new message Refused = (ls : List Load) × IsRefused old.rows ls × (new ≡ loading old ls)
 PublishTells old new message Exhausted = (ls : List Load) × IsExhausted ls × (new ≡ loading old ls)
 

@@ -110,9 +110,9 @@ Silence old new =
     ((old.front.session.held ≢ None) × WasRefused old.desk new.desk)
     ⊎ ((old.front.session.held ≡ None) × (new.front.waiting ≡ []) × (Rose old.wire.empty_reads new.wire.empty_reads ⊎ (new.front.closed ≡ true)))
 
--- something was heard: bytes were read or fed, or a message published
-abbrev pub Hearing : Moved → Type 0
-Hearing m = (m.got ≢ []) ⊎ ((m.fed ≢ []) ⊎ (m.messages ≢ []))
+-- something was heard: bytes were fed, where no message was held, or that message was published
+abbrev pub Hearing : World → Moved → Type 0
+Hearing old m = ((old.front.session.held ≡ None) × (m.fed ≢ [])) ⊎ (m.messages ≢ [])
 
 -- Nothing moved in the turn, and this is why. Bytes stood to be written, and a write answered Nothing. Or there was nothing to hear; and, unless the
 -- session closes, there was no output.
@@ -128,13 +128,13 @@ abbrev pub Moving : Moved → Ledger → Ledger → Type 0
 Moving m desk desk_after = (m ≢ nothing_moved) ⊎ (desk.count < desk_after.count)
 
 -- why the session ended in this turn
-abbrev pub EndedBy : Front → Told → Told → Reason → Type 0
-EndedBy new wire wire_after Closed = (new.closed ≡ true) × (new.idle ≡ 1000)
-EndedBy new wire wire_after WireFailed = Rose wire.failures wire_after.failures
-EndedBy new wire wire_after LoggedOut = (new.session.closing ≡ Some LoggedOut) × (new.session.outgoing ≡ [])
-EndedBy new wire wire_after Refused = (new.session.closing ≡ Some Refused) × (new.session.outgoing ≡ [])
-EndedBy new wire wire_after Stalled = new.deaf ≡ 100000
-EndedBy new wire wire_after Exhausted = (new.session.closing ≡ Some Exhausted) × (new.session.outgoing ≡ [])
+abbrev pub EndedBy : World → World → Reason → Type 0
+EndedBy old new Closed = (new.front.closed ≡ true) × (new.front.idle ≡ 1000) × (old.front.idle ≡ 999)
+EndedBy old new WireFailed = Rose old.wire.failures new.wire.failures
+EndedBy old new LoggedOut = (new.front.session.closing ≡ Some LoggedOut) × (new.front.session.outgoing ≡ [])
+EndedBy old new Refused = (new.front.session.closing ≡ Some Refused) × (new.front.session.outgoing ≡ [])
+EndedBy old new Stalled = (new.front.deaf ≡ 100000) × (old.front.deaf ≡ 99999)
+EndedBy old new Exhausted = (new.front.session.closing ≡ Some Exhausted) × (new.front.session.outgoing ≡ [])
 
 -- the session goes on: one that closes does so only while bytes stand to be written
 pub record GoesOn (old new : Front) : Type 0 where
@@ -145,23 +145,30 @@ pub record GoesOn (old new : Front) : Type 0 where
 abbrev pub Means : World → World → Moved → Turned → Type 0
 Means old new m Worked = Moving m old.desk new.desk × GoesOn old.front new.front
 Means old new m Quiet = IsQuiet old new m × GoesOn old.front new.front
-Means old new m (Ended reason) = EndedBy new.front old.wire new.wire reason × (new.front.live ≡ false)
+Means old new m (Ended reason) = EndedBy old new reason × (new.front.live ≡ false)
 
--- How the counts of turns in a row move. The one that ends a session with 55 rises where no byte of those that stand to be written goes out, and begins
--- again where one does; the one that ends it with 51 rises, once the client has closed its side, where nothing was written and no output was there, and
--- begins again where all that stood to be written was, or an output was taken or passed over.
-pub record CountsTurns (old new : World) (m : Moved) : Type 0 where
+-- How the counts of turns in a row move, but in the turn in which the wire fails. The one that ends a session with 55 rises just where bytes stood to be
+-- written and none went out, and begins again where one did. The one that ends it with 51 rises, once the client has closed its side and unless the
+-- session closes, just where nothing stood to be written and no output was there, and begins again where all that stood to be written was, or an output
+-- was taken or passed over.
+pub record CountsTurns (old new : World) (m : Moved) (answer : Turned) : Type 0 where
   pub deaf : (new.front.deaf ≡ 0) ⊎ ((new.front.deaf ≡ old.front.deaf)
       ⊎ ((new.front.deaf ≡ old.front.deaf + 1) × (old.front.session.outgoing ≢ []) × (m.put ≡ []) × Rose old.wire.full_writes new.wire.full_writes))
   pub idle : (new.front.idle ≡ 0) ⊎ ((new.front.idle ≡ old.front.idle)
       ⊎ ((new.front.idle ≡ old.front.idle + 1) × (new.front.closed ≡ true) × (m.put ≡ []) × FoundNone old.desk new.desk))
+  pub deaf_rises : answer ≢ Ended WireFailed → old.front.session.outgoing ≢ [] → m.put ≡ [] → new.front.deaf ≡ old.front.deaf + 1
+  pub idle_rises : answer ≢ Ended WireFailed → new.front.closed ≡ true → new.front.session.closing ≡ None → old.front.session.outgoing ≡ []
+      → new.desk.count ≡ old.desk.count → new.front.idle ≡ old.front.idle + 1
   pub wrote : new.front.live ≡ true → m.put ≢ [] → new.front.deaf ≡ 0
-  pub wrote_all : new.front.live ≡ true → m.put ≢ [] → new.front.session.outgoing ≡ [] → new.front.idle ≡ 0
+  pub wrote_all : new.front.live ≡ true → m.put ≢ [] → m.put ≡ old.front.session.outgoing → new.front.idle ≡ 0
   pub took : new.front.live ≡ true → old.desk.count < new.desk.count → new.front.idle ≡ 0
 
--- A turn that wrote all that stood to be written, and didn't end the session, listened; and, unless the session closes now, it looked for an output.
+-- A turn that didn't end the session wrote all that stood to be written, or a write answered Nothing and that was all. If it wrote all, it listened; and,
+-- unless the session closes now, it looked for an output.
 pub record Attends (old new : World) (m : Moved) : Type 0 where
-  pub listens : new.front.live ≡ true → m.put ≡ old.front.session.outgoing → Hearing m ⊎ Silence old new
+  pub writes : new.front.live ≡ true → (m.put ≡ old.front.session.outgoing)
+      ⊎ (Rose old.wire.full_writes new.wire.full_writes × (m ≡ record nothing_moved { put = m.put }) × (new.desk ≡ old.desk))
+  pub listens : new.front.live ≡ true → m.put ≡ old.front.session.outgoing → Hearing old m ⊎ Silence old new
   pub looks : new.front.live ≡ true → m.put ≡ old.front.session.outgoing → new.front.session.closing ≡ None
       → (old.desk.count < new.desk.count) ⊎ FoundNone old.desk new.desk
 
@@ -171,12 +178,13 @@ pub record Turn (old new : World) (answer : Turned) : Type 0 where
   pub step : Step (place_of old) (place_of new) moved
   pub takes : Takes new.front.session.logged_on old.front new.front old.desk new.desk moved.handed
   pub means : Means old new moved answer
-  pub counts : CountsTurns old new moved
+  pub counts : CountsTurns old new moved answer
   pub attends : Attends old new moved
   pub closes : ClosesBy old.front.closed new.front.closed old.wire.ends new.wire.ends
   pub fails : new.wire.failures ≢ old.wire.failures → answer ≡ Ended WireFailed
   pub lost : old.front.session.closing ≡ None → new.front.session.closing ≡ Some Exhausted
       → (old.front.session.held ≢ None) × WasExhausted old.desk new.desk
+  pub exhausts : old.front.session.held ≢ None → WasExhausted old.desk new.desk → new.front.session.closing ≡ Some Exhausted
 
 -- a closing session has said one message more
 abbrev pub farewell : Option Reason → ℕ
