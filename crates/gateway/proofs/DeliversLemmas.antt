@@ -99,5 +99,5 @@ module _ (start : Start) (old new : Front) (wire wire' : Told) (desk desk' : Led
         took = took;
       }
 
-  pub delivers : (moved : Moved) × Delivers start new wire' desk' (further c moved)
-  delivers = (m, goes-on new.session.logged_on refl turn.takes)
+  pub delivers : Delivers start new wire' desk' (further c m)
+  delivers = goes-on new.session.logged_on refl turn.takes

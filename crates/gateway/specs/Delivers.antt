@@ -5,7 +5,8 @@ use Rattle.gateway.specs.AtRings.{AtRings}
 use Rattle.gateway.specs.Ledgers.{Ledger}
 use Rattle.gateway.specs.Seats.{ledger_of}
 use Rattle.gateway.specs.Session.{At}
-use Rattle.gateway.specs.Turns.{Front, Moved}
+use Rattle.gateway.specs.Turns.{Front, Moved, world, Turn}
+use Rattle.gateway.specs.declared.ending.Turned.{Turned}
 use Rattle.gateway.specs.Wires.{Told, grown}
 
 -- the course of a session so far: the bytes fed to it, the messages published, the outputs given to its client, and the bytes written
@@ -50,7 +51,8 @@ starts n g wire = record { desk = ledger_of n g.seat; wire = wire; passed = g.fr
 abbrev pub Begins : AtRings → Type 0
 Begins g = (n : ℕ) (wire : Told) → Delivers (starts n g wire) g.front wire (ledger_of n g.seat) nothing_yet
 
--- whatever course the session had before, it has the same with what moved since
-abbrev pub Continues : ℕ → AtRings → AtRings → Told → Told → Type 0
-Continues n old new wire wire_after = (start : Start) (c : Course) → Delivers start old.front wire (ledger_of n old.seat) c →
-    (m : Moved) × Delivers start new.front wire_after (ledger_of n new.seat) (further c m)
+-- A turn of the gateway: and whatever course the session had before, it has had the same with what moved in this turn.
+pub record Proceeds (n : ℕ) (old new : AtRings) (wire wire_after : Told) (answer : Turned) : Type 0 where
+  pub turn : Turn (world old.front wire (ledger_of n old.seat)) (world new.front wire_after (ledger_of n new.seat)) answer
+  pub delivers : (start : Start) (c : Course) → Delivers start old.front wire (ledger_of n old.seat) c →
+      Delivers start new.front wire_after (ledger_of n new.seat) (further c turn.moved)

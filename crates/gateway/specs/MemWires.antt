@@ -6,7 +6,7 @@ use Rattle.gateway.specs.declared.wire.TryWrite.{TryWrite}
 use Rattle.gateway.specs.declared.wire.TryWrite.TheVariants as write
 use Rattle.gateway.specs.Wires.{Told}
 
--- what it has to give and how much of that it gave, what it took, its counts, and how it was set
+-- what it has to give and how much of that it gave, what it took, its counts, whether all is quiet, and how it was set
 pub record Memory : Type 0 where
   pub input : List ℕ
   pub given : ℕ
@@ -15,6 +15,7 @@ pub record Memory : Type 0 where
   pub empty_reads : ℕ
   pub full_writes : ℕ
   pub ends : ℕ
+  pub quiet : Bool
   -- at most so many bytes a read
   pub piece : ℕ
   -- it ends behind its input, else reads answer Nothing there
@@ -33,6 +34,7 @@ fresh input = record {
   empty_reads = 0;
   full_writes = 0;
   ends = 0;
+  quiet = true;
   piece = 2 ^ 64 - 1;
   closes = true;
   room = 2 ^ 64 - 1;
@@ -48,6 +50,7 @@ told m = record {
   empty_reads = m.empty_reads;
   full_writes = m.full_writes;
   ends = m.ends;
+  quiet = m.quiet;
 }
 
 -- what a read into so much space does: it gives the next bytes while there are some, then answers as it was set

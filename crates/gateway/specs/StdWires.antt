@@ -10,7 +10,7 @@ use Rattle.gateway.specs.declared.wire.TryWrite.TheVariants as write
 use Rattle.gateway.specs.declared.wire.standard.StdWire.{StdWire}
 use Rattle.gateway.specs.Wires.{Told}
 
--- it tells its counts alone
+-- it tells its counts, and whether all is quiet
 abbrev pub told : {R W : Type 0} → StdWire R W → Told
 told w = record {
   gave = None;
@@ -19,11 +19,12 @@ told w = record {
   empty_reads = w.counts.empty_reads;
   full_writes = w.counts.full_writes;
   ends = w.counts.ends;
+  quiet = w.quiet;
 }
 
 -- what it tells before its first call
 abbrev pub untold : Told
-untold = record { gave = None; took = None; failures = 0; empty_reads = 0; full_writes = 0; ends = 0 }
+untold = record { gave = None; took = None; failures = 0; empty_reads = 0; full_writes = 0; ends = 0; quiet = true }
 
 abbrev pub reader_of : {R W : Type 0} → StdWire R W → R
 reader_of w = w.reader

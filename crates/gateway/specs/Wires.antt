@@ -1,5 +1,5 @@
 -- What a wire tells of itself, and what each of its calls tells. It may keep its bytes to itself, but not its counts.
-use Rattle.std.specs.Prelude.{◌≡◌, ℕ, ◌≤◌, List, ◌++◌, length, take, Option, Some, None}
+use Rattle.std.specs.Prelude.{◌≡◌, ℕ, Bool, ◌≤◌, List, ◌++◌, length, take, Option, Some, None}
 use Rattle.venue_model.specs.Counts.{Rose}
 use Rattle.gateway.specs.declared.wire.counts.Counts.{Counts}
 use Rattle.gateway.specs.declared.wire.TryRead.{TryRead}
@@ -8,7 +8,7 @@ use Rattle.gateway.specs.declared.wire.TryWrite.{TryWrite}
 use Rattle.gateway.specs.declared.wire.TryWrite.TheVariants as write
 
 -- the bytes that it gave and took, each None where it tells none; the calls that failed; the reads and the writes
--- that answered Nothing; and the reads that answered End
+-- that answered Nothing; the reads that answered End; and whether it was last told that all is quiet
 pub record Told : Type 0 where
   pub gave : Option (List ℕ)
   pub took : Option (List ℕ)
@@ -16,6 +16,7 @@ pub record Told : Type 0 where
   pub empty_reads : ℕ
   pub full_writes : ℕ
   pub ends : ℕ
+  pub quiet : Bool
 
 -- what it counts
 abbrev pub counts_of : Told → Counts

@@ -30,10 +30,9 @@ impl Model for Gateway {
 impl Gateway {
     ghost use Rattle.ring_words.specs.At.{IsAt, number};
     ghost use Rattle.gateway.specs.AtRings.{Idles};
-    ghost use Rattle.gateway.specs.Delivers.{Begins, Continues};
+    ghost use Rattle.gateway.specs.Delivers.{Begins, Proceeds};
     ghost use Rattle.gateway.specs.Gateways.{begun};
     ghost use Rattle.gateway.specs.Seats.{HasSeen, LooksOnce, Uses, ledger_of};
-    ghost use Rattle.gateway.specs.Turns.{world, Turn};
 
     /// The gateway of a seat that `Rings::open` made, or that a gateway gave back. All its room is made here; no session is begun. Where room is
     /// refused, the seat comes back.
@@ -67,8 +66,7 @@ impl Gateway {
     ) -> Turned
         requires live { self.old.front.live ≡ true }
         requires at { IsAt rings.now self.old.seat }
-        ensures turn { Turn (world self.old.front (W.tells wire.old) (ledger_of N self.old.seat)) (world self.new.front (W.tells wire.new) (ledger_of N self.new.seat)) result }
-        ensures delivers { Continues N self.old self.new (W.tells wire.old) (W.tells wire.new) }
+        ensures turn { Proceeds N self.old self.new (W.tells wire.old) (W.tells wire.new) result }
         ensures uses { Uses N self.old.seat self.new.seat }
     {
         self.client.turn(rings, &mut self.seat, wire)

@@ -49,7 +49,7 @@ pub trait Wire {
 
     /// Says whether all is quiet: whether nothing comes about until the client sends. While it is, a read may wait for it.
     fn rest(&mut self, quiet: bool)
-        ensures { tells self.new ≡ tells self.old };
+        ensures { tells self.new ≡ record (tells self.old) { quiet = quiet } };
 
     /// What it counts of its calls.
     fn counts(&self) -> Counts

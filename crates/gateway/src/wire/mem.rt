@@ -16,6 +16,7 @@ pub struct MemWire {
     given: usize,
     taken: Vec<u8>,
     counts: Counts,
+    quiet: bool,
     piece: usize,
     closes: bool,
     room: usize,
@@ -35,6 +36,7 @@ impl Model for MemWire {
       empty_reads = w.counts.empty_reads;
       full_writes = w.counts.full_writes;
       ends = w.counts.ends;
+      quiet = w.quiet;
       piece = w.piece;
       closes = w.closes;
       room = w.room;
@@ -56,6 +58,7 @@ impl MemWire {
             given: 0,
             taken: Vec::new(alloc),
             counts: Counts::new(),
+            quiet: true,
             piece: usize::MAX,
             closes: true,
             room: usize::MAX,
@@ -153,9 +156,11 @@ impl Wire for MemWire {
         TryWrite::Failed
     }
 
-    fn rest(&mut self, _quiet: bool)
-        ensures { self.new ≡ self.old }
-    {}
+    fn rest(&mut self, quiet: bool)
+        ensures { self.new ≡ record self.old { quiet = quiet } }
+    {
+        self.quiet = quiet;
+    }
 
     fn counts(&self) -> Counts
         ensures { result ≡ counts_of (told self.now) }

@@ -19,6 +19,7 @@ pub struct StdWire<R, W> {
     reader: R,
     writer: W,
     counts: Counts,
+    quiet: bool,
     rested: bool,
 }
 
@@ -34,6 +35,7 @@ impl<R: Read + Drop, W: Write + Drop> StdWire<R, W> {
             reader,
             writer,
             counts: Counts::new(),
+            quiet: true,
             rested: true,
         }
     }
@@ -107,11 +109,12 @@ impl<R: Read + Drop, W: Write + Drop> Wire for StdWire<R, W> {
     }
 
     fn rest(&mut self, quiet: bool)
-        ensures tells { told self.new ≡ told self.old }
+        ensures tells { told self.new ≡ record (told self.old) { quiet = quiet } }
         ensures reader { reader_of self.new ≡ reader_of self.old }
         ensures writer { writer_of self.new ≡ writer_of self.old }
         ensures rested { rested_of self.new ≡ quiet }
     {
+        self.quiet = quiet;
         self.rested = quiet;
     }
 
