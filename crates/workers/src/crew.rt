@@ -1,5 +1,5 @@
 //! The four stages of one venue together, on one thread or on four.
-ghost use Rattle.std.specs.Prelude.{◌≡◌};
+ghost use Rattle.ring_words.specs.At.{IsAt, SamePlace};
 ghost use denote.Param.Send.{IsSend, IsSync};
 
 use crate::stations::{keep, marshal, process, unmarshal};
@@ -17,9 +17,9 @@ pub struct Crew<D: JournalDisk> {
     pub journaller: Journaller<D>,
     pub processor: Processor,
     pub marshaller: Marshaller,
-    ghost unmarshals: { unmarshaller.seat.seat.table_id ≡ processor.seat.seat.table_id },
-    ghost journals: { journaller.seat.seat.table_id ≡ processor.seat.seat.table_id },
-    ghost marshals: { marshaller.seat.seat.table_id ≡ processor.seat.seat.table_id },
+    ghost unmarshals: { SamePlace processor.seat unmarshaller.seat },
+    ghost journals: { SamePlace processor.seat journaller.seat },
+    ghost marshals: { SamePlace processor.seat marshaller.seat },
 }
 
 impl<D: JournalDisk> Crew<D> {
@@ -29,8 +29,8 @@ impl<D: JournalDisk> Crew<D> {
         &mut self,
         rings: &Rings<BookLogic, N, M, G>,
     ) -> bool
-        requires { self.old.processor.seat.seat.table_id ≡ rings.now.table.shared.table_id }
-        ensures { self.new.processor.seat.seat.table_id ≡ self.old.processor.seat.seat.table_id }
+        requires { IsAt rings.now self.old.processor.seat }
+        ensures { SamePlace self.old.processor.seat self.new.processor.seat }
     {
         matches!(self.unmarshaller.poll(rings), Turn::Did(_))
             && matches!(self.journaller.poll(rings), Turn::Did(_))
@@ -53,20 +53,20 @@ fn read<
     journaller: Journaller<D>,
     stop: &AtomicBool,
 ) -> (Unmarshaller, Journaller<D>)
-    requires unmarshaller { unmarshaller.seat.seat.table_id ≡ rings.now.table.shared.table_id }
-    requires journaller { journaller.seat.seat.table_id ≡ rings.now.table.shared.table_id }
-    ensures unmarshaller { result.0.seat.seat.table_id ≡ rings.now.table.shared.table_id }
-    ensures journaller { result.1.seat.seat.table_id ≡ rings.now.table.shared.table_id }
+    requires unmarshaller { IsAt rings.now unmarshaller.seat }
+    requires journaller { IsAt rings.now journaller.seat }
+    ensures unmarshaller { IsAt rings.now result.0.seat }
+    ensures journaller { IsAt rings.now result.1.seat }
 {
     join(
         rt,
         move || -> Unmarshaller
-            requires { unmarshaller.seat.seat.table_id ≡ rings.now.table.shared.table_id }
-            ensures { result.seat.seat.table_id ≡ rings.entry.now.table.shared.table_id }
+            requires { IsAt rings.now unmarshaller.seat }
+            ensures { IsAt rings.entry.now result.seat }
         { unmarshal(rings, unmarshaller, stop) },
         move || -> Journaller<D>
-            requires { journaller.seat.seat.table_id ≡ rings.now.table.shared.table_id }
-            ensures { result.seat.seat.table_id ≡ rings.entry.now.table.shared.table_id }
+            requires { IsAt rings.now journaller.seat }
+            ensures { IsAt rings.entry.now result.seat }
         { keep(rings, journaller, stop) },
     )
 }
@@ -79,20 +79,20 @@ fn answer<R: Threads + Sync, const N: usize, const M: usize, const G: usize>(
     marshaller: Marshaller,
     stop: &AtomicBool,
 ) -> (Processor, Marshaller)
-    requires processor { processor.seat.seat.table_id ≡ rings.now.table.shared.table_id }
-    requires marshaller { marshaller.seat.seat.table_id ≡ rings.now.table.shared.table_id }
-    ensures processor { result.0.seat.seat.table_id ≡ rings.now.table.shared.table_id }
-    ensures marshaller { result.1.seat.seat.table_id ≡ rings.now.table.shared.table_id }
+    requires processor { IsAt rings.now processor.seat }
+    requires marshaller { IsAt rings.now marshaller.seat }
+    ensures processor { IsAt rings.now result.0.seat }
+    ensures marshaller { IsAt rings.now result.1.seat }
 {
     join(
         rt,
         move || -> Processor
-            requires { processor.seat.seat.table_id ≡ rings.now.table.shared.table_id }
-            ensures { result.seat.seat.table_id ≡ rings.entry.now.table.shared.table_id }
+            requires { IsAt rings.now processor.seat }
+            ensures { IsAt rings.entry.now result.seat }
         { process(rings, processor, stop) },
         move || -> Marshaller
-            requires { marshaller.seat.seat.table_id ≡ rings.now.table.shared.table_id }
-            ensures { result.seat.seat.table_id ≡ rings.entry.now.table.shared.table_id }
+            requires { IsAt rings.now marshaller.seat }
+            ensures { IsAt rings.entry.now result.seat }
         { marshal(rings, marshaller, stop) },
     )
 }
@@ -106,8 +106,8 @@ pub(crate) fn run_stages<
     const M: usize,
     const G: usize,
 >(rt: &R, rings: &Rings<BookLogic, N, M, G>, crew: Crew<D>, stop: &AtomicBool) -> Crew<D>
-    requires { crew.processor.seat.seat.table_id ≡ rings.now.table.shared.table_id }
-    ensures { result.processor.seat.seat.table_id ≡ rings.now.table.shared.table_id }
+    requires { IsAt rings.now crew.processor.seat }
+    ensures { IsAt rings.now result.processor.seat }
 {
     let Crew {
         unmarshaller,
@@ -118,16 +118,16 @@ pub(crate) fn run_stages<
     let ((unmarshaller, journaller), (processor, marshaller)) = join(
         rt,
         move || -> (Unmarshaller, Journaller<D>)
-            requires { IsSync R.row × IsSend D.row × (unmarshaller.seat.seat.table_id ≡ rings.now.table.shared.table_id)
-                × (journaller.seat.seat.table_id ≡ rings.now.table.shared.table_id) }
-            ensures { (result.0.seat.seat.table_id ≡ rings.entry.now.table.shared.table_id)
-                × (result.1.seat.seat.table_id ≡ rings.entry.now.table.shared.table_id) }
+            requires { IsSync R.row × IsSend D.row × (IsAt rings.now unmarshaller.seat)
+                × (IsAt rings.now journaller.seat) }
+            ensures { (IsAt rings.entry.now result.0.seat)
+                × (IsAt rings.entry.now result.1.seat) }
         { read(rt, rings, unmarshaller, journaller, stop) },
         move || -> (Processor, Marshaller)
-            requires { IsSync R.row × (processor.seat.seat.table_id ≡ rings.now.table.shared.table_id)
-                × (marshaller.seat.seat.table_id ≡ rings.now.table.shared.table_id) }
-            ensures { (result.0.seat.seat.table_id ≡ rings.entry.now.table.shared.table_id)
-                × (result.1.seat.seat.table_id ≡ rings.entry.now.table.shared.table_id) }
+            requires { IsSync R.row × (IsAt rings.now processor.seat)
+                × (IsAt rings.now marshaller.seat) }
+            ensures { (IsAt rings.entry.now result.0.seat)
+                × (IsAt rings.entry.now result.1.seat) }
         { answer(rt, rings, processor, marshaller, stop) },
     );
     Crew {

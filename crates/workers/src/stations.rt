@@ -1,7 +1,7 @@
 //! The four stages as workers: each function lets one work on the thread that calls it, and gives it back at the same
 //! rings.
-ghost use Rattle.std.specs.Prelude.{◌≡◌};
-ghost use Rattle.atomic_table.specs.Seated.{TableId};
+ghost use Rattle.venue_model.specs.Requests.{Symbols};
+ghost use Rattle.ring_words.specs.At.{Opened, IsAt};
 
 use crate::worker::{Outcome, Worker, goes_on, work};
 use book::BookLogic;
@@ -25,13 +25,13 @@ fn outcome(turn: Turn) -> Outcome {
 struct Unmarshalling<'a, const N: usize, const M: usize, const G: usize> {
     rings: &'a Rings<BookLogic, N, M, G>,
     stage: Unmarshaller,
-    ghost fits: { stage.seat.seat.table_id ≡ rings.now.table.shared.table_id },
+    ghost fits: { IsAt rings.now stage.seat },
 }
 
 impl<const N: usize, const M: usize, const G: usize> Worker for Unmarshalling<'_, N, M, G> {
-    ghost Place = { TableId };
+    ghost Place = { Opened Symbols };
 
-    ghost place = { λ w. w.rings.now.table.shared.table_id };
+    ghost place = { λ w. w.rings.now };
 
     fn turn(&mut self) -> Outcome {
         outcome(self.stage.poll(self.rings))
@@ -44,8 +44,8 @@ pub(crate) fn unmarshal<const N: usize, const M: usize, const G: usize>(
     stage: Unmarshaller,
     stop: &AtomicBool,
 ) -> Unmarshaller
-    requires { stage.seat.seat.table_id ≡ rings.now.table.shared.table_id }
-    ensures { result.seat.seat.table_id ≡ rings.now.table.shared.table_id }
+    requires { IsAt rings.now stage.seat }
+    ensures { IsAt rings.now result.seat }
 {
     let mut worker = Unmarshalling { rings, stage };
     work(&mut worker, stop);
@@ -59,8 +59,8 @@ pub(crate) fn keep<D: JournalDisk, const N: usize, const M: usize, const G: usiz
     mut stage: Journaller<D>,
     stop: &AtomicBool,
 ) -> Journaller<D>
-    requires { stage.seat.seat.table_id ≡ rings.now.table.shared.table_id }
-    ensures { result.seat.seat.table_id ≡ rings.now.table.shared.table_id }
+    requires { IsAt rings.now stage.seat }
+    ensures { IsAt rings.now result.seat }
 {
     let backoff = Backoff::new();
     for _ in 0..u64::MAX {
@@ -77,13 +77,13 @@ pub(crate) fn keep<D: JournalDisk, const N: usize, const M: usize, const G: usiz
 struct Processing<'a, const N: usize, const M: usize, const G: usize> {
     rings: &'a Rings<BookLogic, N, M, G>,
     stage: Processor,
-    ghost fits: { stage.seat.seat.table_id ≡ rings.now.table.shared.table_id },
+    ghost fits: { IsAt rings.now stage.seat },
 }
 
 impl<const N: usize, const M: usize, const G: usize> Worker for Processing<'_, N, M, G> {
-    ghost Place = { TableId };
+    ghost Place = { Opened Symbols };
 
-    ghost place = { λ w. w.rings.now.table.shared.table_id };
+    ghost place = { λ w. w.rings.now };
 
     fn turn(&mut self) -> Outcome {
         outcome(self.stage.poll(self.rings))
@@ -96,8 +96,8 @@ pub(crate) fn process<const N: usize, const M: usize, const G: usize>(
     stage: Processor,
     stop: &AtomicBool,
 ) -> Processor
-    requires { stage.seat.seat.table_id ≡ rings.now.table.shared.table_id }
-    ensures { result.seat.seat.table_id ≡ rings.now.table.shared.table_id }
+    requires { IsAt rings.now stage.seat }
+    ensures { IsAt rings.now result.seat }
 {
     let mut worker = Processing { rings, stage };
     work(&mut worker, stop);
@@ -110,13 +110,13 @@ pub(crate) fn process<const N: usize, const M: usize, const G: usize>(
 struct Marshalling<'a, const N: usize, const M: usize, const G: usize> {
     rings: &'a Rings<BookLogic, N, M, G>,
     stage: Marshaller,
-    ghost fits: { stage.seat.seat.table_id ≡ rings.now.table.shared.table_id },
+    ghost fits: { IsAt rings.now stage.seat },
 }
 
 impl<const N: usize, const M: usize, const G: usize> Worker for Marshalling<'_, N, M, G> {
-    ghost Place = { TableId };
+    ghost Place = { Opened Symbols };
 
-    ghost place = { λ w. w.rings.now.table.shared.table_id };
+    ghost place = { λ w. w.rings.now };
 
     fn turn(&mut self) -> Outcome {
         outcome(self.stage.poll(self.rings))
@@ -129,8 +129,8 @@ pub(crate) fn marshal<const N: usize, const M: usize, const G: usize>(
     stage: Marshaller,
     stop: &AtomicBool,
 ) -> Marshaller
-    requires { stage.seat.seat.table_id ≡ rings.now.table.shared.table_id }
-    ensures { result.seat.seat.table_id ≡ rings.now.table.shared.table_id }
+    requires { IsAt rings.now stage.seat }
+    ensures { IsAt rings.now result.seat }
 {
     let mut worker = Marshalling { rings, stage };
     work(&mut worker, stop);

@@ -1,5 +1,5 @@
 //! A run: stages, and what is to happen beside them, at the same time.
-ghost use Rattle.std.specs.Prelude.{◌≡◌};
+ghost use Rattle.ring_words.specs.At.{IsAt};
 ghost use denote.Param.Send.{IsSend, IsSync};
 
 use crate::crew::{Crew, run_stages};
@@ -28,17 +28,17 @@ pub fn run<
     others: F,
     stop: &AtomicBool,
 ) -> (Crew<D>, X)
-    requires rings { crew.processor.seat.seat.table_id ≡ rings.now.table.shared.table_id }
+    requires rings { IsAt rings.now crew.processor.seat }
     requires others { F.pre others }
-    ensures rings { result.0.processor.seat.seat.table_id ≡ rings.now.table.shared.table_id }
+    ensures rings { IsAt rings.now result.0.processor.seat }
     ensures others { F.post others result.1 }
 {
     join(
         rt,
         move || -> Crew<D>
             requires { IsSync R.row × IsSend D.row
-                × (crew.processor.seat.seat.table_id ≡ rings.now.table.shared.table_id) }
-            ensures { result.processor.seat.seat.table_id ≡ rings.entry.now.table.shared.table_id }
+                × (IsAt rings.now crew.processor.seat) }
+            ensures { IsAt rings.entry.now result.processor.seat }
         { run_stages(rt, rings, crew, stop) },
         move || -> X
             requires { F.pre others }
