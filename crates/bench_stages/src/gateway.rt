@@ -1,5 +1,6 @@
 //! A gateway with the messages that it publishes, in their order, and the counts of what it is answered.
 ghost use Rattle.std.specs.Prelude.{◌≡◌, ℕ};
+ghost use Rattle.ring_words.specs.At.{IsAt};
 
 use crate::answers::Answers;
 use crate::fault::Fault;
@@ -28,7 +29,7 @@ pub struct Gateway<'a, const G: usize> {
     answers: Answers,
     /// How many turns in a row found nothing to do.
     idle: u64,
-    ghost fits: { seat.seat.table_id ≡ rings.now.table.shared.table_id },
+    ghost fits: { IsAt rings.now seat },
 }
 
 impl<const G: usize> Gateway<'_, G> {
@@ -39,7 +40,7 @@ impl<const G: usize> Gateway<'_, G> {
         seat: GatewaySeat<BookLogic>,
         task: &Task,
     ) -> Result<Gateway<'a, G>, AllocError>
-        requires { seat.seat.table_id ≡ rings.now.table.shared.table_id }
+        requires { IsAt rings.now seat }
     {
         let number = seat.number();
         let messages = messages_of(alloc, number as u8, task.share(number))?;

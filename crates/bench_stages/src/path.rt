@@ -1,9 +1,8 @@
 //! The whole path of a run: gateways and stages at the same rings.
 ghost use Rattle.std.specs.Prelude.{◌≡◌, [], false, IfOk, IfSome};
 ghost use Rattle.venue_model.specs.Step.{empty};
-ghost use Rattle.ring_words.specs.declared.view.Role.TheVariants as role;
-ghost use Rattle.ring_words.specs.Crew.{stage_view, process_view, marshal_view};
-ghost use Rattle.ring_words.specs.Ending.{AreSpent};
+ghost use Rattle.ring_words.specs.At.{IsAt};
+ghost use Rattle.ring_words.specs.Crew.{AreNewGateways, AreNew};
 ghost use Rattle.std.specs.Thread.{IsSync};
 
 use crate::fault::Fault;
@@ -25,7 +24,7 @@ pub struct Path<'a, const G: usize> {
     rings: &'a VenueRings<G>,
     gateways: Vec<Gateway<'a, G>>,
     crew: Crew<NullDisk>,
-    ghost fits: { crew.processor.seat.seat.table_id ≡ rings.now.table.shared.table_id },
+    ghost fits: { IsAt rings.now crew.processor.seat },
 }
 
 /// An empty journal. Its disk keeps nothing, so that what the calls of a disk cost is left out of the figures.
@@ -43,9 +42,9 @@ fn next_seat<const G: usize>(
     rings: &VenueRings<G>,
     seats: &mut Vec<GatewaySeat<BookLogic>>,
 ) -> Option<GatewaySeat<BookLogic>>
-    requires { AreSpent rings.now.table.shared.table_id seats.old.items }
-    ensures left { AreSpent rings.now.table.shared.table_id seats.new.items }
-    ensures next { IfSome result (λ seat. seat.seat.table_id ≡ rings.now.table.shared.table_id) }
+    requires { AreNewGateways rings.now seats.old.items }
+    ensures left { AreNewGateways rings.now seats.new.items }
+    ensures next { IfSome result (λ seat. IsAt rings.now seat) }
 {
     let seat = seats.pop()?;
     Some(seat)
@@ -58,7 +57,7 @@ fn gateways<'a, const G: usize>(
     mut seats: Vec<GatewaySeat<BookLogic>>,
     task: &Task,
 ) -> Result<Vec<Gateway<'a, G>>, AllocError>
-    requires { AreSpent rings.now.table.shared.table_id seats.items }
+    requires { AreNewGateways rings.now seats.items }
 {
     let mut all = Vec::new(alloc);
     for _ in 0..G {
@@ -129,15 +128,8 @@ impl<'a, const G: usize> Path<'a, G> {
         book: Book,
         task: &Task,
     ) -> Result<Path<'a, G>, AllocError>
-        requires gateways { AreSpent rings.now.table.shared.table_id seats.gateways.items }
-        requires unmarshal { (seats.unmarshal.seat.table_id ≡ rings.now.table.shared.table_id)
-            × (seats.unmarshal.seat.me.0 ≡ stage_view book.symbols [] role.Unmarshal) }
-        requires journal { (seats.journal.seat.table_id ≡ rings.now.table.shared.table_id)
-            × (seats.journal.seat.me.0 ≡ stage_view book.symbols [] role.Journal) }
-        requires process { (seats.process.seat.table_id ≡ rings.now.table.shared.table_id)
-            × (seats.process.seat.me.0 ≡ process_view book.symbols [] 0) }
-        requires marshal { (seats.marshal.seat.table_id ≡ rings.now.table.shared.table_id)
-            × (seats.marshal.seat.me.0 ≡ marshal_view book.symbols [] 0) }
+        requires opened { (rings.now.logic ≡ book.symbols) × (rings.now.base ≡ []) × (rings.now.given ≡ 0) }
+        requires seats { AreNew G rings.now seats }
         requires book { book.state ≡ empty }
     {
         let gateways = gateways(alloc, rings, seats.gateways, task)?;

@@ -1,9 +1,7 @@
 //! The rings of a run, and the book behind them.
 ghost use Rattle.std.specs.Prelude.{◌≡◌, ◌≤◌, [], IfOk};
 ghost use Rattle.venue_model.specs.Step.{empty};
-ghost use Rattle.ring_words.specs.declared.view.Role.TheVariants as role;
-ghost use Rattle.ring_words.specs.Crew.{stage_view, process_view, marshal_view};
-ghost use Rattle.ring_words.specs.Ending.{AreSpent};
+ghost use Rattle.ring_words.specs.Crew.{AreNew};
 
 use book::{Book, BookLogic};
 use ring_words::{OpenError, Rings, Seats};
@@ -30,15 +28,8 @@ fn open_rings<const G: usize>(
     limits: &Limits,
 ) -> Result<(VenueRings<G>, Seats<BookLogic>), OpenError>
     requires { (1 ≤ G) × (G ≤ 8) }
-    ensures gateways { IfOk result (λ r. AreSpent r.0.table.shared.table_id r.1.gateways.items) }
-    ensures unmarshal { IfOk result (λ r. (r.1.unmarshal.seat.table_id ≡ r.0.table.shared.table_id)
-        × (r.1.unmarshal.seat.me.0 ≡ stage_view limits.now [] role.Unmarshal)) }
-    ensures journal { IfOk result (λ r. (r.1.journal.seat.table_id ≡ r.0.table.shared.table_id)
-        × (r.1.journal.seat.me.0 ≡ stage_view limits.now [] role.Journal)) }
-    ensures process { IfOk result (λ r. (r.1.process.seat.table_id ≡ r.0.table.shared.table_id)
-        × (r.1.process.seat.me.0 ≡ process_view limits.now [] 0)) }
-    ensures marshal { IfOk result (λ r. (r.1.marshal.seat.table_id ≡ r.0.table.shared.table_id)
-        × (r.1.marshal.seat.me.0 ≡ marshal_view limits.now [] 0)) }
+    ensures opened { IfOk result (λ r. (r.0.logic ≡ limits.now) × (r.0.base ≡ []) × (r.0.given ≡ 0)) }
+    ensures seats { IfOk result (λ r. AreNew G r.0 r.1) }
 {
     VenueRings::open(alloc, BookLogic::of(limits), &Vec::new(alloc), 0)
 }
@@ -48,15 +39,8 @@ pub fn open<const G: usize>(
     alloc: Global,
 ) -> Result<(VenueRings<G>, Seats<BookLogic>, Book), AllocError>
     requires { (1 ≤ G) × (G ≤ 8) }
-    ensures gateways { IfOk result (λ r. AreSpent r.0.table.shared.table_id r.1.gateways.items) }
-    ensures unmarshal { IfOk result (λ r. (r.1.unmarshal.seat.table_id ≡ r.0.table.shared.table_id)
-        × (r.1.unmarshal.seat.me.0 ≡ stage_view r.2.symbols [] role.Unmarshal)) }
-    ensures journal { IfOk result (λ r. (r.1.journal.seat.table_id ≡ r.0.table.shared.table_id)
-        × (r.1.journal.seat.me.0 ≡ stage_view r.2.symbols [] role.Journal)) }
-    ensures process { IfOk result (λ r. (r.1.process.seat.table_id ≡ r.0.table.shared.table_id)
-        × (r.1.process.seat.me.0 ≡ process_view r.2.symbols [] 0)) }
-    ensures marshal { IfOk result (λ r. (r.1.marshal.seat.table_id ≡ r.0.table.shared.table_id)
-        × (r.1.marshal.seat.me.0 ≡ marshal_view r.2.symbols [] 0)) }
+    ensures opened { IfOk result (λ r. (r.0.logic ≡ r.2.symbols) × (r.0.base ≡ []) × (r.0.given ≡ 0)) }
+    ensures seats { IfOk result (λ r. AreNew G r.0 r.1) }
     ensures book { IfOk result (λ r. r.2.state ≡ empty) }
 {
     let limits = limits(alloc)?;

@@ -1,5 +1,5 @@
-use Rattle.ring_words.specs.Ending.{AreSpent}
+use Rattle.ring_words.specs.Crew.{AreNewGateways}
 use Rattle.bench_stages.proofs.path.gateways.Given as goal
 
 abbrev pub invariant-loop : goal.invariant-loop
-invariant-loop g l = AreSpent l.rings.table.shared.table_id l.seats.items
+invariant-loop g l = AreNewGateways l.rings l.seats.items
