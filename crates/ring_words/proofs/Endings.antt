@@ -156,8 +156,8 @@ module _ {L : Type 0} (S : Type 0) (terms : Terms L) (s : State S (View L)) (r :
   seen_kept i g there = subst (λ (z : Role). Depth (words_of s) z (length g.who.seen)) (numbered i g there) (knows_of i g there).depth
 
   pub ends : (summary : Summary) → summary.commands ≡ words_of s processed → words_of s journalled ≡ seats.journal.who.own → summary.outputs ≡ words_of s published
-      → Ended (outputs_of terms) terms.base seats summary
-  ends summary commands kept outputs = record {
+      → seats.journal.who.own ≤ length seats.journal.who.seen → Ended (outputs_of terms) terms.base seats summary
+  ends summary commands kept outputs released = record {
     log = whole;
     begins = λ t e there. same t ∙ ap entry_of (r.logged.based t e there);
     later = λ t e late there. (let sound = r.logged.sender t e (published_late terms (words_of s) r.log t e r.logged (sym (same t) ∙ there) late) in (sound.0, subst (λ (k : ℕ). IsGateway k e.gateway) (sym count) sound.1));
@@ -166,6 +166,7 @@ module _ {L : Type 0} (S : Type 0) (terms : Terms L) (s : State S (View L)) (r :
     known = λ j p there t e at_t. same t ∙ (knows_stage j p there).front t e at_t;
     done = (let low = r.order.processed_journalled in omega arith);
     journalled = (let l : length whole ≡ words_of s claim = long in let low = r.order.journalled_claimed in omega arith);
+    released = released;
     least = subst (λ (n : ℕ). length (outputs_of terms (take n whole)) ≤ summary.outputs) (sym commands) (subst (λ (n : ℕ). length (outputs_of terms (take (words_of s processed) whole)) ≤ n) (sym outputs) least);
     most = subst (λ (n : ℕ). n ≤ length (outputs_of terms (take (suc summary.commands) (take seats.journal.who.own whole)))) (sym outputs)
         (subst (λ (n : ℕ). words_of s published ≤ length (outputs_of terms (take (suc n) (take seats.journal.who.own whole)))) (sym commands)

@@ -26,7 +26,7 @@ module _ {L : Type 0} where
 
   -- One log tells of all: it begins with the history at the start; each later entry is a message and was published there by one gateway, and all that
   -- a gateway published stands there; what anyone knew is a beginning of it, and what a gateway has seen is no longer than what the journaller
-  -- released; all outputs of the entries processed were published, and maybe some of the next entry's, where that was journalled
+  -- released, which it knows; all outputs of the entries processed were published, and maybe some of the next entry's, where that was journalled
   pub record Ended (outputs_of : List Message → List Output) (base : List Message) (seats : Seats L) (summary : Summary) : Type 0 where
     pub log : List Message
     pub begins : IsBeginning base log
@@ -37,5 +37,6 @@ module _ {L : Type 0} where
     pub known : (j : ℕ) (p : Person) → get_elem? (stages_of seats) j ≡ some p → IsBeginning p.seen log
     pub done : summary.commands ≤ seats.journal.who.own
     pub journalled : seats.journal.who.own ≤ length log
+    pub released : seats.journal.who.own ≤ length seats.journal.who.seen
     pub least : length (outputs_of (take summary.commands log)) ≤ summary.outputs
     pub most : summary.outputs ≤ length (outputs_of (take (suc summary.commands) (take seats.journal.who.own log)))

@@ -21,7 +21,7 @@ pub struct Summary {
 }
 
 impl<L: Logic + Drop, const N: usize, const M: usize, const G: usize> Rings<L, N, M, G> {
-    ghost use Rattle.std.specs.Prelude.{◌≡◌, ◌<◌, [], ◌∷◌, length};
+    ghost use Rattle.std.specs.Prelude.{◌≡◌, ◌<◌, ◌≤◌, [], ◌∷◌, length};
     ghost use Rattle.ring_words.specs.declared.view.Role.TheVariants.{Process, Journal};
     ghost use Rattle.ring_words.specs.At.{IsAt};
     ghost use Rattle.ring_words.specs.Crew.{AreGateways, AreSeatsOf};
@@ -42,6 +42,7 @@ impl<L: Logic + Drop, const N: usize, const M: usize, const G: usize> Rings<L, N
         requires marshal { IsAt self.now marshal }
         ensures table { (result.table_id ≡ self.now.table) × (result.me.1 ≡ []) }
         ensures roles { (process.who.role ≡ Process) × (journal.who.role ≡ Journal) }
+        ensures released { journal.who.own ≤ length journal.who.seen }
         ensures all { result.me.0.people ≡ process.who ∷ unmarshal.who ∷ journal.who ∷ marshal.who ∷ [] }
     {
         let ProcessSeat { seat: mut all, .. } = process;

@@ -1,5 +1,6 @@
 -- Whatever a crash leaves behind the venue's end holds all that the gateway has seen.
 use Rattle.std.proofs.Common.{◌≡◌, ℕ, zero, suc, ◌+◌, ◌<◌, ◌≤◌, List, [], ◌∷◌, length, take, refl, ap, sym, subst, ◌∙◌, arith}
+use Rattle.std.proofs.lemmas.List.{length-take}
 use mathlib.Core.Option.{some, some-ne-none, some-injective}
 use lib.ListN.{get_elem?}
 use Rattle.venue_model.specs.History.{History, Message}
@@ -47,13 +48,15 @@ module _ (seen kept log : History) (own : ℕ) (of_log : IsBeginning seen log) (
       let same : there.0 ≡ e = some-injective _ _ (sym (kept_of_log s there.0 there.1) ∙ of_log s e at) in
       to_front k kept s e (omega (arith, inside, short, least)) (subst (λ (m : Message). get_elem? kept s ≡ some m) same there.1)
 
-  pub survives : (file : List ℕ) → IsJournalFrom own kept file → Survives log seen file
-  survives file (k, least, most, journal) = record {
-    history = take k kept;
-    journal = journal;
-    begins = λ s e at. kept_of_log s e (in_front k kept s e at);
-    holds = holds k least most;
-  }
+-- a journal from these entries on has them
+pub survives : (kept log : History) (own : ℕ) → IsBeginning kept log → (file : List ℕ) → IsJournalFrom own kept file → Survives log (take own kept) file
+survives kept log own of_log file (k, least, most, journal) = record {
+  history = take k kept;
+  journal = journal;
+  begins = λ s e at. of_log s e (in_front k kept s e at);
+  holds = λ s e at. to_front k kept s e (let inside = within (take own kept) s e at in let short = length-take own kept in omega (arith, inside, short, least))
+      (in_front own kept s e at);
+}
 
 module _ {L : Type 0} (rings : Opened L) (seat : At L) where
   -- the one gateway's seat in its list
@@ -74,18 +77,23 @@ module _ {L : Type 0} (rings : Opened L) (seat : At L) where
 -- the venue is finished: one log tells of these seats
 pub finished : {D : Type 0} (seat : At Symbols) (v : OneVenue D) (honest : Type 0) (disk : Told) (s : Summary) (seats : Seats Symbols) →
     seats.gateways.items ≡ seat ∷ [] → stages_of seats ≡ v.processor ∷ v.unmarshaller ∷ v.journaller ∷ v.marshaller ∷ [] → seats.journal.who ≡ v.journaller →
-    Ended (outputs_of v.rings.logic) v.rings.base seats s → (honest → KeepsDone disk v.journaller) → Finished seat v honest disk s
-finished seat v honest disk s seats gateways stages journal ended keeps =
+    seats.process.who ≡ v.processor → Ended (outputs_of v.rings.logic) v.rings.base seats s → s.commands ≡ seats.process.who.own →
+    s.outputs ≡ seats.process.who.part.sequence → (honest → KeepsDone disk v.journaller) → Finished seat v honest disk s
+finished seat v honest disk s seats gateways stages journal process ended commands outputs keeps =
     let first : get_elem? seats.gateways.items 0 ≡ some seat = ap (λ (l : List (At Symbols)). get_elem? l 0) gateways in
     let third : get_elem? (stages_of seats) 2 ≡ some v.journaller = ap (λ (l : List Person). get_elem? l 2) stages in
     let seen = ended.seen 0 seat first in
+    let kept = ended.known 2 v.journaller third in
     let own : seats.journal.who.own ≡ v.journaller.own = ap (λ (p : Person). p.own) journal in
     let most = seen.1 in
+    let known : v.journaller.own ≤ length v.journaller.seen = subst (λ (p : Person). p.own ≤ length p.seen) journal ended.released in
     record {
       seats = seats;
       gateways = gateways;
       stages = stages;
       ended = ended;
-      survives = λ h file left. survives seat.who.seen v.journaller.seen ended.log v.journaller.own seen.0 (omega (arith, most, own))
-          (ended.known 2 v.journaller third) file (keeps h file left);
+      commands = commands ∙ ap (λ (p : Person). p.own) process;
+      outputs = outputs ∙ ap (λ (p : Person). p.part.sequence) process;
+      survives = λ h file left. survives v.journaller.seen ended.log v.journaller.own kept file (keeps h file left);
+      holds = holds seat.who.seen v.journaller.seen ended.log v.journaller.own seen.0 (omega (arith, most, own)) kept v.journaller.own (omega arith) known;
     }

@@ -33,7 +33,7 @@ use Rattle.venued.specs.Serving.{LeavesFrom}
 use Rattle.venued.specs.Opened.{AreBehind}
 use Rattle.venued.specs.VenueRings.{IsFirst}
 use Rattle.venued.proofs.JournallerLemmas.{polled, leaves_behind}
-use Rattle.venued.specs.Venues.{IsJournalBehind}
+use Rattle.venued.specs.Venues.{OneVenue, IsJournalBehind}
 
 -- a file that a crash might have left at the start, or the journal of a history that begins with this one
 abbrev pub LeftOrBehind : Told → History → List ℕ → Type 0
@@ -86,10 +86,18 @@ next_round disk n s t u so_far round =
     let next : suc n ≡ n + 1 = omega arith in
     subst (λ (k : ℕ). Rounds disk k s u) next (t, so_far, round)
 
--- a session goes on with a wire that tells the same
-pub told_again : (start : Start) (front : Front) (old new : wires.Told) (desk : Ledger) (c : Course) → new ≡ old → Delivers start front old desk c
-    → Delivers start front new desk c
-told_again start front old new desk c same = subst (λ (t : wires.Told). Delivers start front t desk c) (sym same)
+-- a session goes on with a wire that tells the same bytes
+pub told_again : (start : Start) (front : Front) (old new : wires.Told) (desk : Ledger) (c : Course) → new.gave ≡ old.gave → new.took ≡ old.took
+    → Delivers start front old desk c → Delivers start front new desk c
+told_again start front old new desk c gave took delivers = record {
+  stands = delivers.stands;
+  published = delivers.published;
+  missed = delivers.missed;
+  taken = delivers.taken;
+  passed_over = delivers.passed_over;
+  gave = gave ∙ delivers.gave;
+  took = took ∙ delivers.took;
+}
 
 -- a session that is begun at the seat of gateway 1
 pub began : (rings : Opened Symbols) (g h : AtRings) (seat : At Symbols) → g ≡ record { front = record (begun (number seat) 0) { live = false }; seat = seat }
@@ -110,3 +118,9 @@ serve_leaves old mid new base opened same only journal served =
           (subst (IsJournal old.file) (sym (append-nil base)) journal)))
       | inr behind ↦ inr (base, journal, behind)
     ]))
+
+-- the wire was told whether all is quiet, and nothing else moved
+pub told_quiet : {D : Type 0} (s : Whole D) (venue : OneVenue D) (wire : wires.Told) (quiet : Bool) → wire ≡ record s.wire { quiet = quiet }
+    → record s { venue = venue; wire = wire } ≡ record s { venue = venue; wire = record s.wire { quiet = wire.quiet } }
+told_quiet s venue wire quiet told =
+    ap (λ (w : wires.Told). record s { venue = venue; wire = w }) (told ∙ ap (λ (q : Bool). record s.wire { quiet = q }) (sym (ap (λ (w : wires.Told). w.quiet) told)))

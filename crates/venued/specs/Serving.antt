@@ -8,8 +8,9 @@ use Rattle.gateway.specs.Delivers.{Course, Delivers, starts}
 use Rattle.gateway.specs.Gateways.{begun}
 use Rattle.gateway.specs.Seats.{ledger_of}
 use Rattle.gateway.specs.Wires as wires
-use Rattle.journal.specs.Disk.{Told, LeavesOnly}
+use Rattle.journal.specs.Disk.{Told, LeavesOnly, OnlyRead}
 use Rattle.journal.specs.Format.{IsJournal}
+use Rattle.journal.specs.Journals.{IsOpened}
 use Rattle.ring_words.specs.declared.close.Summary.{Summary}
 use Rattle.venued.specs.Faults.{status_of_end}
 use Rattle.venued.specs.Finishing.{Finished}
@@ -42,7 +43,7 @@ module _ {D : Type 0} where
     pub seat : IsFirst s.venue.rings s.gateway.seat
     pub session : s.gateway.front ≡ begun 1 0
     pub wire : s.wire ≡ old.wire
-    pub journal : disk.honest old.disk → IsJournal (disk.tells old.disk).file s.venue.rings.base
+    pub disk_is : IsOpened (disk.honest old.disk) (disk.honest s.venue.disk) (disk.tells old.disk) (disk.tells s.venue.disk) s.venue.rings.base
 
   -- The session was served. It ended by itself (or 2 ^ 64 - 1 rounds were taken), or the journal failed. What the client sent, was given and was written
   -- is the course of the session; and one log tells of all.
@@ -58,7 +59,8 @@ module _ {D : Type 0} where
     pub wire : new.wire ≡ end.wire
     pub disk_is : new.disk ≡ end.venue.disk
 
-  -- what the program's status says: 1 where the session didn't begin, and else how it ended
+  -- what the program's status says: 1 where the session didn't begin, and the disk was only read; and else how it ended
   abbrev pub EndsWith : Symbols → Honesty D → Outside D → Outside D → ℕ → Type 0
   EndsWith symbols disk old new status =
-      (status ≡ 1) ⊎ ((result : Result (Unit {0}) ServeFault) × (status ≡ status_of_end result) × Serves symbols disk old new result)
+      ((status ≡ 1) × OnlyRead (disk.honest old.disk) (disk.honest new.disk) (disk.tells old.disk) (disk.tells new.disk))
+      ⊎ ((result : Result (Unit {0}) ServeFault) × (status ≡ status_of_end result) × Serves symbols disk old new result)

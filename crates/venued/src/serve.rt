@@ -1,5 +1,5 @@
 //! The mode `-`: one client's session over a wire, its turns and the polls of the stages taken one behind the other on this thread.
-ghost use Rattle.std.specs.Prelude.{◌≡◌, ◌⊎◌, true, false, OnOk, OnErr};
+ghost use Rattle.std.specs.Prelude.{◌≡◌, ◌⊎◌, ◌↔◌, true, false, OnOk, OnErr};
 ghost use Rattle.ring_words.specs.At.{IsAt};
 ghost use Rattle.venue_model.specs.Counts.{Rose};
 ghost use Rattle.journal.specs.Disk.{Both, LeavesOnly};
@@ -72,8 +72,14 @@ fn status_of<E: Write>(end: Result<(), ServeFault>, err: &mut E) -> u8
     }
 }
 
-/// Takes turns, each with a poll behind it, until the session ends or the journal fails. The session ends also after
-/// 2^64 - 1 turns. Where the turn was quiet and no stage had anything to do, the wire may wait for the client: all that
+/// Whether nothing moved in a turn, and no stage had anything to do behind it.
+fn is_quiet(turned: Turned, polled: Polled) -> bool
+    ensures { (result ≡ true) ↔ ((turned ≡ Turned.Quiet) × (polled ≡ Polled.Idle)) }
+{
+    matches!((turned, polled), (Turned::Quiet, Polled::Idle))
+}
+
+/// Takes turns, each with a poll behind it, until the session ends or the journal fails, or after 2^64 - 1 turns. Where the turn was quiet and no stage had anything to do, the wire may wait for the client: all that
 /// was read so far has brought about what it brings about, and that is written.
 fn take_turns<D: JournalDisk, W: Wire>(
     gateway: &mut Gateway,
@@ -104,7 +110,7 @@ fn take_turns<D: JournalDisk, W: Wire>(
         if polled == Polled::JournalFailed {
             return Err(ServeFault::JournalFailed);
         }
-        wire.rest(turned == Turned::Quiet && polled == Polled::Idle);
+        wire.rest(is_quiet(turned, polled));
     }
     Ok(())
 }

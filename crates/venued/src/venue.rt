@@ -6,6 +6,7 @@ ghost use Rattle.ring_words.specs.declared.view.Role.TheVariants.{Gateway};
 ghost use Rattle.venue_model.specs.Counts.{Rose};
 ghost use Rattle.journal.specs.Disk.{AnyMoment, OnlyRead};
 ghost use Rattle.journal.specs.Journals.{Explains, IsOpened, IsJournalFrom};
+ghost use Rattle.stages.specs.Kept.{KeepsDone};
 ghost use Rattle.venued.specs.Finishing.{Finished};
 ghost use Rattle.venued.specs.Opened.{AreBehind};
 ghost use Rattle.venued.specs.Venues.{IsSaid};
@@ -108,6 +109,7 @@ impl<D: JournalDisk> Venue<D> {
         ensures polls { Polls self.old self.new result }
         ensures any_moment { AnyMoment (D.honest self.old.disk) (D.honest self.new.disk) (D.tells self.old.disk) (D.tells self.new.disk)
             (IsJournalFrom self.old.journaller.own self.new.journaller.seen) }
+        ensures keeps { D.honest self.new.disk → KeepsDone (D.tells self.new.disk) self.new.journaller }
         ensures cause { result ≡ Polled.JournalFailed → (self.old.failed ≡ true) ⊎ Rose (D.failed self.old.disk) (D.failed self.new.disk) }
         ensures ready { result ≢ Polled.JournalFailed → (self.new.failed ≡ false) × (D.failed self.new.disk ≡ D.failed self.old.disk) }
     {

@@ -32,7 +32,7 @@ returns-clause-served g c =
         seat = subst (λ (s : At Symbols). IsFirst venue.rings s) (sym first.1) opened.seat;
         session = first.0;
         wire = refl;
-        journal = opened.disk.history;
+        disk_is = opened.disk;
       };
       serves = c.take_turns.ensures.served;
       course = course.0;

@@ -1,19 +1,20 @@
 -- Round by round: the last one ends the session, or the journal fails in it.
-use Rattle.std.proofs.Common.{◌≡◌, ◌≢◌, ◌∙◌, inl, inr, ap, arith, refl, rules, subst, sym, true≢false}
+use Rattle.std.proofs.Common.{◌≡◌, ◌≢◌, ◌↔◌, ◌∙◌, Bool, true, inl, inr, ap, arith, refl, rules, subst, sym, true≢false}
 use Rattle.gateway.specs.Delivers.{further}
 use Rattle.gateway.specs.Seats.{ledger_of}
 use Rattle.gateway.specs.Wires.{Told}
+use Rattle.gateway.specs.declared.ending.Turned.TheVariants.{Quiet}
 use Rattle.ring_words.specs.At.{Opened, IsAt}
 use Rattle.venue_model.specs.Requests.{Symbols}
 use Rattle.venued.specs.Crashes.{Behind}
 use Rattle.venued.specs.Rounds.{Whole, Honesty}
 use Rattle.venued.specs.Venues.{OneVenue, Polls}
 use Rattle.venued.specs.declared.polled.Polled.{Polled}
-use Rattle.venued.specs.declared.polled.Polled.TheVariants.{JournalFailed}
+use Rattle.venued.specs.declared.polled.Polled.TheVariants.{Idle, JournalFailed}
 use Rattle.venued.proofs.JournallerLemmas.{still_behind}
 use Rattle.venued.proofs.JournallerLemmas as journaller
 use Rattle.venued.proofs.OpenedLemmas.{still_at}
-use Rattle.venued.proofs.ServingLemmas.{at_start, behind_poll, risen, lives, next_round, told_again}
+use Rattle.venued.proofs.ServingLemmas.{told_quiet, at_start, behind_poll, risen, lives, next_round, told_again}
 use Rattle.venued.proofs.serve.take_turns.Goals as goal
 
 pub loop-round-init : goal.loop-round-init
@@ -44,7 +45,7 @@ loop-round-preserved g c =
     let keeps : c.poll-polled.result ≢ JournalFailed = λ is. true≢false (sym (rw is at c.eq.ensures) ∙ c.if-eq.false) in
     let ready = polled.ready keeps in
     let rings : new.rings ≡ old.rings = ap (λ (v : OneVenue g.row.D.Denot). v.rings) polled.polls.others in
-    let live = lives _ _ c.turn-turned.result turned.turn c.in_default.not-Ended in
+    let live = lives _ _ c.turn-turned.result turned.turn.turn c.in_default.not-Ended in
     let disk : Honesty g.row.D.Denot = record { honest = g.D.JournalDisk.honest; tells = tells } in
     let start : Whole g.row.D.Denot = record { gateway = c.args.gateway.now; venue = c.args.venue.now; wire = wire c.args.wire.now } in
     let now : Whole g.row.D.Denot = record { gateway = c.loop-round.gateway; venue = old; wire = wire c.loop-round.wire } in
@@ -69,14 +70,17 @@ loop-round-preserved g c =
         polled = c.poll-polled.result;
         turns = record { turn = turned.turn; uses = turned.uses; others = refl };
         lives = live;
-        polls = record { polls = polled.polls; leaves = polled.any_moment.leaves; others = ap (λ (w : Told). record between { venue = new; wire = w }) c.rest.ensures };
+        after = record between { venue = new };
+        polls = record { polls = polled.polls; leaves = polled.any_moment; keeps = polled.keeps; others = refl };
         keeps = keeps;
+        rests = told_quiet between new (wire c.rest.new.self) _ c.rest.ensures;
+        quiet = subst (λ (q : Bool). q ≡ true ↔ ((c.turn-turned.result ≡ Quiet) × (c.poll-polled.result ≡ Idle))) (sym (ap (λ (w : Told). w.quiet) c.rest.ensures)) c.is_quiet.ensures;
       });
       delivers = λ from course so_far.
           let d = before.delivers from course so_far in
-          let e = turned.delivers from d.0 d.1 in
-          (further d.0 e.0, told_again from c.turn-turned.new.self.front (wire c.turn-turned.new.wire) (wire c.rest.new.self)
-              (ledger_of 1024 c.turn-turned.new.self.seat) (further d.0 e.0) c.rest.ensures e.1);
+          let m = turned.turn.turn.moved in
+          (further d.0 m, told_again from c.turn-turned.new.self.front (wire c.turn-turned.new.wire) (wire c.rest.new.self)
+              (ledger_of 1024 c.turn-turned.new.self.seat) (further d.0 m) (ap (λ (w : Told). w.gave) c.rest.ensures) (ap (λ (w : Told). w.took) c.rest.ensures) (turned.turn.delivers from d.0 d.1));
     }
 
 pub returns-in-Ended : goal.returns-in-Ended
@@ -95,8 +99,7 @@ returns-in-Ended g c =
       };
       delivers = λ start course so_far.
           let d = before.delivers start course so_far in
-          let e = turned.delivers start d.0 d.1 in
-          (_, e.1);
+          (further d.0 turned.turn.turn.moved, turned.turn.delivers start d.0 d.1);
       stays = (still_at c.loop-round.venue.rings c.loop-round.gateway.seat c.turn-turned.new.self.seat before.at stays.rings, stays.role ∙ before.role);
       failed = tt;
       counts = before.counts;
@@ -120,13 +123,12 @@ returns-then-eq g c =
         last = _;
         rounds = before.rounds;
         finale = (refl, record { gateway = c.turn-turned.new.self; venue = c.loop-round.venue; wire = g.W.Wire.tells c.turn-turned.new.wire }, c.turn-turned.result,
-            record { turn = turned.turn; uses = turned.uses; others = refl },
-            record { polls = subst (λ (p : Polled). Polls c.loop-round.venue c.poll-polled.new.self p) failed polled.polls; leaves = polled.any_moment.leaves; others = refl });
+            record { turn = turned.turn; uses = turned.uses; others = refl }, lives _ _ c.turn-turned.result turned.turn.turn c.in_default.not-Ended,
+            record { polls = subst (λ (p : Polled). Polls c.loop-round.venue c.poll-polled.new.self p) failed polled.polls; leaves = polled.any_moment; keeps = polled.keeps; others = refl });
       };
       delivers = λ start course so_far.
           let d = before.delivers start course so_far in
-          let e = turned.delivers start d.0 d.1 in
-          (_, e.1);
+          (further d.0 turned.turn.turn.moved, turned.turn.delivers start d.0 d.1);
       stays = (subst (λ (r : Opened Symbols). IsAt r c.turn-turned.new.self.seat) (sym (ap (λ (v : OneVenue g.row.D.Denot). v.rings) polled.polls.others))
           (still_at c.loop-round.venue.rings c.loop-round.gateway.seat c.turn-turned.new.self.seat before.at stays.rings), stays.role ∙ before.role);
       failed = risen c.loop-round.venue.failed _ _ _ before.ready before.counts (polled.cause failed);

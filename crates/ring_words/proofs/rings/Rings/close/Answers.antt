@@ -30,4 +30,5 @@ returns-clause-log g c = let key = c.self.inside.table.shared.key in let final =
     subst (λ (r : Opened g.row.L.Denot). Ended (g.L.Logic.outputs r.logic) r.base seats (record { commands = c.word.result; outputs = c.word-2.result })) c.self.view_is
     (ends (Unit {0}) (terms_of g.L.Logic.reads g.L.Logic.outputs g.L.Logic.text g.L.Logic.nothing g.L.Logic.grows key) final.0 final.1.0 all.id all.me.0 final.1.1 seats gathered
     (λ i s there. (c.requires.seats.gateways i s there).1) c.requires.spent (search rules)
-    (record { commands = c.word.result; outputs = c.word-2.result }) (read_same _ _ 0 c.word.result final.2 c.word.ensures) kept (read_same _ _ 104 c.word-2.result final.2 c.word-2.ensures))
+    (record { commands = c.word.result; outputs = c.word-2.result }) (read_same _ _ 0 c.word.result final.2 c.word.ensures) kept (read_same _ _ 104 c.word-2.result final.2 c.word-2.ensures)
+    c.gather_stages-stages.ensures.released)

@@ -48,5 +48,6 @@ returns g c =
       disk = c.end-3.ensures ∙ ap (λ (j : Journal g.row.D.Denot g.D.JournalDisk). j.disk) given.1 ∙ ap (λ (v : OneVenue g.row.D.Denot). v.disk) c.self.view_is;
       finished = rw (← c.self.view_is) (finished c.args.gateway _ _ _ c.close.result seats items
           (λ k. (c.end-process.ensures.given.0 k).who ∷ (c.end.ensures k).who ∷ (given.0 k).who ∷ (c.end-2.ensures k).who ∷ [])
-          (ap (λ (s : At Symbols). s.who) given.0) c.close.ensures.log keeps);
+          (ap (λ (s : At Symbols). s.who) given.0) (ap (λ (s : At Symbols). s.who) c.end-process.ensures.given.0) c.close.ensures.log c.close.ensures.commands
+          c.close.ensures.outputs keeps);
     }

@@ -2,6 +2,7 @@
 use Rattle.std.proofs.Common.{refl, subst}
 use Rattle.venue_model.specs.Requests.{Symbols}
 use Rattle.stages.specs.Processes.{Processes}
+use Rattle.stages.proofs.Journalling.{keeps_done}
 use Rattle.venued.proofs.OpenedLemmas.{still_at}
 use Rattle.venued.proofs.VenueLemmas.{symbols_are}
 use Rattle.venued.proofs.venue.Venue.poll.Goals as goal
@@ -39,3 +40,8 @@ returns-clause-polls g c =
       answer = c.polled.ensures;
       others = refl;
     })
+
+pub returns-clause-keeps : goal.returns-clause-keeps
+returns-clause-keeps g c honest =
+    let journaller = c.poll-journalled.new.self in
+    keeps_done (g.D.JournalDisk.tells journaller.journal.disk) journaller.seat.who (journaller.keeps honest)
