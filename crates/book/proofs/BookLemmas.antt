@@ -70,15 +70,6 @@ module _ (symbols : Symbols) (greatest : List ℕ) where
   belongs-map f keeps (o ∷ os) all =
       (belongs-same o (f o) (keeps.client o) (keeps.name o) (keeps.symbol o) all.0, belongs-map f keeps os all.1)
 
-  -- some orders leave
-  pub book-filter : (p : Order → Bool) (os : List Order) → IsBook symbols os greatest → IsBook symbols (filter p os) greatest
-  book-filter p os book = record {
-    standing = standing-filter p os book.standing;
-    apart = apart-filter p os book.apart;
-    each = each-filter (Belongs symbols greatest) p os book.each;
-    clients = book.clients;
-  }
-
   module _ (i : Order) (os : List Order) (book : IsBook symbols os greatest) (belongs : Belongs symbols greatest i) (fresh : NoneNamed i.client i.cl_ord_id os) where
     rest-apart : NamedApart (rest i os)
     rest-apart = apart-filter is_live (map (settled i (crossing i os)) os) (apart-map (settled i (crossing i os)) (settled-keeps i (crossing i os)) os book.apart)

@@ -81,10 +81,6 @@ module _ (i : Order) (orders : List Order) (place : ℕ) (best : BestAt i orders
   fill-standing in_range standing = rw orders-are
       (standing-instead best.order resting best.before best.behind stamp-is in_range (subst Standing best.split standing))
 
-  pub fill-below : (sequence : ℕ) → Below sequence orders → Below sequence new
-  fill-below sequence below = rw orders-are
-      (below-instead best.order resting best.before best.behind sequence stamp-is (subst (Below sequence) best.split below))
-
 -- one part of a match, and then the next
 pub passed-trans : (c : Cause) (i j k : Order) (first second third : List Order) (told more most : List Output) →
     Passed c i j first second told more → Passed c j k second third more most → Passed c i k first third told most

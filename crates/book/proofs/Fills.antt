@@ -17,9 +17,6 @@ module _ (xs ys : List Order) (o x : Order) where
       ∙ sum-middle leaves (filter (λ y. ahead y x) xs) (filter (λ y. ahead y x) ys) o
       ∙ ap (λ zs. leaves o + sum_by leaves zs) (sym (filter-append (λ y. ahead y x) xs ys))
 
-  ahead-same : ahead o x ≡ false → leaves_ahead (xs ++ o ∷ ys) x ≡ leaves_ahead (xs ++ ys) x
-  ahead-same trails = ap (sum_by leaves) (filter-out (λ y. ahead y x) xs ys o trails)
-
 -- the numbers of a fill behind one that takes the lesser of l and q
 behind-used : (mine l q s : ℕ) → min mine (q - (l + s)) ≡ min mine (q - min l q - s)
 behind-used mine l q s = omega arith
@@ -33,9 +30,6 @@ leaves-filled o n p = omega arith
 
 pub live-true : (o : Order) → 0 < leaves o → is_live o ≡ true
 live-true o some = grind (arith, nat_tests)
-
-pub live-false : (o : Order) → leaves o ≡ 0 → is_live o ≡ false
-live-false o none = grind (arith, nat_tests)
 
 -- what is left of an order behind a fill of a quantity, where something is left of it
 abbrev pub left : ℕ → Order → List Order

@@ -22,16 +22,6 @@ use Rattle.book.proofs.NameLemmas.{named-none}
 above : (n m : ℕ) → nat_le n m ≡ false → m < n
 above n m h = grind (arith, nat_tests)
 
--- a request that isn't refused has a later name
-pub later-of : (n greatest : ℕ) (other : Option CxlRejReason) → (if nat_le n greatest then Some DuplicateClOrdId else other) ≡ None → greatest < n
-later-of n greatest other none = elim (nat_le n greatest) as
-    (λ b. nat_le n greatest ≡ b → (if b then Some DuplicateClOrdId else other) ≡ None → greatest < n)
-    [ true ↦ λ h e. cc | false ↦ λ h e. above n greatest h ] refl none
-
-fits-if : (n greatest : ℕ) (other : Option CxlRejReason) → (if nat_le n greatest then Some DuplicateClOrdId else other) ≡ None → other ≡ None
-fits-if n greatest other none = elim (nat_le n greatest) as (λ b. (if b then Some DuplicateClOrdId else other) ≡ None → other ≡ None)
-    [ true ↦ λ e. cc | false ↦ λ e. e ] none
-
 -- what is answered, for the reason that the code has found
 module _ (s : State) (c : Cause) (r : OrderCancelRequest) (found : Option Order) (greatest : ℕ) (found_is : found ≡ named s c.gateway r.orig_cl_ord_id)
     (greatest_is : greatest ≡ greatest_of s c.gateway) (reason : Option CxlRejReason)
@@ -41,15 +31,6 @@ module _ (s : State) (c : Cause) (r : OrderCancelRequest) (found : Option Order)
       ap (λ g. cancel_answered s c r (if nat_le r.cl_ord_id g then Some DuplicateClOrdId else unfit (cancel_fits r) (named s c.gateway r.orig_cl_ord_id))) (sym greatest_is)
       ∙ ap (λ n. cancel_answered s c r (if nat_le r.cl_ord_id greatest then Some DuplicateClOrdId else unfit (cancel_fits r) n)) (sym found_is)
       ∙ ap (cancel_answered s c r) (sym why)
-
-  pub cancel-refused : (w : CxlRejReason) → reason ≡ Some w → on_cancel s c r ≡ answered s (cancel_reject s c r w)
-  cancel-refused w is = cancel-reason ∙ ap (cancel_answered s c r) is
-
-  pub cancel-goes : (o : Order) → reason ≡ None → found ≡ Some o → on_cancel s c r ≡ order_canceled s c r (Some o)
-  cancel-goes o is found_o = cancel-reason ∙ ap (cancel_answered s c r) is ∙ ap (order_canceled s c r) (sym found_is ∙ found_o)
-
-  pub cancel-later : reason ≡ None → greatest < r.cl_ord_id
-  cancel-later is = later-of r.cl_ord_id greatest (unfit (cancel_fits r) found) (sym why ∙ is)
 
   pub cancel-nothing : reason ≡ None → found ≡ None → on_cancel s c r ≡ order_canceled s c r None
   cancel-nothing is found_none = cancel-reason ∙ ap (cancel_answered s c r) is ∙ ap (order_canceled s c r) (sym found_is ∙ found_none)
@@ -64,17 +45,8 @@ module _ (s : State) (c : Cause) (r : OrderCancelReplaceRequest) (found : Option
       ∙ ap (λ n. replace_answered s c r (if nat_le r.cl_ord_id greatest then Some DuplicateClOrdId else unfit (replace_fits r) n)) (sym found_is)
       ∙ ap (replace_answered s c r) (sym why)
 
-  pub replace-refused : (w : CxlRejReason) → reason ≡ Some w → on_replace s c r ≡ answered s (replace_reject s c r w)
-  replace-refused w is = replace-reason ∙ ap (replace_answered s c r) is
-
   pub replace-goes : reason ≡ None → on_replace s c r ≡ order_replaced s c r (named s c.gateway r.orig_cl_ord_id)
   replace-goes is = replace-reason ∙ ap (replace_answered s c r) is
-
-  pub replace-later : reason ≡ None → greatest < r.cl_ord_id
-  replace-later is = later-of r.cl_ord_id greatest (unfit (replace_fits r) found) (sym why ∙ is)
-
-  pub replace-fit : reason ≡ None → unfit (replace_fits r) (named s c.gateway r.orig_cl_ord_id) ≡ None
-  replace-fit is = ap (unfit (replace_fits r)) (sym found_is) ∙ fits-if r.cl_ord_id greatest (unfit (replace_fits r) found) (sym why ∙ is)
 
   pub replace-nothing : reason ≡ None → found ≡ None → on_replace s c r ≡ order_replaced s c r None
   replace-nothing is found_none = replace-goes is ∙ ap (order_replaced s c r) (sym found_is ∙ found_none)
@@ -89,11 +61,6 @@ known-new symbols s client n none = elim (nat_le n.cl_ord_id (greatest_of s clie
           (λ b. (if not b then Some UnknownSymbol else (if is_day n.time_in_force && nat_le most_resting (length s.orders) then Some BookFull else None)) ≡ None → b ≡ true)
           [ true ↦ λ e. refl | false ↦ λ e. cc ]
     ] none
-
--- where the search has found a place, the order stands there; where it found none, there is none
-pub place-is : (client name : ℕ) (orders : List Order) (place : Option ℕ) (p : ℕ) →
-    MatchOption place (NoneNamed client name orders) (NamedAt client name orders) → place ≡ Some p → NamedAt client name orders p
-place-is client name orders place p found is = subst (λ q. MatchOption q (NoneNamed client name orders) (NamedAt client name orders)) is found
 
 pub nothing-is : (client name : ℕ) (orders : List Order) (place : Option ℕ) (found : Option Order) →
     MatchOption place (NoneNamed client name orders) (NamedAt client name orders) → found ≡ find (is_named client name) orders → place ≡ None → found ≡ None

@@ -269,12 +269,6 @@ module _ (bytes : List ℕ) (v : ℕ) (some : 0 < length bytes) (early : length 
   place : length before ≡ length bytes - 1
   place = omega (arith, longer bytes before final v split h)
 
-  -- the right one
-  pub opening_right : final ≡ get_or opening (length bytes - 1) 0 → IsHeading bytes 0
-  opening_right right =
-      opening_byte bytes before final v split h (omega (arith, place)) (right ∙
-      ap (λ k. get_or opening k 0) (sym place))
-
   module _ (other : final ≢ get_or opening (length bytes - 1) 0) where
     none : NoHead bytes
     none = no_opening bytes before final v split h (omega (arith, place)) (λ e. other (e ∙

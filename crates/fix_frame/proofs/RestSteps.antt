@@ -34,10 +34,6 @@ module _ (bytes : List ℕ) (body n : ℕ) (some : 0 < length bytes) (h : IsRest
     resting_long (all_but_last bytes) body n h,
   ))) ∙ h.headed
 
-  -- there are fewer bytes than the message has
-  pub rest_on : length bytes < body + n + 7 → IsResting bytes body n
-  rest_on few = record { length_is = h.length_is; headed = headed; starts = h.starts; short = few }
-
   -- there are all
   module _ (all : body + n + 7 ≤ length bytes) where
     abbrev front : List ℕ

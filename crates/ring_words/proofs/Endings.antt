@@ -208,10 +208,3 @@ module _ {L : Type 0} (gs : List (At L)) (stages : List Person) where
         (length v.people, ap (λ (ps : List Person). get_elem? (v.people ++ ps) (length v.people)) one_is ∙ at_last v.people x.who (length v.people) refl ∙ ap (λ (y : At L). some y.who) (sym one))
     by_place i g there (no ne) late = let more = length-append left (x ∷ []) in let found = r.taken i g there (omega arith) in
         (found.0, at_longer v.people w.people found.0 g.who found.1)
-
-  pub gathers_all : (v : View L) → Gathering [] v → Gathers gs stages v
-  gathers_all v r = record { stage = r.stage; all = λ i g there. r.taken i g there (omega arith) }
-
--- seats as they were opened have no claim
-pub new_spent : {L : Type 0} (rings : Opened L) (seats : List (At L)) → AreNewGateways rings seats → AreSpent seats
-new_spent rings seats new = λ i s there. ap (λ (a : At _). a.who.claims) (new i s there)

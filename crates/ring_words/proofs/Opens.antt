@@ -226,18 +226,3 @@ module _ {L : Type 0} (S : Type 0) (terms : Terms L) where
         let cut : owners k v.people ≡ owners k (apart v).people + owners k (others v).people = subst (λ (l : List Person). owners k l ≡ owners k (first_of l ∷ []) + owners k (drop 1 l)) (sym one) (one_more k p ps) in
         let last : all_owners k (set s.views id (others v) ++ apart v ∷ []) ≡ x + owners k (apart v).people = owners_snoc k (set s.views id (others v)) (apart v) in omega arith);
   }
-
-more_gateways : (k g : ℕ) (base : List Message) (given : ℕ) → 0 < g → gateways k g base given ≡ newcomer (Gateway k) base given ∷ gateways (k + 1) (g - 1) base given
-more_gateways k zero base given some_left = absurd (omega arith)
-more_gateways k (suc g) base given some_left = let a : suc g - 1 ≡ g = omega arith in let b : k + 1 ≡ suc k = omega arith in ap (λ (ps : List Person). newcomer (Gateway k) base given ∷ ps)
-    (ap (λ (j : ℕ). gateways j g base given) (sym b) ∙ ap (λ (j : ℕ). gateways (k + 1) j base given) (sym a))
-
-module _ {L : Type 0} (logic : L) (base : List Message) (given k g : ℕ) (v : View L) where
-  pub one_first : v ≡ view_of logic base (gateways k g base given) → 0 < g → v.people ≡ newcomer (Gateway k) base given ∷ gateways (k + 1) (g - 1) base given
-  one_first is some_left = ap (λ (u : View L). u.people) is ∙ more_gateways k g base given some_left
-
-  pub others_left : v ≡ view_of logic base (gateways k g base given) → 0 < g → others v ≡ view_of logic base (gateways (k + 1) (g - 1) base given)
-  others_left is some_left = ap others is ∙ ap (λ (ps : List Person). view_of logic base (drop 1 ps)) (more_gateways k g base given some_left)
-
-  pub apart_first : v ≡ view_of logic base (gateways k g base given) → 0 < g → apart v ≡ view_of logic base (newcomer (Gateway k) base given ∷ [])
-  apart_first is some_left = ap apart is ∙ ap (λ (ps : List Person). view_of logic base (first_of ps ∷ [])) (more_gateways k g base given some_left)

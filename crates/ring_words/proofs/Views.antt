@@ -16,10 +16,6 @@ use Rattle.ring_words.specs.Steps.{ClaimsUpTo, HasRoom, Reaches}
 pub room_just_loaded : (n : ℕ) (p : Person) (x s : ℕ) → s < x + n → HasRoom n (looked p processed x) s
 room_just_loaded n p x s room = (length p.loads, (load_of processed x, at_last p.loads (load_of processed x) (length p.loads) refl, refl, room))
 
--- a sequence that was just claimed is claimed
-pub just_claimed : (p : Person) (s : ℕ) → 0 < times s (with_claim p s).claims
-just_claimed p s = subst (λ (y : ℕ). 0 < y) (sym (cond-true (eqb s s) (suc (times s p.claims)) (times s p.claims) (eq-eqb s s refl))) (let k : ℕ = times s p.claims in let g : 0 < suc k = omega arith in g)
-
 -- a bound on the claim values loaded is one on those loaded before the last load
 pub claims_before : (p : Person) (k y x : ℕ) → ClaimsUpTo (looked p k y) x → ClaimsUpTo p x
 claims_before p k y x most i l there = most i l (at_longer p.loads (load_of k y ∷ []) i l there)

@@ -93,12 +93,6 @@ ahead_is p (suc k) =
 pub ahead_place : (p : Person) (k : ℕ) → (ahead p k).part.sequence ≡ p.part.sequence + k
 ahead_place p k = (ahead_is p k).1
 
-pub ahead_seen : (p : Person) (k : ℕ) → (ahead p k).seen ≡ p.seen
-ahead_seen p k = ap (λ (q : Person). q.seen) (ahead_is p k).0
-
-pub ahead_own : (p : Person) (k : ℕ) → (ahead p k).own ≡ p.own
-ahead_own p k = ap (λ (q : Person). q.own) (ahead_is p k).0
-
 pub ahead_loads : (p : Person) (k : ℕ) → (ahead p k).loads ≡ p.loads
 ahead_loads p k = ap (λ (q : Person). q.loads) (ahead_is p k).0
 
@@ -130,10 +124,6 @@ module _ (v u : At Symbols) (k : ℕ) (is : u ≡ seated v (ahead v.who k)) wher
       → get_elem? (outputs_of symbols (take (suc u.who.own) u.who.seen)) u.who.part.sequence ≡ some o
   next_behind symbols o at = subst (λ (q : Person). get_elem? (outputs_of symbols (take (suc q.own) q.seen)) u.who.part.sequence ≡ some o) (sym person_is)
       (subst (λ (s : ℕ). get_elem? (outputs_of symbols (take (suc v.who.own) v.who.seen)) s ≡ some o) (sym place_is) at)
-
-  -- it was put
-  pub one_ahead : (w : At Symbols) → w ≡ seated u (at_place u.who (suc u.who.part.sequence)) → w ≡ seated v (ahead v.who (suc k))
-  one_ahead w put = put ∙ ap (λ (z : At Symbols). seated z (at_place z.who (suc z.who.part.sequence))) is
 
 -- the logic of a seat's rings is the one that it is known to have
 pub same_logic : (rings : Opened Symbols) (v : At Symbols) (symbols : Symbols) → IsAt rings v → v.logic ≡ Some symbols → symbols ≡ rings.logic

@@ -25,9 +25,6 @@ popped xs (f ∷ []) x y split is = let two : f ∷ x ∷ [] ≡ y ∷ [] = sym 
 popped xs (f ∷ g ∷ front) x y split is = let more : f ∷ g ∷ (front ++ x ∷ []) ≡ y ∷ [] = sym split ∙ is in cc
 
 module _ {L : Type 0} (rings : Opened L) where
-  -- a seat of these rings is at them
-  pub is_at : (s : At L) (p : Person) → s ≡ at rings p → IsAt rings s
-  is_at s p is = is ∙ ap (at rings) (sym (ap (λ (a : At L). a.who) is))
 
   -- and so it is after a step
   pub still_at : (s t : At L) → IsAt rings s → Steps s t.who t → IsAt rings t

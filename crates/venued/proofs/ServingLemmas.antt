@@ -55,10 +55,6 @@ behind_poll old mid new base from t v w so_far same behind journals poll =
     (weaker mid new (IsJournalBehind from) (LeftOrBehind old base) (leaves_behind from v w mid new behind (polled 1024 t v w journals) poll)
     (λ c is. inr (subst (λ (h : History). IsJournalBehind h c) same is)))
 
--- the journaller of a venue that was opened behind a history
-pub behind_opened : (base : History) → Behind base (newcomer Journal base (length base))
-behind_opened base = record { rest = []; seen = sym (append-nil base); kept = omega arith }
-
 -- a session that a turn didn't end lives
 pub lives : (old new : turns.World) (turned : Turned) → turns.Turn old new turned → ((reason : Reason) → turned ≡ Ended reason → ⊥) → new.front.live ≡ true
 lives old new Worked turn other = turn.means.1.live
