@@ -2,13 +2,14 @@
 use Rattle.std.proofs.Common.{◌≡◌, ℕ, zero, suc, ◌+◌, List, [], ◌∷◌, ◌++◌, length, refl, ap, sym, subst, ◌∙◌, ⊎_elim}
 use mathlib.Core.Option.{some, some-ne-none}
 use lib.ListN.{get_elem?}
-use Rattle.atomic_table.specs.Seated.{TableId}
 use Rattle.venue_model.specs.History.{Message}
-use Rattle.ring_words.specs.declared.seats.GatewaySeat.{GatewaySeat}
 use Rattle.ring_words.specs.declared.view.Person.{Person}
-use Rattle.ring_words.specs.Seats.{person}
-use Rattle.ring_words.specs.Crew.{IsFresh, AreFresh}
-use Rattle.ring_words.specs.Ending.{IsSpent}
+use Rattle.ring_words.specs.At.{Opened, At, at, IsAt, SamePlace, Steps, number}
+use Rattle.ring_words.specs.declared.view.Role.TheVariants.{Gateway}
+use Rattle.ring_words.specs.Rule.{newcomer}
+use Rattle.ring_words.specs.Crew.{AreGateways, AreNewGateways}
+use Rattle.ring_words.proofs.Views.{still_at}
+use Rattle.ring_tests.specs.Seats.{IsSpent, AreSpent}
 use Rattle.ring_words.specs.Meeting.{met}
 use Rattle.ring_words.proofs.Logs.{at_end}
 
@@ -28,21 +29,27 @@ one_more P l a each last i x there = ⊎_elim (λ was. each i x was)
     (λ (end : (i ≡ length l) × (a ≡ x)). subst (λ y. P (i + 1) y) end.1 (subst (λ (j : ℕ). P (j + 1) a) (sym end.0) last)) (at_end l a x i there)
 
 -- a gateway that met another has no claim left that it hadn't before
-pub met_spent : {L : Type 0} (table : _) (k : ℕ) (s t : GatewaySeat L) (r : ℕ) (h : List Message) → t.seat.table_id ≡ s.seat.table_id → t.number ≡ s.number
-    → person t.seat.me.0 ≡ met (person s.seat.me.0) r h → IsSpent table k s → IsSpent table k t
-met_spent table k s t r h at number view spent = record {
-  at = at ∙ spent.at;
-  number = number ∙ spent.number;
-  claims = ap (λ (p : Person). p.claims) view ∙ spent.claims;
+pub met_spent : {L : Type 0} (rings : Opened L) (k : ℕ) (s t : At L) (r : ℕ) (h : List Message) → Steps s (met s.who r h) t → IsSpent rings k s → IsSpent rings k t
+met_spent rings k s t r h step spent = record {
+  at = still_at rings s t _ spent.at step;
+  role = ap (λ (a : At _). a.who.role) step ∙ spent.role;
+  claims = ap (λ (a : At _). a.who.claims) step ∙ spent.claims;
 }
 
 -- the last of new seats is new, and so are those before it
-module _ {L : Type 0} (table : TableId) (logic : L) (base : List Message) (given : ℕ) (all front : List (GatewaySeat L)) (s : GatewaySeat L)
-    (is : all ≡ front ++ s ∷ []) (fresh : AreFresh table logic base given all) where
-  pub fresh_last : IsFresh table logic base given s.number s
-  fresh_last =
-      let last = fresh (length front) s (subst (λ (l : List (GatewaySeat L)). get_elem? l (length front) ≡ some s) (sym is) (last_one front s)) in
-      subst (λ (k : ℕ). IsFresh table logic base given k s) (sym last.number) last
+module _ {L : Type 0} (rings : Opened L) (all front : List (At L)) (s : At L) (is : all ≡ front ++ s ∷ []) (new : AreNewGateways rings all) where
+  pub new_last : s ≡ at rings (newcomer (Gateway (number s)) rings.base rings.given)
+  new_last =
+      let last = new (length front) s (subst (λ (l : List (At L)). get_elem? l (length front) ≡ some s) (sym is) (last_one front s)) in
+      subst (λ (k : ℕ). s ≡ at rings (newcomer (Gateway k) rings.base rings.given)) (sym (ap (λ (a : At L). number a) last)) last
 
-  pub fresh_front : AreFresh table logic base given front
-  fresh_front i x at = fresh i x (subst (λ (l : List (GatewaySeat L)). get_elem? l i ≡ some x) (sym is) (stays front (s ∷ []) i x at))
+  pub new_front : AreNewGateways rings front
+  new_front i x there = new i x (subst (λ (l : List (At L)). get_elem? l i ≡ some x) (sym is) (stays front (s ∷ []) i x there))
+
+-- a seat that came back from beside one of these rings is of these rings
+pub beside : {L : Type 0} (rings : Opened L) (a b c : At L) → IsAt rings a → SamePlace a b → c ≡ b → IsAt rings c
+beside rings a b c a_is place is = subst (IsAt rings) (sym is) (still_at rings a b _ a_is place)
+
+-- what `close` asks of the gateways' seats
+pub are_gateways : {L : Type 0} (rings : Opened L) (seats : List (At L)) → AreSpent rings seats → AreGateways rings seats
+are_gateways rings seats spent i s there = ((spent i s there).at, (spent i s there).role)

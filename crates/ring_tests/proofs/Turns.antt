@@ -2,13 +2,10 @@
 use Rattle.std.proofs.Common.{◌≡◌, ◌⊎◌, inl, inr, true}
 use Rattle.gateway.specs.declared.ending.Turned.{Turned}
 use Rattle.gateway.specs.declared.ending.Turned.TheVariants.{Worked, Quiet, Ended}
-use Rattle.gateway.specs.Ledgers.{Ledger}
-use Rattle.gateway.specs.Turns.{Front, Moved, Means}
-use Rattle.gateway.specs.Wires.{Told}
+use Rattle.gateway.specs.Turns.{World, Moved, Means}
 
-pub lives : (old new : Front) (wire wire' : Told) (desk desk' : Ledger) (m : Moved) (answer : Turned) → Means old new wire wire' desk desk' m answer
-    → (answer ≡ Worked) ⊎ (answer ≡ Quiet) → new.live ≡ true
-lives old new wire wire' desk desk' m Worked means is = means.1.live
-lives old new wire wire' desk desk' m Quiet means is = means.1.live
-lives old new wire wire' desk desk' m (Ended reason) means (inl is) = cc
-lives old new wire wire' desk desk' m (Ended reason) means (inr is) = cc
+pub lives : (old new : World) (m : Moved) (answer : Turned) → Means old new m answer → (answer ≡ Worked) ⊎ (answer ≡ Quiet) → new.front.live ≡ true
+lives old new m Worked means is = means.1.live
+lives old new m Quiet means is = means.1.live
+lives old new m (Ended reason) means (inl is) = cc
+lives old new m (Ended reason) means (inr is) = cc

@@ -1,8 +1,9 @@
 //! The stages of a venue in small rings.
-ghost use Rattle.std.specs.Prelude.{◌≡◌, false, [], IfOk};
-ghost use Rattle.ring_words.specs.Crew.{stage_view, process_view, marshal_view};
-ghost use Rattle.ring_words.specs.declared.view.Role.TheVariants.{Unmarshal};
-ghost use Rattle.ring_words.specs.declared.view.Role.TheVariants as role;
+ghost use Rattle.std.specs.Prelude.{◌≡◌, false, [], Some, IfOk};
+ghost use Rattle.ring_words.specs.At.{IsAt, SamePlace};
+ghost use Rattle.ring_words.specs.Crew.{AreNew};
+ghost use Rattle.ring_words.specs.Rule.{processor};
+ghost use Rattle.ring_tests.specs.Seats.{AreSpent};
 
 use super::venue::TestRings;
 use book::{Book, BookLogic};
@@ -20,9 +21,9 @@ pub struct Stages {
     pub journaller: Journaller<NullDisk>,
     pub processor: Processor,
     pub marshaller: Marshaller,
-    ghost unmarshals: { unmarshaller.seat.seat.table_id ≡ processor.seat.seat.table_id },
-    ghost journals: { journaller.seat.seat.table_id ≡ processor.seat.seat.table_id },
-    ghost marshals: { marshaller.seat.seat.table_id ≡ processor.seat.seat.table_id },
+    ghost unmarshals: { SamePlace processor.seat unmarshaller.seat },
+    ghost journals: { SamePlace processor.seat journaller.seat },
+    ghost marshals: { SamePlace processor.seat marshaller.seat },
 }
 
 impl Stages {
@@ -33,12 +34,12 @@ impl Stages {
         seats: Seats<BookLogic>,
         limits: &Limits,
     ) -> Result<(Stages, Vec<GatewaySeat<BookLogic>>), Fail>
-        requires unmarshal { (seats.unmarshal.seat.table_id ≡ rings.now.table.shared.table_id) × (seats.unmarshal.seat.me.0 ≡ stage_view limits.now [] Unmarshal) }
-        requires journal { (seats.journal.seat.table_id ≡ rings.now.table.shared.table_id) × (seats.journal.seat.me.0 ≡ stage_view limits.now [] role.Journal) }
-        requires process { (seats.process.seat.table_id ≡ rings.now.table.shared.table_id) × (seats.process.seat.me.0 ≡ process_view limits.now [] 0) }
-        requires marshal { (seats.marshal.seat.table_id ≡ rings.now.table.shared.table_id) × (seats.marshal.seat.me.0 ≡ marshal_view limits.now [] 0) }
-        ensures rings { IfOk result (λ r. r.0.processor.seat.seat.table_id ≡ rings.now.table.shared.table_id) }
+        requires opened { (rings.now.logic ≡ limits.now) × (rings.now.base ≡ []) × (rings.now.given ≡ 0) }
+        requires seats { AreNew G rings.now seats }
+        requires spent { AreSpent rings.now seats.gateways.items }
+        ensures rings { IfOk result (λ r. IsAt rings.now r.0.processor.seat) }
         ensures gateways { IfOk result (λ r. r.1 ≡ seats.gateways) }
+        ensures spent { IfOk result (λ r. AreSpent rings.now r.1.items) }
     {
         let Seats {
             gateways,
@@ -61,8 +62,8 @@ impl Stages {
         &mut self,
         rings: &TestRings<N, M, G>,
     ) -> [Turn; 4]
-        requires { self.old.processor.seat.seat.table_id ≡ rings.now.table.shared.table_id }
-        ensures { self.new.processor.seat.seat.table_id ≡ rings.now.table.shared.table_id }
+        requires { IsAt rings.now self.old.processor.seat }
+        ensures { IsAt rings.now self.new.processor.seat }
     {
         let unmarshaller = self.unmarshaller.poll(rings);
         let journaller = self.journaller.poll(rings);
@@ -103,7 +104,7 @@ fn processor_of(
     seat: ProcessSeat<BookLogic>,
     limits: &Limits,
 ) -> Result<Processor, Fail>
-    requires view { seat.seat.me.0 ≡ process_view limits.now [] 0 }
+    requires new { (seat.who ≡ processor [] 0) × (seat.logic ≡ Some limits.now) × (seat.base ≡ []) }
     ensures { IfOk result (λ p. p.seat ≡ seat) }
 {
     let book = Book::new(alloc, limits)?;

@@ -1,5 +1,6 @@
 //! Four gateways and the stages, each on a thread of its own, at a ring of four input rows.
 ghost use Rattle.std.specs.Prelude.{◌≡◌, ◌≤◌};
+ghost use Rattle.ring_words.specs.At.{IsAt};
 ghost use Rattle.std.specs.Thread.{IsSync};
 
 use super::crew::Stages;
@@ -24,9 +25,9 @@ fn run_four<R: Threads + Sync>(
     crew: Crew,
     day: Day,
 ) -> bool
-    requires third { third.seat.table_id ≡ rings.now.table.shared.table_id }
-    requires fourth { fourth.seat.table_id ≡ rings.now.table.shared.table_id }
-    requires crew { (crew.0.seat.table_id ≡ rings.now.table.shared.table_id) × (crew.1.seat.table_id ≡ rings.now.table.shared.table_id) × (crew.2.processor.seat.seat.table_id ≡ rings.now.table.shared.table_id) }
+    requires third { IsAt rings.now third }
+    requires fourth { IsAt rings.now fourth }
+    requires crew { (IsAt rings.now crew.0) × (IsAt rings.now crew.1) × (IsAt rings.now crew.2.processor.seat) }
 {
     let ((third, fourth), crew) = join(
         rt,
@@ -34,10 +35,10 @@ fn run_four<R: Threads + Sync>(
             Option<GatewaySeat<BookLogic>>,
             Option<GatewaySeat<BookLogic>>,
         )
-            requires { IsSync R.row × (third.seat.table_id ≡ rings.now.table.shared.table_id) × (fourth.seat.table_id ≡ rings.now.table.shared.table_id) }
+            requires { IsSync R.row × (IsAt rings.now third) × (IsAt rings.now fourth) }
         { trade_both(rt, rings, third, fourth, *b"34", day) },
         move || -> Option<Crew>
-            requires { IsSync R.row × (crew.0.seat.table_id ≡ rings.now.table.shared.table_id) × (crew.1.seat.table_id ≡ rings.now.table.shared.table_id) × (crew.2.processor.seat.seat.table_id ≡ rings.now.table.shared.table_id) }
+            requires { IsSync R.row × (IsAt rings.now crew.0) × (IsAt rings.now crew.1) × (IsAt rings.now crew.2.processor.seat) }
         { run(rt, rings, crew, *b"12", day) },
     );
     third.is_some() && fourth.is_some() && crew.is_some()

@@ -2,6 +2,7 @@
 //! the acknowledgements of its own orders, in its order and word for word, and passes over those of the others. Two meet at the end, and the
 //! rings are closed behind them.
 ghost use Rattle.std.specs.Prelude.{◌≡◌, ◌≤◌, IfSome};
+ghost use Rattle.ring_words.specs.At.{IsAt};
 ghost use Rattle.std.specs.Thread.{IsSync};
 ghost use Rattle.ring_tests.specs.Seats.{StaysSpent};
 
@@ -61,7 +62,7 @@ fn trade<const N: usize, const M: usize, const G: usize>(
     client: u8,
     day: Day,
 ) -> Option<GatewaySeat<BookLogic>>
-    requires { seat.seat.table_id ≡ rings.now.table.shared.table_id }
+    requires { IsAt rings.now seat }
     ensures { IfSome result (StaysSpent seat) }
 {
     let mut gateway = Member { rings, seat };
@@ -94,19 +95,19 @@ pub fn trade_both<R: Threads + Sync, const N: usize, const M: usize, const G: us
     Option<GatewaySeat<BookLogic>>,
     Option<GatewaySeat<BookLogic>>,
 )
-    requires one { one.seat.table_id ≡ rings.now.table.shared.table_id }
-    requires other { other.seat.table_id ≡ rings.now.table.shared.table_id }
+    requires one { IsAt rings.now one }
+    requires other { IsAt rings.now other }
     ensures one { IfSome result.0 (StaysSpent one) }
     ensures other { IfSome result.1 (StaysSpent other) }
 {
     join(
         rt,
         move || -> Option<GatewaySeat<BookLogic>>
-            requires { one.seat.table_id ≡ rings.now.table.shared.table_id }
+            requires { IsAt rings.now one }
             ensures { IfSome result (StaysSpent one) }
         { trade(rings, one, clients[0], day) },
         move || -> Option<GatewaySeat<BookLogic>>
-            requires { other.seat.table_id ≡ rings.now.table.shared.table_id }
+            requires { IsAt rings.now other }
             ensures { IfSome result (StaysSpent other) }
         { trade(rings, other, clients[1], day) },
     )
@@ -118,8 +119,8 @@ fn process<const N: usize, const M: usize, const G: usize>(
     mut stages: Stages,
     outputs: u64,
 ) -> Option<Stages>
-    requires { stages.processor.seat.seat.table_id ≡ rings.now.table.shared.table_id }
-    ensures { IfSome result (λ s. s.processor.seat.seat.table_id ≡ rings.now.table.shared.table_id) }
+    requires { IsAt rings.now stages.processor.seat }
+    ensures { IfSome result (λ s. IsAt rings.now s.processor.seat) }
 {
     for _ in 0..TRIES {
         if stages.marshaller.next_seq() == outputs {
@@ -141,12 +142,12 @@ pub fn run<R: Threads + Sync, const N: usize, const M: usize, const G: usize>(
     clients: [u8; 2],
     day: Day,
 ) -> Option<Crew>
-    requires one { crew.0.seat.table_id ≡ rings.now.table.shared.table_id }
-    requires other { crew.1.seat.table_id ≡ rings.now.table.shared.table_id }
-    requires rings { crew.2.processor.seat.seat.table_id ≡ rings.now.table.shared.table_id }
+    requires one { IsAt rings.now crew.0 }
+    requires other { IsAt rings.now crew.1 }
+    requires rings { IsAt rings.now crew.2.processor.seat }
     ensures one { IfSome result (λ r. StaysSpent crew.0 r.0) }
     ensures other { IfSome result (λ r. StaysSpent crew.1 r.1) }
-    ensures rings { IfSome result (λ r. r.2.processor.seat.seat.table_id ≡ rings.now.table.shared.table_id) }
+    ensures rings { IfSome result (λ r. IsAt rings.now r.2.processor.seat) }
 {
     let (one, other, stages) = crew;
     let ((one, other), stages) = join(
@@ -155,13 +156,13 @@ pub fn run<R: Threads + Sync, const N: usize, const M: usize, const G: usize>(
             Option<GatewaySeat<BookLogic>>,
             Option<GatewaySeat<BookLogic>>,
         )
-            requires { IsSync R.row × (one.seat.table_id ≡ rings.now.table.shared.table_id) × (other.seat.table_id ≡ rings.now.table.shared.table_id) }
+            requires { IsSync R.row × (IsAt rings.now one) × (IsAt rings.now other) }
             ensures one { IfSome result.0 (StaysSpent one) }
             ensures other { IfSome result.1 (StaysSpent other) }
         { trade_both(rt, rings, one, other, clients, day) },
         move || -> Option<Stages>
-            requires { stages.processor.seat.seat.table_id ≡ rings.now.table.shared.table_id }
-            ensures { IfSome result (λ s. s.processor.seat.seat.table_id ≡ rings.entry.now.table.shared.table_id) }
+            requires { IsAt rings.now stages.processor.seat }
+            ensures { IfSome result (λ s. IsAt rings.entry.now s.processor.seat) }
         { process(rings, stages, day.outputs) },
     );
     Some((one?, other?, stages?))

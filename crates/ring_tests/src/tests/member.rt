@@ -1,7 +1,7 @@
 //! A gateway at small rings, with the rings that it calls.
 ghost use Rattle.std.specs.Prelude.{◌≡◌, ◌+◌, ◌≤◌, length, vec_len, IfSome};
-ghost use Rattle.ring_words.specs.Ending.{IsSpent, AreSpent};
-ghost use Rattle.ring_tests.specs.Seats.{StaysSpent};
+ghost use Rattle.ring_words.specs.At.{IsAt};
+ghost use Rattle.ring_tests.specs.Seats.{IsSpent, AreSpent, StaysSpent};
 
 use super::venue::TestRings;
 use book::BookLogic;
@@ -13,7 +13,7 @@ use sequencer::{ClaimRefusal, Take, take_output, try_claim};
 pub struct Member<'a, const N: usize, const M: usize, const G: usize> {
     pub rings: &'a TestRings<N, M, G>,
     pub seat: GatewaySeat<BookLogic>,
-    ghost fits: { seat.seat.table_id ≡ rings.now.table.shared.table_id },
+    ghost fits: { IsAt rings.now seat },
 }
 
 impl<'a, const N: usize, const M: usize, const G: usize> Member<'a, N, M, G> {
@@ -39,10 +39,10 @@ pub fn next_member<'a, const N: usize, const M: usize, const G: usize>(
     rings: &'a TestRings<N, M, G>,
     gateways: &mut Vec<GatewaySeat<BookLogic>>,
 ) -> Option<Member<'a, N, M, G>>
-    requires { AreSpent rings.now.table.shared.table_id gateways.old.items }
-    ensures left { AreSpent rings.now.table.shared.table_id gateways.new.items }
+    requires { AreSpent rings.now gateways.old.items }
+    ensures left { AreSpent rings.now gateways.new.items }
     ensures count { IfSome result (λ member. vec_len gateways.old ≡ vec_len gateways.new + 1) }
-    ensures member { IfSome result (λ member. IsSpent rings.now.table.shared.table_id (vec_len gateways.old) member.seat) }
+    ensures member { IfSome result (λ member. IsSpent rings.now (vec_len gateways.old) member.seat) }
 {
     let seat = gateways.pop()?;
     Some(Member { rings, seat })

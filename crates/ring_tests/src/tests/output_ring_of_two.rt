@@ -1,5 +1,6 @@
 //! Seven outputs go through an output ring of two rows: the processor puts more only as both gateways take them or pass them over.
 ghost use Rattle.std.specs.Prelude.{◌≡◌, ◌≤◌, length};
+ghost use Rattle.ring_words.specs.At.{IsAt};
 
 use super::crew::Stages;
 use super::member::{Member, next_member};
@@ -30,8 +31,8 @@ fn taken(gateway: &mut Pair<'_>) -> (u8, u8) {
 
 /// Lets the stages poll twice, so that two outputs are marshalled, and answers what the processor did first.
 fn process(rings: &PairRings, stages: &mut Stages) -> Turn
-    requires stages { stages.old.processor.seat.seat.table_id ≡ rings.now.table.shared.table_id }
-    ensures stages { stages.new.processor.seat.seat.table_id ≡ rings.now.table.shared.table_id }
+    requires stages { IsAt rings.now stages.old.processor.seat }
+    ensures stages { IsAt rings.now stages.new.processor.seat }
 {
     let [_, _, turn, _] = stages.poll(rings);
     stages.poll(rings);
@@ -47,9 +48,9 @@ fn sell<A: Abort>(
     stages: &mut Stages,
     order: &[u8],
 )
-    requires stages { stages.old.processor.seat.seat.table_id ≡ rings.now.table.shared.table_id }
+    requires stages { IsAt rings.now stages.old.processor.seat }
     requires order { (1 ≤ length order.now) × (length order.now ≤ 320) }
-    ensures stages { stages.new.processor.seat.seat.table_id ≡ rings.now.table.shared.table_id }
+    ensures stages { IsAt rings.now stages.new.processor.seat }
 {
     assert!(rt; one.publish(order).is_ok());
     assert_eq!(rt; process(rings, stages), Did(1));
@@ -64,8 +65,8 @@ fn put_two<A: Abort>(
     other: &mut Pair<'_>,
     stages: &mut Stages,
 )
-    requires stages { stages.old.processor.seat.seat.table_id ≡ rings.now.table.shared.table_id }
-    ensures stages { stages.new.processor.seat.seat.table_id ≡ rings.now.table.shared.table_id }
+    requires stages { IsAt rings.now stages.old.processor.seat }
+    ensures stages { IsAt rings.now stages.new.processor.seat }
 {
     assert_eq!(rt; process(rings, stages), OutFull);
     assert_eq!(rt; stages.processor.next_seq(), 3);
@@ -80,7 +81,7 @@ fn trade<A: Abort>(
     other: &mut Pair<'_>,
     stages: &mut Stages,
 )
-    requires stages { stages.old.processor.seat.seat.table_id ≡ rings.now.table.shared.table_id }
+    requires stages { IsAt rings.now stages.old.processor.seat }
 {
     sell(rt, rings, one, other, stages, SELL_ONE);
     sell(rt, rings, one, other, stages, SELL_TWO);

@@ -1,5 +1,6 @@
 //! Two gateways fill a ring of two rows; once the stages have done its first message, the row is claimed again.
 ghost use Rattle.std.specs.Prelude.{◌≡◌};
+ghost use Rattle.ring_words.specs.At.{IsAt};
 
 use super::crew::Stages;
 use super::member::{Member, next_member};
@@ -21,8 +22,8 @@ fn publish_both(
     other: &mut Pair<'_>,
     stages: &mut Stages,
 ) -> Result<Option<(u64, u64)>, ClaimRefusal>
-    requires stages { stages.old.processor.seat.seat.table_id ≡ rings.now.table.shared.table_id }
-    ensures stages { stages.new.processor.seat.seat.table_id ≡ rings.now.table.shared.table_id }
+    requires stages { IsAt rings.now stages.old.processor.seat }
+    ensures stages { IsAt rings.now stages.new.processor.seat }
 {
     let first = try_claim(one.rings, &mut one.seat)?;
     let second = match try_claim(other.rings, &mut other.seat) {
@@ -49,7 +50,7 @@ fn fill<A: Abort>(
     other: &mut Pair<'_>,
     stages: &mut Stages,
 )
-    requires stages { stages.old.processor.seat.seat.table_id ≡ rings.now.table.shared.table_id }
+    requires stages { IsAt rings.now stages.old.processor.seat }
 {
     assert_eq!(rt; publish_both(rings, one, other, stages), Ok(Some((0, 1))));
     assert_eq!(rt; one.publish(FIRST_BUY), Err(ClaimRefusal::Full));

@@ -1,7 +1,9 @@
 //! Two clients' sessions, one behind the other: the first orders and leaves, and what the second's order brings it is passed over by its gateway,
 //! and counted.
 ghost use Rattle.std.specs.Prelude.{None, ◌≡◌, true, false, [], IfOk, IsSome};
-ghost use Rattle.ring_words.specs.Crew.{IsFresh};
+ghost use Rattle.ring_words.specs.declared.view.Role.TheVariants as role;
+ghost use Rattle.ring_words.specs.Rule.{newcomer};
+ghost use Rattle.ring_words.specs.At.{at, IsAt, number};
 
 use super::crew::Stages;
 use super::venue::{TestRings, abc, open};
@@ -61,8 +63,9 @@ fn gateway_at(
     limits: &Limits,
     seat: GatewaySeat<BookLogic>,
 ) -> Result<Gateway, Fail>
-    requires { IsFresh rings.now.table.shared.table_id limits.now [] 0 seat.number seat }
-    ensures { IfOk result (λ g. g.seat.seat.table_id ≡ rings.now.table.shared.table_id) }
+    requires opened { (rings.now.logic ≡ limits.now) × (rings.now.base ≡ []) × (rings.now.given ≡ 0) }
+    requires new { seat ≡ at rings.now (newcomer (role.Gateway (number seat)) [] 0) }
+    ensures { IfOk result (λ g. IsAt rings.now g.seat) }
 {
     match Gateway::new(alloc, seat) {
         Ok(gateway) => Ok(gateway),
@@ -73,8 +76,8 @@ fn gateway_at(
 /// Takes one turn of a session, and says why it ended, where it did.
 fn turn(rings: &PairRings, gateway: &mut Gateway, wire: &mut MemWire) -> Option<Reason>
     requires live { gateway.old.front.live ≡ true }
-    requires table { gateway.old.seat.seat.table_id ≡ rings.now.table.shared.table_id }
-    ensures table { gateway.new.seat.seat.table_id ≡ rings.now.table.shared.table_id }
+    requires at { IsAt rings.now gateway.old.seat }
+    ensures table { IsAt rings.now gateway.new.seat }
     ensures over { IsSome result → gateway.new.front.live ≡ false }
     ensures alive { result ≡ None → gateway.new.front.live ≡ true }
 {
@@ -93,10 +96,10 @@ fn serve(
     turns: usize,
 ) -> Option<Reason>
     requires live { gateway.old.front.live ≡ true }
-    requires table { gateway.old.seat.seat.table_id ≡ rings.now.table.shared.table_id }
-    requires stages { stages.old.processor.seat.seat.table_id ≡ rings.now.table.shared.table_id }
-    ensures stages { stages.new.processor.seat.seat.table_id ≡ rings.now.table.shared.table_id }
-    ensures table { gateway.new.seat.seat.table_id ≡ rings.now.table.shared.table_id }
+    requires at { IsAt rings.now gateway.old.seat }
+    requires stages { IsAt rings.now stages.old.processor.seat }
+    ensures stages { IsAt rings.now stages.new.processor.seat }
+    ensures table { IsAt rings.now gateway.new.seat }
     ensures over { IsSome result → gateway.new.front.live ≡ false }
     ensures alive { result ≡ None → gateway.new.front.live ≡ true }
 {
@@ -112,7 +115,7 @@ fn serve(
 /// Lets a gateway without a session look three times.
 fn idle(rings: &PairRings, gateway: &mut Gateway)
     requires off { gateway.old.front.live ≡ false }
-    requires table { gateway.old.seat.seat.table_id ≡ rings.now.table.shared.table_id }
+    requires at { IsAt rings.now gateway.old.seat }
 {
     gateway.idle(rings);
     gateway.idle(rings);

@@ -1,9 +1,7 @@
 //! Small rings behind an empty history, and the symbols of their venue.
 ghost use Rattle.std.specs.Prelude.{◌≡◌, ◌≤◌, [], IfOk};
-ghost use Rattle.std.specs.Vec.{vec_len};
-ghost use Rattle.ring_words.specs.Crew.{AreFresh, stage_view, process_view, marshal_view};
-ghost use Rattle.ring_words.specs.Ending.{AreSpent};
-ghost use Rattle.ring_words.specs.declared.view.Role.TheVariants.{Unmarshal, Journal};
+ghost use Rattle.ring_words.specs.Crew.{AreNew};
+ghost use Rattle.ring_tests.specs.Seats.{AreSpent};
 
 use book::BookLogic;
 use ring_words::{OpenError, Rings, Seats};
@@ -19,13 +17,9 @@ pub fn open<const N: usize, const M: usize, const G: usize>(
     limits: &Limits,
 ) -> Result<(TestRings<N, M, G>, Seats<BookLogic>), OpenError>
     requires { (1 ≤ G) × (G ≤ 8) }
-    ensures gateways { IfOk result (λ r. AreSpent r.0.table.shared.table_id r.1.gateways.items) }
-    ensures fresh { IfOk result (λ r. AreFresh r.0.table.shared.table_id limits.now [] 0 r.1.gateways.items) }
-    ensures count { IfOk result (λ r. vec_len r.1.gateways ≡ G) }
-    ensures unmarshal { IfOk result (λ r. (r.1.unmarshal.seat.table_id ≡ r.0.table.shared.table_id) × (r.1.unmarshal.seat.me.0 ≡ stage_view limits.now [] Unmarshal)) }
-    ensures journal { IfOk result (λ r. (r.1.journal.seat.table_id ≡ r.0.table.shared.table_id) × (r.1.journal.seat.me.0 ≡ stage_view limits.now [] Journal)) }
-    ensures process { IfOk result (λ r. (r.1.process.seat.table_id ≡ r.0.table.shared.table_id) × (r.1.process.seat.me.0 ≡ process_view limits.now [] 0)) }
-    ensures marshal { IfOk result (λ r. (r.1.marshal.seat.table_id ≡ r.0.table.shared.table_id) × (r.1.marshal.seat.me.0 ≡ marshal_view limits.now [] 0)) }
+    ensures opened { IfOk result (λ r. (r.0.logic ≡ limits.now) × (r.0.base ≡ []) × (r.0.given ≡ 0)) }
+    ensures seats { IfOk result (λ r. AreNew G r.0 r.1) }
+    ensures spent { IfOk result (λ r. AreSpent r.0 r.1.gateways.items) }
 {
     TestRings::open(alloc, BookLogic::of(limits), &Vec::new(alloc), 0)
 }
