@@ -6,7 +6,7 @@ use Rattle.ring_tests.proofs.tests.sessions.turn.Goals as goal
 pub returns-in-Ended : goal.returns-in-Ended
 returns-in-Ended c = record {
   table = still_at c.args.rings.now _ _ _ c.requires.at c.turn.ensures.uses.stays.rings;
-  over = λ ended. c.in-Ended.ensures.turn.means.1;
+  over = λ ended. c.in-Ended.ensures.turn.turn.means.1;
   alive = λ same. cc;
 }
 
@@ -14,5 +14,5 @@ pub returns-in-Worked : goal.returns-in-Worked
 returns-in-Worked c = record {
   table = still_at c.args.rings.now _ _ _ c.requires.at c.turn.ensures.uses.stays.rings;
   over = λ ended. cc;
-  alive = λ same. lives _ _ _ c.turn.result c.turn.ensures.turn.means c.in-Worked.is;
+  alive = λ same. lives _ _ _ c.turn.result c.turn.ensures.turn.turn.means c.in-Worked.is;
 }
