@@ -10,7 +10,7 @@ use Rattle.venue_model.specs.declared.outputs.Output.{Output}
 use Rattle.venue_model.specs.declared.outputs.ExecType.TheVariants.{Trade}
 use Rattle.venue_model.specs.Orders.{leaves}
 use Rattle.venue_model.specs.Match.{filled, exec, live_alone, rest, done, trades}
-use Rattle.book.specs.Passes.{Passed, traded, resting_after, incoming_after, orders_after, reports}
+use Rattle.book.specs.Passes.{matching, Passed, traded, resting_after, incoming_after, orders_after, reports}
 use Rattle.book.specs.Standing.{InRange, Rests, Standing, Below}
 use Rattle.book.specs.Best.{BestAt}
 use Rattle.book.proofs.Lists.{each-back}
@@ -21,7 +21,7 @@ use Rattle.book.proofs.Passes.{rest-step, done-step, told-step}
 
 module _ (c : Cause) (i : Order) (orders : List Order) (place : ℕ) (best : BestAt i orders place) (told : List Output)
     (some : 0 < leaves i) (some_resting : 0 < leaves best.order) where
-  fill-best : Passed c i (incoming_after i best.order) orders (orders_after i best.order best.before best.behind) told (told ++ reports c i best.order)
+  fill-best : Passed c (matching i orders told) (matching (incoming_after i best.order) (orders_after i best.order best.before best.behind) (told ++ reports c i best.order))
   fill-best = record {
     left = ap (rest i) best.split ∙ rest-step i best.order best.before best.behind best.first (ahead-self best.order);
     filled = ap (done i) best.split ∙ done-step i best.order best.before best.behind best.first (ahead-self best.order);
@@ -36,7 +36,7 @@ module _ (c : Cause) (i : Order) (orders : List Order) (place : ℕ) (best : Bes
       n ≡ min (leaves o) (leaves i) → resting ≡ filled o n o.price → next ≡ filled i n o.price →
       new ≡ take place orders ++ (live_alone resting ++ drop (place + 1) orders) →
       middle ≡ told ++ exec c (Trade n o.price) resting ∷ [] → more ≡ middle ++ exec c (Trade n o.price) next ∷ [] →
-      Passed c i next orders new told more
+      Passed c (matching i orders told) (matching next new more)
   fill-passed o resting next new n middle more o_is n_is resting_is next_is new_is middle_is more_is =
       let b_is : o ≡ best.order = order-is orders best.before best.behind best.order place best.split best.place_is o o_is in
       let quantity : n ≡ traded i best.order = n_is ∙ ap (λ x. min (leaves x) (leaves i)) b_is in
@@ -83,7 +83,7 @@ module _ (i : Order) (orders : List Order) (place : ℕ) (best : BestAt i orders
 
 -- one part of a match, and then the next
 pub passed-trans : (c : Cause) (i j k : Order) (first second third : List Order) (told more most : List Output) →
-    Passed c i j first second told more → Passed c j k second third more most → Passed c i k first third told most
+    Passed c (matching i first told) (matching j second more) → Passed c (matching j second more) (matching k third most) → Passed c (matching i first told) (matching k third most)
 passed-trans c i j k first second third told more most one other = record {
   left = one.left ∙ other.left;
   filled = one.filled ∙ other.filled;

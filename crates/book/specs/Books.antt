@@ -1,10 +1,11 @@
 -- The book as contracts see it, and what stands in it at any time.
-use Rattle.std.specs.Prelude.{◌≡◌, ⊤, ℕ, ◌-◌, ◌≤◌, true, false, List, [], ◌∷◌, ◌++◌, length, slice_index, Some}
+use Rattle.std.specs.Prelude.{◌≡◌, ⊤, ℕ, ◌+◌, ◌-◌, ◌≤◌, true, false, List, [], ◌∷◌, ◌++◌, length, slice_index, Some}
 use Rattle.std.specs.List.{AllByRecursion, list_any}
 use Rattle.std.specs.Str.{bytes_eq}
 use Rattle.venue_model.specs.declared.orders.Order.{Order}
 use Rattle.venue_model.specs.Requests.{Symbols, State, is_named, named, others}
-use Rattle.book.specs.Standing.{Standing}
+use Rattle.venue_model.specs.Step.{Request, step}
+use Rattle.book.specs.Standing.{Standing, Below}
 
 -- the venue's symbols, and the state
 pub record Book : Type 0 where
@@ -49,3 +50,8 @@ NoneNamed client name orders = AllByRecursion (λ x. is_named client name x ≡ 
 pub record TakesOut (client name : ℕ) (old new : Book) (o : Order) : Type 0 where
   pub order : named old.state client name ≡ Some o
   pub book : new ≡ record old { state = record old.state { orders = others old.state client name } }
+
+-- what the request at this sequence asks is done in the book, whose orders all came before the next sequence
+pub record Follows (old new : Book) (sequence : ℕ) (request : Request) : Type 0 where
+  pub state : new ≡ record old { state = (step old.symbols old.state sequence request).state }
+  pub below : Below (sequence + 1) new.state.orders

@@ -10,7 +10,8 @@ use Rattle.venue_model.specs.declared.outputs.ExecType.TheVariants.{New, Trade, 
 use Rattle.venue_model.specs.declared.outputs.Report.{Report}
 use Rattle.venue_model.specs.declared.outputs.Report.TheVariants.{Exec, CancelReject, SessionReject}
 use Rattle.venue_model.specs.declared.outputs.Output.{Output}
-use Rattle.venue_model.specs.Orders.{same_side, crosses}
+use Rattle.venue_model.specs.Match.{fill}
+use Rattle.venue_model.specs.Orders.{same_side, crosses, ahead, leaves}
 use Rattle.venue_model.specs.Requests.{State, is_named}
 use Rattle.venue_model.specs.Step.{Request}
 
@@ -119,3 +120,21 @@ quantity_traded side symbol outputs = sum_by (λ o. report_counted (λ quantity 
 -- the money that it traded it for: the sum of LastQty times LastPx
 abbrev pub money_traded : Side → List ℕ → List Output → ℕ
 money_traded side symbol outputs = sum_by (λ o. report_counted (λ quantity price. quantity * price) side symbol o.report) outputs
+
+-- two orders are crossed by an incoming one, of which the first rests, and is ahead of the second
+pub record AreCrossed (incoming : Order) (orders : List Order) (first second : Order) : Type 0 where
+  pub rests : Contains orders first
+  pub crossed : crosses incoming first ≡ true
+  pub crossed_too : crosses incoming second ≡ true
+  pub leads : ahead first second ≡ true
+
+-- a fill gives the second of two orders something only if it gives the first one all that it had left
+abbrev pub GoesFirst : ℕ → List Order → Order → Order → Type 0
+GoesFirst quantity queue first second = 0 < fill quantity queue second → fill quantity queue first ≡ leaves first
+
+-- an order that rests is ahead of another of its symbol and side
+pub record IsAheadOf (orders : List Order) (first second : Order) : Type 0 where
+  pub rests : Contains orders first
+  pub symbol : first.symbol ≡ second.symbol
+  pub side : first.side ≡ second.side
+  pub leads : ahead first second ≡ true

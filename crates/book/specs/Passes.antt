@@ -41,9 +41,18 @@ reports c incoming o =
     ∷ exec c (Trade (traded incoming o) o.price) (incoming_after incoming o)
     ∷ []
 
+-- where a match is: what is left of the incoming order, the resting orders, and what is told
+pub record Matching : Type 0 where
+  pub incoming : Order
+  pub orders : List Order
+  pub told : List Output
+
+abbrev pub matching : Order → List Order → List Output → Matching
+matching incoming orders told = record { incoming = incoming; orders = orders; told = told }
+
 -- A part of a match is over: what it has told, and what the definitions say of the orders as they are now, is what they
 -- said before it.
-pub record Passed (c : Cause) (incoming next : Order) (old new : List Order) (told more : List Output) : Type 0 where
-  pub left : rest incoming old ≡ rest next new
-  pub filled : done incoming old ≡ done next new
-  pub said : told ++ trades c incoming old ≡ more ++ trades c next new
+pub record Passed (c : Cause) (old new : Matching) : Type 0 where
+  pub left : rest old.incoming old.orders ≡ rest new.incoming new.orders
+  pub filled : done old.incoming old.orders ≡ done new.incoming new.orders
+  pub said : old.told ++ trades c old.incoming old.orders ≡ new.told ++ trades c new.incoming new.orders

@@ -3,6 +3,7 @@ ghost use Rattle.std.specs.Prelude.{◌≡◌, ◌+◌, ◌*◌, ◌^◌, ◌<�
 ghost use Rattle.std.specs.Vec.{vec_len, vec_capacity};
 ghost use Rattle.venue_model.specs.Match.{output};
 ghost use Rattle.venue_model.specs.Step.{empty, cause, step, IsCommand};
+ghost use Rattle.book.specs.Books.{Follows};
 ghost use Rattle.book.specs.Standing.{Below};
 
 use crate::logic::BookLogic;
@@ -61,18 +62,14 @@ impl Book {
     ) -> Result<(), AllocError>
         requires sequence { sequence < 2 ^ 48 }
         requires behind { Below sequence self.old.state.orders }
-        requires from { 1 ≤ gateway }
-        requires to { gateway ≤ 8 }
+        requires gateway { (1 ≤ gateway) × (gateway ≤ 8) }
         requires command { IsCommand command.now }
-        ensures state { OnOk result (self.new ≡ record self.old {
-          state = (step self.old.symbols self.old.state sequence (record { gateway = gateway; command = command.now })).state;
-        }) }
+        ensures state { OnOk result (Follows self.old self.new sequence (record { gateway = gateway; command = command.now })) }
         ensures told { OnOk result (out.new.items ≡ out.old.items
             ++ (step self.old.symbols self.old.state sequence (record { gateway = gateway; command = command.now })).outputs) }
-        ensures behind { OnOk result (Below (sequence + 1) self.new.state.orders) }
-        ensures refused { OnErr result ((self.new ≡ self.old) × (out.new.items ≡ out.old.items)) }
+        ensures refused { OnErr result ((self.new ≡ self.old) × (out.new.items ≡ out.old.items)
+            × (vec_capacity out.old < vec_len out.old + (2 * length self.old.state.orders + 2))) }
         ensures room { vec_capacity out.old ≤ vec_capacity out.new }
-        ensures full { OnErr result (vec_capacity out.old < vec_len out.old + (2 * length self.old.state.orders + 2)) }
     {
         out.reserve(2 * self.orders.len() + 2)?;
         match command {

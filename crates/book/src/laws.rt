@@ -14,7 +14,7 @@ ghost use Rattle.venue_model.specs.Match.{crossing, fill, settled, done, filled_
 ghost use Rattle.venue_model.specs.Requests.{Symbols, State};
 ghost use Rattle.venue_model.specs.Step.{Request, step, state, outputs_from, outputs, requests};
 ghost use Rattle.book.specs.Standing.{Rising, Below};
-ghost use Rattle.book.specs.Laws.{KeepsLimit, KeepsPrice, KeepsTotal, IsFromGateway, Pairwise, IsOrderly, IsUncrossed, quantity_traded, money_traded};
+ghost use Rattle.book.specs.Laws.{AreCrossed, GoesFirst, IsAheadOf, KeepsLimit, KeepsPrice, KeepsTotal, IsFromGateway, Pairwise, IsOrderly, IsUncrossed, quantity_traded, money_traded};
 
 /// What was told stays told: a history's outputs begin with the outputs of each of its beginnings, and each command
 /// adds its own behind them. Its step begins at the state that those before it have left.
@@ -47,14 +47,10 @@ pub fn trades_keep_limits()
 /// Price-time priority: an order gets something from a match only where every resting order ahead of it got all that
 /// it had left to fill. So while something is left of an order, no order behind it of its symbol and side is filled.
 pub fn priority_holds()
-    ensures first { (incoming : Order) (orders : List Order) (o x : Order) → Contains orders o →
-        crosses incoming o ≡ true → crosses incoming x ≡ true → ahead o x ≡ true →
-        (quantity : ℕ) → 0 < fill quantity (crossing incoming orders) x
-        → fill quantity (crossing incoming orders) o ≡ leaves o }
-    ensures behind { (incoming : Order) (orders : List Order) (o x : Order) → Contains orders o →
-        o.symbol ≡ x.symbol → o.side ≡ x.side → ahead o x ≡ true →
-        is_live (settled incoming (crossing incoming orders) o) ≡ true
-        → settled incoming (crossing incoming orders) x ≡ x }
+    ensures first { (incoming : Order) (orders : List Order) (o x : Order) → AreCrossed incoming orders o x →
+        (quantity : ℕ) → GoesFirst quantity (crossing incoming orders) o x }
+    ensures behind { (incoming : Order) (orders : List Order) (o x : Order) → IsAheadOf orders o x →
+        is_live (settled incoming (crossing incoming orders) o) ≡ true → settled incoming (crossing incoming orders) x ≡ x }
 {}
 
 /// The fills of a match are told in the order of priority, each ahead of all that follow, and they are all that there

@@ -6,7 +6,7 @@ ghost use Rattle.venue_model.specs.Orders.{leaves};
 ghost use Rattle.venue_model.specs.Match.{live_alone, crossing, done, rest, trades, matched, match_outputs};
 ghost use Rattle.venue_model.specs.Requests.{is_day, most_resting};
 ghost use Rattle.book.specs.Standing.{InRange, Standing, Below};
-ghost use Rattle.book.specs.Passes.{Passed};
+ghost use Rattle.book.specs.Passes.{matching, Passed};
 ghost use Rattle.book.specs.Best.{BestAt, Over};
 
 use crate::best::best;
@@ -43,7 +43,7 @@ fn fill_at(
     requires best { BestAt incoming.now orders.old.items place }
     requires some { 0 < leaves incoming.now }
     requires room { vec_len out.old + 2 ≤ vec_capacity out.old }
-    ensures passed { Passed cause incoming.now result orders.old.items orders.new.items out.old.items out.new.items }
+    ensures passed { Passed cause (matching incoming.now orders.old.items out.old.items) (matching result orders.new.items out.new.items) }
     ensures in_range { InRange result }
     ensures less { leaves result < leaves incoming.now }
     ensures standing { Standing orders.new.items }

@@ -54,6 +54,10 @@ Reaches x seen rest = ((x ≤ length seen) × (rest ≡ [])) ⊎ ((length seen <
 abbrev pub Seated : Type 0 → Type 0 → Type 0
 Seated S L = Me S (View L)
 
+-- what a step tells: of the step, the seat before, the number found or stored, and the seat after
+abbrev pub Tells : Type 0 → Type 0 → Type 1
+Tells S L = Step S → Seated S L → ℕ → Seated S L → Type 0
+
 -- the unmarshaller wrote the whole command of the next sequence, which is that of the entry e, by this reading
 pub record WroteCommand (reads : ℕ → Message → Command) (p : Person) (e : Message) : Type 0 where
   pub entry : get_elem? p.seen p.own ≡ some e
@@ -153,8 +157,8 @@ module _ {S L : Type 0} where
 
   -- a load of an output word, where a value of the word at `gate` was loaded above its place and it isn't released: the output is that of the
   -- history that is known
-  abbrev pub sees_output : ℕ → ℕ → ℕ → (L → List Message → List Output) → Step S → Seated S L → ℕ → Seated S L → Type 0
-  sees_output n rows gate outputs st m r after = Became m (looked (person m.0) st.word r) after
+  abbrev pub sees_output : ℕ → ℕ → ℕ → (L → List Message → List Output) → Tells S L
+  sees_output n rows gate outputs = λ st m r after. Became m (looked (person m.0) st.word r) after
       × ((logic : L) (q i x : ℕ) (o : Output) → m.0.logic ≡ Some logic → get_elem? (outputs logic (person m.0).seen) q ≡ some o → (person m.0).own ≤ q → Shows gate (person m.0) q
       → get_elem? (output_words o) i ≡ some x → st.word ≡ out_row n rows q i → (r ≡ x) × IsPackableOutput o)
 
@@ -177,7 +181,7 @@ module _ {S L : Type 0} where
       × ((logic : L) → m.0.logic ≡ Some logic → (o : Output) × (get_elem? (outputs logic ((person m.0).seen ++ rest)) (person m.0).own ≡ some o)))
 
   -- a load of a text word, where a value of marshalled was loaded above its place and it isn't taken
-  abbrev pub sees_text : ℕ → ℕ → (L → List Message → List Output) → (L → Output → ℕ → Text) → Step S → Seated S L → ℕ → Seated S L → Type 0
-  sees_text n rows outputs text st m r after = Became m (looked (person m.0) st.word r) after
+  abbrev pub sees_text : ℕ → ℕ → (L → List Message → List Output) → (L → Output → ℕ → Text) → Tells S L
+  sees_text n rows outputs text = λ st m r after. Became m (looked (person m.0) st.word r) after
       × ((logic : L) (q i x : ℕ) (o : Output) → m.0.logic ≡ Some logic → get_elem? (outputs logic (person m.0).seen) q ≡ some o → (person m.0).own ≤ q → Shows marshalled (person m.0) q
       → get_elem? (text_words (text logic o q)) i ≡ some x → st.word ≡ out_row n rows q (i + 64) → (r ≡ x) × IsPackableText (text logic o q))

@@ -44,12 +44,31 @@ Puts m g u outputs w =
     ((outputs ≡ []) × (w ≡ u))
     ⊎ ((0 < length outputs) × ((room : ℕ) × ((q : Person) × HasLooked g m u room q × (w ≡ ahead q (min room (length outputs))))))
 
+-- how many rows the two rings have, and how many gateways there are
+pub record Sizes : Type 0 where
+  pub rows : ℕ
+  pub output_rows : ℕ
+  pub gateways : ℕ
+
+abbrev pub sizes : ℕ → ℕ → ℕ → Sizes
+sizes rows output_rows gateways = record { rows = rows; output_rows = output_rows; gateways = gateways }
+
+-- the processor: what it knows, and how many entries its book has
+pub record Working : Type 0 where
+  pub who : Person
+  pub applied : ℕ
+
+abbrev pub working : Person → ℕ → Working
+working who applied = record { who = who; applied = applied }
+
 -- A command's outputs were put, and it is done when all of them are; or some are left, for which there was no room; or there was no command, which
 -- the look for one showed.
-abbrev pub Processes : ℕ → ℕ → ℕ → Symbols → Turn → Person → ℕ → Person → ℕ → Type 0
-Processes n m g symbols (Did k) v applied w after =
-    (k ≡ 1) × ((u q : Person) × TakesUp n applied v u × Puts m g u (to_put symbols u) q × (to_put symbols q ≡ []) × (w ≡ done q) × (after ≡ w.own))
-Processes n m g symbols Idle v applied w after = (applied ≡ v.own) × NothingHandedOn v w × (after ≡ applied)
-Processes n m g symbols OutFull v applied w after =
-    (u : Person) × TakesUp n applied v u × Puts m g u (to_put symbols u) w × (to_put symbols w ≢ []) × (after ≡ suc w.own)
-Processes n m g symbols JournalFailed v applied w after = ⊥
+abbrev pub Processes : Sizes → Symbols → Turn → Working → Working → Type 0
+Processes s symbols (Did k) v w =
+    (k ≡ 1) × ((u q : Person) × TakesUp s.rows v.applied v.who u × Puts s.output_rows s.gateways u (to_put symbols u) q × (to_put symbols q ≡ [])
+    × (w.who ≡ done q) × (w.applied ≡ w.who.own))
+Processes s symbols Idle v w = (v.applied ≡ v.who.own) × NothingHandedOn v.who w.who × (w.applied ≡ v.applied)
+Processes s symbols OutFull v w =
+    (u : Person) × TakesUp s.rows v.applied v.who u × Puts s.output_rows s.gateways u (to_put symbols u) w.who × (to_put symbols w.who ≢ [])
+    × (w.applied ≡ suc w.who.own)
+Processes s symbols JournalFailed v w = ⊥

@@ -1,8 +1,8 @@
 -- The mode `-`, round by round: a turn of the gateway, and then one poll of each stage.
 use Rattle.std.specs.Prelude.{◌≡◌, ◌≢◌, ◌⊎◌, ◌↔◌, ℕ, zero, suc, ◌^◌, ◌-◌, true, Result, Ok, Err}
 use Rattle.gateway.specs.AtRings.{AtRings}
-use Rattle.gateway.specs.Delivers.{Proceeds}
-use Rattle.gateway.specs.Seats.{Uses}
+use Rattle.gateway.specs.Delivers.{Start, Course, Delivers, Proceeds}
+use Rattle.gateway.specs.Seats.{Uses, ledger_of}
 use Rattle.gateway.specs.Wires as wires
 use Rattle.gateway.specs.declared.ending.Reason.{Reason}
 use Rattle.gateway.specs.declared.ending.Turned.{Turned}
@@ -56,6 +56,11 @@ module _ {D : Type 0} where
     pub keeps : polled ≢ JournalFailed
     pub rests : t ≡ record after { wire = record after.wire { quiet = t.wire.quiet } }
     pub quiet : (t.wire.quiet ≡ true) ↔ ((turned ≡ Quiet) × (polled ≡ Idle))
+
+  -- whatever course the session had before, it has one that goes on from there
+  abbrev pub DeliversOn : Whole D → Whole D → Type 0
+  DeliversOn s t = (start : Start) (c : Course) → Delivers start s.gateway.front s.wire (ledger_of 1024 s.gateway.seat) c →
+      (d : Course) × Delivers start t.gateway.front t.wire (ledger_of 1024 t.gateway.seat) d
 
   -- so many rounds
   abbrev pub Rounds : Honesty D → ℕ → Whole D → Whole D → Type 0

@@ -10,7 +10,7 @@ use Rattle.journal.specs.Format.{IsJournal}
 use Rattle.stages.specs.declared.turn.Turn.{Turn}
 use Rattle.stages.specs.declared.turn.Turn.TheVariants as turns
 use Rattle.stages.specs.Turns.{Unmarshals, Journals}
-use Rattle.stages.specs.Processes.{Processes}
+use Rattle.stages.specs.Processes.{sizes, working, Processes}
 use Rattle.stages.specs.Marshals.{Marshals}
 use Rattle.venued.specs.declared.polled.Polled.{Polled}
 use Rattle.venued.specs.declared.polled.Polled.TheVariants as polls
@@ -61,7 +61,7 @@ module _ {D : Type 0} where
     pub marshalled : Turn
     pub unmarshals : Unmarshals 1024 unmarshalled old.unmarshaller new.unmarshaller
     pub journals : Journals 1024 journalled old.journaller new.journaller
-    pub processes : Processes 1024 1024 1 old.rings.logic processed old.processor old.applied new.processor new.applied
+    pub processes : Processes (sizes 1024 1024 1) old.rings.logic processed (working old.processor old.applied) (working new.processor new.applied)
     pub marshals : Marshals 1024 1024 old.rings.logic marshalled old.marshaller new.marshaller
     pub answer : IsSaid unmarshalled journalled processed marshalled polled
     pub others : new ≡ record old { disk = new.disk; failed = new.failed; unmarshaller = new.unmarshaller; journaller = new.journaller; processor = new.processor; applied = new.applied; marshaller = new.marshaller }

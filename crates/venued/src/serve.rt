@@ -4,7 +4,7 @@ ghost use Rattle.ring_words.specs.At.{IsAt};
 ghost use Rattle.venue_model.specs.Counts.{Rose};
 ghost use Rattle.journal.specs.Disk.{Both, LeavesOnly};
 ghost use Rattle.venued.specs.Faults.{status_of_end};
-ghost use Rattle.venued.specs.Rounds.{Served};
+ghost use Rattle.venued.specs.Rounds.{Served, DeliversOn};
 ghost use Rattle.venued.specs.Crashes.{Behind};
 ghost use Rattle.venued.specs.Serving.{LeavesFrom, IsStatus, EndsWith};
 ghost use Rattle.venued.specs.Venues.{IsJournalBehind};
@@ -17,9 +17,6 @@ use gateway::{Gateway, Turned, Wire};
 use journal::JournalDisk;
 use std::alloc::{AllocError, Global};
 use std::io::Write;
-
-ghost use Rattle.gateway.specs.Delivers.{Start, Course, Delivers};
-ghost use Rattle.gateway.specs.Seats.{ledger_of};
 
 /// Serves the client of gateway 1 until its session ends, behind the history of the journal on the disk, and gives the disk back. Answers
 /// the program's status: 0; 1, with the fault's line, where the journal can't be opened or room was refused, before a byte is read or
@@ -95,8 +92,8 @@ fn take_turns<D: JournalDisk, W: Wire>(
         LeavesOnly (D.tells venue.old.disk) (D.tells venue.new.disk) (λ file. (D.tells venue.old.disk).may_leave file ⊎ IsJournalBehind venue.old.rings.base file) }
     ensures served { Served (record { honest = D.honest; tells = D.tells }) (record { gateway = gateway.old; venue = venue.old; wire = W.tells wire.old })
         (record { gateway = gateway.new; venue = venue.new; wire = W.tells wire.new }) result }
-    ensures delivers { (start : Start) (c : Course) → Delivers start gateway.old.front (W.tells wire.old) (ledger_of 1024 gateway.old.seat) c →
-        (d : Course) × Delivers start gateway.new.front (W.tells wire.new) (ledger_of 1024 gateway.new.seat) d }
+    ensures delivers { DeliversOn (record { gateway = gateway.old; venue = venue.old; wire = W.tells wire.old })
+        (record { gateway = gateway.new; venue = venue.new; wire = W.tells wire.new }) }
     ensures stays { IsAt venue.new.rings gateway.new.seat × (gateway.new.seat.who.role ≡ gateway.old.seat.who.role) }
     ensures failed { OnErr result (Rose (D.failed venue.old.disk) (D.failed venue.new.disk)) }
     ensures counts { OnOk result (D.failed venue.new.disk ≡ D.failed venue.old.disk) }

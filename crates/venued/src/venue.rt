@@ -40,10 +40,18 @@ impl<D: JournalDisk> Model for Venue<D> {
     ghost Value = { OneVenue D };
 
     ghost use Rattle.std.specs.Prelude.{◌≡◌, ◌≤◌, [], vec_capacity};
-    ghost use Rattle.venued.specs.VenueInsides.{one_venue, KeepsVenue};
+    ghost use Rattle.venued.specs.VenueInsides.{KeepsVenue};
 
-    ghost view = { λ d. one_venue d.rings d.processor d.unmarshaller.seat d.journaller.seat d.marshaller.seat
-        d.journaller.journal.disk d.journaller.journal.failed };
+    ghost view = { λ d. record {
+      rings = d.rings;
+      disk = d.journaller.journal.disk;
+      failed = d.journaller.journal.failed;
+      unmarshaller = d.unmarshaller.seat.who;
+      journaller = d.journaller.seat.who;
+      processor = d.processor.seat.who;
+      applied = d.processor.applied;
+      marshaller = d.marshaller.seat.who;
+    } };
 
     ghost invariant = { λ d. KeepsVenue d.rings d.unmarshaller.seat d.journaller.seat d.processor.seat d.marshaller.seat
         × (d.home.items ≡ []) × (1 ≤ vec_capacity d.home) };

@@ -3,12 +3,12 @@ use Rattle.std.proofs.Common.{◌≡◌, ℕ, ◌+◌, ◌*◌, ◌<◌, ◌≤�
 use Rattle.std.specs.Vec.{vec_len, vec_capacity}
 use Rattle.venue_model.specs.Orders.{leaves}
 use Rattle.book.specs.Standing.{InRange, Standing, Below}
-use Rattle.book.specs.Passes.{Passed}
+use Rattle.book.specs.Passes.{matching, Passed}
 use Rattle.book.proofs.matching.sweep.Given as goal
 
 abbrev pub invariant-fills : goal.invariant-fills
 invariant-fills l = record {
-  passed : Passed l.cause l.fn.incoming l.incoming l.fn.orders.items l.orders.items l.fn.out.items l.out.items;
+  passed : Passed l.cause (matching l.fn.incoming l.fn.orders.items l.fn.out.items) (matching l.incoming l.orders.items l.out.items);
   in_range : InRange l.incoming;
   standing : Standing l.orders.items;
   below : (sequence : ℕ) → Below sequence l.fn.orders.items → Below sequence l.orders.items;

@@ -1,7 +1,7 @@
 -- Each seat stays at the rings, and each stage's poll is its own.
 use Rattle.std.proofs.Common.{refl, subst}
 use Rattle.venue_model.specs.Requests.{Symbols}
-use Rattle.stages.specs.Processes.{Processes}
+use Rattle.stages.specs.Processes.{sizes, working, Processes}
 use Rattle.stages.proofs.Journalling.{keeps_done}
 use Rattle.venued.proofs.OpenedLemmas.{still_at}
 use Rattle.venued.proofs.VenueLemmas.{symbols_are}
@@ -34,7 +34,7 @@ returns-clause-polls g c =
       marshalled = c.poll-marshalled.result;
       unmarshals = c.poll-unmarshalled.ensures.turn;
       journals = c.poll-journalled.ensures.turn;
-      processes = subst (λ (l : Symbols). Processes 1024 1024 1 l c.poll-processed.result p.seat.who p.applied q.seat.who q.applied)
+      processes = subst (λ (l : Symbols). Processes (sizes 1024 1024 1) l c.poll-processed.result (working p.seat.who p.applied) (working q.seat.who q.applied))
           (symbols_are rings p held.processor_at) c.poll-processed.ensures.turn;
       marshals = c.poll-marshalled.ensures.turn;
       answer = c.polled.ensures;
