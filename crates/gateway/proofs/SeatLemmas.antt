@@ -49,13 +49,16 @@ module _ (rings : Opened Symbols) (s t : At Symbols) (at : IsAt rings s) (step :
   one : (take : Take) (body : List ℕ) → Takes rings s t take body
       → (o : Output) × TakesOne s t o × Says (number s) o (text_bytes o s.who.own) take body
   one take body (history, takes, says) =
-      let said = subst (λ (l : Symbols). SaysOutput (outputs_of l history) text_bytes s take body) (sym (logic_at rings s at)) says in
-      (said.0, record {
-        history = history;
-        takes = subst (λ (h : List Message). TakesNext (length h) s.who history t.who) (base_at rings s at) takes;
-        next = said.1;
-        others = step;
-      }, said.2)
+      let said = subst (λ (l : Symbols). SaysOutput (outputs_of l history) text_bytes s take body) (sym (logic_at rings s at)) says in (
+        said.0,
+        record {
+          history = history;
+          takes = subst (λ (h : List Message). TakesNext (length h) s.who history t.who) (base_at rings s at) takes;
+          next = said.1;
+          others = step;
+        },
+        said.2,
+      )
 
   pub looks_so : (take : Take) (body : List ℕ) → (take ≡ Nothing → t.who ≡ looked s.who marshalled s.who.own)
       → (take ≢ Nothing → Takes rings s t take body) → Looks s t body take

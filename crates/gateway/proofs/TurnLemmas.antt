@@ -543,9 +543,14 @@ module _ (old h : Front) (session : Standing) (wire wire' wire'' : Told) (desk d
               (ap (λ (f : Front). f.session) end_is) (ap (λ (f : Front). f.waiting) end_is) (ap (λ (f : Front). f.closed) end_is),
           goes-on end (same ∙ live) is_open,
         )
-    all-means end wrote (Ended reason) wrote_is alive live is_open end_is (same, why, closed, last, before) =
-        (subst (λ (r : Reason). EndedBy (world old wire desk) (world end wire'' desk'') r) (sym why) (ap (λ (f : Front). f.closed) end_is ∙ closed, last,
-        sym (ap (λ (f : Front). f.idle) hands.others ∙ ap (λ (f : Front). f.idle) hears.others) ∙ before), same)
+    all-means end wrote (Ended reason) wrote_is alive live is_open end_is (same, why, closed, last, before) = (
+      subst (λ (r : Reason). EndedBy (world old wire desk) (world end wire'' desk'') r) (sym why) (
+        ap (λ (f : Front). f.closed) end_is ∙ closed,
+        last,
+        sym (ap (λ (f : Front). f.idle) hands.others ∙ ap (λ (f : Front). f.idle) hears.others) ∙ before,
+      ),
+      same,
+    )
 
     pub turn-rested : (end : Front) (wrote : Bool) (turned : Turned) →
         wrote ≡ nat_lt (length session.outgoing) (length old.session.outgoing) → answer ≢ Failed → old.live ≡ true → session.closing ≡ None →

@@ -25,7 +25,6 @@ popped xs (f ∷ []) x y split is = let two : f ∷ x ∷ [] ≡ y ∷ [] = sym 
 popped xs (f ∷ g ∷ front) x y split is = let more : f ∷ g ∷ (front ++ x ∷ []) ≡ y ∷ [] = sym split ∙ is in cc
 
 module _ {L : Type 0} (rings : Opened L) where
-
   -- and so it is after a step
   pub still_at : (s t : At L) → IsAt rings s → Steps s t.who t → IsAt rings t
   still_at s t before step = step ∙ ap (λ (a : At L). seated a t.who) before

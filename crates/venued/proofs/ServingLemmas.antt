@@ -110,8 +110,15 @@ pub serve_leaves : (old mid new : Told) (base : History) → LeavesOnly old mid 
 serve_leaves old mid new base opened same only journal served =
     joined old mid new (LeftOrJournal old) (weaker old mid old.may_leave (LeftOrJournal old) opened (λ c left. inl left))
     (weaker mid new (LeftOrBehind mid base) (LeftOrJournal old) served (λ c is. elim is [
-      | inl left ↦ inr (base, journal, ([], subst (λ (file : List ℕ). IsJournal file (base ++ [])) (sym (only c left ∙ same))
-          (subst (IsJournal old.file) (sym (append-nil base)) journal)))
+      | inl left ↦ inr (
+        base,
+        journal,
+        (
+          [],
+          subst (λ (file : List ℕ). IsJournal file (base ++ [])) (sym (only c left ∙ same))
+              (subst (IsJournal old.file) (sym (append-nil base)) journal),
+        ),
+      )
       | inr behind ↦ inr (base, journal, behind)
     ]))
 

@@ -23,25 +23,29 @@ returns-clause-served g c =
     let end : Whole g.row.D.Denot = record { gateway = c.take_turns.new.gateway; venue = c.take_turns.new.venue; wire = tells c.take_turns.new.wire } in
     let first = began venue.rings c.in-Ok-new.gateway c.begin.new.self seat c.in-Ok-new.ensures.made c.begin.ensures.new opened.seat in
     let course = c.take_turns.ensures.delivers (starts 1024 start.gateway start.wire) nothing_yet (c.begin.ensures.begins 1024 start.wire) in
-    inr (c.take_turns.result, c.status_of-status.ensures, record {
-      start = start;
-      end = end;
-      opens = record {
-        venue = opened.opened.0;
-        behind = opened.opened.1;
-        seat = subst (λ (s : At Symbols). IsFirst venue.rings s) (sym first.1) opened.seat;
-        session = first.0;
+    inr (
+      c.take_turns.result,
+      c.status_of-status.ensures,
+      record {
+        start = start;
+        end = end;
+        opens = record {
+          venue = opened.opened.0;
+          behind = opened.opened.1;
+          seat = subst (λ (s : At Symbols). IsFirst venue.rings s) (sym first.1) opened.seat;
+          session = first.0;
+          wire = refl;
+          disk_is = opened.disk;
+        };
+        serves = c.take_turns.ensures.served;
+        course = course.0;
+        delivers = course.1;
+        summary = c.finish-disk-2.result.0;
+        finished = subst (λ (s : At Symbols). Finished s end.venue (g.D.JournalDisk.honest end.venue.disk) (g.D.JournalDisk.tells end.venue.disk) c.finish-disk-2.result.0) c.end.ensures.seat c.finish-disk-2.ensures.finished;
         wire = refl;
-        disk_is = opened.disk;
-      };
-      serves = c.take_turns.ensures.served;
-      course = course.0;
-      delivers = course.1;
-      summary = c.finish-disk-2.result.0;
-      finished = subst (λ (s : At Symbols). Finished s end.venue (g.D.JournalDisk.honest end.venue.disk) (g.D.JournalDisk.tells end.venue.disk) c.finish-disk-2.result.0) c.end.ensures.seat c.finish-disk-2.ensures.finished;
-      wire = refl;
-      disk_is = c.finish-disk-2.ensures.disk;
-    })
+        disk_is = c.finish-disk-2.ensures.disk;
+      },
+    )
 
 pub returns-clause-any_moment : goal.returns-clause-any_moment
 returns-clause-any_moment g c honest =

@@ -78,9 +78,11 @@ loop-round-preserved g c =
       });
       delivers = λ from course so_far.
           let d = before.delivers from course so_far in
-          let m = turned.turn.turn.moved in
-          (further d.0 m, told_again from c.turn-turned.new.self.front (wire c.turn-turned.new.wire) (wire c.rest.new.self)
-              (ledger_of 1024 c.turn-turned.new.self.seat) (further d.0 m) (ap (λ (w : Told). w.gave) c.rest.ensures) (ap (λ (w : Told). w.took) c.rest.ensures) (turned.turn.delivers from d.0 d.1));
+          let m = turned.turn.turn.moved in (
+            further d.0 m,
+            told_again from c.turn-turned.new.self.front (wire c.turn-turned.new.wire) (wire c.rest.new.self)
+                (ledger_of 1024 c.turn-turned.new.self.seat) (further d.0 m) (ap (λ (w : Told). w.gave) c.rest.ensures) (ap (λ (w : Told). w.took) c.rest.ensures) (turned.turn.delivers from d.0 d.1),
+          );
     }
 
 pub returns-in-Ended : goal.returns-in-Ended
@@ -122,15 +124,23 @@ returns-then-eq g c =
         count = c.loop-round._round;
         last = _;
         rounds = before.rounds;
-        finale = (refl, record { gateway = c.turn-turned.new.self; venue = c.loop-round.venue; wire = g.W.Wire.tells c.turn-turned.new.wire }, c.turn-turned.result,
-            record { turn = turned.turn; uses = turned.uses; others = refl }, lives _ _ c.turn-turned.result turned.turn.turn c.in_default.not-Ended,
-            record { polls = subst (λ (p : Polled). Polls c.loop-round.venue c.poll-polled.new.self p) failed polled.polls; leaves = polled.any_moment; keeps = polled.keeps; others = refl });
+        finale = (
+          refl,
+          record { gateway = c.turn-turned.new.self; venue = c.loop-round.venue; wire = g.W.Wire.tells c.turn-turned.new.wire },
+          c.turn-turned.result,
+          record { turn = turned.turn; uses = turned.uses; others = refl },
+          lives _ _ c.turn-turned.result turned.turn.turn c.in_default.not-Ended,
+          record { polls = subst (λ (p : Polled). Polls c.loop-round.venue c.poll-polled.new.self p) failed polled.polls; leaves = polled.any_moment; keeps = polled.keeps; others = refl },
+        );
       };
       delivers = λ start course so_far.
           let d = before.delivers start course so_far in
           (further d.0 turned.turn.turn.moved, turned.turn.delivers start d.0 d.1);
-      stays = (subst (λ (r : Opened Symbols). IsAt r c.turn-turned.new.self.seat) (sym (ap (λ (v : OneVenue g.row.D.Denot). v.rings) polled.polls.others))
-          (still_at c.loop-round.venue.rings c.loop-round.gateway.seat c.turn-turned.new.self.seat before.at stays.rings), stays.role ∙ before.role);
+      stays = (
+        subst (λ (r : Opened Symbols). IsAt r c.turn-turned.new.self.seat) (sym (ap (λ (v : OneVenue g.row.D.Denot). v.rings) polled.polls.others))
+            (still_at c.loop-round.venue.rings c.loop-round.gateway.seat c.turn-turned.new.self.seat before.at stays.rings),
+        stays.role ∙ before.role,
+      );
       failed = risen c.loop-round.venue.failed _ _ _ before.ready before.counts (polled.cause failed);
       counts = tt;
     }

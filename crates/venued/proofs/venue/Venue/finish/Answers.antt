@@ -18,14 +18,17 @@ close-requires g c =
     let items = c.push_reserved.ensures.items ∙ ap (λ (l : List (At Symbols)). l ++ c.args.gateway ∷ []) c.self.invariant.1 in
     let none = ap length c.self.invariant.1 in (
       omega arith,
-      (record {
-        count = omega (arith, c.push_reserved.ensures.len, c.self.inside.home.ok.0, none);
-        gateways = gateways_are rings c.args.gateway c.push_reserved.new.self.items items at c.requires.first;
-        unmarshal = subst (λ (s : At Symbols). IsAt rings s) (sym c.end.ensures) held.unmarshaller_at;
-        journal = subst (λ (s : At Symbols). IsAt rings s) (sym c.end-journal.ensures.given.0) held.journaller_at;
-        process = subst (λ (s : At Symbols). IsAt rings s) (sym c.end-process.ensures.given.0) held.processor_at;
-        marshal = subst (λ (s : At Symbols). IsAt rings s) (sym c.end-2.ensures) held.marshaller_at;
-      }, are_spent rings c.args.gateway c.push_reserved.new.self.items items c.requires.spent),
+      (
+        record {
+          count = omega (arith, c.push_reserved.ensures.len, c.self.inside.home.ok.0, none);
+          gateways = gateways_are rings c.args.gateway c.push_reserved.new.self.items items at c.requires.first;
+          unmarshal = subst (λ (s : At Symbols). IsAt rings s) (sym c.end.ensures) held.unmarshaller_at;
+          journal = subst (λ (s : At Symbols). IsAt rings s) (sym c.end-journal.ensures.given.0) held.journaller_at;
+          process = subst (λ (s : At Symbols). IsAt rings s) (sym c.end-process.ensures.given.0) held.processor_at;
+          marshal = subst (λ (s : At Symbols). IsAt rings s) (sym c.end-2.ensures) held.marshaller_at;
+        },
+        are_spent rings c.args.gateway c.push_reserved.new.self.items items c.requires.spent,
+      ),
     )
 
 pub returns : goal.returns
@@ -43,7 +46,7 @@ returns g c =
     } in
     let items = c.push_reserved.ensures.items ∙ ap (λ (l : List (At Symbols)). l ++ c.args.gateway ∷ []) c.self.invariant.1 in
     let keeps = subst (λ (j : Journal g.row.D.Denot g.D.JournalDisk). honest j.disk → KeepsDone (tells j.disk) journaller.seat.who) given.1
-        (subst (λ (s : At Symbols). honest c.end-journal.result.1.disk → KeepsDone (tells c.end-journal.result.1.disk) s.who) given.0 c.end-journal.ensures.keeps) in
+    (subst (λ (s : At Symbols). honest c.end-journal.result.1.disk → KeepsDone (tells c.end-journal.result.1.disk) s.who) given.0 c.end-journal.ensures.keeps) in
     record {
       disk = c.end-3.ensures ∙ ap (λ (j : Journal g.row.D.Denot g.D.JournalDisk). j.disk) given.1 ∙ ap (λ (v : OneVenue g.row.D.Denot). v.disk) c.self.view_is;
       finished = rw (← c.self.view_is) (finished c.args.gateway _ _ _ c.close.result seats items
