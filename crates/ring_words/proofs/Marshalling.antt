@@ -16,7 +16,7 @@ use Rattle.ring_words.specs.Texts.{text_words, IsPackableText}
 use Rattle.ring_words.specs.Terms.{Terms, outputs_of, text_of}
 use Rattle.ring_words.specs.Rule.{IsGateway, Depth, PartOf, Knows, words_of, Lawful}
 use Rattle.ring_words.specs.Seats.{person, IsAlone, alone, looked, knowing, moved}
-use Rattle.ring_words.specs.Steps.{Seated, WroteText, moves_own, sees_output, sees_published}
+use Rattle.ring_words.specs.Steps.{Seated, WroteText, readable, moves_own, sees_output, sees_published}
 use Rattle.ring_words.proofs.Puts.{word_here, word_else}
 use Rattle.ring_words.proofs.Logs.{knows_looked, knows_knowing}
 use Rattle.ring_words.proofs.Keeps.{mine}
@@ -56,11 +56,11 @@ module _ {L : Type 0} (S : Type 0) (terms : Terms L) where
   pub loads_output : (slots id : ℕ) (me : Seated S L) (k gate j : ℕ) → IsAlone me.0 → gate < first_row → IsGateway terms.gateways j
       → ((s : State S (View L)) (r : Lawful S terms s) → Knows terms (words_of s) r.log (person me.0)
       → (length (person me.0).seen ≤ words_of s journalled) × (words_of s (taken j) ≤ (person me.0).own) × (words_of s gate ≤ words_of s published))
-      → Loads slots id me k (sees_output terms.rows terms.output_rows gate terms.outputs (step slots k 0 0 none) me)
+      → Loads slots id me k (sees_output (readable terms.rows terms.output_rows gate) terms.outputs (step slots k 0 0 none) me)
   loads_output slots id me k gate j one low gateway may s r wide at _ = let p = person me.0 in let w = words_of s in let x : ℕ = w k in
       let own = mine S terms s r id me.0 p at one in let knows = own.2 in let out = r.outgoing in let reads = may s r knows in
       let deep = reads.0 in let from_taken = reads.1 in let to_published = reads.2 in
-      looks S terms s r k id me (looked p k x) (sees_output terms.rows terms.output_rows gate terms.outputs (step slots k 0 0 none) me) at one refl (knows_looked terms w r.log p k x (λ _. le_refl x) knows) (
+      looks S terms s r k id me (looked p k x) (sees_output (readable terms.rows terms.output_rows gate) terms.outputs (step slots k 0 0 none) me) at one refl (knows_looked terms w r.log p k x (λ _. le_refl x) knows) (
         refl,
         λ logic q i y o view_is there from to word is. (
             let logic_is : logic ≡ terms.logic = some_is logic terms.logic (sym view_is ∙ own.0) in
@@ -72,7 +72,7 @@ module _ {L : Type 0} (S : Type 0) (terms : Terms L) where
       )
 
   -- the marshaller loads a word of an output that is published and not released
-  pub loads_marshal_output : (slots id : ℕ) (me : Seated S L) (k : ℕ) → IsAlone me.0 → (person me.0).role ≡ Marshal → Loads slots id me k (sees_output terms.rows terms.output_rows published terms.outputs (step slots k 0 0 none) me)
+  pub loads_marshal_output : (slots id : ℕ) (me : Seated S L) (k : ℕ) → IsAlone me.0 → (person me.0).role ≡ Marshal → Loads slots id me k (sees_output (readable terms.rows terms.output_rows published) terms.outputs (step slots k 0 0 none) me)
   loads_marshal_output slots id me k one role s r wide at small = let first : IsGateway terms.gateways 1 = ((omega arith), r.some_gateway) in
       loads_output slots id me k published 1 one (omega arith) first (λ t u knows. (let p = person me.0 in let w = words_of t in
       let own_is : w marshalled ≡ p.own = subst (λ (z : Role). w (place_of z) ≡ p.own) role knows.own in
@@ -81,9 +81,9 @@ module _ {L : Type 0} (S : Type 0) (terms : Terms L) where
 
   -- the same, where the code's sizes are the key's
   pub loads_marshal_output_in : (n m : ℕ) → terms.rows ≡ n → terms.output_rows ≡ m → (slots id : ℕ) (me : Seated S L) (k : ℕ) → IsAlone me.0 → (person me.0).role ≡ Marshal
-      → Loads slots id me k (sees_output n m published terms.outputs (step slots k 0 0 none) me)
-  loads_marshal_output_in n m rows output_rows slots id me k one role = subst (λ (j : ℕ). Loads slots id me k (sees_output n j published terms.outputs (step slots k 0 0 none) me)) output_rows
-      (subst (λ (j : ℕ). Loads slots id me k (sees_output j terms.output_rows published terms.outputs (step slots k 0 0 none) me)) rows (loads_marshal_output slots id me k one role))
+      → Loads slots id me k (sees_output (readable n m published) terms.outputs (step slots k 0 0 none) me)
+  loads_marshal_output_in n m rows output_rows slots id me k one role = subst (λ (j : ℕ). Loads slots id me k (sees_output (readable n j published) terms.outputs (step slots k 0 0 none) me)) output_rows
+      (subst (λ (j : ℕ). Loads slots id me k (sees_output (readable j terms.output_rows published) terms.outputs (step slots k 0 0 none) me)) rows (loads_marshal_output slots id me k one role))
 
   -- the marshaller moves its word behind the next output, whose text it wrote whole
   pub stores_marshalled : (slots id : ℕ) (me : Seated S L) (x : ℕ) (lg : L) (o : Output) → me.0.logic ≡ Some lg → WroteText (terms.outputs lg) (terms.text lg) (person me.0) o → IsAlone me.0 → (person me.0).role ≡ Marshal → x ≡ suc (person me.0).own

@@ -14,7 +14,7 @@ use Rattle.ring_words.specs.Texts.{text_words, IsPackableText}
 use Rattle.ring_words.specs.Terms.{Terms, outputs_of, text_of}
 use Rattle.ring_words.specs.Rule.{IsGateway, IsRole, Depth, Outgoing, Knows, words_of, Lawful}
 use Rattle.ring_words.specs.Seats.{person, IsAlone, looked}
-use Rattle.ring_words.specs.Steps.{Seated, sees_output, sees_text}
+use Rattle.ring_words.specs.Steps.{Seated, readable, meaning, sees_output, sees_text}
 use Rattle.ring_words.proofs.Logs.{knows_looked}
 use Rattle.ring_words.proofs.Keeps.{mine}
 use Rattle.ring_words.proofs.Outgoings.{rest_of, output_kept, still_above}
@@ -39,10 +39,10 @@ module _ {L : Type 0} (S : Type 0) (terms : Terms L) where
 
   -- a word of an output that is marshalled and that the gateway hasn't taken is that of the output
   pub loads_address : (slots id k : ℕ) (me : Seated S L) (place : ℕ) → IsAlone me.0 → (person me.0).role ≡ Gateway k
-      → Loads slots id me place (sees_output terms.rows terms.output_rows marshalled terms.outputs (step slots place 0 0 none) me)
+      → Loads slots id me place (sees_output (readable terms.rows terms.output_rows marshalled) terms.outputs (step slots place 0 0 none) me)
   loads_address slots id k me place one role s r wide at _ = let p = person me.0 in let w = words_of s in let x : ℕ = w place in
       let own = mine S terms s r id me.0 p at one in let knows = own.2 in let owns = gateway_owns terms w r.log p k role knows in let own_is : w (taken k) ≡ p.own = owns.1 in
-      looks S terms s r place id me (looked p place x) (sees_output terms.rows terms.output_rows marshalled terms.outputs (step slots place 0 0 none) me) at one refl (knows_looked terms w r.log p place x (λ _. le_refl x) knows) (
+      looks S terms s r place id me (looked p place x) (sees_output (readable terms.rows terms.output_rows marshalled) terms.outputs (step slots place 0 0 none) me) at one refl (knows_looked terms w r.log p place x (λ _. le_refl x) knows) (
         refl,
         λ logic q i y o view_is there held shown word is. (
             let logic_is : logic ≡ terms.logic = some_is logic terms.logic (sym view_is ∙ own.0) in
@@ -54,16 +54,16 @@ module _ {L : Type 0} (S : Type 0) (terms : Terms L) where
 
   -- the same, where the code's numbers of rows are the key's
   pub loads_address_in : (n m : ℕ) → terms.rows ≡ n → terms.output_rows ≡ m → (slots id k : ℕ) (me : Seated S L) (place : ℕ) → IsAlone me.0 → (person me.0).role ≡ Gateway k
-      → Loads slots id me place (sees_output n m marshalled terms.outputs (step slots place 0 0 none) me)
-  loads_address_in n m is outputs_is slots id k me place one role = subst (λ (j : ℕ). Loads slots id me place (sees_output j m marshalled terms.outputs (step slots place 0 0 none) me)) is
-      (subst (λ (j : ℕ). Loads slots id me place (sees_output terms.rows j marshalled terms.outputs (step slots place 0 0 none) me)) outputs_is (loads_address slots id k me place one role))
+      → Loads slots id me place (sees_output (readable n m marshalled) terms.outputs (step slots place 0 0 none) me)
+  loads_address_in n m is outputs_is slots id k me place one role = subst (λ (j : ℕ). Loads slots id me place (sees_output (readable j m marshalled) terms.outputs (step slots place 0 0 none) me)) is
+      (subst (λ (j : ℕ). Loads slots id me place (sees_output (readable terms.rows j marshalled) terms.outputs (step slots place 0 0 none) me)) outputs_is (loads_address slots id k me place one role))
 
   -- a word of the text of an output that is marshalled and that the gateway hasn't taken is that of the text
   pub loads_text : (slots id k : ℕ) (me : Seated S L) (place : ℕ) → IsAlone me.0 → (person me.0).role ≡ Gateway k
-      → Loads slots id me place (sees_text terms.rows terms.output_rows terms.outputs terms.text (step slots place 0 0 none) me)
+      → Loads slots id me place (sees_text (readable terms.rows terms.output_rows marshalled) (meaning terms.outputs terms.text) (step slots place 0 0 none) me)
   loads_text slots id k me place one role s r wide at _ = let p = person me.0 in let w = words_of s in let x : ℕ = w place in
       let own = mine S terms s r id me.0 p at one in let knows = own.2 in let owns = gateway_owns terms w r.log p k role knows in let own_is : w (taken k) ≡ p.own = owns.1 in
-      looks S terms s r place id me (looked p place x) (sees_text terms.rows terms.output_rows terms.outputs terms.text (step slots place 0 0 none) me) at one refl (knows_looked terms w r.log p place x (λ _. le_refl x) knows) (
+      looks S terms s r place id me (looked p place x) (sees_text (readable terms.rows terms.output_rows marshalled) (meaning terms.outputs terms.text) (step slots place 0 0 none) me) at one refl (knows_looked terms w r.log p place x (λ _. le_refl x) knows) (
         refl,
         λ logic q i y o view_is there held shown word is. (
             let logic_is : logic ≡ terms.logic = some_is logic terms.logic (sym view_is ∙ own.0) in
@@ -75,6 +75,6 @@ module _ {L : Type 0} (S : Type 0) (terms : Terms L) where
 
   -- the same, where the code's numbers of rows are the key's
   pub loads_text_in : (n m : ℕ) → terms.rows ≡ n → terms.output_rows ≡ m → (slots id k : ℕ) (me : Seated S L) (place : ℕ) → IsAlone me.0 → (person me.0).role ≡ Gateway k
-      → Loads slots id me place (sees_text n m terms.outputs terms.text (step slots place 0 0 none) me)
-  loads_text_in n m is outputs_is slots id k me place one role = subst (λ (j : ℕ). Loads slots id me place (sees_text j m terms.outputs terms.text (step slots place 0 0 none) me)) is
-      (subst (λ (j : ℕ). Loads slots id me place (sees_text terms.rows j terms.outputs terms.text (step slots place 0 0 none) me)) outputs_is (loads_text slots id k me place one role))
+      → Loads slots id me place (sees_text (readable n m marshalled) (meaning terms.outputs terms.text) (step slots place 0 0 none) me)
+  loads_text_in n m is outputs_is slots id k me place one role = subst (λ (j : ℕ). Loads slots id me place (sees_text (readable j m marshalled) (meaning terms.outputs terms.text) (step slots place 0 0 none) me)) is
+      (subst (λ (j : ℕ). Loads slots id me place (sees_text (readable terms.rows j marshalled) (meaning terms.outputs terms.text) (step slots place 0 0 none) me)) outputs_is (loads_text slots id k me place one role))

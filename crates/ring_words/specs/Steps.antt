@@ -54,9 +54,23 @@ Reaches x seen rest = ((x ≤ length seen) × (rest ≡ [])) ⊎ ((length seen <
 abbrev pub Seated : Type 0 → Type 0 → Type 0
 Seated S L = Me S (View L)
 
--- what a step tells: of the step, the seat before, the number found or stored, and the seat after
-abbrev pub Tells : Type 0 → Type 0 → Type 1
-Tells S L = Step S → Seated S L → ℕ → Seated S L → Type 0
+-- What bounds who reads the output ring: how many rows the input ring has, how many the output ring has, and the place of the control word that shows
+-- how far a reader may go. That is published for the marshaller, and marshalled for a gateway.
+pub record Readable : Type 0 where
+  pub rows : ℕ
+  pub output_rows : ℕ
+  pub gate : ℕ
+
+abbrev pub readable : ℕ → ℕ → ℕ → Readable
+readable rows output_rows gate = record { rows = rows; output_rows = output_rows; gate = gate }
+
+-- what a logic means: the outputs of a history, and the text of an output at its place
+pub record Meaning (L : Type 0) : Type 0 where
+  pub outputs : L → List Message → List Output
+  pub text : L → Output → ℕ → Text
+
+abbrev pub meaning : {L : Type 0} → (L → List Message → List Output) → (L → Output → ℕ → Text) → Meaning L
+meaning outputs text = record { outputs = outputs; text = text }
 
 -- the unmarshaller wrote the whole command of the next sequence, which is that of the entry e, by this reading
 pub record WroteCommand (reads : ℕ → Message → Command) (p : Person) (e : Message) : Type 0 where
@@ -155,12 +169,12 @@ module _ {S L : Type 0} where
   abbrev pub publishes : Step S → Seated S L → ℕ → Seated S L → Type 0
   publishes st m r after = Became m (at_place (person m.0) r) after
 
-  -- a load of an output word, where a value of the word at `gate` was loaded above its place and it isn't released: the output is that of the
-  -- history that is known
-  abbrev pub sees_output : ℕ → ℕ → ℕ → (L → List Message → List Output) → Tells S L
-  sees_output n rows gate outputs = λ st m r after. Became m (looked (person m.0) st.word r) after
-      × ((logic : L) (q i x : ℕ) (o : Output) → m.0.logic ≡ Some logic → get_elem? (outputs logic (person m.0).seen) q ≡ some o → (person m.0).own ≤ q → Shows gate (person m.0) q
-      → get_elem? (output_words o) i ≡ some x → st.word ≡ out_row n rows q i → (r ≡ x) × IsPackableOutput o)
+  -- a load of an output word, where a value of the gate was loaded above its place and it isn't released: the output is that of the history that is
+  -- known
+  abbrev pub sees_output : Readable → (L → List Message → List Output) → Step S → Seated S L → ℕ → Seated S L → Type 0
+  sees_output ring outputs st m r after = Became m (looked (person m.0) st.word r) after
+      × ((logic : L) (q i x : ℕ) (o : Output) → m.0.logic ≡ Some logic → get_elem? (outputs logic (person m.0).seen) q ≡ some o → (person m.0).own ≤ q → Shows ring.gate (person m.0) q
+      → get_elem? (output_words o) i ≡ some x → st.word ≡ out_row ring.rows ring.output_rows q i → (r ≡ x) × IsPackableOutput o)
 
   -- a load of published: the marshaller knows a history that has so many outputs
   abbrev pub sees_published : (L → List Message → List Output) → Step S → Seated S L → ℕ → Seated S L → Type 0
@@ -180,8 +194,9 @@ module _ {S L : Type 0} where
       × IsLegal (length m.0.base) (person m.0) ((person m.0).seen ++ rest) × (length ((person m.0).seen ++ rest) ≤ 2 ^ 48)
       × ((logic : L) → m.0.logic ≡ Some logic → (o : Output) × (get_elem? (outputs logic ((person m.0).seen ++ rest)) (person m.0).own ≡ some o)))
 
-  -- a load of a text word, where a value of marshalled was loaded above its place and it isn't taken
-  abbrev pub sees_text : ℕ → ℕ → (L → List Message → List Output) → (L → Output → ℕ → Text) → Tells S L
-  sees_text n rows outputs text = λ st m r after. Became m (looked (person m.0) st.word r) after
-      × ((logic : L) (q i x : ℕ) (o : Output) → m.0.logic ≡ Some logic → get_elem? (outputs logic (person m.0).seen) q ≡ some o → (person m.0).own ≤ q → Shows marshalled (person m.0) q
-      → get_elem? (text_words (text logic o q)) i ≡ some x → st.word ≡ out_row n rows q (i + 64) → (r ≡ x) × IsPackableText (text logic o q))
+  -- a load of a text word, where a value of the gate was loaded above its place and it isn't taken: the text is that of the output there
+  abbrev pub sees_text : Readable → Meaning L → Step S → Seated S L → ℕ → Seated S L → Type 0
+  sees_text ring means st m r after = Became m (looked (person m.0) st.word r) after
+      × ((logic : L) (q i x : ℕ) (o : Output) → m.0.logic ≡ Some logic → get_elem? (means.outputs logic (person m.0).seen) q ≡ some o → (person m.0).own ≤ q
+      → Shows ring.gate (person m.0) q → get_elem? (text_words (means.text logic o q)) i ≡ some x → st.word ≡ out_row ring.rows ring.output_rows q (i + 64)
+      → (r ≡ x) × IsPackableText (means.text logic o q))

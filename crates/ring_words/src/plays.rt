@@ -1,5 +1,5 @@
 //! What each kind of step tells. These types are for the proofs alone.
-ghost use Rattle.ring_words.specs.Steps.{sees_claim, sees_processed, claims_next, stores_raw, marks_sent, sees_mark, sees_raw, stores_command, sees_unmarshalled, sees_journalled, sees_command, moves_own, sees_taken, stores_output, publishes, sees_output, sees_published, stores_text, sees_marshalled, sees_text};
+ghost use Rattle.ring_words.specs.Steps.{readable, meaning, sees_claim, sees_processed, claims_next, stores_raw, marks_sent, sees_mark, sees_raw, stores_command, sees_unmarshalled, sees_journalled, sees_command, moves_own, sees_taken, stores_output, publishes, sees_output, sees_published, stores_text, sees_marshalled, sees_text};
 ghost use Rattle.ring_words.specs.Places.{marshalled, published};
 
 use crate::view::View;
@@ -105,7 +105,7 @@ impl<L: Logic> Play<(), View<L>> for SeePublished {
 pub(crate) struct SeeOutput<const N: usize, const M: usize>;
 
 impl<L: Logic, const N: usize, const M: usize> Play<(), View<L>> for SeeOutput<N, M> {
-    ghost then = { sees_output N M published L.outputs };
+    ghost then = { sees_output (readable N M published) L.outputs };
 }
 
 pub(crate) struct StoreText<const N: usize, const M: usize>;
@@ -123,13 +123,13 @@ impl<L: Logic> Play<(), View<L>> for SeeMarshalled {
 pub(crate) struct SeeAddress<const N: usize, const M: usize>;
 
 impl<L: Logic, const N: usize, const M: usize> Play<(), View<L>> for SeeAddress<N, M> {
-    ghost then = { sees_output N M marshalled L.outputs };
+    ghost then = { sees_output (readable N M marshalled) L.outputs };
 }
 
 pub(crate) struct SeeText<const N: usize, const M: usize>;
 
 impl<L: Logic, const N: usize, const M: usize> Play<(), View<L>> for SeeText<N, M> {
-    ghost then = { sees_text N M L.outputs L.text };
+    ghost then = { sees_text (readable N M marshalled) (meaning L.outputs L.text) };
 }
 
 /// The first person of a view gets a seat of its own.
