@@ -76,8 +76,9 @@ fn is_quiet(turned: Turned, polled: Polled) -> bool
     matches!((turned, polled), (Turned::Quiet, Polled::Idle))
 }
 
-/// Takes turns, each with a poll behind it, until the session ends or the journal fails, or after 2^64 - 1 turns. Where the turn was quiet and no stage had anything to do, the wire may wait for the client: all that
-/// was read so far has brought about what it brings about, and that is written.
+/// Takes turns, each with a poll behind it, until the session ends or the journal fails, or after 2^64 - 1 turns. Where
+/// the turn was quiet and no stage had anything to do, the wire may wait for the client: all that was read so far has
+/// brought about what it brings about, and that is written.
 fn take_turns<D: JournalDisk, W: Wire>(
     gateway: &mut Gateway,
     venue: &mut Venue<D>,
