@@ -10,7 +10,7 @@ use Rattle.venue_model.specs.declared.outputs.Output.{Output}
 use Rattle.venue_model.specs.declared.outputs.ExecType.TheVariants.{Trade}
 use Rattle.venue_model.specs.Orders.{leaves}
 use Rattle.venue_model.specs.Match.{filled, exec, live_alone, rest, done, trades}
-use Rattle.book.specs.Passes.{matching, Passed, traded, resting_after, incoming_after, orders_after, reports}
+use Rattle.book.specs.Passes.{Matching, matching, Passed, traded, resting_after, incoming_after, orders_after, reports}
 use Rattle.book.specs.Standing.{InRange, Rests, Standing, Below}
 use Rattle.book.specs.Best.{BestAt}
 use Rattle.book.proofs.Lists.{each-back}
@@ -21,7 +21,8 @@ use Rattle.book.proofs.Passes.{rest-step, done-step, told-step}
 
 module _ (c : Cause) (i : Order) (orders : List Order) (place : ℕ) (best : BestAt i orders place) (told : List Output)
     (some : 0 < leaves i) (some_resting : 0 < leaves best.order) where
-  fill-best : Passed c (matching i orders told) (matching (incoming_after i best.order) (orders_after i best.order best.before best.behind) (told ++ reports c i best.order))
+  fill-best : Passed c (matching i orders told)
+      (matching (incoming_after i best.order) (orders_after i best.order best.before best.behind) (told ++ reports c i best.order))
   fill-best = record {
     left = ap (rest i) best.split ∙ rest-step i best.order best.before best.behind best.first (ahead-self best.order);
     filled = ap (done i) best.split ∙ done-step i best.order best.before best.behind best.first (ahead-self best.order);
@@ -82,9 +83,8 @@ module _ (i : Order) (orders : List Order) (place : ℕ) (best : BestAt i orders
       (standing-instead best.order resting best.before best.behind stamp-is in_range (subst Standing best.split standing))
 
 -- one part of a match, and then the next
-pub passed-trans : (c : Cause) (i j k : Order) (first second third : List Order) (told more most : List Output) →
-    Passed c (matching i first told) (matching j second more) → Passed c (matching j second more) (matching k third most) → Passed c (matching i first told) (matching k third most)
-passed-trans c i j k first second third told more most one other = record {
+pub passed-trans : (c : Cause) (first second third : Matching) → Passed c first second → Passed c second third → Passed c first third
+passed-trans c first second third one other = record {
   left = one.left ∙ other.left;
   filled = one.filled ∙ other.filled;
   said = one.said ∙ other.said;

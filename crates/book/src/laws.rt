@@ -1,7 +1,7 @@
 //! Laws of matching, in the words of those who trade and audit: functions that do nothing, whose contracts are the laws.
 //! They speak of the definitions that the book is proved to follow, so they hold of the book.
-ghost use Rattle.std.specs.Prelude.{◌≡◌, ℕ, ◌+◌, ◌<◌, ◌≤◌, min, nat_lt, true, false, List, [], ◌∷◌, ◌++◌, length, map, filter, sum_by};
-ghost use Rattle.std.specs.List.{AllByRecursion, Contains};
+ghost use Rattle.std.specs.Prelude.{◌≡◌, ℕ, ◌+◌, ◌≤◌, min, nat_lt, true, false, List, [], ◌∷◌, ◌++◌, length, map, filter, sum_by};
+ghost use Rattle.std.specs.List.{AllByRecursion};
 ghost use Rattle.std.specs.List.Sorted.{IsPermutation};
 ghost use Rattle.fix_orders.specs.Reading.{reads};
 ghost use Rattle.venue_model.specs.History.{History, IsMessage};
@@ -9,7 +9,7 @@ ghost use Rattle.venue_model.specs.declared.commands.TimeInForce.TheVariants.{Fi
 ghost use Rattle.venue_model.specs.declared.orders.Order.{Order};
 ghost use Rattle.venue_model.specs.declared.orders.Side.TheVariants.{Buy, Sell};
 ghost use Rattle.venue_model.specs.declared.outputs.Cause.{Cause};
-ghost use Rattle.venue_model.specs.Orders.{leaves, is_live, crosses, ahead};
+ghost use Rattle.venue_model.specs.Orders.{leaves, is_live, ahead};
 ghost use Rattle.venue_model.specs.Match.{crossing, fill, settled, done, filled_orders, trades, can_fill, canceled_rest, matched, match_outputs};
 ghost use Rattle.venue_model.specs.Requests.{Symbols, State};
 ghost use Rattle.venue_model.specs.Step.{Request, step, state, outputs_from, outputs, requests};

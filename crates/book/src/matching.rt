@@ -43,7 +43,8 @@ fn fill_at(
     requires best { BestAt incoming.now orders.old.items place }
     requires some { 0 < leaves incoming.now }
     requires room { vec_len out.old + 2 ≤ vec_capacity out.old }
-    ensures passed { Passed cause (matching incoming.now orders.old.items out.old.items) (matching result orders.new.items out.new.items) }
+    ensures passed { Passed cause (matching incoming.now orders.old.items out.old.items)
+        (matching result orders.new.items out.new.items) }
     ensures in_range { InRange result }
     ensures less { leaves result < leaves incoming.now }
     ensures standing { Standing orders.new.items }

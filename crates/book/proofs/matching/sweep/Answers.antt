@@ -13,9 +13,7 @@ fills-preserved c =
     place-within c.deref.result.now best.before best.behind best.order c.in-Some.place best.split best.place_is in
     let most = c.fills.invariant.most c.in-Some.ensures.1 in
     record {
-      passed = passed-trans c.args.cause c.args.incoming.now c.fills.incoming c.fill_at-incoming.result c.args.orders.now.items c.fills.orders.items
-          c.fill_at-incoming.new.orders.items c.args.out.now.items c.fills.out.items c.fill_at-incoming.new.out.items
-          c.fills.invariant.passed c.fill_at-incoming.ensures.passed;
+      passed = passed-trans c.args.cause _ _ _ c.fills.invariant.passed c.fill_at-incoming.ensures.passed;
       in_range = c.fill_at-incoming.ensures.in_range;
       standing = c.fill_at-incoming.ensures.standing;
       below = λ s h. c.fill_at-incoming.ensures.below s (c.fills.invariant.below s h);
