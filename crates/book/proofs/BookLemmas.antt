@@ -13,7 +13,7 @@ use Rattle.venue_model.specs.Requests.{Symbols, is_named}
 use Rattle.book.specs.Standing.{Standing}
 use Rattle.book.specs.Books.{NamedApart, Belongs, IsBook, NoneNamed}
 use Rattle.book.proofs.Lists.{each-append, each-map, each-filter, each-without, length-without}
-use Rattle.book.proofs.StandingLemmas.{standing-filter, standing-without}
+use Rattle.book.proofs.StandingLemmas.{standing-without}
 
 -- a change of an order that keeps whose it is, its name and its symbol
 record Keeps (f : Order → Order) : Type 0 where

@@ -11,12 +11,12 @@ use Rattle.venue_model.specs.declared.outputs.ExecType.TheVariants.{Trade}
 use Rattle.venue_model.specs.Orders.{leaves}
 use Rattle.venue_model.specs.Match.{filled, exec, live_alone, rest, done, trades}
 use Rattle.book.specs.Passes.{Matching, matching, Passed, traded, resting_after, incoming_after, orders_after, reports}
-use Rattle.book.specs.Standing.{InRange, Rests, Standing, Below}
+use Rattle.book.specs.Standing.{InRange, Rests, Standing}
 use Rattle.book.specs.Best.{BestAt}
 use Rattle.book.proofs.Lists.{each-back}
 use Rattle.book.proofs.Sides.{ahead-self}
 use Rattle.book.proofs.Places.{before-is, behind-is, order-is}
-use Rattle.book.proofs.StandingLemmas.{standing-instead, below-instead}
+use Rattle.book.proofs.StandingLemmas.{standing-instead}
 use Rattle.book.proofs.Passes.{rest-step, done-step, told-step}
 
 module _ (c : Cause) (i : Order) (orders : List Order) (place : ℕ) (best : BestAt i orders place) (told : List Output)

@@ -7,7 +7,7 @@ use Rattle.venue_model.specs.Orders.{leaves, is_live, ahead}
 use Rattle.venue_model.specs.Match.{filled, fill, leaves_ahead, live_alone}
 use Rattle.std.proofs.lemmas.List.Elements.{filter-append}
 use Rattle.std.proofs.lemmas.Bool.Decides.{nat_tests}
-use Rattle.book.proofs.Lists.{filter-in, filter-out, filter-none, each-append, sum-middle}
+use Rattle.book.proofs.Lists.{filter-in, filter-none, each-append, sum-middle}
 
 -- what stands ahead of x, with one more in the middle that is, or isn't
 module _ (xs ys : List Order) (o x : Order) where

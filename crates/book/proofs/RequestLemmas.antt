@@ -15,7 +15,7 @@ use Rattle.std.specs.Str.{bytes_eq}
 use Rattle.venue_model.specs.declared.commands.NewOrderSingle.{NewOrderSingle}
 use Rattle.venue_model.specs.declared.outputs.OrdRejReason.TheVariants.{BookFull, UnknownSymbol, DuplicateOrder}
 use Rattle.venue_model.specs.Requests.{Symbols, new_refusal, is_day, most_resting}
-use Rattle.venue_model.specs.Requests.{State, is_named, greatest_of, named, answered, unfit, cancel_fits, cancel_reject, cancel_answered, order_canceled, on_cancel, replace_fits, replace_reject, replace_answered, order_replaced, on_replace}
+use Rattle.venue_model.specs.Requests.{State, is_named, greatest_of, named, unfit, cancel_fits, cancel_answered, order_canceled, on_cancel, replace_fits, replace_answered, order_replaced, on_replace}
 use Rattle.book.specs.Books.{NamedAt, NoneNamed}
 use Rattle.book.proofs.NameLemmas.{named-none}
 
