@@ -5,11 +5,11 @@ use Rattle.std.proofs.lemmas.List.{take_more, take_more_set, take-take, length-t
 use mathlib.Core.Option.{some}
 use lib.ListN.{get_elem?}
 use Rattle.venue_model.specs.History.{Message}
+use Rattle.venue_model.specs.ListLaws.{read_at}
 use Rattle.ring_words.specs.declared.view.Load.{Load}
 use Rattle.ring_words.specs.Places.{in_row}
 use Rattle.ring_words.specs.Seats.{load_of, looked}
 use Rattle.ring_words.specs.At.{At, seated}
-use Rattle.ring_words.proofs.Logs.{read_at}
 use Rattle.barrier.specs.Commands.{command_loads, after_command}
 
 -- one load more, of the word behind these

@@ -5,7 +5,7 @@ use Rattle.ring_words.specs.Places.{unmarshalled, journalled}
 use Rattle.ring_words.specs.Seats.{looked, knowing, last_from}
 use Rattle.ring_words.specs.At.{At, seated}
 use Rattle.ring_words.specs.Steps.{lesser, Reaches}
-use Rattle.ring_words.proofs.Views.{last_loaded, not_reached}
+use Rattle.ring_words.specs.SeatLaws.{last_loaded, not_reached}
 use Rattle.barrier.specs.Availability.{Gated}
 
 one_of_two : (a b : ℕ) → (lesser a b ≡ a) ⊎ (lesser a b ≡ b)

@@ -3,13 +3,13 @@ use Rattle.std.proofs.Common.{◌≡◌, ◌⊎◌, inl, inr, ℕ, suc, ◌+◌,
 use mathlib.Core.Option.{some}
 use lib.ListN.{get_elem?}
 use Rattle.venue_model.specs.History.{Message}
+use Rattle.venue_model.specs.ListLaws.{at_end}
 use Rattle.ring_words.specs.declared.view.Person.{Person}
 use Rattle.ring_words.specs.declared.view.Load.{Load}
 use Rattle.ring_words.specs.Places.{in_row}
 use Rattle.ring_words.specs.Log.{IsEntry}
 use Rattle.ring_words.specs.Seats.{load_of, looked, saw}
 use Rattle.ring_words.specs.At.{At, seated}
-use Rattle.ring_words.proofs.Logs.{at_end}
 use Rattle.barrier.specs.Availability.{fresh, AreEntries, grown}
 
 one_more : {A : Type 0} (l : List A) (a : A) → length (l ++ a ∷ []) ≡ suc (length l)

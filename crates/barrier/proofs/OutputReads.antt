@@ -8,14 +8,13 @@ use Rattle.venue_model.specs.History.{Message}
 use Rattle.venue_model.specs.declared.outputs.Output.{Output}
 use Rattle.venue_model.specs.declared.outputs.Report.{Report}
 use Rattle.venue_model.specs.declared.outputs.Report.TheVariants.{Exec, CancelReject, SessionReject}
+use Rattle.venue_model.specs.ListLaws.{read_at, stands, at_longer}
 use Rattle.ring_words.specs.declared.view.Load.{Load}
 use Rattle.ring_words.specs.OutputPacking.{output_words, report_words}
 use Rattle.ring_words.specs.Places.{published, out_row}
 use Rattle.ring_words.specs.Seats.{load_of, looked}
 use Rattle.ring_words.specs.At.{At, seated}
 use Rattle.ring_words.specs.Steps.{Shows}
-use Rattle.ring_words.proofs.Logs.{read_at, stands}
-use Rattle.ring_words.proofs.Outputs.{at_front}
 use Rattle.barrier.specs.Outputs.{output_loads, after_output}
 
 -- each report has its kind
@@ -59,7 +58,7 @@ module _ {L : Type 0} (n m : ℕ) (v u : At L) (q : ℕ) (ws : List ℕ) (so_far
   own_stays from = rw so_far from
 
   pub shown_stays : Shows published v.who q → Shows published u.who q
-  shown_stays to = rw so_far (to.0, (to.1.0, at_front v.who.loads (output_loads n m q 0 ws) to.0 to.1.0 to.1.1, to.1.2, to.1.3))
+  shown_stays to = rw so_far (to.0, (to.1.0, at_longer v.who.loads (output_loads n m q 0 ws) to.0 to.1.0 to.1.1, to.1.2, to.1.3))
 
   -- loads leave the outputs of what is seen
   pub output_stays : (outputs : List Message → List Output) (o : Output) → get_elem? (outputs v.who.seen) q ≡ some o → get_elem? (outputs u.who.seen) q ≡ some o

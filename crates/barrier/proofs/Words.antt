@@ -6,15 +6,15 @@ use mathlib.Core.Option.{some, some-injective}
 use mir.Syntax.{w64}
 use lib.ListN.{get_elem?}
 use Rattle.venue_model.specs.History.{Message}
+use Rattle.venue_model.specs.ListLaws.{stands}
 use Rattle.ring_words.specs.declared.view.Load.{Load}
 use Rattle.ring_words.specs.Places.{in_row}
 use Rattle.ring_words.specs.Log.{IsEntry}
 use Rattle.ring_words.specs.Raw.{eight, raw_word, raw_count}
 use Rattle.ring_words.specs.Seats.{load_of, looked}
 use Rattle.ring_words.specs.At.{At, seated}
-use Rattle.ring_words.proofs.Logs.{stands}
-use Rattle.ring_words.proofs.Raws.{word_bytes}
 use Rattle.ring_words.specs.declared.raw.Raw.{Raw}
+use Rattle.ring_words.specs.RawLaws.{word_bytes}
 use Rattle.barrier.specs.Reading.{IsHead, Reads, word_loads, after_loads}
 
 -- the gateway in word 0

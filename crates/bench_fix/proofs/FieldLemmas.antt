@@ -4,7 +4,7 @@ use Rattle.std.specs.Fmt.{digits}
 use Rattle.fix_frame.specs.Grammar.{Field, field_then, print_fields, frame_of, head, trailer, pieces, fields_of, most_out}
 use Rattle.fix_frame.specs.Writing.{Spells}
 use Rattle.fix_orders.specs.Reading.{exact_fields}
-use Rattle.fix_orders.proofs.ExactLemmas.{exact_sound}
+use Rattle.fix_orders.specs.ExactLaws.{exact_sound}
 use Rattle.bench_fix.specs.declared.writing.TheConstants.{ACKNOWLEDGEMENT, FIELDS}
 
 acknowledgement_found : exact_fields ACKNOWLEDGEMENT.now ≡ Some (fields_of FIELDS.now)

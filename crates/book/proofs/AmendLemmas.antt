@@ -11,7 +11,7 @@ use Rattle.venue_model.specs.declared.commands.OrderCancelReplaceRequest.{OrderC
 use Rattle.venue_model.specs.Orders.{leaves, is_live, same_side}
 use Rattle.venue_model.specs.Match.{live_alone}
 use Rattle.venue_model.specs.Requests.{Symbols, State, is_named, is_day, named, unfit, replace_fits, amended, restamped, keeps_place, amended_in_place, order_replaced}
-use Rattle.venue_model.proofs.Replaced.{in_place, again}
+use Rattle.venue_model.specs.ReplacedLaws.{in_place, again}
 use Rattle.book.specs.Standing.{InRange, Rests, Below}
 use Rattle.book.specs.Books.{Book, NamedApart, Belongs, IsBook, NamedAt, NoneNamed}
 use Rattle.book.proofs.Places.{put-back, before-is, behind-is, place-within, order-is}

@@ -28,7 +28,7 @@ use Rattle.venue_model.specs.History.{Message, IsMessage}
 use Rattle.book.specs.Standing.{Rising}
 use Rattle.book.specs.Laws.{IsFromGateway, Pairwise, RestBeside, CanRest, IsOrderly, IsUncrossed}
 use Rattle.book.proofs.Lists.{each-map, each-filter}
-use Rattle.venue_model.proofs.Replaced.{either_way}
+use Rattle.venue_model.specs.ReplacedLaws.{either_way}
 use Rattle.book.proofs.LawPairs.{each-both, each-mapped, pairs-filter, pairs-map}
 use Rattle.book.proofs.LawCrossed.{ComesBehind, CanCome, matched-pairs, matched-each, uncrossed, rising-pairs}
 

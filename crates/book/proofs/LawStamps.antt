@@ -17,7 +17,7 @@ use Rattle.venue_model.specs.Match.{crossing, after_fill, settled, done, rest, l
 use Rattle.venue_model.specs.Requests.{Symbols, State, new_refusal, new_answered, entering, is_named, named, others, cancel_refusal, cancel_answered, order_canceled, replace_refusal, replace_answered, restamped, amended, order_replaced}
 use Rattle.venue_model.specs.Step.{Request, cause, obey, step, empty, state_from, state, requests_from, requests}
 use Rattle.venue_model.specs.History.{Message}
-use Rattle.venue_model.proofs.Replaced.{either_way}
+use Rattle.venue_model.specs.ReplacedLaws.{either_way}
 use Rattle.book.specs.Standing.{Below}
 use Rattle.book.proofs.Lists.{each-append, each-map, each-filter}
 use Rattle.book.proofs.LawPairs.{each-mapped}

@@ -20,7 +20,7 @@ use Rattle.venue_model.specs.declared.outputs.Output.{Output}
 use Rattle.venue_model.specs.Match.{output, exec, match_outputs}
 use Rattle.venue_model.specs.Requests.{Symbols, State, new_refusal, new_answered, entering, named, others, cancel_refusal, cancel_reject, cancel_answered, canceled, order_canceled, replace_refusal, replace_reject, replace_answered, restamped, amended, order_replaced}
 use Rattle.venue_model.specs.Step.{Request, cause, obey, step, empty, outputs_from, outputs}
-use Rattle.venue_model.proofs.Replaced.{either_way}
+use Rattle.venue_model.specs.ReplacedLaws.{either_way}
 use Rattle.book.specs.Laws.{TradedAt, TellsTradeAt, fill_counted, report_counted}
 
 -- it tells no trade

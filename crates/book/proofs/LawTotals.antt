@@ -27,7 +27,7 @@ use Rattle.book.proofs.Lists.{each-append, each-map, each-filter}
 use Rattle.book.proofs.LawLimits.{each-trade}
 use Rattle.book.proofs.LawSums.{rising-filter, sum-crossed, done-sum, done-within}
 use Rattle.book.proofs.LawCrossed.{rising-pairs}
-use Rattle.venue_model.proofs.Replaced.{either_way}
+use Rattle.venue_model.specs.ReplacedLaws.{either_way}
 use Rattle.book.proofs.LawOrderly.{not-second, fit-one, something-left, step-orderly}
 
 sum-filter : (f : Order → ℕ) (p : Order → Bool) (xs : List Order) → sum_by f (filter p xs) ≤ sum_by f xs

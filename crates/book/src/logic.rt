@@ -68,7 +68,7 @@ impl Logic for BookLogic {
     ghost use Rattle.venue_model.specs.Step.{requests, outputs};
     ghost use Rattle.std.proofs.Common.{refl};
     ghost use Rattle.fix_orders.specs.Text.{text_bytes};
-    ghost use Rattle.venue_model.proofs.Bounds.{grows};
+    ghost use Rattle.venue_model.specs.HistoryLaws.{grows};
 
     ghost reads = { λ symbols sequence m. reads m.bytes };
 

@@ -25,7 +25,7 @@ use Rattle.fix_orders.specs.Reading.{tags, is_among, is_defined, is_wrong, requi
 use Rattle.fix_orders.specs.Values.{value_in, with_value, is_nothing}
 use Rattle.fix_orders.specs.Findings.{IsFound, IsReading, is_other, is_missing, missing_among, outside, lesser_if}
 use Rattle.fix_orders.specs.Text.{field}
-use Rattle.fix_orders.proofs.ExactLemmas.{all_push}
+use Rattle.fix_orders.specs.ExactLaws.{all_push}
 use Rattle.fix_orders.proofs.FieldLemmas.{value_at_none}
 use Rattle.fix_orders.proofs.FindingLemmas.{tags_push, wrong_push, repeated_push, value_push, kept_value, least_push_if, valued, seen_value, undefined_is, ill_formed_is, out_of_range_is}
 

@@ -1,5 +1,4 @@
 pub mod Examples
-pub mod WritingLemmas
 pub mod NumberLemmas
 pub mod TimeLemmas
 pub mod FieldLemmas
@@ -8,10 +7,6 @@ pub mod FindingLemmas
 pub mod TagLemmas
 pub mod FoundLemmas
 pub mod AgainLemmas
-pub mod FaultLemmas
-pub mod RangeLemmas
 pub mod WholeLemmas
 pub mod DecodeLemmas
-pub mod ExactLemmas
-pub mod BodyLemmas
 pub mod ClockLemmas

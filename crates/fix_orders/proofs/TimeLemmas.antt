@@ -5,7 +5,7 @@ use Rattle.std.proofs.lemmas.Bool.Decides.{nat_tests}
 use Rattle.std.proofs.lemmas.List.{take_all}
 use Rattle.fix_orders.specs.Formats.{last_digits, is_time, time_text}
 use Rattle.fix_orders.specs.Writing.{Puts}
-use Rattle.fix_orders.proofs.WritingLemmas.{puts_join, puts_byte}
+use Rattle.fix_orders.specs.WritingLaws.{puts_join, puts_byte}
 
 -- a time has 17 bytes
 pub length_time : (time : List ℕ) → IsTrue (is_time time) → length time ≡ 17

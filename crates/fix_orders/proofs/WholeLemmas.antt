@@ -27,7 +27,7 @@ use Rattle.fix_orders.specs.Reading.{header_tags, tags, is_among, required, opti
 use Rattle.fix_orders.specs.Text.{field}
 use Rattle.fix_orders.specs.Values.{value_in}
 use Rattle.fix_orders.proofs.AgainLemmas.{same_least, count, count-append, among_counted, again_among}
-use Rattle.fix_orders.proofs.FaultLemmas.{right_value}
+use Rattle.fix_orders.specs.FaultLaws.{right_value}
 use Rattle.fix_orders.proofs.TagLemmas.{among_all}
 
 -- a header's fields with these values, and others behind them

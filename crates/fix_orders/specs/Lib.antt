@@ -8,3 +8,8 @@ pub mod Values
 pub mod Findings
 pub mod Asking
 pub mod Writing
+pub mod WritingLaws
+pub mod ExactLaws
+pub mod BodyLaws
+pub mod FaultLaws
+pub mod RangeLaws

@@ -1,5 +1,5 @@
 //! Bodies of reports: what the marshaller writes of an output, and a session sends.
-#![tactic(auto, using(crate::proofs::BodyLemmas::code_fields))]
+#![tactic(auto, using(crate::specs::BodyLaws::code_fields))]
 
 ghost use Rattle.std.specs.Prelude.{◌≡◌, ◌+◌, ◌*◌, ◌≤◌, [], ◌∷◌, length, take};
 ghost use Rattle.std.specs.List.{AllByRecursion};

@@ -54,7 +54,7 @@ pub fn put_bytes(buf: &mut [u8], at: usize, bytes: &[u8]) -> usize
 }
 
 /// Writes a field of these bytes from `at` on, and answers where it ends.
-#[tactic(auto, using(crate::proofs::WritingLemmas::tag_digits))]
+#[tactic(auto, using(crate::specs::WritingLaws::tag_digits))]
 pub fn put_field(buf: &mut [u8], at: usize, tag: u32, value: &[u8]) -> usize
     requires tagged { tag ≤ 99999 }
     requires room { at + length value.now + 7 ≤ length buf.old }
@@ -68,7 +68,7 @@ pub fn put_field(buf: &mut [u8], at: usize, tag: u32, value: &[u8]) -> usize
 }
 
 /// Writes a field of a number from `at` on, and answers where it ends.
-#[tactic(auto, using(crate::proofs::WritingLemmas::tag_digits, crate::proofs::WritingLemmas::number_digits, crate::proofs::BodyLemmas::number_field))]
+#[tactic(auto, using(crate::specs::WritingLaws::tag_digits, crate::specs::WritingLaws::number_digits, crate::specs::BodyLaws::number_field))]
 pub fn put_number(buf: &mut [u8], at: usize, tag: u32, n: u64) -> usize
     requires tagged { tag ≤ 99999 }
     requires room { at + 27 ≤ length buf.old }

@@ -7,6 +7,7 @@ use lib.ListN.{get_elem?}
 use Rattle.atomic_table.specs.Table.{State, step, keeps, Allows}
 use Rattle.atomic_table.proofs.Lists.{exchanged}
 use Rattle.venue_model.specs.History.{Message}
+use Rattle.venue_model.specs.ListLaws.{within}
 use Rattle.ring_words.specs.declared.view.Role.{Role}
 use Rattle.ring_words.specs.declared.view.Role.TheVariants.{Process, Unmarshal, Journal, Marshal, Gateway}
 use Rattle.ring_words.specs.declared.view.Person.{Person}
@@ -21,9 +22,9 @@ use Rattle.ring_words.specs.Seats.{person, IsAlone, alone, looked, with_claim}
 use Rattle.ring_words.specs.Steps.{Seated, ClaimsUpTo, HasRoom, claims_next}
 use Rattle.ring_words.proofs.Windows.{no_control}
 use Rattle.ring_words.proofs.Puts.{put, put_else, by_put, word_here, word_else}
-use Rattle.ring_words.proofs.Logs.{within, depth_risen, knows_looked}
+use Rattle.ring_words.proofs.Logs.{depth_risen, knows_looked}
 use Rattle.ring_words.proofs.Keeps.{mine, after}
-use Rattle.ring_words.proofs.Outgoings.{outgoing_stays, no_output}
+use Rattle.ring_words.proofs.Outgoings.{all_outputs, outgoing_stays, no_output}
 use Rattle.ring_words.proofs.Stores.{risen}
 use Rattle.ring_words.proofs.Loads.{Goes, looks}
 
@@ -140,7 +141,7 @@ module _ {L : Type 0} (S : Type 0) (terms : Terms L) where
       }
       (outgoing_stays terms w w' r.log log' r.few refl
       (λ t e at. ap entry_of (put_else status a t (claimed k) (λ (eq : t ≡ a). nothing_there (status t) e (ap status eq ∙ free) (r.outgoing.front t e at))) ∙ r.outgoing.front t e at)
-      zero_is journalled_is (λ c from to. word_else ws 8 c (a + 1) (λ (e : c ≡ 8). omega arith)) outside r.outgoing)
+      zero_is journalled_is (λ c from to. word_else ws 8 c (a + 1) (λ (e : c ≡ 8). omega arith)) (all_outputs terms w w' outside) r.outgoing)
       (knows_claimed terms w w' r.log a k (looked p claim a) free rises same outside published_is (ap (λ (z : Role). w' (place_of z)) role ∙ word_else ws 8 (taken k) (a + 1) (λ (e : 32 + 8 * k ≡ 8). omega arith) ∙ sym (ap (λ (z : Role). w (place_of z)) role))
       (a ∷ p.claims)
       (λ t. by_put status a t (claimed k) (λ (x : Status). times t (a ∷ p.claims) ≡ claims_of (number_of p.role) x)

@@ -1,10 +1,10 @@
 -- The seats of the gateways, one after the other.
 use Rattle.std.proofs.Common.{◌≡◌, ℕ, ◌+◌, List, [], ◌∷◌, ◌++◌, length, ⊎_elim, sym, subst, ◌∙◌, arith}
+use Rattle.venue_model.specs.ListLaws.{at_end}
 use Rattle.ring_words.specs.declared.view.Role.TheVariants.{Gateway}
 use Rattle.ring_words.specs.Rule.{newcomer}
 use Rattle.ring_words.specs.At.{Opened, At, at}
 use Rattle.ring_words.specs.Crew.{AreNewGateways}
-use Rattle.ring_words.proofs.Logs.{at_end}
 
 module _ {L : Type 0} (rings : Opened L) where
   pub new_more : (seats : List (At L)) (s : At L) (k : ℕ) → AreNewGateways rings seats → length seats + 1 ≡ k → s ≡ at rings (newcomer (Gateway k) rings.base rings.given) → AreNewGateways rings (seats ++ s ∷ [])

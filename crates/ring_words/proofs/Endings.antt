@@ -6,24 +6,24 @@ use mathlib.Core.Option.{Option, none, some, some-injective, some-ne-none}
 use native.Mathlib.Decide.{dec_le, ℕ_discrete}
 use lib.ListN.{get_elem?}
 use Rattle.atomic_table.specs.Table.{State}
-use Rattle.atomic_table.proofs.Lists.{at_longer, at_last}
+use Rattle.atomic_table.proofs.Lists.{at_last}
 use Rattle.venue_model.specs.History.{Message}
+use Rattle.venue_model.specs.ListLaws.{at_longer, stands, within}
 use Rattle.ring_words.specs.declared.view.Role.{Role}
 use Rattle.ring_words.specs.declared.view.Role.TheVariants.{Process, Journal, Gateway}
 use Rattle.ring_words.specs.declared.view.Person.{Person}
 use Rattle.ring_words.specs.declared.view.View.{View}
 use Rattle.ring_words.specs.declared.seats.Seats.{Seats}
 use Rattle.ring_words.specs.declared.close.Summary.{Summary}
-use Rattle.ring_words.specs.At.{Opened, At}
+use Rattle.ring_words.specs.At.{At}
 use Rattle.ring_words.specs.Places.{processed, claim, journalled, published, place_of, number_of}
 use Rattle.ring_words.specs.Log.{Status, unclaimed, old, claimed, sent, Log, entry_of, sends_of, claims_of, times, of_gateway, published_at}
 use Rattle.ring_words.specs.Terms.{Terms, outputs_of}
 use Rattle.ring_words.specs.Rule.{IsGateway, Depth, Knows, PartOf, words_of, Lawful}
 use Rattle.ring_words.specs.Seats.{together}
-use Rattle.ring_words.specs.Crew.{AreNewGateways}
 use Rattle.ring_words.specs.Gathered.{Gathers}
 use Rattle.ring_words.specs.Ending.{AreSpent, Ended, stages_of}
-use Rattle.ring_words.proofs.Logs.{stands, within, published_late}
+use Rattle.ring_words.proofs.Logs.{beyond, published_late}
 use Rattle.ring_words.proofs.Outputs.{begins}
 
 -- the log below k, as a list
@@ -57,12 +57,6 @@ at_upto log (suc k) all s lt = by_place (ℕ_discrete s k) (λ below. at_upto lo
       (ap (λ (l : List Message). get_elem? (entries_upto log k ++ l) k) (one_there (entry_of (log.status k)) e last.1) ∙ at_last (entries_upto log k) e k (length_upto log k (λ t lower. all t (omega arith))) ∙ sym last.1)
   by_place (no ne) before = let there = all s lt in
       at_longer (entries_upto log k) (here (entry_of (log.status k))) s there.0 (before (omega arith) ∙ there.1) ∙ sym there.1
-
--- a list has nothing beyond its end
-beyond : (h : List Message) (i : ℕ) → length h ≤ i → get_elem? h i ≡ none
-beyond [] i le = refl
-beyond (x ∷ xs) zero le = absurd (omega arith)
-beyond (x ∷ xs) (suc i) le = beyond xs i (omega arith)
 
 -- the first of a list that has one
 pub begins_with : (ps : List Person) (p : Person) → get_elem? ps 0 ≡ some p → ps ≡ p ∷ drop 1 ps

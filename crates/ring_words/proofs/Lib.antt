@@ -3,6 +3,8 @@ pub mod Puts
 pub mod Owners
 pub mod Keeps
 pub mod Outgoings
+pub mod RowWords
+pub mod Stays
 pub mod Outputs
 pub mod OutputRows
 pub mod Processed
@@ -19,12 +21,10 @@ pub mod Claims
 pub mod Writes
 pub mod Becomes
 pub mod Raws
-pub mod Buffers
 pub mod Marks
 pub mod Commands
-pub mod Joins
+pub mod Seatings
 pub mod Meetings
-pub mod Views
 pub mod Opens
 pub mod Crews
 pub mod Endings

@@ -2,6 +2,7 @@
 use Rattle.std.proofs.Common.{◌≡◌, ℕ, zero, suc, ◌+◌, ◌-◌, ◌^◌, ◌<◌, ◌≤◌, Bool, true, false, List, [], ◌∷◌, ◌++◌, inl, inr, ⊎_elim, cond, eqb, leb, length, length-append, get_or, set, refl, ap, sym, subst, ◌∙◌, arith, le_refl}
 use Rattle.std.proofs.lemmas.List.{set-get_or, append-nil, append_assoc}
 use Rattle.std.proofs.lemmas.Bool.{eq-eqb, ne_eqb, le-leb, leb-true, cond-true, cond-false}
+use Rattle.std.proofs.lemmas.Option.{same_Some}
 use mathlib.Core.Option.{none, some}
 use mathlib.Core.Logic.{dite}
 use native.Mathlib.Decide.{dec_le, ℕ_discrete}
@@ -9,6 +10,7 @@ use lib.ListN.{get_elem?}
 use Rattle.std.specs.Prelude.{Some}
 use Rattle.atomic_table.specs.Table.{State, Act, step, keeps, Valid, carried_after, stepped, Allows}
 use Rattle.venue_model.specs.History.{Message}
+use Rattle.venue_model.specs.ListLaws.{within, at_end}
 use Rattle.ring_words.specs.declared.view.Load.{Load}
 use Rattle.ring_words.specs.declared.view.Person.{Person}
 use Rattle.ring_words.specs.declared.view.View.{View}
@@ -21,7 +23,7 @@ use Rattle.ring_words.specs.Terms.{Terms, commands_of}
 use Rattle.ring_words.specs.Rule.{Depth, Knows, words_of, Lawful}
 use Rattle.ring_words.specs.Seats.{person, IsAlone, IsReader, alone, looked, saw, knowing, last_from}
 use Rattle.ring_words.specs.Steps.{Seated, lesser, sees_claim, sees_processed, sees_mark, sees_raw, sees_unmarshalled, sees_journalled, sees_command}
-use Rattle.ring_words.proofs.Logs.{within, at_end, reaches, knows_looked, knows_saw, knows_knowing, published_late}
+use Rattle.ring_words.proofs.Logs.{reaches, knows_looked, knows_saw, knows_knowing, published_late}
 use Rattle.ring_words.proofs.Keeps.{mine, after}
 
 -- a stage that reads what gateways published may know any beginning of the log
@@ -63,9 +65,6 @@ goes_on status (suc k) h front all =
     (λ (t : (s ≡ length h) × (e ≡ d)). ap (λ (i : ℕ). entry_of (status i)) t.0 ∙ next.1 ∙ ap some t.1) (at_end h e d s at) in
     let more = goes_on status k (h ++ e ∷ []) one_more (λ s lt. all s (omega arith)) in
     (e ∷ more.0, ap suc more.1, subst (IsFront status) (append_assoc h (e ∷ []) more.0) more.2)
-
-pub some_is : {A : Type 0} (a b : A) → Some a ≡ Some b → a ≡ b
-some_is a b is = cc
 
 module _ {L : Type 0} (S : Type 0) (terms : Terms L) where
   abbrev St : Type 0
@@ -173,7 +172,7 @@ module _ {L : Type 0} (S : Type 0) (terms : Terms L) where
       looks s r k id me (looked p k x) then at one refl (knows_looked terms w r.log p k x (λ _. le_refl x) knows) (
         refl,
         λ logic t i y e view_is there held word is. (
-            let logic_is : terms.logic ≡ logic = some_is terms.logic logic (sym own.0 ∙ view_is) in
+            let logic_is : terms.logic ≡ logic = same_Some terms.logic logic (sym own.0 ∙ view_is) in
             let word' : get_elem? (commands_of terms t e) i ≡ some y = subst (λ (l : L). get_elem? (command_words e.gateway (terms.reads l t e)) i ≡ some y) (sym logic_is) word in
             let low : length terms.base ≤ w processed = r.logged.start in let late : length terms.base ≤ t = omega arith in
             let inside = within p.seen t e there in let deep_u : length p.seen ≤ w unmarshalled = deep.0 in

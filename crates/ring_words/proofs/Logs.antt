@@ -1,15 +1,18 @@
 -- What follows from the rule for one person: how far its histories reach, and what it knows after a step.
-use Rattle.std.proofs.Common.{◌≡◌, ℕ, zero, suc, ◌+◌, ◌<◌, ◌≤◌, List, [], ◌∷◌, ◌++◌, ◌⊎◌, inl, inr, ⊎_elim, length, get_or, refl, ap, sym, subst, ◌∙◌, arith, le_refl}
-use mathlib.Core.Option.{some, some-injective, some-ne-none}
+use Rattle.std.proofs.Common.{◌≡◌, ℕ, zero, suc, ◌+◌, ◌<◌, ◌≤◌, List, [], ◌∷◌, ◌++◌, ◌⊎◌, inl, inr, ⊎_elim, length, take, get_or, refl, ap, sym, subst, ◌∙◌, arith, le_refl}
+use mathlib.Core.Option.{none, some, some-injective, some-ne-none}
 use native.Mathlib.Decide.{dec_le}
 use lib.ListN.{get_elem?}
 use Rattle.atomic_table.proofs.Lists.{at_snoc}
 use Rattle.venue_model.specs.History.{Message}
 use Rattle.venue_model.specs.declared.commands.Command.{Command}
 use Rattle.venue_model.specs.declared.commands.Command.TheVariants.{New, Cancel, Replace, Malformed, Void}
+use Rattle.venue_model.specs.ListLaws.{stands, at_longer, at_behind}
+use Rattle.venue_model.specs.ListLaws.{at_end, read_at}
 use Rattle.ring_words.specs.declared.view.Load.{Load}
 use Rattle.ring_words.specs.declared.view.Role.{Role}
 use Rattle.ring_words.specs.declared.view.Role.TheVariants.{Process, Unmarshal, Journal, Marshal, Gateway}
+use Rattle.ring_words.specs.declared.view.Part.{Part}
 use Rattle.ring_words.specs.declared.view.Person.{Person}
 use Rattle.ring_words.specs.Places.{claim, published, first_row, in_row, out_row, place_of}
 use Rattle.ring_words.specs.Log.{Status, unclaimed, old, claimed, sent, Log, entry_of, IsFront}
@@ -18,42 +21,19 @@ use Rattle.ring_words.specs.Terms.{Terms}
 use Rattle.ring_words.specs.Rule.{Depth, Logged, Knows, PartOf}
 use Rattle.ring_words.specs.Seats.{load_of, looked, saw, knowing, moved}
 
--- something stands at each place of a list
-pub stands : {A : Type 0} (l : List A) (i : ℕ) → i < length l → (a : A) × (get_elem? l i ≡ some a)
-stands [] i h = absurd (omega arith)
-stands (x ∷ xs) zero h = (x, refl)
-stands (x ∷ xs) (suc i) h = stands xs i (omega arith)
+-- what stands in the first elements
+pub in_take : {A : Type 0} (l : List A) (i j : ℕ) (a : A) → get_elem? (take i l) j ≡ some a → (j < i) × (get_elem? l j ≡ some a)
+in_take [] zero j a e = absurd (some-ne-none a (sym e))
+in_take [] (suc i) j a e = absurd (some-ne-none a (sym e))
+in_take (x ∷ xs) zero j a e = absurd (some-ne-none a (sym e))
+in_take (x ∷ xs) (suc i) zero a e = ((omega arith), e)
+in_take (x ∷ xs) (suc i) (suc j) a e = let t = in_take xs i j a e in ((let g = t.0 in omega arith), t.1)
 
--- a list has nothing beyond its end
-pub within : {A : Type 0} (l : List A) (i : ℕ) (a : A) → get_elem? l i ≡ some a → i < length l
-within [] i a e = absurd (some-ne-none a (sym e))
-within (x ∷ xs) zero a e = omega arith
-within (x ∷ xs) (suc i) a e = let h = within xs i a e in omega arith
-
--- what stands in a list with one more element
-pub at_end : {A : Type 0} (l : List A) (a b : A) (j : ℕ) → get_elem? (l ++ a ∷ []) j ≡ some b → (get_elem? l j ≡ some b) ⊎ ((j ≡ length l) × (a ≡ b))
-at_end [] a b zero e = inr (refl, some-injective a b e)
-at_end [] a b (suc j) e = absurd (some-ne-none b (sym e))
-at_end (x ∷ xs) a b zero e = inl e
-at_end (x ∷ xs) a b (suc j) e = ⊎_elim (λ t. inl t) (λ t. inr (ap suc t.0, t.1)) (at_end xs a b j e)
-
--- of two lists, one behind the other: what stands in the first
-pub at_longer : {A : Type 0} (l m : List A) (i : ℕ) (a : A) → get_elem? l i ≡ some a → get_elem? (l ++ m) i ≡ some a
-at_longer [] m i a at = absurd (some-ne-none a (sym at))
-at_longer (x ∷ l) m zero a at = at
-at_longer (x ∷ l) m (suc i) a at = at_longer l m i a at
-
--- what stands in the second
-pub at_behind : {A : Type 0} (l m : List A) (i j : ℕ) (a : A) → j ≡ length l + i → get_elem? m i ≡ some a → get_elem? (l ++ m) j ≡ some a
-at_behind [] m i j a is at = let same : i ≡ j = omega arith in subst (λ (k : ℕ). get_elem? m k ≡ some a) same at
-at_behind (x ∷ l) m i zero a is at = absurd (omega arith)
-at_behind (x ∷ l) m i (suc j) a is at = at_behind l m i j a (omega arith) at
-
--- what stands at a place is what is read there
-pub read_at : (l : List ℕ) (i a : ℕ) → get_elem? l i ≡ some a → a ≡ get_or l i 0
-read_at [] i a e = absurd (some-ne-none a (sym e))
-read_at (x ∷ xs) zero a e = sym (some-injective x a e)
-read_at (x ∷ xs) (suc i) a e = read_at xs i a e
+-- nothing stands behind a list's end
+pub beyond : {A : Type 0} (l : List A) (i : ℕ) → length l ≤ i → get_elem? l i ≡ none
+beyond [] i le = refl
+beyond (x ∷ xs) zero le = absurd (omega arith)
+beyond (x ∷ xs) (suc i) le = beyond xs i (omega arith)
 
 pub read_same : (l ws : List ℕ) (i a : ℕ) → l ≡ ws → get_elem? ws i ≡ some a → a ≡ get_or l i 0
 read_same l ws i a is at = read_at l i a (ap (λ (x : List ℕ). get_elem? x i) is ∙ at)
@@ -139,11 +119,10 @@ module _ {L : Type 0} (terms : Terms L) (w : ℕ → ℕ) (log : Log) where
     front = front;
   }
 
-  -- what is known stays where no control word falls, no row word changes, published is as it was, and the own word is as it says
-  pub knows_risen : (w' : ℕ → ℕ) (p : Person) (own : ℕ) → ((k : ℕ) → k < first_row → w k ≤ w' k) → ((s i : ℕ) → w' (in_row terms.rows s i) ≡ w (in_row terms.rows s i))
-      → ((q i : ℕ) → w' (out_row terms.rows terms.output_rows q i) ≡ w (out_row terms.rows terms.output_rows q i)) → (p.role ≡ Process → w' published ≡ w published)
-      → w' (place_of p.role) ≡ own → Knows terms w log p → Knows terms w' log (moved p own)
-  knows_risen w' p own risen same same_out place_stays is r = record {
+  -- what a person knows behind a step of its own: no control word fell, and its own word and its row under way are as it says
+  pub knows_on : (w' : ℕ → ℕ) (p : Person) (own : ℕ) (t : Part) → ((k : ℕ) → k < first_row → w k ≤ w' k) → w' (place_of p.role) ≡ own
+      → PartOf terms.rows terms.output_rows w' log p.role t → Knows terms w log p → Knows terms w' log (record p { own = own; part = t })
+  knows_on w' p own t risen is part r = record {
     role = r.role;
     front = r.front;
     depth = depth_risen w w' risen p.role (length p.seen) r.depth;
@@ -151,8 +130,14 @@ module _ {L : Type 0} (terms : Terms L) (w : ℕ → ℕ) (log : Log) where
     mine = r.mine;
     claims = r.claims;
     loads = λ i l at low. (let a = r.loads i l at low in let b = risen l.place low in omega arith);
-    part = part_stays p.role refl r.part;
-  } where
+    part = part;
+  }
+
+  -- what is known stays where no control word falls, no row word changes, published is as it was, and the own word is as it says
+  pub knows_risen : (w' : ℕ → ℕ) (p : Person) (own : ℕ) → ((k : ℕ) → k < first_row → w k ≤ w' k) → ((s i : ℕ) → w' (in_row terms.rows s i) ≡ w (in_row terms.rows s i))
+      → ((q i : ℕ) → w' (out_row terms.rows terms.output_rows q i) ≡ w (out_row terms.rows terms.output_rows q i)) → (p.role ≡ Process → w' published ≡ w published)
+      → w' (place_of p.role) ≡ own → Knows terms w log p → Knows terms w' log (moved p own)
+  knows_risen w' p own risen same same_out place_stays is r = knows_on w' p own p.part risen is (part_stays p.role refl r.part) r where
     part_stays : (role : Role) → p.role ≡ role → PartOf terms.rows terms.output_rows w log role p.part → PartOf terms.rows terms.output_rows w' log role p.part
     part_stays Process e h = (h.0 ∙ sym (place_stays e), λ i x at. let t = h.1 i x at in (t.0, same_out p.part.sequence i ∙ t.1))
     part_stays Unmarshal e h = λ i x at. let t = h i x at in (t.0, same p.part.sequence (i + 48) ∙ t.1)

@@ -8,6 +8,7 @@ use native.Mathlib.Decide.{ℕ_discrete}
 use lib.ListN.{get_elem?}
 use Rattle.atomic_table.specs.Table.{State, step, keeps, Allows}
 use Rattle.venue_model.specs.History.{Message}
+use Rattle.venue_model.specs.ListLaws.{stands, within, read_at}
 use Rattle.ring_words.specs.declared.view.Role.{Role}
 use Rattle.ring_words.specs.declared.view.Role.TheVariants.{Gateway}
 use Rattle.ring_words.specs.declared.view.Sent.{Sent}
@@ -20,13 +21,15 @@ use Rattle.ring_words.specs.Terms.{Terms, commands_of, command_of}
 use Rattle.ring_words.specs.Rule.{IsGateway, IsRole, PartOf, words_of, Lawful}
 use Rattle.ring_words.specs.Seats.{person, IsAlone, alone, sent_of, marked}
 use Rattle.ring_words.specs.Steps.{Seated, marks_sent}
-use Rattle.ring_words.proofs.Windows.{same_row, row_inside, no_control}
+use Rattle.ring_words.proofs.Windows.{row_inside, no_control}
 use Rattle.ring_words.proofs.Puts.{put, put_here, put_else, by_put, word_here, word_else}
-use Rattle.ring_words.proofs.Logs.{short_words, stands, within, read_at, depth_risen}
+use Rattle.ring_words.proofs.Logs.{short_words, depth_risen}
 use Rattle.ring_words.proofs.Keeps.{mine, after}
-use Rattle.ring_words.proofs.Outgoings.{outgoing_stays, no_output, row_before}
+use Rattle.ring_words.proofs.Outgoings.{all_outputs, outgoing_stays}
+use Rattle.ring_words.proofs.RowWords.{row_else, output_apart}
+use Rattle.ring_words.proofs.Stays.{place_low, few_words, ordered_stays, others_know}
 use Rattle.ring_words.proofs.Claims.{other_number, claimed_not_old, claimed_not_sent, sent_not_unclaimed, claimed_by, not_claimed}
-use Rattle.ring_words.proofs.Writes.{claim_is, one_row, place_low, few_words, others_know}
+use Rattle.ring_words.proofs.Writes.{claim_is, one_row}
 use Rattle.ring_words.proofs.Raws.{spelled_once}
 
 sent_not_old : (e d : Message) → sent e ≢ old d
@@ -71,13 +74,13 @@ module _ {L : Type 0} (S : Type 0) (terms : Terms L) where
       let inside : here < length ws = subst (λ (y : ℕ). here < y) (sym r.wide) (row_inside terms.rows terms.output_rows a 0 r.some_row (let g : 0 < 64 = omega arith in g)) in
       let control : (c : ℕ) → c < first_row → w' c ≡ w c = λ c low. word_else ws here c (suc a) (λ z. no_control terms.rows a 0 c low (sym z)) in
       let stays : (t j : ℕ) → j < 64 → (t % terms.rows ≡ a % terms.rows → j ≢ 0) → w' (in_row terms.rows t j) ≡ w (in_row terms.rows t j) =
-      λ t j low differs. word_else ws here (in_row terms.rows t j) (suc a) (λ z. let both = same_row terms.rows t a j 0 low (let g : 0 < 64 = omega arith in g) z in differs both.0 both.1) in
+      λ t j low. row_else ws terms.rows t a j 0 (suc a) low (omega arith) in
       let outside : (q j : ℕ) → w' (out_row terms.rows terms.output_rows q j) ≡ w (out_row terms.rows terms.output_rows q j) =
-      λ q j. word_else ws here (out_row terms.rows terms.output_rows q j) (suc a) (no_output terms.rows terms.output_rows q j here (row_before terms.rows a 0 r.some_row (let g : 0 < 64 = omega arith in g))) in
+      λ q j. output_apart ws terms.rows terms.output_rows a 0 q j (suc a) r.some_row (omega arith) in
       let beyond : (t j : ℕ) → j < 41 → w' (in_row terms.rows t (j + 1)) ≡ w (in_row terms.rows t (j + 1)) = λ t j low. stays t (j + 1) (omega arith) (λ _. (λ (z : j + 1 ≡ 0). omega arith)) in
       let claim_is' : w' claim ≡ w claim = control claim (omega arith) in let zero_is : w' processed ≡ w processed = control processed (omega arith) in
       let unmarshalled_is : w' unmarshalled ≡ w unmarshalled = control unmarshalled (omega arith) in let journalled_is : w' journalled ≡ w journalled = control journalled (omega arith) in
-      let order = r.order in let first = order.processed_unmarshalled in let second = order.processed_journalled in let third = order.unmarshalled_claimed in let fourth = order.journalled_claimed in let room = order.room in let most = order.most in let start = r.logged.start in
+      let order = r.order in let start = r.logged.start in
       let entries : (t : ℕ) (d : Message) → entry_of (status t) ≡ some d → entry_of (status' t) ≡ some d = λ t d. by_put status a t (sent e) (λ (x : Status). entry_of (status t) ≡ some d → entry_of x ≡ some d)
       (λ here_is there. absurd (some-ne-none d (sym (subst (λ (x : Status). entry_of x ≡ some d) (ap status here_is ∙ is) there)))) (λ _ there. there) in
       let not_done : (t : ℕ) → t ≡ a → t < w unmarshalled → ⊥ = λ t here_is below. let there = r.logged.done t below in
@@ -89,7 +92,7 @@ module _ {L : Type 0} (S : Type 0) (terms : Terms L) where
       let h = subst (λ (z : Role). PartOf terms.rows terms.output_rows w r.log z p.part) role knows.part j there.0 there.1 in
       ap (λ (t : ℕ). w (in_row terms.rows t (j + 1))) (sym on_row) ∙ h.2 ∙ read_at p.part.words j there.0 there.1 ∙ spelled.each j few) in
       after S terms s r ws' id me.0 p (marked p a e) at one refl (length-set ws here (suc a)) log'
-      record { processed_unmarshalled = omega arith; processed_journalled = omega arith; unmarshalled_claimed = omega arith; journalled_claimed = omega arith; room = omega arith; most = omega arith }
+      (ordered_stays terms w w' r.log (λ c low. control c (omega arith)) order)
       record {
         start = omega arith;
         based = λ t d there. put_else status a t (sent e) (λ here_is. claimed_not_old k d (sym is ∙ ap status (sym here_is) ∙ r.logged.based t d there)) ∙ r.logged.based t d there;
@@ -123,7 +126,7 @@ module _ {L : Type 0} (S : Type 0) (terms : Terms L) where
             (λ _ z below le i y there. (let size = short_words d.gateway (command_of terms t d) in let few = within (commands_of terms t d) i y there in
             stays t (i + 48) (omega arith) (λ _. (λ (q : i + 48 ≡ 0). omega arith)) ∙ r.rows.commands t d z (subst (λ (q : ℕ). t < q) unmarshalled_is below) (subst (λ (q : ℕ). q ≤ t + terms.rows) claim_is' le) i y there));
       }
-      (outgoing_stays terms w w' r.log log' r.few refl (λ t d there. entries t d (r.outgoing.front t d there)) zero_is journalled_is (λ c _ low. control c low) outside r.outgoing)
+      (outgoing_stays terms w w' r.log log' r.few refl (λ t d there. entries t d (r.outgoing.front t d there)) zero_is journalled_is (λ c _ low. control c low) (all_outputs terms w w' outside) r.outgoing)
       record {
         role = knows.role;
         front = λ t d there. entries t d (knows.front t d there);
@@ -146,9 +149,12 @@ module _ {L : Type 0} (S : Type 0) (terms : Terms L) where
       (λ t. by_put status a t (sent e) (λ (x : Status). claims_of (number_of o.role) (status t) ≡ claims_of (number_of o.role) x)
       (λ here_is. ap (claims_of (number_of o.role)) (ap status here_is ∙ is) ∙ cond-false (eqb k (number_of o.role)) 1 0 (ne_eqb k (number_of o.role) (λ z. differs (sym z)))) (λ _. refl))
       control
-      (λ t j q o_is low t_is. (put_else status a t (sent e) (λ here_is. apart_from (ap place_of o_is ∙ ap taken (claimed_by q k (sym t_is ∙ ap status here_is ∙ is)) ∙ sym (ap place_of role))) ∙ t_is, beyond t j low))
-      (λ t j _ low. stays t (j + 48) (omega arith) (λ _. (λ (z : j + 48 ≡ 0). omega arith)))
-      (λ q j _ _. outside q j) (λ q j _ _. outside q (j + 64)) kn)
+      record {
+        raw = λ t j q o_is low t_is. (put_else status a t (sent e) (λ here_is. apart_from (ap place_of o_is ∙ ap taken (claimed_by q k (sym t_is ∙ ap status here_is ∙ is)) ∙ sym (ap place_of role))) ∙ t_is, beyond t j low);
+        commands = λ t j _ low. stays t (j + 48) (omega arith) (λ _. (λ (z : j + 48 ≡ 0). omega arith));
+        outputs = λ q j _ _. outside q j;
+        texts = λ q j _ _. outside q (j + 64);
+      } kn)
 
   -- a gateway publishes what it stored in a row that it claimed
   pub marks_row : (slots id k a : ℕ) (e : Message) (me : Seated S L) → IsAlone me.0 → (person me.0).role ≡ Gateway k → 0 < times a (person me.0).claims → (person me.0).part.sequence ≡ a → Spells (person me.0).part.words e → IsEntry e → e.gateway ≡ k

@@ -1,5 +1,6 @@
 -- The marshaller's steps at control words and at published outputs keep the rule, and what its loads tell.
 use Rattle.std.proofs.Common.{Some, ◌≡◌, ◌≢◌, ℕ, suc, ◌+◌, ◌*◌, ◌<◌, ◌≤◌, List, ◌++◌, length, take, get_or, set, refl, ap, sym, subst, ◌∙◌, arith, le_refl}
+use Rattle.std.proofs.lemmas.Option.{same_Some}
 use mathlib.Core.Option.{none, some, some-injective}
 use mathlib.Core.Logic.{dite}
 use native.Mathlib.Decide.{ℕ_discrete}
@@ -21,8 +22,8 @@ use Rattle.ring_words.proofs.Puts.{word_here, word_else}
 use Rattle.ring_words.proofs.Logs.{knows_looked, knows_knowing}
 use Rattle.ring_words.proofs.Keeps.{mine}
 use Rattle.ring_words.proofs.Outgoings.{rest_of, output_kept, published_kept, still_above, no_output}
-use Rattle.ring_words.proofs.Loads.{looks, some_is}
-use Rattle.ring_words.proofs.Stores.{own_now}
+use Rattle.ring_words.proofs.Loads.{looks}
+use Rattle.ring_words.proofs.Stores.{own_output_now}
 
 module _ {L : Type 0} (S : Type 0) (terms : Terms L) where
   -- a load of the word at k, after which this holds
@@ -46,7 +47,7 @@ module _ {L : Type 0} (S : Type 0) (terms : Terms L) where
         (
           rest,
           refl,
-          λ logic view_is. (let logic_is : terms.logic ≡ logic = some_is terms.logic logic (sym own.0 ∙ view_is) in
+          λ logic view_is. (let logic_is : terms.logic ≡ logic = same_Some terms.logic logic (sym own.0 ∙ view_is) in
               subst (λ (l : L). x ≤ length (terms.outputs l (p.seen ++ rest))) logic_is (subst (λ (h : List Message). x ≤ length (outputs_of terms h)) more.1 all)),
         ),
       )
@@ -63,7 +64,7 @@ module _ {L : Type 0} (S : Type 0) (terms : Terms L) where
       looks S terms s r k id me (looked p k x) (sees_output (readable terms.rows terms.output_rows gate) terms.outputs (step slots k 0 0 none) me) at one refl (knows_looked terms w r.log p k x (λ _. le_refl x) knows) (
         refl,
         λ logic q i y o view_is there from to word is. (
-            let logic_is : logic ≡ terms.logic = some_is logic terms.logic (sym view_is ∙ own.0) in
+            let logic_is : logic ≡ terms.logic = same_Some logic terms.logic (sym view_is ∙ own.0) in
             let there' : get_elem? (outputs_of terms p.seen) q ≡ some o = subst (λ (l : L). get_elem? (terms.outputs l p.seen) q ≡ some o) logic_is there in
             let kept = output_kept terms w r.log p.seen q o out knows.front deep there' in
             let above = still_above terms w r.log p gate q knows low to in
@@ -96,15 +97,13 @@ module _ {L : Type 0} (S : Type 0) (terms : Terms L) where
       let shown : p.own < w published = still_above terms w r.log p published p.own knows (omega arith) wrote.shown in
       let inside : 32 < length ws = (let v = r.wide in omega arith) in
       let here : w' 32 ≡ x = word_here ws 32 x inside in let else : (j : ℕ) → j ≢ 32 → w' j ≡ w j = λ j ne. word_else ws 32 j x ne in
-      let zero_is : w' 0 ≡ w 0 = else 0 (λ (z : 0 ≡ 32). omega arith) in let claim_is : w' 8 ≡ w 8 = else 8 (λ (z : 8 ≡ 32). omega arith) in
-      let unmarshalled_is : w' 16 ≡ w 16 = else 16 (λ (z : 16 ≡ 32). omega arith) in let journalled_is : w' 24 ≡ w 24 = else 24 (λ (z : 24 ≡ 32). omega arith) in
+      let zero_is : w' 0 ≡ w 0 = else 0 (λ (z : 0 ≡ 32). omega arith) in let journalled_is : w' 24 ≡ w 24 = else 24 (λ (z : 24 ≡ 32). omega arith) in
       let published_is : w' 104 ≡ w 104 = else 104 (λ (z : 104 ≡ 32). omega arith) in
       let taken_is : (k : ℕ) → IsGateway terms.gateways k → w' (taken k) ≡ w (taken k) = λ k g. else (taken k) (λ (z : 32 + 8 * k ≡ 32). let lo : 1 ≤ k = g.0 in omega arith) in
       let row_is : (q i : ℕ) → w' (out_row terms.rows terms.output_rows q i) ≡ w (out_row terms.rows terms.output_rows q i) =
       λ q i. else (out_row terms.rows terms.output_rows q i) (no_output terms.rows terms.output_rows q i 32 (let n : ℕ = terms.rows in omega arith)) in
-      let order = r.order in let first = order.processed_unmarshalled in let second = order.processed_journalled in let third = order.unmarshalled_claimed in let fourth = order.journalled_claimed in let room = order.room in let most = order.most in
       let part = subst (λ (z : Role). PartOf terms.rows terms.output_rows w r.log z p.part) role knows.part in
-      let logic_is : lg ≡ terms.logic = some_is lg terms.logic (sym by ∙ own.0) in
+      let logic_is : lg ≡ terms.logic = same_Some lg terms.logic (sym by ∙ own.0) in
       let mine_at : get_elem? (outputs_of terms p.seen) p.own ≡ some o = subst (λ (l : L). get_elem? (terms.outputs l p.seen) p.own ≡ some o) logic_is wrote.output in
       let kept_at = output_kept terms w r.log p.seen p.own o out knows.front deep mine_at in
       let whole : p.part.words ≡ text_words (text_of terms o p.own) = subst (λ (l : L). p.part.words ≡ text_words (terms.text l o p.own)) logic_is wrote.words in
@@ -115,19 +114,7 @@ module _ {L : Type 0} (S : Type 0) (terms : Terms L) where
         alone me.0 (moved p x),
         keeps,
         tt,
-        own_now S terms s r r.log.history id me 32 x at one (ap place_of role) (omega arith) (λ (z : 32 ≡ 8). omega arith) (λ (z : 32 ≡ 104). omega arith) (omega arith)
-            record {
-              processed_unmarshalled = omega arith;
-              processed_journalled = omega arith;
-              unmarshalled_claimed = omega arith;
-              journalled_claimed = omega arith;
-              room = omega arith;
-              most = omega arith;
-            }
-            (λ t lt. r.logged.done t (subst (λ (y : ℕ). t < y) unmarshalled_is lt))
-            (λ t lt. r.logged.kept t (subst (λ (y : ℕ). t < y) journalled_is lt))
-            (λ t e is below. r.rows.commands t e is (subst (λ (y : ℕ). t < y) unmarshalled_is below))
-            (λ t e is below. r.rows.packable t e is (subst (λ (y : ℕ). t < y) unmarshalled_is below))
+        own_output_now S terms s r id me 32 x at one (ap place_of role) (omega arith) (omega arith) (omega arith)
             record {
               kept = out.kept ∙ sym journalled_is;
               front = out.front;

@@ -1,14 +1,14 @@
--- Seats that come together and part keep the rule, and what their persons learn then.
-use Rattle.std.proofs.Common.{◌≡◌, ◌≢◌, ℕ, zero, suc, ◌+◌, ◌≤◌, Bool, true, false, List, [], ◌∷◌, ◌++◌, ◌⊎◌, inl, inr, ⊎_elim, cond, eqb, leb, length, get_or, set, take, drop, refl, ap, sym, subst, ◌∙◌, arith, le_refl}
+-- Two seats that came together load a word: the rule stays, and what their persons learn then.
+use Rattle.std.proofs.Common.{◌≡◌, ◌≢◌, ℕ, zero, suc, ◌+◌, ◌≤◌, Bool, true, false, List, [], ◌∷◌, ◌++◌, ◌⊎◌, inl, inr, ⊎_elim, cond, eqb, leb, length, get_or, set, take, refl, ap, sym, subst, ◌∙◌, arith, le_refl}
 use Rattle.std.proofs.lemmas.Bool.{cond-true, cond-false, eq-eqb, ne_eqb, le-leb, leb-true}
 use mathlib.Core.Option.{none, some, some-injective, some-ne-none}
 use lib.ListN.{get_elem?}
-use Rattle.atomic_table.specs.Table.{State, step, keeps, Allows, Splits}
+use Rattle.atomic_table.specs.Table.{State, step, keeps, Allows}
 use Rattle.std.proofs.lemmas.List.{set-get_or, take-append-le, length-take-le}
 use Rattle.std.proofs.Math.Seq.{take-length}
 use mathlib.Core.Logic.{dite}
 use native.Mathlib.Decide.{ℕ_discrete, dec_le}
-use Rattle.atomic_table.proofs.Lists.{at_set, at_snoc}
+use Rattle.atomic_table.proofs.Lists.{at_set}
 use Rattle.venue_model.specs.History.{Message}
 use Rattle.ring_words.specs.declared.view.Role.{Role}
 use Rattle.ring_words.specs.declared.view.Role.TheVariants.{Journal, Gateway}
@@ -17,15 +17,16 @@ use Rattle.ring_words.specs.declared.view.View.{View}
 use Rattle.ring_words.specs.Places.{processed, journalled, taken, place_of, number_of}
 use Rattle.ring_words.specs.Log.{Log, Status, unclaimed, old, claimed, sent, sends_of, sent_at, IsFront}
 use Rattle.ring_words.specs.Terms.{Terms}
-use Rattle.ring_words.specs.Rule.{Depth, Knows, owners, all_owners, words_of, Lawful}
+use Rattle.ring_words.specs.Rule.{Depth, Knows, owners, words_of, Lawful}
 use Rattle.ring_words.specs.Seats.{person, together}
 use Rattle.ring_words.specs.Steps.{Seated}
-use Rattle.ring_words.specs.Meeting.{longer, met, AreMet, MeetsJournal, sees_meeting, sees_journal, nobody_else, first_alone, second_alone}
-use Rattle.ring_words.proofs.Owners.{one_of, same_owners, owners_snoc, changed_owners}
+use Rattle.ring_words.specs.Meeting.{longer, met, AreMet, MeetsJournal, sees_meeting, sees_journal}
+use Rattle.ring_words.proofs.Owners.{one_of, owners_both, same_owners}
 use Rattle.ring_words.proofs.Logs.{knows_looked}
 use Rattle.ring_words.proofs.Outputs.{begins, front_taken}
 use Rattle.ring_words.proofs.Keeps.{one_owner_each}
 use Rattle.ring_words.proofs.Taking.{legal_front}
+use Rattle.ring_words.proofs.Seatings.{reseated}
 use Rattle.ring_words.proofs.Loads.{Goes}
 
 -- the first two of a list of two
@@ -34,72 +35,7 @@ in_two p q o ps zero is at = inl (some-injective p o (subst (λ (l : List Person
 in_two p q o ps (suc zero) is at = inr (some-injective q o (subst (λ (l : List Person). get_elem? l 1 ≡ some o) is at))
 in_two p q o ps (suc (suc j)) is at = absurd (some-ne-none o (sym (subst (λ (l : List Person). get_elem? l (suc (suc j)) ≡ some o) is at)))
 
--- two persons own what each owns
-owners_two : (k : ℕ) (p q : Person) → owners k (p ∷ q ∷ []) ≡ owners k (p ∷ []) + owners k (q ∷ [])
-owners_two k p q = by_case (eqb (place_of p.role) k) where
-  by_case : (b : Bool) → cond b (suc (owners k (q ∷ []))) (owners k (q ∷ [])) ≡ cond b 1 0 + owners k (q ∷ [])
-  by_case true = omega arith
-  by_case false = omega arith
-
 module _ {L : Type 0} (S : Type 0) (terms : Terms L) where
-  -- a seat of nobody may be split off any seat
-  pub spares : (id : ℕ) (v : View L) → Splits (Lawful S terms) id v v (nobody_else v)
-  spares id v s r at = record {
-    log = r.log;
-    some_row = r.some_row;
-    some_output_row = r.some_output_row;
-    some_gateway = r.some_gateway;
-    few = r.few;
-    wide = r.wide;
-    order = r.order;
-    logged = r.logged;
-    rows = r.rows;
-    outgoing = r.outgoing;
-    people = λ i j u o there in_it. ⊎_elim
-        (λ within_set. ⊎_elim
-        (λ (t : (i ≡ id) × (v ≡ u)). r.people id j u o (subst (λ (x : View L). get_elem? s.views id ≡ some x) t.1 at) in_it)
-        (λ (t : (i ≢ id) × (get_elem? s.views i ≡ some u)). r.people i j u o t.1 in_it)
-        (at_set s.views id i v u within_set))
-        (λ (new : nobody_else v ≡ u). absurd (some-ne-none o (sym (subst (λ (x : View L). get_elem? x.people j ≡ some o) (sym new) in_it))))
-        (at_snoc (set s.views id v) (nobody_else v) u i there);
-    once = λ k. (let same = same_owners k s.views id v v at refl in let more = owners_snoc k (set s.views id v) (nobody_else v) in let was = r.once k in
-        let x : ℕ = all_owners k (set s.views id v) in let y : ℕ = all_owners k s.views in omega arith);
-  }
-
-  -- of two persons each gets a seat of its own
-  pub parts : (id : ℕ) (v : View L) (p q : Person) → v.people ≡ p ∷ q ∷ [] → Splits (Lawful S terms) id v (first_alone v) (second_alone v)
-  parts id v p q two s r at = record {
-    log = r.log;
-    some_row = r.some_row;
-    some_output_row = r.some_output_row;
-    some_gateway = r.some_gateway;
-    few = r.few;
-    wide = r.wide;
-    order = r.order;
-    logged = r.logged;
-    rows = r.rows;
-    outgoing = r.outgoing;
-    people = λ i j u o there in_it. ⊎_elim
-        (λ within_set. ⊎_elim
-        (λ (t : (i ≡ id) × (first_alone v ≡ u)). let own = r.people id 0 v p at (ap (λ (l : List Person). get_elem? l 0) two) in
-        let is : p ≡ o = only_one p o (take 1 v.people) j (ap (take 1) two) (subst (λ (x : View L). get_elem? x.people j ≡ some o) (sym t.1) in_it) in
-        (ap (λ (x : View L). x.logic) (sym t.1) ∙ own.0, ap (λ (x : View L). x.base) (sym t.1) ∙ own.1, subst (Knows terms (words_of s) r.log) is own.2))
-        (λ (t : (i ≢ id) × (get_elem? s.views i ≡ some u)). r.people i j u o t.1 in_it)
-        (at_set s.views id i (first_alone v) u within_set))
-        (λ (new : second_alone v ≡ u). let own = r.people id 1 v q at (ap (λ (l : List Person). get_elem? l 1) two) in
-        let is : q ≡ o = only_one q o (drop 1 v.people) j (ap (drop 1) two) (subst (λ (x : View L). get_elem? x.people j ≡ some o) (sym new) in_it) in
-        (ap (λ (x : View L). x.logic) (sym new) ∙ own.0, ap (λ (x : View L). x.base) (sym new) ∙ own.1, subst (Knows terms (words_of s) r.log) is own.2))
-        (at_snoc (set s.views id (first_alone v)) (second_alone v) u i there);
-    once = λ k. (let sum = changed_owners k s.views id v (first_alone v) at in let more = owners_snoc k (set s.views id (first_alone v)) (second_alone v) in let was = r.once k in
-        let all : owners k v.people ≡ owners k (p ∷ []) + owners k (q ∷ []) = ap (owners k) two ∙ owners_two k p q in
-        let one : owners k (first_alone v).people ≡ owners k (p ∷ []) = ap (λ (l : List Person). owners k (take 1 l)) two in
-        let other : owners k (second_alone v).people ≡ owners k (q ∷ []) = ap (λ (l : List Person). owners k (drop 1 l)) two in
-        let x : ℕ = all_owners k (set s.views id (first_alone v)) in let y : ℕ = all_owners k s.views in omega arith);
-  } where
-    only_one : (p o : Person) (ps : List Person) (j : ℕ) → ps ≡ p ∷ [] → get_elem? ps j ≡ some o → p ≡ o
-    only_one p o ps zero is at = some-injective p o (subst (λ (l : List Person). get_elem? l zero ≡ some o) is at)
-    only_one p o ps (suc j) is at = absurd (some-ne-none o (sym (subst (λ (l : List Person). get_elem? l (suc j) ≡ some o) is at)))
-
   -- a load after which the seat's two persons are p' and q'
   pub looks_two : (s : State S (View L)) (r : Lawful S terms s) (k id : ℕ) (me : Seated S L) (p q p' q' : Person) (then : ℕ → Seated S L → Type 0) → get_elem? s.views id ≡ some me.0
       → me.0.people ≡ p ∷ q ∷ [] → p'.role ≡ p.role → q'.role ≡ q.role → Knows terms (words_of s) r.log p' → Knows terms (words_of s) r.log q'
@@ -108,30 +44,19 @@ module _ {L : Type 0} (S : Type 0) (terms : Terms L) where
     w,
     keeps,
     tt,
-    subst (λ (ws : List ℕ). Lawful S terms record { words = ws; homes = s.homes; views = set s.views id w }) (sym (set-get_or s.words k 0)) record {
-      log = r.log;
-      some_row = r.some_row;
-      some_output_row = r.some_output_row;
-      some_gateway = r.some_gateway;
-      few = r.few;
-      wide = r.wide;
-      order = r.order;
-      logged = r.logged;
-      rows = r.rows;
-      outgoing = r.outgoing;
-      people = λ i j u o there in_it. ⊎_elim
-          (λ (t : (i ≡ id) × (w ≡ u)). let own = r.people id 0 me.0 p at (ap (λ (l : List Person). get_elem? l 0) two) in (
-            ap (λ (x : View L). x.logic) (sym t.1) ∙ own.0,
-            ap (λ (x : View L). x.base) (sym t.1) ∙ own.1,
-            ⊎_elim (λ is. subst (Knows terms (words_of s) r.log) is knows_p) (λ is. subst (Knows terms (words_of s) r.log) is knows_q)
-                (in_two p' q' o u.people j (ap (λ (x : View L). x.people) (sym t.1)) in_it),
-          ))
-          (λ (t : (i ≢ id) × (get_elem? s.views i ≡ some u)). r.people i j u o t.1 in_it)
-          (at_set s.views id i w u there);
-      once = λ k. same_owners k s.views id me.0 w at
-          (owners_two k p' q' ∙ ap (λ (z : Role). owners k (record p { role = z } ∷ []) + owners k (q' ∷ [])) role_p ∙ ap (λ (z : Role). owners k (p ∷ []) + owners k (record q { role = z } ∷ [])) role_q
-          ∙ sym (owners_two k p q) ∙ ap (owners k) (sym two)) ∙ r.once k;
-    },
+    subst (λ (ws : List ℕ). Lawful S terms record { words = ws; homes = s.homes; views = set s.views id w }) (sym (set-get_or s.words k 0)) (reseated S terms s r (set s.views id w)
+        (λ i j u o there in_it. ⊎_elim
+        (λ (t : (i ≡ id) × (w ≡ u)). let own = r.people id 0 me.0 p at (ap (λ (l : List Person). get_elem? l 0) two) in (
+          ap (λ (x : View L). x.logic) (sym t.1) ∙ own.0,
+          ap (λ (x : View L). x.base) (sym t.1) ∙ own.1,
+          ⊎_elim (λ is. subst (Knows terms (words_of s) r.log) is knows_p) (λ is. subst (Knows terms (words_of s) r.log) is knows_q)
+              (in_two p' q' o u.people j (ap (λ (x : View L). x.people) (sym t.1)) in_it),
+        ))
+        (λ (t : (i ≢ id) × (get_elem? s.views i ≡ some u)). r.people i j u o t.1 in_it)
+        (at_set s.views id i w u there))
+        (λ k. same_owners k s.views id me.0 w at
+        (owners_both k (p' ∷ []) (q' ∷ []) ∙ ap (λ (z : Role). owners k (record p { role = z } ∷ []) + owners k (q' ∷ [])) role_p ∙ ap (λ (z : Role). owners k (p ∷ []) + owners k (record q { role = z } ∷ [])) role_q
+        ∙ sym (owners_both k (p ∷ []) (q ∷ [])) ∙ ap (owners k) (sym two)))),
     told,
   )
 
@@ -139,7 +64,7 @@ module _ {L : Type 0} (S : Type 0) (terms : Terms L) where
   pub two_numbers : (s : State S (View L)) (r : Lawful S terms s) (id : ℕ) (v : View L) (p q : Person) (j k : ℕ) → get_elem? s.views id ≡ some v → v.people ≡ p ∷ q ∷ [] → p.role ≡ Gateway j → q.role ≡ Gateway k → j ≢ k
   two_numbers s r id v p q j k at two role_p role_q same =
       let few = one_owner_each S terms s r (taken j) in let there = one_of (taken j) s.views id v at in
-      let all : owners (taken j) v.people ≡ owners (taken j) (p ∷ []) + owners (taken j) (q ∷ []) = ap (owners (taken j)) two ∙ owners_two (taken j) p q in
+      let all : owners (taken j) v.people ≡ owners (taken j) (p ∷ []) + owners (taken j) (q ∷ []) = ap (owners (taken j)) two ∙ owners_both (taken j) (p ∷ []) (q ∷ []) in
       let one : owners (taken j) (p ∷ []) ≡ 1 = cond-true (eqb (place_of p.role) (taken j)) 1 0 (eq-eqb (place_of p.role) (taken j) (ap place_of role_p)) in
       let other : owners (taken j) (q ∷ []) ≡ 1 = cond-true (eqb (place_of q.role) (taken j)) 1 0 (eq-eqb (place_of q.role) (taken j) (ap place_of role_q ∙ ap taken (sym same))) in
       let x : ℕ = owners (taken j) v.people in omega arith

@@ -1,12 +1,12 @@
--- The rule holds of the table at the start, and a seat of several persons may be split.
-use Rattle.std.proofs.Common.{◌≡◌, ◌≢◌, ℕ, zero, suc, ◌+◌, ◌-◌, ◌*◌, ◌^◌, ◌<◌, ◌≤◌, Bool, true, false, List, [], ◌∷◌, ◌++◌, ⊎_elim, cond, eqb, ltb, length, get_or, set, take, drop, refl, ap, sym, subst, ◌∙◌, arith, le_refl}
+-- The rule holds of the table at the start.
+use Rattle.std.proofs.Common.{◌≡◌, ℕ, zero, suc, ◌+◌, ◌*◌, ◌^◌, ◌<◌, ◌≤◌, Bool, true, false, List, [], ◌∷◌, cond, ltb, length, get_or, take, refl, ap, sym, subst, ◌∙◌, arith, le_refl}
 use Rattle.std.proofs.lemmas.Bool.{lt-ltb, ltb-true, cond-true, cond-false}
 use Rattle.std.proofs.lemmas.List.{take_all}
 use mathlib.Core.Option.{Option, none, some, some-injective, some-ne-none}
 use lib.ListN.{get_elem?}
-use Rattle.atomic_table.specs.Table.{opening, Splits}
-use Rattle.atomic_table.proofs.Lists.{at_set, at_snoc}
+use Rattle.atomic_table.specs.Table.{opening}
 use Rattle.venue_model.specs.History.{Message}
+use Rattle.venue_model.specs.ListLaws.{stands, within}
 use Rattle.ring_words.specs.declared.view.Role.{Role}
 use Rattle.ring_words.specs.declared.view.Role.TheVariants.{Process, Unmarshal, Journal, Marshal, Gateway}
 use Rattle.ring_words.specs.declared.view.Person.{Person}
@@ -14,12 +14,9 @@ use Rattle.ring_words.specs.declared.view.View.{View}
 use Rattle.ring_words.specs.Places.{processed, unmarshalled, journalled, marshalled, published, in_row, table_words, taken, place_of, number_of}
 use Rattle.ring_words.specs.Log.{Status, unclaimed, old, claimed, sent, Log, entry_of, sends_of, claims_of}
 use Rattle.ring_words.specs.Terms.{Terms, outputs_of}
-use Rattle.ring_words.specs.Rule.{IsGateway, IsRole, Depth, PartOf, Knows, at_place, newcomer, processor, gateways, crew, opening_word, owners, all_owners, words_of, Lawful, view_of, first_view}
-use Rattle.ring_words.specs.Seats.{first_of, person, others, apart}
+use Rattle.ring_words.specs.Rule.{IsGateway, IsRole, Depth, PartOf, Knows, at_place, newcomer, processor, gateways, crew, opening_word, owners, Lawful, first_view}
 use Rattle.ring_words.proofs.Windows.{row_inside}
-use Rattle.ring_words.proofs.Logs.{stands, within}
-use Rattle.ring_words.proofs.Owners.{changed_owners, owners_snoc}
-use Rattle.ring_words.proofs.Keeps.{only}
+use Rattle.ring_words.proofs.Logs.{beyond}
 
 abbrev as_status : Option Message → Status
 as_status none = unclaimed
@@ -48,12 +45,6 @@ no_claims : (k : ℕ) (o : Option Message) → 0 ≡ claims_of k (as_status o)
 no_claims k none = refl
 no_claims k (some e) = refl
 
--- a list has nothing beyond its end
-beyond : (h : List Message) (i : ℕ) → length h ≤ i → get_elem? h i ≡ none
-beyond [] i le = refl
-beyond (x ∷ xs) zero le = absurd (omega arith)
-beyond (x ∷ xs) (suc i) le = beyond xs i (omega arith)
-
 row_empty : (start given i : ℕ) → 128 ≤ i → opening_word start given i ≡ 0
 row_empty start given i le = cond-false (ltb i 32) start (cond (ltb i 112) given 0) (high i 32 (omega arith)) ∙ cond-false (ltb i 112) given 0 (high i 112 (omega arith)) where
   from : (b : Bool) (a c : ℕ) → c ≤ a → ltb a c ≡ b → b ≡ false
@@ -77,12 +68,6 @@ each_of : (k g : ℕ) (base : List Message) (given j : ℕ) (p : Person) → get
 each_of k zero base given j p at = absurd (some-ne-none p (sym at))
 each_of k (suc g) base given zero p at = (k, le_refl k, omega arith, some-injective (newcomer (Gateway k) base given) p at)
 each_of k (suc g) base given (suc j) p at = let t = each_of (suc k) g base given j p at in (t.0, (let a : suc k ≤ t.0 = t.1 in omega arith), (let a : t.0 < suc k + g = t.2 in omega arith), t.3)
-
-one_more : (k : ℕ) (p : Person) (ps : List Person) → owners k (p ∷ ps) ≡ owners k (p ∷ []) + owners k ps
-one_more k p ps = by_case (eqb (place_of p.role) k) where
-  by_case : (b : Bool) → cond b (suc (owners k ps)) (owners k ps) ≡ cond b 1 0 + owners k ps
-  by_case true = omega arith
-  by_case false = omega arith
 
 module _ {L : Type 0} where
   only_view : (v : View L) (i : ℕ) (u : View L) → get_elem? (v ∷ []) i ≡ some u → v ≡ u
@@ -196,33 +181,3 @@ module _ {L : Type 0} (S : Type 0) (terms : Terms L) where
             ));
         once = λ k. (let x : ℕ = owners k (crew terms.gateways terms.base terms.given) in let g : x + 0 ≡ x = omega arith in g);
       }
-
-  -- a seat of several persons gives the first one a seat of its own
-  pub splits : (id : ℕ) (v : View L) (p : Person) (ps : List Person) → v.people ≡ p ∷ ps → Splits (Lawful S terms) id v (others v) (apart v)
-  splits id v p ps one s r at = record {
-    log = r.log;
-    some_row = r.some_row;
-    some_output_row = r.some_output_row;
-    some_gateway = r.some_gateway;
-    few = r.few;
-    wide = r.wide;
-    order = r.order;
-    logged = r.logged;
-    rows = r.rows;
-    outgoing = r.outgoing;
-    people = λ i j u q there in_it. ⊎_elim
-        (λ within_set. ⊎_elim
-        (λ (t : (i ≡ id) × (others v ≡ u)). let at_v : get_elem? v.people (suc j) ≡ some q = subst (λ (l : List Person). get_elem? l (suc j) ≡ some q) (sym one)
-        (subst (λ (l : List Person). get_elem? (drop 1 l) j ≡ some q) one (subst (λ (x : View L). get_elem? x.people j ≡ some q) (sym t.1) in_it)) in
-        let own = r.people id (suc j) v q at at_v in (ap (λ (x : View L). x.logic) (sym t.1) ∙ own.0, ap (λ (x : View L). x.base) (sym t.1) ∙ own.1, own.2))
-        (λ (t : (i ≢ id) × (get_elem? s.views i ≡ some u)). r.people i j u q t.1 in_it)
-        (at_set s.views id i (others v) u within_set))
-        (λ (new : apart v ≡ u). let is : q ≡ person v = only (person v) q u.people j (ap (λ (x : View L). x.people) (sym new)) in_it in
-        let own = r.people id 0 v (person v) at (subst (λ (l : List Person). get_elem? l 0 ≡ some (first_of l)) (sym one) refl) in
-        (ap (λ (x : View L). x.logic) (sym new) ∙ own.0, ap (λ (x : View L). x.base) (sym new) ∙ own.1, subst (Knows terms (words_of s) r.log) (sym is) own.2))
-        (at_snoc (set s.views id (others v)) (apart v) u i there);
-    once = λ k. (let x : ℕ = all_owners k (set s.views id (others v)) in let all : ℕ = all_owners k s.views in let y : ℕ = owners k (crew terms.gateways terms.base terms.given) in let o : all ≡ y = r.once k in
-        let sum : x + owners k v.people ≡ all + owners k (others v).people = changed_owners k s.views id v (others v) at in
-        let cut : owners k v.people ≡ owners k (apart v).people + owners k (others v).people = subst (λ (l : List Person). owners k l ≡ owners k (first_of l ∷ []) + owners k (drop 1 l)) (sym one) (one_more k p ps) in
-        let last : all_owners k (set s.views id (others v) ++ apart v ∷ []) ≡ x + owners k (apart v).people = owners_snoc k (set s.views id (others v)) (apart v) in omega arith);
-  }

@@ -5,19 +5,34 @@ use mathlib.Core.Option.{some}
 use lib.ListN.{get_elem?}
 use Rattle.venue_model.specs.History.{Message}
 use Rattle.venue_model.specs.declared.outputs.Output.{Output}
+use Rattle.venue_model.specs.ListLaws.{within}
 use Rattle.ring_words.specs.Places.{processed, journalled, marshalled, taken, published, first_row, in_row, out_row}
 use Rattle.ring_words.specs.Log.{Log, IsFront}
-use Rattle.ring_words.specs.Terms.{Terms, outputs_of}
+use Rattle.ring_words.specs.OutputPacking.{output_words}
+use Rattle.ring_words.specs.Texts.{text_words}
+use Rattle.ring_words.specs.Terms.{Terms, outputs_of, text_of}
 use Rattle.ring_words.specs.Steps.{Shows}
 use Rattle.ring_words.specs.declared.view.Person.{Person}
 use Rattle.ring_words.specs.Rule.{IsGateway, Outgoing, Knows}
+use Rattle.ring_words.proofs.OutputRows.{short_output, short_text}
 use Rattle.ring_words.proofs.Outputs.{in_front, begins, outputs_begin, output_stays, fewer_outputs, outputs_grow}
 
 module _ {L : Type 0} (terms : Terms L) where
+  -- whoever may read a row of the output ring finds the same words there
+  pub record SameOutputs (w w' : ℕ → ℕ) : Type 0 where
+    pub outputs : (k q : ℕ) → IsGateway terms.gateways k → w (taken k) ≤ q → q < w published
+        → (i : ℕ) → i < 64 → w' (out_row terms.rows terms.output_rows q i) ≡ w (out_row terms.rows terms.output_rows q i)
+    pub texts : (k q : ℕ) → IsGateway terms.gateways k → w (taken k) ≤ q → q < w marshalled
+        → (i : ℕ) → i < 64 → w' (out_row terms.rows terms.output_rows q (i + 64)) ≡ w (out_row terms.rows terms.output_rows q (i + 64))
+
+  -- as where no word of a row changed
+  pub all_outputs : (w w' : ℕ → ℕ) → ((q i : ℕ) → w' (out_row terms.rows terms.output_rows q i) ≡ w (out_row terms.rows terms.output_rows q i)) → SameOutputs w w'
+  all_outputs w w' same = record { outputs = λ k q g from to i few. same q i; texts = λ k q g from to i few. same q (i + 64) }
+
   -- it stays where its words stay, and the history that is kept
   pub outgoing_stays : (w w' : ℕ → ℕ) (log log' : Log) → terms.gateways ≤ 8 → log'.history ≡ log.history → IsFront log'.status log.history
       → w' processed ≡ w processed → w' journalled ≡ w journalled → ((k : ℕ) → marshalled ≤ k → k < first_row → w' k ≡ w k)
-      → ((q i : ℕ) → w' (out_row terms.rows terms.output_rows q i) ≡ w (out_row terms.rows terms.output_rows q i)) → Outgoing terms w log → Outgoing terms w' log'
+      → SameOutputs w w' → Outgoing terms w log → Outgoing terms w' log'
   outgoing_stays w w' log log' few same front zero kept_is control rows r =
       let m : w' 32 ≡ w 32 = control 32 (omega arith) (omega arith) in let p : w' 104 ≡ w 104 = control 104 (omega arith) (omega arith) in
       let gate : (k : ℕ) → IsGateway terms.gateways k → w' (taken k) ≡ w (taken k) = λ k g. (let lo : 1 ≤ k = g.0 in let hi : k ≤ terms.gateways = g.1 in control (taken k) (omega arith) (omega arith)) in
@@ -35,10 +50,12 @@ module _ {L : Type 0} (terms : Terms L) where
             ap (λ (h : List Message). length (outputs_of terms (take (suc (w' 0)) h))) same ∙ ap (λ (x : ℕ). length (outputs_of terms (take (suc x) log.history))) zero in
             let a : w 104 ≤ length (outputs_of terms (take (suc (w 0)) log.history)) = r.most in omega arith);
         outputs = λ k q o g from to at i x there. (let e = gate k g in let lo : w (taken k) ≤ q = omega arith in let hi : q < w 104 = omega arith in
-            rows q i ∙ r.outputs k q o g lo hi (history_is q o at) i x there);
+            let size = short_output o in let few_words = within (output_words o) i x there in
+            rows.outputs k q g lo hi i (omega arith) ∙ r.outputs k q o g lo hi (history_is q o at) i x there);
         packable = λ k q o g from to at. (let e = gate k g in let lo : w (taken k) ≤ q = omega arith in let hi : q < w 104 = omega arith in r.packable k q o g lo hi (history_is q o at));
         texts = λ k q o g from to at i x there. (let e = gate k g in let lo : w (taken k) ≤ q = omega arith in let hi : q < w 32 = omega arith in
-            rows q (i + 64) ∙ r.texts k q o g lo hi (history_is q o at) i x there);
+            let size = short_text (text_of terms o q) (r.readable k q o g lo hi (history_is q o at)) in let few_words = within (text_words (text_of terms o q)) i x there in
+            rows.texts k q g lo hi i (omega arith) ∙ r.texts k q o g lo hi (history_is q o at) i x there);
         readable = λ k q o g from to at. (let e = gate k g in let lo : w (taken k) ≤ q = omega arith in let hi : q < w 32 = omega arith in r.readable k q o g lo hi (history_is q o at));
       }
 

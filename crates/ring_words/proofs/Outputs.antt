@@ -1,19 +1,13 @@
 -- Outputs of histories that begin one another: a longer history's begin with the shorter's.
 use Rattle.std.proofs.Common.{◌≡◌, ℕ, zero, suc, ◌+◌, ◌*◌, ◌^◌, ◌<◌, ◌≤◌, List, [], ◌∷◌, ◌++◌, length, take, drop, refl, ap, sym, subst, ◌∙◌, arith, append-nil, append_assoc, length-append, take-append-drop}
 use Rattle.std.proofs.lemmas.List.{length-take-le}
-use mathlib.Core.Option.{some, some-injective, some-ne-none}
+use mathlib.Core.Option.{some, some-injective}
 use lib.ListN.{get_elem?}
 use Rattle.venue_model.specs.History.{Message}
 use Rattle.venue_model.specs.declared.outputs.Output.{Output}
+use Rattle.venue_model.specs.ListLaws.{stands, within, at_longer}
 use Rattle.ring_words.specs.Log.{Status, IsFront}
 use Rattle.ring_words.specs.Terms.{Terms, outputs_of}
-use Rattle.ring_words.proofs.Logs.{stands, within}
-
--- what stands in the front of a list stands in the list
-pub at_front : {A : Type 0} (l m : List A) (i : ℕ) (a : A) → get_elem? l i ≡ some a → get_elem? (l ++ m) i ≡ some a
-at_front [] m i a at = absurd (some-ne-none a (sym at))
-at_front (x ∷ l) m zero a at = at
-at_front (x ∷ l) m (suc i) a at = at_front l m i a at
 
 -- what stands in a list at a place of its front stands in the front
 pub in_front : {A : Type 0} (l m : List A) (i : ℕ) (a : A) → i < length l → get_elem? (l ++ m) i ≡ some a → get_elem? l i ≡ some a
@@ -35,7 +29,7 @@ begins status h g front_h front_g short =
     let k : ℕ = length g in let cut : take k h ++ drop k h ≡ h = take-append-drop k h in
     let long : length (take k h) ≡ k = length-take-le k h short in
     let same : take k h ≡ g = same_list (take k h) g long (λ i e at. (let lt = within (take k h) i e at in let d = stands g i (omega arith) in
-    let in_h = at_front (take k h) (drop k h) i e at in let front_e = front_h i e (subst (λ (l : List Message). get_elem? l i ≡ some e) cut in_h) in
+    let in_h = at_longer (take k h) (drop k h) i e at in let front_e = front_h i e (subst (λ (l : List Message). get_elem? l i ≡ some e) cut in_h) in
     let is : d.0 ≡ e = some-injective d.0 e (sym (front_g i d.0 d.1) ∙ front_e) in d.1 ∙ ap some is)) in
     (drop k h, sym cut ∙ ap (λ (l : List Message). l ++ drop k h) same)
 
@@ -47,7 +41,7 @@ take_longer (suc k) (e ∷ h) rest = let more = take_longer k h rest in (more.0,
 
 -- the beginning of a beginning of the log is one
 pub front_taken : (status : ℕ → Status) (k : ℕ) (h : List Message) → IsFront status h → IsFront status (take k h)
-front_taken status k h front s e at = front s e (subst (λ (l : List Message). get_elem? l s ≡ some e) (take-append-drop k h) (at_front (take k h) (drop k h) s e at))
+front_taken status k h front s e at = front s e (subst (λ (l : List Message). get_elem? l s ≡ some e) (take-append-drop k h) (at_longer (take k h) (drop k h) s e at))
 
 module _ (outputs : List Message → List Output) (nothing : outputs [] ≡ []) (grows : (h : List Message) (e : Message) → (more : List Output) × (outputs (h ++ e ∷ []) ≡ outputs h ++ more) × (length more ≤ 8194)) where
   -- so many entries more have at most 8,194 outputs each
@@ -76,7 +70,7 @@ module _ {L : Type 0} (terms : Terms L) where
   -- an output of a beginning is that of the longer history
   pub output_stays : (h rest : List Message) (q : ℕ) (o : Output) → get_elem? (outputs_of terms h) q ≡ some o → get_elem? (outputs_of terms (h ++ rest)) q ≡ some o
   output_stays h rest q o at = let more = outputs_begin h rest in
-      subst (λ (l : List Output). get_elem? l q ≡ some o) (sym more.1) (at_front (outputs_of terms h) more.0 q o at)
+      subst (λ (l : List Output). get_elem? l q ≡ some o) (sym more.1) (at_longer (outputs_of terms h) more.0 q o at)
 
   -- of a longer history as many entries have as many outputs at least
   pub outputs_grow : (k : ℕ) (h rest : List Message) → length (outputs_of terms (take k h)) ≤ length (outputs_of terms (take k (h ++ rest)))

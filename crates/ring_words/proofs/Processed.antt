@@ -3,6 +3,7 @@ use Rattle.std.proofs.Common.{◌≡◌, ℕ, suc, ◌+◌, ◌<◌, ◌≤◌, 
 use Rattle.std.proofs.lemmas.List.{take-append-le, take-take}
 use mathlib.Core.Option.{none}
 use Rattle.std.specs.Prelude.{Some}
+use Rattle.std.proofs.lemmas.Option.{same_Some}
 use Rattle.atomic_table.specs.Table.{step, keeps, Allows}
 use Rattle.venue_model.specs.History.{Message}
 use Rattle.ring_words.specs.declared.view.Role.{Role}
@@ -17,7 +18,6 @@ use Rattle.ring_words.proofs.Puts.{word_here, word_else}
 use Rattle.ring_words.proofs.Keeps.{mine}
 use Rattle.ring_words.proofs.Outputs.{begins, fewer_outputs}
 use Rattle.ring_words.proofs.Outgoings.{no_output}
-use Rattle.ring_words.proofs.Loads.{some_is}
 use Rattle.ring_words.proofs.Stores.{own_now}
 
 module _ {L : Type 0} (terms : Terms L) where
@@ -57,7 +57,7 @@ module _ {L : Type 0} (S : Type 0) (terms : Terms L) where
       let own = mine S terms s r id me.0 p at one in let knows = own.2 in let own_is : w 0 ≡ p.own = subst (λ (z : Role). w (place_of z) ≡ p.own) role knows.own in
       let deep = subst (λ (z : Role). Depth w z (length p.seen)) role knows.depth in let deep_0 : length p.seen ≤ w 16 = deep.0 in let deep_1 : length p.seen ≤ w 24 = deep.1 in
       let part = subst (λ (z : Role). PartOf terms.rows terms.output_rows w r.log z p.part) role knows.part in let place_is : p.part.sequence ≡ w 104 = part.0 in
-      let logic_is : lg ≡ terms.logic = some_is lg terms.logic (sym view_is ∙ own.0) in
+      let logic_is : lg ≡ terms.logic = same_Some lg terms.logic (sym view_is ∙ own.0) in
       let all : length (outputs_of terms (take x p.seen)) ≤ p.part.sequence = subst (λ (l : L). length (terms.outputs l (take x p.seen)) ≤ p.part.sequence) logic_is all_by in
       let kept_now : length h ≡ w 24 = r.outgoing.kept in let longer = begins r.log.status h p.seen r.outgoing.front knows.front (omega arith) in
       let same : take x h ≡ take x p.seen = ap (take x) longer.1 ∙ take-append-le x p.seen longer.0 high in

@@ -1,16 +1,18 @@
 -- The store of published keeps the rule: the next output stands whole in its row, and it is one of the entries processed or of the next one.
-use Rattle.std.proofs.Common.{◌≡◌, ◌≢◌, ℕ, suc, ◌+◌, ◌*◌, ◌<◌, ◌≤◌, List, [], length, length-set, take, drop, get_or, set, refl, ap, sym, subst, ◌∙◌, arith, take-append-drop}
+use Rattle.std.proofs.Common.{◌≡◌, ◌≢◌, ℕ, suc, ◌+◌, ◌*◌, ◌<◌, ◌≤◌, List, length, length-set, take, drop, get_or, set, refl, ap, sym, subst, ◌∙◌, arith, take-append-drop}
 use mathlib.Core.Option.{none, some, some-injective, some-ne-none}
 use mathlib.Core.Logic.{dite}
 use native.Mathlib.Decide.{ℕ_discrete}
 use lib.ListN.{get_elem?}
 use Rattle.std.specs.Prelude.{Some}
+use Rattle.std.proofs.lemmas.Option.{same_Some}
 use Rattle.atomic_table.specs.Table.{step, keeps, Allows}
 use Rattle.venue_model.specs.History.{Message}
 use Rattle.venue_model.specs.declared.outputs.Output.{Output}
+use Rattle.venue_model.specs.ListLaws.{within}
 use Rattle.ring_words.specs.declared.view.Role.{Role}
 use Rattle.ring_words.specs.declared.view.Role.TheVariants.{Process, Unmarshal, Journal, Marshal, Gateway}
-use Rattle.ring_words.specs.Places.{processed, journalled, taken, published, first_row, in_row, out_row, place_of}
+use Rattle.ring_words.specs.Places.{processed, journalled, marshalled, taken, published, first_row, in_row, out_row, place_of}
 use Rattle.ring_words.specs.Log.{Log}
 use Rattle.ring_words.specs.OutputPacking.{output_words, IsPackableOutput}
 use Rattle.ring_words.specs.Terms.{Terms, outputs_of}
@@ -19,11 +21,11 @@ use Rattle.ring_words.specs.Seats.{person, IsAlone, alone}
 use Rattle.ring_words.specs.Steps.{Seated, HasOutputRoom, publishes}
 use Rattle.ring_words.proofs.Windows.{no_control}
 use Rattle.ring_words.proofs.Puts.{word_here, word_else}
-use Rattle.ring_words.proofs.Logs.{within, depth_risen, knows_risen}
+use Rattle.ring_words.proofs.Logs.{knows_on, knows_risen}
 use Rattle.ring_words.proofs.Keeps.{mine, after}
 use Rattle.ring_words.proofs.Outputs.{begins, take_longer, output_stays}
 use Rattle.ring_words.proofs.Outgoings.{no_output}
-use Rattle.ring_words.proofs.Loads.{some_is}
+use Rattle.ring_words.proofs.Stays.{all_rows, ordered_stays, logged_stays, rows_stay}
 use Rattle.ring_words.proofs.Stores.{risen}
 use Rattle.ring_words.proofs.Putting.{at_published, has_room}
 
@@ -80,11 +82,9 @@ module _ {L : Type 0} (S : Type 0) (terms : Terms L) where
       let own = mine S terms s r id me.0 p at one in let knows = own.2 in let own_is : w 0 ≡ p.own = subst (λ (z : Role). w (place_of z) ≡ p.own) role knows.own in
       let deep = subst (λ (z : Role). Depth w z (length p.seen)) role knows.depth in let deep_1 : length p.seen ≤ w 24 = deep.1 in
       let part = at_published S terms s r id me at one role in let place_is : p.part.sequence ≡ w 104 = part.0 in
-      let logic_is : lg ≡ terms.logic = some_is lg terms.logic (sym view_is ∙ own.0) in
+      let logic_is : lg ≡ terms.logic = same_Some lg terms.logic (sym view_is ∙ own.0) in
       let inside : 104 < length ws = (let v = r.wide in omega arith) in let here : w' 104 ≡ x = word_here ws 104 x inside in
       let else : (k : ℕ) → k ≢ 104 → w' k ≡ w k = λ k ne. word_else ws 104 k x ne in
-      let zero_is : w' 0 ≡ w 0 = else 0 (λ (e : 0 ≡ 104). omega arith) in let claim_is : w' 8 ≡ w 8 = else 8 (λ (e : 8 ≡ 104). omega arith) in
-      let unmarshalled_is : w' 16 ≡ w 16 = else 16 (λ (e : 16 ≡ 104). omega arith) in let journalled_is : w' 24 ≡ w 24 = else 24 (λ (e : 24 ≡ 104). omega arith) in
       let same : (t i : ℕ) → w' (in_row n t i) ≡ w (in_row n t i) = λ t i. else (in_row n t i) (no_control n t i 104 (omega arith)) in
       let same_out : (q i : ℕ) → w' (out_row n m q i) ≡ w (out_row n m q i) = λ q i. else (out_row n m q i) (no_output n m q i 104 (omega arith)) in
       let rises : (j : ℕ) → j < first_row → w j ≤ w' j = λ j _. risen ws 104 x j inside (let up : w 104 ≤ x = omega arith in up) in
@@ -97,50 +97,18 @@ module _ {L : Type 0} (S : Type 0) (terms : Terms L) where
       (subst (λ (q : ℕ). get_elem? (outputs_of terms (take (suc p.own) h)) q ≡ some o) place_is grown) in
       let words : (i y : ℕ) → get_elem? (output_words o) i ≡ some y → w (out_row n m (w 104) i) ≡ y =
       λ i y there. ap (λ (q : ℕ). w (out_row n m q i)) (sym place_is) ∙ (part.1 i y (ap (λ (l : List ℕ). get_elem? l i) whole ∙ there)).1 in
-      let order = r.order in let first_is = order.processed_unmarshalled in let second = order.processed_journalled in let third = order.unmarshalled_claimed in let fourth = order.journalled_claimed in let free = order.room in
-      let most = order.most in let start = r.logged.start in (
+      let input : (c : ℕ) → c < marshalled → w' c ≡ w c = λ c low. else c (λ (e : c ≡ 104). omega arith) in (
         alone me.0 (at_place p x),
         keeps,
         tt,
         after S terms s r ws' id me.0 p (at_place p x) at one refl (length-set ws 104 x) r.log
-            record {
-              processed_unmarshalled = omega arith;
-              processed_journalled = omega arith;
-              unmarshalled_claimed = omega arith;
-              journalled_claimed = omega arith;
-              room = omega arith;
-              most = omega arith;
-            }
-            record {
-              start = omega arith;
-              based = r.logged.based;
-              older = r.logged.older;
-              holder = r.logged.holder;
-              sender = r.logged.sender;
-              ahead = λ t le. r.logged.ahead t (subst (λ (y : ℕ). y ≤ t) claim_is le);
-              somebodys = λ t lt. r.logged.somebodys t (subst (λ (y : ℕ). t < y) claim_is lt);
-              done = λ t lt. r.logged.done t (subst (λ (y : ℕ). t < y) unmarshalled_is lt);
-              kept = λ t lt. r.logged.kept t (subst (λ (y : ℕ). t < y) journalled_is lt);
-            }
-            record {
-              marks = λ t y is. r.rows.marks t y (sym (same t 0) ∙ is);
-              shown = λ t e is le. same t 0 ∙ r.rows.shown t e is (subst (λ (y : ℕ). y ≤ t + n) claim_is le);
-              raw = λ t e is le i few. same t (i + 1) ∙ r.rows.raw t e is (subst (λ (y : ℕ). y ≤ t + n) claim_is le) i few;
-              packable = λ t e is below. r.rows.packable t e is (subst (λ (y : ℕ). t < y) unmarshalled_is below);
-              commands = λ t e is below le i y there. same t (i + 48) ∙ r.rows.commands t e is (subst (λ (y : ℕ). t < y) unmarshalled_is below) (subst (λ (z : ℕ). z ≤ t + n) claim_is le) i y there;
-            }
+            (ordered_stays terms w w' r.log input r.order)
+            (logged_stays terms w w' r.log input r.logged)
+            (rows_stay terms w w' r.log input r.logged (all_rows terms w w' r.log (λ t i _. same t i)) r.rows)
             (outgoing_published terms w w' r.log o r.few (here ∙ next ∙ ap suc place_is) (λ k low. else k (λ (e : k ≡ 104). let lt : k < 104 = low in omega arith)) same_out
             (λ k g. (let lt = has_room S terms s r id me p.part.sequence at one room k g in omega arith)) in_history words packed r.outgoing)
-            record {
-              role = knows.role;
-              front = knows.front;
-              depth = depth_risen w w' rises p.role (length p.seen) knows.depth;
-              own = else (place_of p.role) (not_published terms.gateways p.role r.few knows.role) ∙ knows.own;
-              mine = knows.mine;
-              claims = knows.claims;
-              loads = λ i l there low. (let a = knows.loads i l there low in let b = rises l.place low in omega arith);
-              part = subst (λ (z : Role). PartOf n m w' r.log z record { sequence = x; words = [] }) (sym role) (sym here, λ i y there. absurd (some-ne-none y (sym there)));
-            }
+            (knows_on terms w r.log w' p p.own (at_place p x).part rises (else (place_of p.role) (not_published terms.gateways p.role r.few knows.role) ∙ knows.own)
+            (subst (λ (z : Role). PartOf n m w' r.log z (at_place p x).part) (sym role) (sym here, λ i y there. absurd (some-ne-none y (sym there)))) knows)
             (λ d other known. knows_risen terms w r.log w' d d.own rises same same_out (λ (is : d.role ≡ Process). absurd (other (ap place_of is ∙ sym (ap place_of role))))
             (else (place_of d.role) (not_published terms.gateways d.role r.few known.role) ∙ known.own) known),
         refl,

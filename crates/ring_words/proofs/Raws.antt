@@ -1,42 +1,13 @@
 -- The words of a message determine it.
-use Rattle.std.proofs.Common.{◌≡◌, ℕ, zero, suc, ◌+◌, ◌*◌, ◌/◌, ◌%◌, ◌<◌, List, length, get_or, refl, ap, sym, ◌∙◌, arith, mod-lt}
-use Rattle.std.specs.Int.{from_be_bytes, to_be_bytes}
-use Rattle.std.proofs.lemmas.Nat.{be_bytes_8, div-add-mod'}
+use Rattle.std.proofs.Common.{◌≡◌, ℕ, suc, ◌+◌, ◌*◌, ◌/◌, ◌%◌, ◌<◌, List, length, get_or, refl, ap, sym, ◌∙◌, arith, mod-lt}
+use Rattle.std.specs.Int.{from_be_bytes}
+use Rattle.std.proofs.lemmas.Nat.{div-add-mod'}
 use Rattle.std.proofs.lemmas.List.{ext_get_or}
 use mir.Syntax.{w64}
 use Rattle.venue_model.specs.History.{Message}
 use Rattle.ring_words.specs.Log.{IsEntry}
 use Rattle.ring_words.specs.Raw.{eight, raw_count, Spells}
-
-small_eight : (bs : List ℕ) (q : ℕ) → ((i : ℕ) → get_or bs i 0 < 256) → (j : ℕ) → get_or (eight bs q) j 0 < 256
-small_eight bs q h zero = h (8 * q)
-small_eight bs q h (suc zero) = h (8 * q + 1)
-small_eight bs q h (suc (suc zero)) = h (8 * q + 2)
-small_eight bs q h (suc (suc (suc zero))) = h (8 * q + 3)
-small_eight bs q h (suc (suc (suc (suc zero)))) = h (8 * q + 4)
-small_eight bs q h (suc (suc (suc (suc (suc zero))))) = h (8 * q + 5)
-small_eight bs q h (suc (suc (suc (suc (suc (suc zero)))))) = h (8 * q + 6)
-small_eight bs q h (suc (suc (suc (suc (suc (suc (suc zero))))))) = h (8 * q + 7)
-small_eight bs q h (suc (suc (suc (suc (suc (suc (suc (suc j)))))))) = omega arith
-
--- the bytes of a word
-pub word_bytes : (bs : List ℕ) (q x : ℕ) → ((i : ℕ) → get_or bs i 0 < 256) → x ≡ from_be_bytes w64 (eight bs q) → to_be_bytes w64 x ≡ eight bs q
-word_bytes bs q x small is = be_bytes_8 (eight bs q) x refl (small_eight bs q small) is
-
-at_eight : (bs : List ℕ) (q j : ℕ) → j < 8 → get_or (eight bs q) j 0 ≡ get_or bs (8 * q + j) 0
-at_eight bs q zero h = ap (λ (i : ℕ). get_or bs i 0) (let g : 8 * q ≡ 8 * q + 0 = omega arith in g)
-at_eight bs q (suc zero) h = refl
-at_eight bs q (suc (suc zero)) h = refl
-at_eight bs q (suc (suc (suc zero))) h = refl
-at_eight bs q (suc (suc (suc (suc zero)))) h = refl
-at_eight bs q (suc (suc (suc (suc (suc zero))))) h = refl
-at_eight bs q (suc (suc (suc (suc (suc (suc zero)))))) h = refl
-at_eight bs q (suc (suc (suc (suc (suc (suc (suc zero))))))) h = refl
-at_eight bs q (suc (suc (suc (suc (suc (suc (suc (suc j)))))))) h = absurd (omega arith)
-
--- byte i of a message, in the word that has it
-pub byte_at : (bs : List ℕ) (i : ℕ) → get_or (eight bs (i / 8)) (i % 8) 0 ≡ get_or bs i 0
-byte_at bs i = at_eight bs (i / 8) (i % 8) (mod-lt i (let g : 0 < 8 = omega arith in g)) ∙ ap (λ (j : ℕ). get_or bs j 0) (let d = div-add-mod' i 8 in let q : ℕ = i / 8 in let r : ℕ = i % 8 in let d' : q * 8 + r ≡ i = d in let g : 8 * q + r ≡ i = omega arith in g)
+use Rattle.ring_words.specs.RawLaws.{word_bytes, byte_at}
 
 same_eight : (a b : List ℕ) (q : ℕ) → ((i : ℕ) → get_or a i 0 < 256) → ((i : ℕ) → get_or b i 0 < 256) → from_be_bytes w64 (eight a q) ≡ from_be_bytes w64 (eight b q) → eight a q ≡ eight b q
 same_eight a b q sa sb e = sym (word_bytes a q (from_be_bytes w64 (eight a q)) sa refl) ∙ word_bytes b q (from_be_bytes w64 (eight a q)) sb e

@@ -1,5 +1,6 @@
 -- A gateway's loads of an output's words and of its text's: what stands in the row is that of the history that it knows.
 use Rattle.std.proofs.Common.{◌≡◌, ℕ, ◌<◌, ◌≤◌, List, ◌++◌, length, refl, ap, sym, subst, ◌∙◌, arith, le_refl}
+use Rattle.std.proofs.lemmas.Option.{same_Some}
 use mathlib.Core.Option.{none, some}
 use lib.ListN.{get_elem?}
 use Rattle.atomic_table.specs.Table.{step, Allows}
@@ -18,7 +19,7 @@ use Rattle.ring_words.specs.Steps.{Seated, readable, meaning, sees_output, sees_
 use Rattle.ring_words.proofs.Logs.{knows_looked}
 use Rattle.ring_words.proofs.Keeps.{mine}
 use Rattle.ring_words.proofs.Outgoings.{rest_of, output_kept, still_above}
-use Rattle.ring_words.proofs.Loads.{looks, some_is}
+use Rattle.ring_words.proofs.Loads.{looks}
 
 module _ {L : Type 0} (terms : Terms L) (w : ℕ → ℕ) (log : Log) (p : Person) where
   -- the history that is kept goes on from what a gateway knows
@@ -45,7 +46,7 @@ module _ {L : Type 0} (S : Type 0) (terms : Terms L) where
       looks S terms s r place id me (looked p place x) (sees_output (readable terms.rows terms.output_rows marshalled) terms.outputs (step slots place 0 0 none) me) at one refl (knows_looked terms w r.log p place x (λ _. le_refl x) knows) (
         refl,
         λ logic q i y o view_is there held shown word is. (
-            let logic_is : logic ≡ terms.logic = some_is logic terms.logic (sym view_is ∙ own.0) in
+            let logic_is : logic ≡ terms.logic = same_Some logic terms.logic (sym view_is ∙ own.0) in
             let kept = known_kept terms w r.log p k q o role r.outgoing knows (subst (λ (l : L). get_elem? (terms.outputs l p.seen) q ≡ some o) logic_is there) in
             let below : q < w marshalled = still_above terms w r.log p marshalled q knows (omega arith) shown in let order : w marshalled ≤ w published = r.outgoing.marshalled_published in
             let from : w (taken k) ≤ q = omega arith in let to : q < w published = omega arith in
@@ -66,7 +67,7 @@ module _ {L : Type 0} (S : Type 0) (terms : Terms L) where
       looks S terms s r place id me (looked p place x) (sees_text (readable terms.rows terms.output_rows marshalled) (meaning terms.outputs terms.text) (step slots place 0 0 none) me) at one refl (knows_looked terms w r.log p place x (λ _. le_refl x) knows) (
         refl,
         λ logic q i y o view_is there held shown word is. (
-            let logic_is : logic ≡ terms.logic = some_is logic terms.logic (sym view_is ∙ own.0) in
+            let logic_is : logic ≡ terms.logic = same_Some logic terms.logic (sym view_is ∙ own.0) in
             let kept = known_kept terms w r.log p k q o role r.outgoing knows (subst (λ (l : L). get_elem? (terms.outputs l p.seen) q ≡ some o) logic_is there) in
             let word' : get_elem? (text_words (text_of terms o q)) i ≡ some y = subst (λ (l : L). get_elem? (text_words (terms.text l o q)) i ≡ some y) logic_is word in
             let from : w (taken k) ≤ q = omega arith in let to : q < w marshalled = still_above terms w r.log p marshalled q knows (omega arith) shown in

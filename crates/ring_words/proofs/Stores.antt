@@ -6,12 +6,14 @@ use mathlib.Core.Logic.{dite}
 use native.Mathlib.Decide.{ℕ_discrete}
 use lib.ListN.{get_elem?}
 use Rattle.std.specs.Prelude.{Some}
+use Rattle.std.proofs.lemmas.Option.{same_Some}
 use Rattle.atomic_table.specs.Table.{State, step, keeps, Allows}
 use Rattle.venue_model.specs.History.{Message}
+use Rattle.venue_model.specs.ListLaws.{stands, within}
 use Rattle.ring_words.specs.declared.view.Role.{Role}
 use Rattle.ring_words.specs.declared.view.Role.TheVariants.{Unmarshal, Journal}
 use Rattle.ring_words.specs.declared.view.View.{View}
-use Rattle.ring_words.specs.Places.{processed, claim, unmarshalled, journalled, published, first_row, in_row, out_row, place_of}
+use Rattle.ring_words.specs.Places.{processed, claim, unmarshalled, journalled, marshalled, published, first_row, in_row, out_row, place_of}
 use Rattle.ring_words.specs.Log.{sent, entry_of}
 use Rattle.ring_words.specs.Packing.{command_words, IsPackable}
 use Rattle.ring_words.specs.Terms.{Terms, commands_of, command_of}
@@ -20,11 +22,11 @@ use Rattle.ring_words.specs.Seats.{person, IsAlone, alone, moved}
 use Rattle.ring_words.specs.Steps.{Seated, moves_own}
 use Rattle.ring_words.proofs.Windows.{no_control}
 use Rattle.ring_words.proofs.Puts.{word_here, word_else}
-use Rattle.ring_words.proofs.Logs.{stands, within, one_entry, reaches, knows_risen, still_knows}
+use Rattle.ring_words.proofs.Logs.{one_entry, reaches, knows_risen, still_knows}
 use Rattle.ring_words.proofs.Keeps.{mine, after}
 use Rattle.ring_words.proofs.Outputs.{begins, front_taken}
-use Rattle.ring_words.proofs.Outgoings.{outgoing_stays, outgoing_grows, no_output}
-use Rattle.ring_words.proofs.Loads.{some_is}
+use Rattle.ring_words.proofs.Outgoings.{all_outputs, outgoing_stays, outgoing_grows, no_output}
+use Rattle.ring_words.proofs.Stays.{all_rows, ordered_stays, logged_rises, rows_rise}
 
 -- a word that didn't fall: no word did
 pub risen : (ws : List ℕ) (i x k : ℕ) → i < length ws → get_or ws i 0 ≤ x → get_or ws k 0 ≤ get_or (set ws i x) k 0
@@ -51,31 +53,30 @@ module _ {L : Type 0} (S : Type 0) (terms : Terms L) where
       let here : w' k ≡ x = word_here ws k x inside in let claim_is : w' claim ≡ w claim = word_else ws k claim x (λ e. no_claim (sym e)) in
       let same : (t i : ℕ) → w' (in_row terms.rows t i) ≡ w (in_row terms.rows t i) = λ t i. word_else ws k (in_row terms.rows t i) x (no_control terms.rows t i k low) in
       let rises : (j : ℕ) → j < first_row → w j ≤ w' j = λ j _. risen ws k x j inside (let g : w k ≤ x = omega arith in g) in
-      let start = r.logged.start in let zero_up : w processed ≤ w' processed = rises processed (omega arith) in
+      let zero_up : w processed ≤ w' processed = rises processed (omega arith) in
       let same_out : (q i : ℕ) → w' (out_row terms.rows terms.output_rows q i) ≡ w (out_row terms.rows terms.output_rows q i) = λ q i. word_else ws k (out_row terms.rows terms.output_rows q i) x (no_output terms.rows terms.output_rows q i k (let n : ℕ = terms.rows in omega arith)) in
       let published_is : w' published ≡ w published = word_else ws k published x (λ e. no_published (sym e)) in
       after S terms s r ws' id me.0 p (moved p x) at one refl (length-set ws k x) (record r.log { history = h }) order
-      record {
-        start = omega arith;
-        based = r.logged.based;
-        older = r.logged.older;
-        holder = r.logged.holder;
-        sender = r.logged.sender;
-        ahead = λ t le. r.logged.ahead t (subst (λ (y : ℕ). y ≤ t) claim_is le);
-        somebodys = λ t lt. r.logged.somebodys t (subst (λ (y : ℕ). t < y) claim_is lt);
-        done = done;
-        kept = kept;
-      }
-      record {
-        marks = λ t y is. r.rows.marks t y (sym (same t 0) ∙ is);
-        shown = λ t e is le. same t 0 ∙ r.rows.shown t e is (subst (λ (y : ℕ). y ≤ t + terms.rows) claim_is le);
-        raw = λ t e is le i few. same t (i + 1) ∙ r.rows.raw t e is (subst (λ (y : ℕ). y ≤ t + terms.rows) claim_is le) i few;
-        packable = packable;
-        commands = λ t e is below le i y there. same t (i + 48) ∙ commands t e is below (subst (λ (z : ℕ). z ≤ t + terms.rows) claim_is le) i y there;
-      }
+      (logged_rises terms w w' r.log h zero_up claim_is done kept r.logged)
+      (rows_rise terms w w' r.log h claim_is r.logged (all_rows terms w w' r.log (λ t i _. same t i)) commands packable r.rows)
       outgoing
       (still_knows terms w' r.log h (moved p x) (knows_risen terms w r.log w' p x rises same same_out (λ _. published_is) (ap w' place ∙ here) knows))
       (λ o apart_from known. still_knows terms w' r.log h o (knows_risen terms w r.log w' o o.own rises same same_out (λ _. published_is) (word_else ws k (place_of o.role) x (λ e. apart_from (e ∙ sym place)) ∙ known.own) known))
+
+  -- the same of an own word of the output ring: its part of the rule alone is left to show
+  pub own_output_now : (s : State S (View L)) (r : Lawful S terms s) (id : ℕ) (me : Seated S L) (k x : ℕ) → get_elem? s.views id ≡ some me.0 → IsAlone me.0 → place_of (person me.0).role ≡ k
+      → marshalled ≤ k → k < published → (person me.0).own ≤ x → Outgoing terms (λ j. get_or (set s.words k x) j 0) r.log
+      → Lawful S terms record { words = set s.words k x; homes = s.homes; views = set s.views id (alone me.0 (moved (person me.0) x)) }
+  own_output_now s r id me k x at one place from to up outgoing =
+      let w = words_of s in let w' : ℕ → ℕ = λ (j : ℕ). get_or (set s.words k x) j 0 in
+      let same : (c : ℕ) → c < marshalled → w' c ≡ w c = λ c low. word_else s.words k c x (λ (e : c ≡ k). omega arith) in
+      own_now s r r.log.history id me k x at one place (omega arith) (λ (e : k ≡ claim). omega arith) (λ (e : k ≡ published). omega arith) up
+      (ordered_stays terms w w' r.log same r.order)
+      (λ t lt. r.logged.done t (subst (λ (y : ℕ). t < y) (same unmarshalled (omega arith)) lt))
+      (λ t lt. r.logged.kept t (subst (λ (y : ℕ). t < y) (same journalled (omega arith)) lt))
+      (λ t e is below. r.rows.commands t e is (subst (λ (y : ℕ). t < y) (same unmarshalled (omega arith)) below))
+      (λ t e is below. r.rows.packable t e is (subst (λ (y : ℕ). t < y) (same unmarshalled (omega arith)) below))
+      outgoing
 
   -- the journaller moves its word to what it knows at most
   pub stores_journalled : (slots id : ℕ) (me : Seated S L) (x : ℕ) → IsAlone me.0 → (person me.0).role ≡ Journal → (person me.0).own ≤ x → x ≤ length (person me.0).seen
@@ -126,7 +127,7 @@ module _ {L : Type 0} (S : Type 0) (terms : Terms L) where
       let journalled_is : w' 24 ≡ w 24 = word_else ws 16 24 x (λ (z : 24 ≡ 16). omega arith) in
       let order = r.order in let first = order.processed_unmarshalled in let second = order.processed_journalled in let third = order.unmarshalled_claimed in let fourth = order.journalled_claimed in let room = order.room in let most = order.most in
       let part = subst (λ (z : Role). PartOf terms.rows terms.output_rows w r.log z p.part) role knows.part in
-      let logic_is : lg ≡ terms.logic = some_is lg terms.logic (sym view_is ∙ (mine S terms s r id me.0 p at one).0) in
+      let logic_is : lg ≡ terms.logic = same_Some lg terms.logic (sym view_is ∙ (mine S terms s r id me.0 p at one).0) in
       let whole : p.part.words ≡ commands_of terms p.own e = subst (λ (l : L). p.part.words ≡ command_words e.gateway (terms.reads l p.own e)) logic_is whole_by in
       let packed : IsPackable e.gateway (command_of terms p.own e) = subst (λ (l : L). IsPackable e.gateway (terms.reads l p.own e)) logic_is packed_by in (
         alone me.0 (moved p x),
@@ -156,6 +157,6 @@ module _ {L : Type 0} (S : Type 0) (terms : Terms L) where
             (λ ne. r.rows.packable t d is (let below' : t < x = subst (λ (z : ℕ). t < z) here below in let g : t < w 16 = omega arith in g)))
             (outgoing_stays terms w w' r.log r.log r.few refl r.outgoing.front zero_is journalled_is
             (λ k from to. word_else ws 16 k x (λ (z : k ≡ 16). omega arith))
-            (λ q i. word_else ws 16 (out_row terms.rows terms.output_rows q i) x (no_output terms.rows terms.output_rows q i 16 (let n : ℕ = terms.rows in omega arith))) r.outgoing),
+            (all_outputs terms w w' (λ q i. word_else ws 16 (out_row terms.rows terms.output_rows q i) x (no_output terms.rows terms.output_rows q i 16 (let n : ℕ = terms.rows in omega arith)))) r.outgoing),
         refl,
       )

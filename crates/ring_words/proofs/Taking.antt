@@ -1,6 +1,7 @@
 -- A gateway loads marshalled, which shows it a history with the next output, and moves its taken word behind that.
 use Rattle.std.proofs.Common.{◌≡◌, ◌≢◌, ℕ, suc, ◌+◌, ◌*◌, ◌<◌, ◌≤◌, List, [], ◌++◌, cond, ltb, length, take, get_or, set, refl, ap, sym, subst, ◌∙◌, arith, le_refl}
 use Rattle.std.proofs.lemmas.Bool.{lt-ltb, le-ltb, cond-true, cond-false}
+use Rattle.std.proofs.lemmas.Option.{same_Some}
 use mathlib.Core.Option.{none, some}
 use mathlib.Core.Logic.{dite}
 use native.Mathlib.Decide.{ℕ_discrete, dec_le}
@@ -8,6 +9,7 @@ use lib.ListN.{get_elem?}
 use Rattle.atomic_table.specs.Table.{step, keeps, Allows}
 use Rattle.venue_model.specs.History.{Message}
 use Rattle.venue_model.specs.declared.outputs.Output.{Output}
+use Rattle.venue_model.specs.ListLaws.{stands}
 use Rattle.ring_words.specs.declared.view.Role.{Role}
 use Rattle.ring_words.specs.declared.view.Role.TheVariants.{Gateway}
 use Rattle.ring_words.specs.declared.view.Person.{Person}
@@ -18,11 +20,11 @@ use Rattle.ring_words.specs.Rule.{IsGateway, Depth, Logged, Outgoing, Knows, wor
 use Rattle.ring_words.specs.Seats.{person, IsAlone, alone, looked, knowing, moved}
 use Rattle.ring_words.specs.Steps.{Seated, Shows, IsLegal, sees_marshalled, moves_own}
 use Rattle.ring_words.proofs.Puts.{word_here, word_else}
-use Rattle.ring_words.proofs.Logs.{stands, published_late, knows_looked, knows_knowing}
+use Rattle.ring_words.proofs.Logs.{published_late, knows_looked, knows_knowing}
 use Rattle.ring_words.proofs.Keeps.{mine}
 use Rattle.ring_words.proofs.Outgoings.{published_kept, still_above, no_output}
-use Rattle.ring_words.proofs.Loads.{looks, some_is}
-use Rattle.ring_words.proofs.Stores.{own_now}
+use Rattle.ring_words.proofs.Loads.{looks}
+use Rattle.ring_words.proofs.Stores.{own_output_now}
 use Rattle.ring_words.proofs.Reading.{goes_on_kept, gateway_owns}
 
 module _ {L : Type 0} (terms : Terms L) where
@@ -102,7 +104,7 @@ module _ {L : Type 0} (S : Type 0) (terms : Terms L) where
           refl,
           subst (λ (b : List Message). IsLegal (length b) p (p.seen ++ rest)) (sym own.1) (legal_front terms w r.log p (p.seen ++ rest) r.logged knows front),
           (let claimed = r.order.journalled_claimed in let most = r.order.most in omega arith),
-          λ logic view_is. (let logic_is : terms.logic ≡ logic = some_is terms.logic logic (sym own.0 ∙ view_is) in let found = has_output terms w r.log p.own r.outgoing more in
+          λ logic view_is. (let logic_is : terms.logic ≡ logic = same_Some terms.logic logic (sym own.0 ∙ view_is) in let found = has_output terms w r.log p.own r.outgoing more in
               (found.0, subst (λ (l : L). get_elem? (terms.outputs l (p.seen ++ rest)) p.own ≡ some found.0) logic_is (subst (λ (b : List Message). get_elem? (outputs_of terms b) p.own ≡ some found.0) is found.1))),
         ),
       ))
@@ -116,27 +118,11 @@ module _ {L : Type 0} (S : Type 0) (terms : Terms L) where
       let lo : 1 ≤ k = owns.0.0 in let hi : k ≤ terms.gateways = owns.0.1 in let few = r.few in
       let below : p.own < w marshalled = still_above terms w r.log p marshalled p.own knows (omega arith) shown in
       let inside : here < length ws = (let v = r.wide in let n : ℕ = terms.rows in let m : ℕ = terms.output_rows in omega arith) in
-      let stored : w' here ≡ x = word_here ws here x inside in let else : (j : ℕ) → j ≢ here → w' j ≡ w j = λ j ne. word_else ws here j x ne in
-      let processed_is : w' 0 ≡ w 0 = else 0 (λ (e : 0 ≡ 32 + 8 * k). omega arith) in let claim_is : w' 8 ≡ w 8 = else 8 (λ (e : 8 ≡ 32 + 8 * k). omega arith) in
-      let unmarshalled_is : w' 16 ≡ w 16 = else 16 (λ (e : 16 ≡ 32 + 8 * k). omega arith) in let journalled_is : w' 24 ≡ w 24 = else 24 (λ (e : 24 ≡ 32 + 8 * k). omega arith) in
-      let order = r.order in let first = order.processed_unmarshalled in let second = order.processed_journalled in let third = order.unmarshalled_claimed in
-      let fourth = order.journalled_claimed in let room = order.room in let most = order.most in (
+      let stored : w' here ≡ x = word_here ws here x inside in let else : (j : ℕ) → j ≢ here → w' j ≡ w j = λ j ne. word_else ws here j x ne in (
         alone me.0 (moved p x),
         keeps,
         tt,
-        own_now S terms s r r.log.history id me here x at one (ap place_of role) (omega arith) (λ (e : 32 + 8 * k ≡ 8). omega arith) (λ (e : 32 + 8 * k ≡ 104). omega arith) (omega arith)
-            record {
-              processed_unmarshalled = omega arith;
-              processed_journalled = omega arith;
-              unmarshalled_claimed = omega arith;
-              journalled_claimed = omega arith;
-              room = omega arith;
-              most = omega arith;
-            }
-            (λ t lt. r.logged.done t (subst (λ (y : ℕ). t < y) unmarshalled_is lt))
-            (λ t lt. r.logged.kept t (subst (λ (y : ℕ). t < y) journalled_is lt))
-            (λ t e is lt. r.rows.commands t e is (subst (λ (y : ℕ). t < y) unmarshalled_is lt))
-            (λ t e is lt. r.rows.packable t e is (subst (λ (y : ℕ). t < y) unmarshalled_is lt))
+        own_output_now S terms s r id me here x at one (ap place_of role) (omega arith) (omega arith) (omega arith)
             (outgoing_taken terms w w' r.log k few owns.0 else (omega arith) (omega arith) r.outgoing),
         refl,
       )

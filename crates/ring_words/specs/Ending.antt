@@ -33,7 +33,8 @@ module _ {L : Type 0} where
     pub later : (s : ℕ) (e : Message) → length base ≤ s → get_elem? log s ≡ some e → IsEntry e × IsGateway (length seats.gateways.items) e.gateway
     pub mine : (i : ℕ) (g : At L) → get_elem? seats.gateways.items i ≡ some g
         → (s : ℕ) → sent_at s g.who.mine ≡ published_at (length base) (number g) log s
-    pub seen : (i : ℕ) (g : At L) → get_elem? seats.gateways.items i ≡ some g → IsBeginning g.who.seen log × (length g.who.seen ≤ seats.journal.who.own)
+    pub seen : (i : ℕ) (g : At L) → get_elem? seats.gateways.items i ≡ some g
+        → IsBeginning g.who.seen log × (length g.who.seen ≤ seats.journal.who.own)
     pub known : (j : ℕ) (p : Person) → get_elem? (stages_of seats) j ≡ some p → IsBeginning p.seen log
     pub done : summary.commands ≤ seats.journal.who.own
     pub journalled : seats.journal.who.own ≤ length log

@@ -15,3 +15,5 @@ pub mod Sizes
 pub mod Crew
 pub mod Gathered
 pub mod Ending
+pub mod SeatLaws
+pub mod RawLaws

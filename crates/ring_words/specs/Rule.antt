@@ -89,7 +89,8 @@ processor base given = at_place (newcomer Process base (length base)) given
 -- all persons at the start: four stages and g gateways
 abbrev pub crew : ℕ → List Message → ℕ → List Person
 crew g base given =
-    processor base given ∷ newcomer Unmarshal base (length base) ∷ newcomer Journal base (length base) ∷ newcomer Marshal base given ∷ gateways 1 g base given
+    processor base given ∷ newcomer Unmarshal base (length base) ∷ newcomer Journal base (length base)
+    ∷ newcomer Marshal base given ∷ gateways 1 g base given
 
 -- the words at the start: what sequences count begins at the length of the history, what outputs count at those given, and all rows are empty
 abbrev pub opening_word : ℕ → ℕ → ℕ → ℕ
@@ -118,7 +119,8 @@ module _ {L : Type 0} where
     pub done : (s : ℕ) → s < w unmarshalled → (e : Message) × (entry_of (log.status s) ≡ some e)
     pub kept : (s : ℕ) → s < w journalled → (e : Message) × (entry_of (log.status s) ≡ some e)
 
-  -- what a person knows: a beginning of the log, no longer than its role may know, its own word, exactly its publications and claims, what it loaded, its row under way
+  -- what a person knows: a beginning of the log, no longer than its role may know, its own word, exactly its publications and claims,
+  -- what it loaded, its row under way
   pub record Knows (terms : Terms L) (w : ℕ → ℕ) (log : Log) (p : Person) : Type 0 where
     pub role : IsRole terms.gateways p.role
     pub front : IsFront log.status p.seen
@@ -134,7 +136,8 @@ module _ {L : Type 0} where
   pub record Rows (terms : Terms L) (w : ℕ → ℕ) (log : Log) : Type 0 where
     pub marks : (s x : ℕ) → w (in_row terms.rows s 0) ≡ suc x → (x % terms.rows ≡ s % terms.rows) × ((e : Message) × (log.status x ≡ sent e))
     pub shown : (s : ℕ) (e : Message) → log.status s ≡ sent e → w claim ≤ s + terms.rows → w (in_row terms.rows s 0) ≡ suc s
-    pub raw : (s : ℕ) (e : Message) → log.status s ≡ sent e → w claim ≤ s + terms.rows → (i : ℕ) → i < raw_count e → w (in_row terms.rows s (i + 1)) ≡ raw_word e i
+    pub raw : (s : ℕ) (e : Message) → log.status s ≡ sent e → w claim ≤ s + terms.rows
+        → (i : ℕ) → i < raw_count e → w (in_row terms.rows s (i + 1)) ≡ raw_word e i
     pub commands : (s : ℕ) (e : Message) → log.status s ≡ sent e → s < w unmarshalled → w claim ≤ s + terms.rows
         → (i x : ℕ) → get_elem? (commands_of terms s e) i ≡ some x → w (in_row terms.rows s (i + 48)) ≡ x
     pub packable : (s : ℕ) (e : Message) → log.status s ≡ sent e → s < w unmarshalled → IsPackable e.gateway (command_of terms s e)
@@ -150,13 +153,17 @@ module _ {L : Type 0} where
     pub free : (k : ℕ) → IsGateway terms.gateways k → w published ≤ w (taken k) + terms.output_rows
     pub least : length (outputs_of terms (take (w processed) log.history)) ≤ w published
     pub most : w published ≤ length (outputs_of terms (take (suc (w processed)) log.history))
-    pub outputs : (k q : ℕ) (o : Output) → IsGateway terms.gateways k → w (taken k) ≤ q → q < w published → get_elem? (outputs_of terms log.history) q ≡ some o
+    pub outputs : (k q : ℕ) (o : Output) → IsGateway terms.gateways k → w (taken k) ≤ q → q < w published
+        → get_elem? (outputs_of terms log.history) q ≡ some o
         → (i x : ℕ) → get_elem? (output_words o) i ≡ some x → w (out_row terms.rows terms.output_rows q i) ≡ x
-    pub packable : (k q : ℕ) (o : Output) → IsGateway terms.gateways k → w (taken k) ≤ q → q < w published → get_elem? (outputs_of terms log.history) q ≡ some o
+    pub packable : (k q : ℕ) (o : Output) → IsGateway terms.gateways k → w (taken k) ≤ q → q < w published
+        → get_elem? (outputs_of terms log.history) q ≡ some o
         → IsPackableOutput o
-    pub texts : (k q : ℕ) (o : Output) → IsGateway terms.gateways k → w (taken k) ≤ q → q < w marshalled → get_elem? (outputs_of terms log.history) q ≡ some o
+    pub texts : (k q : ℕ) (o : Output) → IsGateway terms.gateways k → w (taken k) ≤ q → q < w marshalled
+        → get_elem? (outputs_of terms log.history) q ≡ some o
         → (i x : ℕ) → get_elem? (text_words (text_of terms o q)) i ≡ some x → w (out_row terms.rows terms.output_rows q (i + 64)) ≡ x
-    pub readable : (k q : ℕ) (o : Output) → IsGateway terms.gateways k → w (taken k) ≤ q → q < w marshalled → get_elem? (outputs_of terms log.history) q ≡ some o
+    pub readable : (k q : ℕ) (o : Output) → IsGateway terms.gateways k → w (taken k) ≤ q → q < w marshalled
+        → get_elem? (outputs_of terms log.history) q ≡ some o
         → IsPackableText (text_of terms o q)
 
   -- how many persons of all views store the word at k

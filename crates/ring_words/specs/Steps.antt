@@ -1,4 +1,5 @@
--- What each kind of step tells the one who makes it: of the step, the seat before, the number found (at a store, the number stored), and the seat after.
+-- What each kind of step tells the one who makes it: of the step, the seat before, the number found (at a store, the number
+-- stored), and the seat after.
 use Rattle.std.specs.Prelude.{Some, ◌≡◌, ◌≢◌, ◌⊎◌, ℕ, suc, ◌+◌, ◌^◌, ◌<◌, ◌≤◌, List, [], ◌++◌, length, take, if◌then◌else◌, nat_le}
 use mathlib.Core.Option.{some}
 use lib.ListN.{get_elem?}
@@ -113,15 +114,18 @@ module _ {S L : Type 0} where
 
   -- a compare-exchange of claim from one number to the next
   abbrev pub claims_next : Step S → Seated S L → ℕ → Seated S L → Type 0
-  claims_next st m r m' = (r ≡ st.first → Became m (with_claim (looked (person m.0) claim r) r) m') × (r ≢ st.first → Became m (looked (person m.0) claim r) m') × ClaimsUpTo (person m.0) r
+  claims_next st m r m' = (r ≡ st.first → Became m (with_claim (looked (person m.0) claim r) r) m')
+      × (r ≢ st.first → Became m (looked (person m.0) claim r) m') × ClaimsUpTo (person m.0) r
 
   -- a store of a raw word in a row that the gateway claimed
   abbrev pub stores_raw : ℕ → Step S → Seated S L → ℕ → Seated S L → Type 0
-  stores_raw n st m r m' = (s i : ℕ) → 0 < times s (person m.0).claims → i < 41 → st.word ≡ in_row n s (i + 1) → Became m (stored (person m.0) s i r) m'
+  stores_raw n st m r m' = (s i : ℕ) → 0 < times s (person m.0).claims → i < 41 → st.word ≡ in_row n s (i + 1)
+      → Became m (stored (person m.0) s i r) m'
 
   -- a store of a command word in the row of a sequence that is known and not released
   abbrev pub stores_command : ℕ → Step S → Seated S L → ℕ → Seated S L → Type 0
-  stores_command n st m r m' = (s i : ℕ) → (person m.0).own ≤ s → s < length (person m.0).seen → i < 16 → st.word ≡ in_row n s (i + 48) → Became m (stored (person m.0) s i r) m'
+  stores_command n st m r m' = (s i : ℕ) → (person m.0).own ≤ s → s < length (person m.0).seen
+      → i < 16 → st.word ≡ in_row n s (i + 48) → Became m (stored (person m.0) s i r) m'
 
   -- a store of availability, when the words stored spell the message
   abbrev pub marks_sent : Step S → Seated S L → ℕ → Seated S L → Type 0
@@ -129,13 +133,15 @@ module _ {S L : Type 0} where
 
   -- a load of the availability word of the next sequence
   abbrev pub sees_mark : Step S → Seated S L → ℕ → Seated S L → Type 0
-  sees_mark st m r m' = (r ≡ suc (length (person m.0).seen) → (length (person m.0).seen < 2 ^ 48) × ((e : Message) × IsEntry e × Became m (saw (looked (person m.0) st.word r) e) m'))
+  sees_mark st m r m' = (r ≡ suc (length (person m.0).seen)
+      → (length (person m.0).seen < 2 ^ 48) × ((e : Message) × IsEntry e × Became m (saw (looked (person m.0) st.word r) e) m'))
       × (r ≢ suc (length (person m.0).seen) → Became m (looked (person m.0) st.word r) m')
 
   -- a load of a raw word of an entry that is known and not released
   abbrev pub sees_raw : ℕ → Step S → Seated S L → ℕ → Seated S L → Type 0
   sees_raw n st m r m' = Became m (looked (person m.0) st.word r) m'
-      × ((s i : ℕ) (e : Message) → get_elem? (person m.0).seen s ≡ some e → (person m.0).own ≤ s → i < raw_count e → st.word ≡ in_row n s (i + 1) → (r ≡ raw_word e i) × IsEntry e)
+      × ((s i : ℕ) (e : Message) → get_elem? (person m.0).seen s ≡ some e → (person m.0).own ≤ s
+      → i < raw_count e → st.word ≡ in_row n s (i + 1) → (r ≡ raw_word e i) × IsEntry e)
 
   -- a load of unmarshalled
   abbrev pub sees_unmarshalled : Step S → Seated S L → ℕ → Seated S L → Type 0
@@ -151,7 +157,8 @@ module _ {S L : Type 0} where
   abbrev pub sees_command : ℕ → (L → ℕ → Message → Command) → Step S → Seated S L → ℕ → Seated S L → Type 0
   sees_command n reads st m r m' = Became m (looked (person m.0) st.word r) m'
       × ((logic : L) (s i x : ℕ) (e : Message) → m.0.logic ≡ Some logic → get_elem? (person m.0).seen s ≡ some e → (person m.0).own ≤ s
-      → get_elem? (command_words e.gateway (reads logic s e)) i ≡ some x → st.word ≡ in_row n s (i + 48) → (r ≡ x) × IsPackable e.gateway (reads logic s e) × IsEntry e)
+      → get_elem? (command_words e.gateway (reads logic s e)) i ≡ some x → st.word ≡ in_row n s (i + 48)
+      → (r ≡ x) × IsPackable e.gateway (reads logic s e) × IsEntry e)
 
   -- a store of the own word
   abbrev pub moves_own : Step S → Seated S L → ℕ → Seated S L → Type 0
@@ -159,11 +166,13 @@ module _ {S L : Type 0} where
 
   -- a load of a gateway's taken word by the processor, in a ring of m output rows
   abbrev pub sees_taken : ℕ → Step S → Seated S L → ℕ → Seated S L → Type 0
-  sees_taken rows st m r after = Became m (looked (person m.0) st.word r) after × (r ≤ (person m.0).part.sequence) × ((person m.0).part.sequence ≤ r + rows)
+  sees_taken rows st m r after = Became m (looked (person m.0) st.word r) after
+      × (r ≤ (person m.0).part.sequence) × ((person m.0).part.sequence ≤ r + rows)
 
   -- a store of an output word in the row of the next place
   abbrev pub stores_output : ℕ → ℕ → Step S → Seated S L → ℕ → Seated S L → Type 0
-  stores_output n rows st m r after = (i : ℕ) → i < 60 → st.word ≡ out_row n rows (person m.0).part.sequence i → Became m (stored (person m.0) (person m.0).part.sequence i r) after
+  stores_output n rows st m r after = (i : ℕ) → i < 60 → st.word ≡ out_row n rows (person m.0).part.sequence i
+      → Became m (stored (person m.0) (person m.0).part.sequence i r) after
 
   -- a store of published
   abbrev pub publishes : Step S → Seated S L → ℕ → Seated S L → Type 0
@@ -173,7 +182,8 @@ module _ {S L : Type 0} where
   -- known
   abbrev pub sees_output : Readable → (L → List Message → List Output) → Step S → Seated S L → ℕ → Seated S L → Type 0
   sees_output ring outputs st m r after = Became m (looked (person m.0) st.word r) after
-      × ((logic : L) (q i x : ℕ) (o : Output) → m.0.logic ≡ Some logic → get_elem? (outputs logic (person m.0).seen) q ≡ some o → (person m.0).own ≤ q → Shows ring.gate (person m.0) q
+      × ((logic : L) (q i x : ℕ) (o : Output) → m.0.logic ≡ Some logic → get_elem? (outputs logic (person m.0).seen) q ≡ some o
+      → (person m.0).own ≤ q → Shows ring.gate (person m.0) q
       → get_elem? (output_words o) i ≡ some x → st.word ≡ out_row ring.rows ring.output_rows q i → (r ≡ x) × IsPackableOutput o)
 
   -- a load of published: the marshaller knows a history that has so many outputs
@@ -184,7 +194,8 @@ module _ {S L : Type 0} where
 
   -- a store of a text word in the row of an output that is published and not released
   abbrev pub stores_text : ℕ → ℕ → Step S → Seated S L → ℕ → Seated S L → Type 0
-  stores_text n rows st m r after = (q i : ℕ) → (person m.0).own ≤ q → Shows published (person m.0) q → i < 64 → st.word ≡ out_row n rows q (i + 64) → Became m (stored (person m.0) q i r) after
+  stores_text n rows st m r after = (q i : ℕ) → (person m.0).own ≤ q → Shows published (person m.0) q
+      → i < 64 → st.word ≡ out_row n rows q (i + 64) → Became m (stored (person m.0) q i r) after
 
   -- a load of marshalled by a gateway: where it shows an output at its place, the gateway knows a history with that output which is legal for it
   abbrev pub sees_marshalled : (L → List Message → List Output) → Step S → Seated S L → ℕ → Seated S L → Type 0
@@ -197,6 +208,7 @@ module _ {S L : Type 0} where
   -- a load of a text word, where a value of the gate was loaded above its place and it isn't taken: the text is that of the output there
   abbrev pub sees_text : Readable → Meaning L → Step S → Seated S L → ℕ → Seated S L → Type 0
   sees_text ring means st m r after = Became m (looked (person m.0) st.word r) after
-      × ((logic : L) (q i x : ℕ) (o : Output) → m.0.logic ≡ Some logic → get_elem? (means.outputs logic (person m.0).seen) q ≡ some o → (person m.0).own ≤ q
-      → Shows ring.gate (person m.0) q → get_elem? (text_words (means.text logic o q)) i ≡ some x → st.word ≡ out_row ring.rows ring.output_rows q (i + 64)
+      × ((logic : L) (q i x : ℕ) (o : Output) → m.0.logic ≡ Some logic → get_elem? (means.outputs logic (person m.0).seen) q ≡ some o
+      → (person m.0).own ≤ q → Shows ring.gate (person m.0) q
+      → get_elem? (text_words (means.text logic o q)) i ≡ some x → st.word ≡ out_row ring.rows ring.output_rows q (i + 64)
       → (r ≡ x) × IsPackableText (means.text logic o q))

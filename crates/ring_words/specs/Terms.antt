@@ -26,7 +26,9 @@ pub record Terms (L : Type 0) : Type 0 where
 module _ {L : Type 0} where
   -- the rings of this setup, where a logic means these
   abbrev pub terms_of : (L → ℕ → Message → Command) → (outputs : L → List Message → List Output) → (L → Output → ℕ → Text)
-      → ((logic : L) → outputs logic [] ≡ []) → ((logic : L) (h : List Message) (e : Message) → (more : List Output) × (outputs logic (h ++ e ∷ []) ≡ outputs logic h ++ more) × (length more ≤ 8194)) → Setup L → Terms L
+      → ((logic : L) → outputs logic [] ≡ [])
+      → ((logic : L) (h : List Message) (e : Message) → (more : List Output) × (outputs logic (h ++ e ∷ []) ≡ outputs logic h ++ more)
+      × (length more ≤ 8194)) → Setup L → Terms L
   terms_of reads outputs text nothing grows k = record {
     rows = k.rows;
     output_rows = k.output_rows;

@@ -95,7 +95,8 @@ pub fn pack(gateway: u8, command: &Command) -> PackedCommand
 
 /// How many words a command with this head has.
 pub fn words_of(head: u64) -> usize
-    ensures count { (gateway : ℕ) (c : Command) → IsPackable gateway c → head ≡ head_word gateway c → result ≡ length (command_words gateway c) }
+    ensures count { (gateway : ℕ) (c : Command) → IsPackable gateway c → head ≡ head_word gateway c
+        → result ≡ length (command_words gateway c) }
     ensures range { (1 ≤ result) × (result ≤ COMMAND_WORDS) }
 {
     match kind_in(head) {

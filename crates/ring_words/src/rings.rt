@@ -28,7 +28,8 @@ impl<L: Logic> TableRule<(), View<L>, Setup<L>> for Ring<L> {
 pub struct Rings<L: Logic, const N: usize, const M: usize, const G: usize> {
     pub(crate) table: Table<(), View<L>, Setup<L>, Ring<L>, Global>,
     ghost rows: { (table.shared.key.rows ≡ N) × (table.shared.key.output_rows ≡ M) × (table.shared.key.gateways ≡ G) },
-    ghost words: { (table.shared.table_id.words ≡ table_words N M) × (0 < N) × (N ≤ 4096) × (0 < M) × (M ≤ 4096) × (1 ≤ G) × (G ≤ 8) },
+    ghost words: { (table.shared.table_id.words ≡ table_words N M)
+        × (0 < N) × (N ≤ 4096) × (0 < M) × (M ≤ 4096) × (1 ≤ G) × (G ≤ 8) },
     ghost bare: { table.shared.table_id.slots ≡ 0 },
 }
 
@@ -37,7 +38,12 @@ impl<L: Logic, const N: usize, const M: usize, const G: usize> Model for Rings<L
 
     ghost Value = { Opened L };
 
-    ghost view = { λ r. record { table = r.table.shared.table_id; logic = r.table.shared.key.logic; base = r.table.shared.key.base.value.items; given = r.table.shared.key.given } };
+    ghost view = { λ r. record {
+      table = r.table.shared.table_id;
+      logic = r.table.shared.key.logic;
+      base = r.table.shared.key.base.value.items;
+      given = r.table.shared.key.given;
+    } };
 }
 
 impl<L: Logic, const N: usize, const M: usize, const G: usize> Rings<L, N, M, G> {

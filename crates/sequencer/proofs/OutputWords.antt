@@ -10,7 +10,6 @@ use Rattle.ring_words.specs.Places.{journalled}
 use Rattle.ring_words.specs.OutputPacking.{output_words, IsPackableOutput}
 use Rattle.ring_words.specs.Seats.{stored, wrote}
 use Rattle.ring_words.specs.At.{At, seated}
-use Rattle.ring_words.specs.At.{At, seated}
 use Rattle.ring_words.specs.Steps.{GoesOn, HasOutputRoom, Shows, WroteOutput}
 
 -- the first words of these, with the next one

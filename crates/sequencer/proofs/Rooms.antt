@@ -1,5 +1,6 @@
 -- The look for room: the taken words are loaded one after another, and the least of them is kept.
 use Rattle.std.proofs.Common.{◌≡◌, ℕ, zero, suc, ◌+◌, ◌<◌, ◌≤◌, List, [], ◌∷◌, ◌++◌, length, min, refl, ap, sym, subst, ◌∙◌, arith, append_assoc, length-append}
+use Rattle.venue_model.specs.ListLaws.{stands, at_behind}
 use mathlib.Core.Option.{some, some-injective, some-ne-none}
 use lib.ListN.{get_elem?}
 use Rattle.ring_words.specs.declared.view.Load.{Load}
@@ -7,9 +8,7 @@ use Rattle.ring_words.specs.declared.view.Person.{Person}
 use Rattle.ring_words.specs.Places.{taken}
 use Rattle.ring_words.specs.Seats.{load_of, looked}
 use Rattle.ring_words.specs.At.{At, seated}
-use Rattle.ring_words.specs.At.{At, seated}
 use Rattle.ring_words.specs.Steps.{HasOutputRoom}
-use Rattle.ring_words.proofs.Logs.{stands, at_behind}
 use Rattle.sequencer.specs.Outputs.{taken_loads, least_from, least, HasLooked}
 
 -- one value more is one load more, of the next gateway's word

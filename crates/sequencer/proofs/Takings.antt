@@ -5,13 +5,12 @@ use mathlib.Core.Option.{some}
 use lib.ListN.{get_elem?}
 use Rattle.venue_model.specs.History.{Message}
 use Rattle.venue_model.specs.declared.outputs.Output.{Output}
+use Rattle.venue_model.specs.ListLaws.{at_behind}
 use Rattle.ring_words.specs.declared.view.Load.{Load}
 use Rattle.ring_words.specs.Places.{marshalled}
 use Rattle.ring_words.specs.Seats.{load_of, looked, knowing, moved}
 use Rattle.ring_words.specs.At.{At, seated}
-use Rattle.ring_words.specs.At.{At, seated}
 use Rattle.ring_words.specs.Steps.{Shows}
-use Rattle.ring_words.proofs.Logs.{at_behind}
 use Rattle.sequencer.specs.Outputs.{OnlyLoads, after_taking, loading}
 
 -- what was known begins what is known

@@ -10,16 +10,15 @@ use lib.ListN.{get_elem?}
 use Rattle.venue_model.specs.History.{Message}
 use Rattle.venue_model.specs.Texts.{Text}
 use Rattle.venue_model.specs.declared.outputs.Output.{Output}
+use Rattle.venue_model.specs.ListLaws.{at_longer, at_behind}
 use Rattle.ring_words.specs.declared.view.Load.{Load}
 use Rattle.ring_words.specs.declared.view.Person.{Person}
 use Rattle.ring_words.specs.Raw.{eight}
 use Rattle.ring_words.specs.Texts.{eights, text_words, IsPackableText}
 use Rattle.ring_words.specs.Seats.{load_of, looked}
 use Rattle.ring_words.specs.At.{At, seated}
-use Rattle.ring_words.specs.At.{At, seated}
 use Rattle.ring_words.specs.Steps.{Shows}
-use Rattle.ring_words.proofs.Raws.{word_bytes}
-use Rattle.ring_words.proofs.Logs.{at_longer, at_behind}
+use Rattle.ring_words.specs.RawLaws.{word_bytes}
 use Rattle.sequencer.specs.declared.take.Head.{Head}
 use Rattle.sequencer.specs.Outputs.{OnlyLoads, loading, IsHead, Carries}
 

@@ -12,7 +12,6 @@ use Rattle.ring_words.specs.Log.{IsEntry}
 use Rattle.ring_words.specs.Raw.{eight, raw_word, raw_count, Spells}
 use Rattle.ring_words.specs.Seats.{stored, marked, wrote}
 use Rattle.ring_words.specs.At.{At, seated}
-use Rattle.ring_words.specs.At.{At, seated}
 use Rattle.ring_words.specs.Steps.{GoesOn}
 use Rattle.sequencer.specs.Words.{first_words, words_of}
 

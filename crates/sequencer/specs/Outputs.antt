@@ -84,4 +84,5 @@ module _ {L : Type 0} where
 
   -- the answer says the output that these have at the gateway's count, by its text
   abbrev pub SaysOutput : List Output → (Output → ℕ → Text) → At L → Take → List ℕ → Type 0
-  SaysOutput outputs text seat answer buf = (o : Output) × (get_elem? outputs seat.who.own ≡ some o) × Says (number seat) o (text o seat.who.own) answer buf
+  SaysOutput outputs text seat answer buf = (o : Output) × (get_elem? outputs seat.who.own ≡ some o)
+      × Says (number seat) o (text o seat.who.own) answer buf

@@ -6,3 +6,7 @@ pub mod Match
 pub mod Requests
 pub mod Step
 pub mod Texts
+pub mod ListLaws
+pub mod ReplacedLaws
+pub mod HistoryLaws
+pub mod GrowthLaws

@@ -1,7 +1,7 @@
 use Rattle.std.proofs.Common.{◌≡◌, ◌∙◌, refl, rules, arith}
 use Rattle.std.proofs.lemmas.List.{length-set}
+use Rattle.venue_model.specs.ListLaws.{stands}
 use Rattle.ring_words.specs.OutputPacking.{output_words}
-use Rattle.ring_words.proofs.Logs.{stands}
 use Rattle.barrier.proofs.CommandWords.{agree_more, agree_whole}
 use Rattle.barrier.proofs.OutputReads.{four_words, kind_read, loads_more, own_stays, shown_stays, output_stays, no_loads, all_loaded}
 use Rattle.barrier.proofs.outputs.read_output.Goals as goal

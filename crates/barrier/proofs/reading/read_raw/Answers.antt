@@ -1,9 +1,9 @@
 use Rattle.std.proofs.Common.{rules, ℕ, List, length, ap, subst, arith, ◌+◌}
 use Rattle.venue_model.specs.History.{Message}
-use Rattle.ring_words.proofs.Logs.{stands}
-use Rattle.ring_words.proofs.Views.{still_at}
+use Rattle.venue_model.specs.ListLaws.{stands}
+use Rattle.ring_words.specs.SeatLaws.{still_at}
+use Rattle.ring_words.specs.RawLaws.{bytes_more, length_kept}
 use Rattle.barrier.specs.Reading.{Reads}
-use Rattle.ring_words.proofs.Buffers.{bytes_more, length_kept}
 use Rattle.barrier.proofs.Words.{loads_more, in_message, loaded_bytes, reads_whole, counted, all_loaded, one_entry, still}
 use Rattle.barrier.proofs.reading.read_raw.Goals as goal
 

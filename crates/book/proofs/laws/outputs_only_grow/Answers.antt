@@ -1,4 +1,4 @@
-use Rattle.venue_model.proofs.Bounds.{outputs-more, outputs-one, state-more}
+use Rattle.venue_model.specs.HistoryLaws.{outputs-more, outputs-one, state-more}
 use Rattle.book.proofs.laws.outputs_only_grow.Goals as goal
 
 pub returns-clause-begin : goal.returns-clause-begin

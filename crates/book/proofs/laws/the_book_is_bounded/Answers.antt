@@ -1,4 +1,4 @@
-use Rattle.venue_model.proofs.Bounds.{few-resting, few-outputs}
+use Rattle.venue_model.specs.HistoryLaws.{few-resting, few-outputs}
 use Rattle.book.proofs.laws.the_book_is_bounded.Goals as goal
 
 pub returns-clause-resting : goal.returns-clause-resting

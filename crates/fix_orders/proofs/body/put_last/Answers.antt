@@ -1,4 +1,4 @@
-use Rattle.fix_orders.proofs.WritingLemmas.{◌⨟◌}
+use Rattle.fix_orders.specs.WritingLaws.{◌⨟◌}
 use Rattle.fix_orders.proofs.body.put_last.Goals as goal
 
 pub returns-clause-puts : goal.returns-clause-puts

@@ -1,4 +1,4 @@
-use Rattle.fix_orders.proofs.WritingLemmas.{◌⨟◌}
+use Rattle.fix_orders.specs.WritingLaws.{◌⨟◌}
 use Rattle.fix_orders.proofs.body.put_refusal.Goals as goal
 
 pub returns-in-BookFull-clause-puts : goal.returns-in-BookFull-clause-puts

@@ -1,7 +1,7 @@
 use Rattle.std.proofs.Common.{◌∙◌, sym, refl}
 use Rattle.fix_frame.specs.Borrowed.{body_fields}
-use Rattle.fix_orders.proofs.ExactLemmas.{reads_frame, reads_none}
-use Rattle.fix_orders.proofs.RangeLemmas.{reads_within}
+use Rattle.fix_orders.specs.ExactLaws.{reads_frame, reads_none}
+use Rattle.fix_orders.specs.RangeLaws.{reads_within}
 use Rattle.fix_orders.proofs.command.decode.Goals as goal
 
 pub returns-in-Some : goal.returns-in-Some

@@ -3,7 +3,7 @@ use Rattle.fix_orders.specs.Formats.{value_of, format_of}
 use Rattle.fix_orders.specs.OrderTags.{number_of}
 use Rattle.fix_orders.specs.Values.{value_in}
 use Rattle.fix_orders.specs.declared.number.TheConstants.{MOST}
-use Rattle.fix_orders.proofs.FaultLemmas.{short_number}
+use Rattle.fix_orders.specs.FaultLaws.{short_number}
 use Rattle.fix_orders.proofs.NumberLemmas.{no_number}
 use Rattle.fix_orders.proofs.command.number_at.Goals as goal
 

@@ -3,7 +3,7 @@ use Rattle.std.proofs.lemmas.List.{drop_all}
 use Rattle.venue_model.specs.declared.commands.SessionRejectReason.{SessionRejectReason}
 use Rattle.fix_orders.specs.Findings.{fault_in}
 use Rattle.fix_orders.specs.Reading.{classes}
-use Rattle.fix_orders.proofs.FaultLemmas.{fault_found, fault_later}
+use Rattle.fix_orders.specs.FaultLaws.{fault_found, fault_later}
 use Rattle.fix_orders.proofs.faults.first_fault.Goals as goal
 
 pub returns-in-Some : goal.returns-in-Some

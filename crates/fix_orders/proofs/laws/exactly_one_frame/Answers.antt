@@ -1,4 +1,4 @@
-use Rattle.fix_orders.proofs.ExactLemmas.{exact_sound, exact_complete}
+use Rattle.fix_orders.specs.ExactLaws.{exact_sound, exact_complete}
 use Rattle.fix_orders.proofs.laws.exactly_one_frame.Goals as goal
 
 pub returns-clause-found : goal.returns-clause-found

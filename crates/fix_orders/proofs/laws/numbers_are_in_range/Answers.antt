@@ -1,4 +1,4 @@
-use Rattle.fix_orders.proofs.RangeLemmas.{command_within, reads_within}
+use Rattle.fix_orders.specs.RangeLaws.{command_within, reads_within}
 use Rattle.fix_orders.proofs.laws.numbers_are_in_range.Goals as goal
 
 pub returns-clause-bytes : goal.returns-clause-bytes

@@ -1,5 +1,5 @@
 use Rattle.std.proofs.Common.{rules, arith}
-use Rattle.fix_orders.proofs.WritingLemmas.{length_digit, length_digits, puts_more}
+use Rattle.fix_orders.specs.WritingLaws.{length_digit, length_digits, puts_more}
 use Rattle.fix_orders.proofs.put.+put_many.Goals as goal
 
 pub put_digit-requires-clause-room : goal.put_digit-requires-clause-room

@@ -1,4 +1,4 @@
-use Rattle.fix_orders.proofs.WritingLemmas.{puts_digit}
+use Rattle.fix_orders.specs.WritingLaws.{puts_digit}
 use Rattle.fix_orders.proofs.put.put_digit.Goals as goal
 
 pub returns : goal.returns

@@ -1,4 +1,4 @@
-use Rattle.fix_orders.proofs.WritingLemmas.{puts_field}
+use Rattle.fix_orders.specs.WritingLaws.{puts_field}
 use Rattle.fix_orders.proofs.put.put_field.Goals as goal
 
 pub returns-clause-puts : goal.returns-clause-puts

@@ -1,6 +1,6 @@
 use Rattle.std.proofs.Common.{◌∙◌, arith}
 use Rattle.fix_orders.proofs.TimeLemmas.{time_parts, puts_all}
-use Rattle.fix_orders.proofs.WritingLemmas.{puts_join}
+use Rattle.fix_orders.specs.WritingLaws.{puts_join}
 use Rattle.fix_orders.proofs.time.time_text.Goals as goal
 
 pub returns : goal.returns

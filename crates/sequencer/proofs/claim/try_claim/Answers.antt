@@ -1,6 +1,6 @@
 use Rattle.std.proofs.Common.{ℕ, ◌+◌, ◌≤◌, rules, arith}
 use Rattle.ring_words.specs.Steps.{ClaimsUpTo}
-use Rattle.ring_words.proofs.Views.{room_just_loaded, claims_before, claim_just_loaded}
+use Rattle.ring_words.specs.SeatLaws.{room_just_loaded, claims_before, claim_just_loaded}
 use Rattle.sequencer.proofs.claim.try_claim.Goals as goal
 
 pub exchange_claim-found-requires : goal.exchange_claim-found-requires

@@ -1,7 +1,6 @@
 use Rattle.std.proofs.Common.{◌≡◌, ◌+◌, ◌≤◌}
 use Rattle.ring_words.specs.Seats.{wrote}
 use Rattle.ring_words.specs.At.{IsAt, seated, number}
-use Rattle.ring_words.specs.At.{IsAt, seated, number}
 use Rattle.sequencer.specs.Words.{first_words}
 use Rattle.sequencer.proofs.publish.store_words.Given as goal
 

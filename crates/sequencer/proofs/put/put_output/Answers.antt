@@ -2,7 +2,6 @@ use Rattle.std.proofs.Common.{rules, arith, ap, List, ℕ, ◌∙◌, ◌≡◌}
 use Rattle.ring_words.specs.OutputPacking.{output_words}
 use Rattle.ring_words.specs.Seats.{wrote}
 use Rattle.ring_words.specs.At.{seated}
-use Rattle.ring_words.specs.At.{seated}
 use Rattle.sequencer.proofs.OutputWords.{room_kept, wrote_output}
 use Rattle.sequencer.proofs.put.put_output.Goals as goal
 

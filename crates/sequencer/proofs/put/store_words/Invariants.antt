@@ -1,7 +1,6 @@
 use Rattle.std.proofs.Common.{◌≡◌, take}
 use Rattle.ring_words.specs.Seats.{wrote}
 use Rattle.ring_words.specs.At.{IsAt, seated}
-use Rattle.ring_words.specs.At.{IsAt, seated}
 use Rattle.sequencer.proofs.put.store_words.Given as goal
 
 abbrev pub invariant-loop-index : goal.invariant-loop-index

@@ -1,6 +1,6 @@
 use Rattle.std.proofs.Common.{rules, arith, ap, List, ℕ, length, ◌∙◌}
 use Rattle.ring_words.specs.Places.{marshalled}
-use Rattle.ring_words.proofs.Buffers.{bytes_more, length_kept}
+use Rattle.ring_words.specs.RawLaws.{bytes_more, length_kept}
 use Rattle.sequencer.proofs.TextReading.{one_load, still_shows, still_own, still_at, text_at, in_body, in_buffer, loaded_bytes, carries}
 use Rattle.sequencer.proofs.take.read_text.Goals as goal
 

@@ -2,8 +2,7 @@ use Rattle.std.proofs.Common.{rules, ◌∙◌, ap}
 use Rattle.ring_words.specs.Terms.{terms_of}
 use Rattle.ring_words.specs.Seats.{person}
 use Rattle.ring_words.specs.Steps.{Seated}
-use Rattle.ring_words.proofs.Joins.{joins}
-use Rattle.ring_words.proofs.Meetings.{spares}
+use Rattle.ring_words.proofs.Seatings.{joins, spares}
 use Rattle.ring_words.proofs.rings.Rings.bring_together.Goals as goal
 
 pub split_seat-spare-requires : goal.split_seat-spare-requires

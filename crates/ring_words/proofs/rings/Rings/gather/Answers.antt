@@ -1,9 +1,9 @@
 use Rattle.std.proofs.Common.{rules, ◌≡◌, ◌∙◌, [], ◌∷◌, ◌++◌, List, length, ap, sym, subst, refl}
 use Rattle.atomic_table.proofs.Lists.{at_last}
+use Rattle.venue_model.specs.ListLaws.{stands}
 use Rattle.ring_words.specs.At.{Opened, At}
 use Rattle.ring_words.specs.Terms.{terms_of}
-use Rattle.ring_words.proofs.Joins.{joins}
-use Rattle.ring_words.proofs.Logs.{stands}
+use Rattle.ring_words.proofs.Seatings.{joins}
 use Rattle.ring_words.proofs.Endings.{Gathering, begins_with, gathers_none, gathers_one}
 use Rattle.ring_words.proofs.rings.Rings.gather.Goals as goal
 

@@ -3,7 +3,7 @@ use Rattle.ring_words.specs.declared.view.Person.{Person}
 use Rattle.ring_words.specs.Terms.{terms_of}
 use Rattle.ring_words.specs.Seats.{person}
 use Rattle.ring_words.specs.Steps.{Seated}
-use Rattle.ring_words.proofs.Joins.{joins}
+use Rattle.ring_words.proofs.Seatings.{joins}
 use Rattle.ring_words.proofs.rings.Rings.gather_stages.Goals as goal
 
 pub join_seat-requires : goal.join_seat-requires

@@ -2,9 +2,9 @@ use Rattle.std.proofs.Common.{rules, ◌+◌, ◌∙◌, ap, sym, arith}
 use Rattle.ring_words.specs.Terms.{terms_of}
 use Rattle.ring_words.specs.Seats.{person, last_from}
 use Rattle.ring_words.specs.Steps.{Seated}
+use Rattle.ring_words.specs.SeatLaws.{last_kept}
 use Rattle.ring_words.proofs.Windows.{no_control}
 use Rattle.ring_words.proofs.Becomes.{still_sits}
-use Rattle.ring_words.proofs.Views.{last_kept}
 use Rattle.ring_words.proofs.Loads.{loads_command_in}
 use Rattle.ring_words.proofs.rings.Rings.load_command.Goals as goal
 

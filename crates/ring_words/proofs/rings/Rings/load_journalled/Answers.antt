@@ -1,12 +1,18 @@
-use Rattle.std.proofs.Common.{rules, ◌≡◌, ◌<◌, ◌≤◌, ◌^◌, ◌∙◌, ◌++◌, ℕ, length, ap, sym, arith}
+use Rattle.std.proofs.Common.{rules, ◌≡◌, ◌<◌, ◌≤◌, ◌^◌, ◌∙◌, ◌++◌, ℕ, List, inl, inr, length, ap, sym, arith}
+use Rattle.venue_model.specs.History.{Message}
 use Rattle.ring_words.specs.Places.{unmarshalled}
 use Rattle.ring_words.specs.Terms.{terms_of}
 use Rattle.ring_words.specs.Seats.{person, last_from}
-use Rattle.ring_words.specs.Steps.{Seated, lesser}
+use Rattle.ring_words.specs.Steps.{Seated, Reaches, lesser}
+use Rattle.ring_words.specs.SeatLaws.{last_kept, not_reached}
 use Rattle.ring_words.proofs.Loads.{loads_journalled, lesser_low}
 use Rattle.ring_words.proofs.Becomes.{still_sits}
-use Rattle.ring_words.proofs.Views.{last_kept, reached, not_reached}
 use Rattle.ring_words.proofs.rings.Rings.load_journalled.Goals as goal
+
+-- how many entries are known behind a load of journalled
+reached : (x : ℕ) (seen rest : List Message) → Reaches x seen rest → length seen < x → length (seen ++ rest) ≡ x
+reached x seen rest (inl none_more) far = let le : x ≤ length seen = none_more.0 in absurd (omega arith)
+reached x seen rest (inr more) far = more.1
 
 pub load-found-requires : goal.load-found-requires
 load-found-requires g c = let key = c.self.inside.table.shared.key in

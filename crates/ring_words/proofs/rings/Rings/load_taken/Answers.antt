@@ -2,8 +2,8 @@ use Rattle.std.proofs.Common.{rules, ◌≡◌, ◌*◌, ◌+◌, ◌∙◌, ℕ
 use Rattle.ring_words.specs.Terms.{terms_of}
 use Rattle.ring_words.specs.Seats.{person, last_from}
 use Rattle.ring_words.specs.Steps.{Seated}
+use Rattle.ring_words.specs.SeatLaws.{last_kept}
 use Rattle.ring_words.proofs.Becomes.{still_sits}
-use Rattle.ring_words.proofs.Views.{last_kept}
 use Rattle.ring_words.proofs.Putting.{loads_taken_in}
 use Rattle.ring_words.proofs.rings.Rings.load_taken.Goals as goal
 

@@ -2,9 +2,9 @@ use Rattle.std.proofs.Common.{rules, ◌∙◌, ap, sym}
 use Rattle.ring_words.specs.Terms.{terms_of}
 use Rattle.ring_words.specs.Seats.{person, last_from}
 use Rattle.ring_words.specs.Steps.{Seated}
+use Rattle.ring_words.specs.SeatLaws.{last_loaded}
 use Rattle.ring_words.proofs.Loads.{loads_unmarshalled}
 use Rattle.ring_words.proofs.Becomes.{still_sits}
-use Rattle.ring_words.proofs.Views.{last_loaded}
 use Rattle.ring_words.proofs.rings.Rings.load_unmarshalled.Goals as goal
 
 pub load-found-requires : goal.load-found-requires

@@ -7,7 +7,8 @@ use Rattle.ring_words.specs.At.{At, Steps, seat_of}
 use Rattle.ring_words.specs.Steps.{Seated}
 use Rattle.ring_words.specs.Meeting.{longer, met, AreMet}
 use Rattle.ring_words.proofs.Becomes.{still_sits, parted_first, parted_second, steps, steps_either}
-use Rattle.ring_words.proofs.Meetings.{loads_meeting, parts, both_people}
+use Rattle.ring_words.proofs.Meetings.{loads_meeting, both_people}
+use Rattle.ring_words.proofs.Seatings.{parts}
 use Rattle.ring_words.proofs.rings.Rings.meet.Goals as goal
 
 pub load-requires : goal.load-requires
@@ -19,12 +20,8 @@ load-requires g c = let key = c.self.inside.table.shared.key in let one = c.one.
 )
 
 pub split_seat-requires : goal.split_seat-requires
-split_seat-requires g c = let key = c.self.inside.table.shared.key in let one = c.one.inside in let other = c.other.inside in
-    let learned = c.load.ensures.2 (person one.seat.me.0) (person other.seat.me.0) one.number other.number (both_people one.seat.me.0 other.seat.me.0 _ one.alone other.alone c.bring_together.ensures.first.1) one.role other.role in (
-      search rules,
-      search rules,
-      parts (Unit {0}) (terms_of g.L.Logic.reads g.L.Logic.outputs g.L.Logic.text g.L.Logic.nothing g.L.Logic.grows key) _ _ _ _ (ap (λ (z : Seated (Unit {0}) g.row.L.Denot). z.0.people) learned.0),
-    )
+split_seat-requires g c = let key = c.self.inside.table.shared.key in
+    (search rules, search rules, parts (Unit {0}) (terms_of g.L.Logic.reads g.L.Logic.outputs g.L.Logic.text g.L.Logic.nothing g.L.Logic.grows key) _ _)
 
 pub invariant_of-one-inside : goal.invariant_of-one-inside
 invariant_of-one-inside g c = let one = c.one.inside in let other = c.other.inside in let came = c.bring_together.ensures.first.1 in

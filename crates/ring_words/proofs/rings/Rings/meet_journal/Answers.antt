@@ -7,7 +7,8 @@ use Rattle.ring_words.specs.At.{At, Steps, seat_of}
 use Rattle.ring_words.specs.Steps.{Seated}
 use Rattle.ring_words.specs.Meeting.{met, MeetsJournal}
 use Rattle.ring_words.proofs.Becomes.{still_sits, parted_first, parted_second, steps, steps_either}
-use Rattle.ring_words.proofs.Meetings.{loads_journal, parts, both_people}
+use Rattle.ring_words.proofs.Meetings.{loads_journal, both_people}
+use Rattle.ring_words.proofs.Seatings.{parts}
 use Rattle.ring_words.proofs.rings.Rings.meet_journal.Goals as goal
 
 pub load-requires : goal.load-requires
@@ -19,12 +20,8 @@ load-requires g c = let key = c.self.inside.table.shared.key in let gateway = c.
 )
 
 pub split_seat-requires : goal.split_seat-requires
-split_seat-requires g c = let key = c.self.inside.table.shared.key in let gateway = c.gateway.inside in let journal = c.journal.inside in
-    let learned = c.load.ensures.2 (person gateway.seat.me.0) (person journal.seat.me.0) gateway.number (both_people gateway.seat.me.0 journal.seat.me.0 _ gateway.alone journal.alone c.bring_together.ensures.first.1) gateway.role journal.role (subst (λ (x : ℕ). x ≤ length (person journal.seat.me.0).seen) journal.counts.1 (subst (λ (x : ℕ). journal.own ≤ x) journal.counts.0 journal.counts.2)) in (
-      search rules,
-      search rules,
-      parts (Unit {0}) (terms_of g.L.Logic.reads g.L.Logic.outputs g.L.Logic.text g.L.Logic.nothing g.L.Logic.grows key) _ _ _ _ (ap (λ (z : Seated (Unit {0}) g.row.L.Denot). z.0.people) learned.0),
-    )
+split_seat-requires g c = let key = c.self.inside.table.shared.key in
+    (search rules, search rules, parts (Unit {0}) (terms_of g.L.Logic.reads g.L.Logic.outputs g.L.Logic.text g.L.Logic.nothing g.L.Logic.grows key) _ _)
 
 pub invariant_of-gateway-inside : goal.invariant_of-gateway-inside
 invariant_of-gateway-inside g c = let gateway = c.gateway.inside in let journal = c.journal.inside in let came = c.bring_together.ensures.first.1 in

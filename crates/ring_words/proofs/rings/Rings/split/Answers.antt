@@ -1,7 +1,7 @@
 use Rattle.std.proofs.Common.{rules}
+use Rattle.venue_model.specs.ListLaws.{stands}
 use Rattle.ring_words.specs.Terms.{terms_of}
-use Rattle.ring_words.proofs.Logs.{stands}
-use Rattle.ring_words.proofs.Opens.{splits}
+use Rattle.ring_words.proofs.Seatings.{splits}
 use Rattle.ring_words.proofs.Endings.{begins_with}
 use Rattle.ring_words.proofs.rings.Rings.split.Goals as goal
 

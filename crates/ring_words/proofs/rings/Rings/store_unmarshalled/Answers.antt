@@ -1,7 +1,7 @@
 use Rattle.std.proofs.Common.{rules, arith}
+use Rattle.venue_model.specs.ListLaws.{within}
 use Rattle.ring_words.specs.Terms.{terms_of}
 use Rattle.ring_words.specs.Seats.{person}
-use Rattle.ring_words.proofs.Logs.{within}
 use Rattle.ring_words.proofs.Becomes.{still_sits}
 use Rattle.ring_words.proofs.Stores.{stores_unmarshalled}
 use Rattle.ring_words.proofs.rings.Rings.store_unmarshalled.Goals as goal

@@ -22,7 +22,7 @@ use Rattle.venue_model.specs.declared.outputs.ExecType.{ExecType}
 use Rattle.venue_model.specs.declared.outputs.ExecType.TheVariants.{New, Trade, Canceled, Replaced, Rejected}
 use Rattle.fix_orders.specs.Reading.{is_field}
 use Rattle.fix_orders.specs.Text.{field, number, side_code, exec_code, status_code, resting_status, named_status, response_code, cancel_reject_code, type_code, reject_code}
-use Rattle.fix_orders.proofs.ExactLemmas.{field_from, digits_lack, all_from}
+use Rattle.fix_orders.specs.ExactLaws.{field_from, digits_lack, all_from}
 
 -- a number, whatever its tag
 pub number_field : (tag n : ℕ) → 1 ≤ tag → tag ≤ 99999 → n < 2 ^ 64 → IsField (number tag n)

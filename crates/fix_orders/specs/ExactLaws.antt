@@ -17,7 +17,7 @@ use Rattle.venue_model.specs.declared.commands.Command.TheVariants.{Void}
 use Rattle.fix_orders.specs.Reading.{is_field, begins_with_type, is_body, between, exact_fields, command_of, reads}
 use Rattle.std.specs.Option.{option_map_or}
 use Rattle.fix_orders.specs.Text.{field}
-use Rattle.fix_orders.proofs.WritingLemmas.{print_fields-append}
+use Rattle.fix_orders.specs.WritingLaws.{print_fields-append}
 
 -- a test of each element, and a fact of each
 pub all_from : {X : Type 0} (p : X → Bool) (P : X → Type 0) → ((x : X) → p x ≡ true → P x) → (xs : List X)

@@ -1,20 +1,19 @@
--- Small facts on what a person knows, for callers of the steps.
-use Rattle.std.proofs.Common.{◌≡◌, ◌≢◌, ◌∙◌, List, inl, inr, ap, ◌++◌, cond, ℕ, suc, ◌+◌, ◌<◌, ◌≤◌, [], ◌∷◌, eqb, length, refl, sym, subst, arith}
+-- Laws on a seat behind a step: what its person loaded and knows, and whose seat it is.
+use Rattle.std.proofs.Common.{◌≡◌, ◌≢◌, ◌∙◌, List, inl, inr, ap, ◌++◌, cond, ℕ, ◌+◌, ◌<◌, ◌≤◌, [], ◌∷◌, eqb, length, refl, sym, arith}
 use Rattle.std.proofs.lemmas.List.{append-nil}
 use Rattle.std.proofs.lemmas.Bool.{eq-eqb, ne_eqb, cond-true, cond-false}
-use Rattle.atomic_table.proofs.Lists.{at_last, at_longer}
 use Rattle.venue_model.specs.History.{Message}
+use Rattle.venue_model.specs.ListLaws.{at_longer, at_behind}
 use Rattle.ring_words.specs.declared.view.Load.{Load}
 use Rattle.ring_words.specs.declared.view.Person.{Person}
 use Rattle.ring_words.specs.Places.{claim, processed}
-use Rattle.ring_words.specs.Log.{times}
-use Rattle.ring_words.specs.Seats.{load_of, looked, with_claim, last_from}
+use Rattle.ring_words.specs.Seats.{load_of, looked, last_from}
 use Rattle.ring_words.specs.At.{Opened, At, at, seated, IsAt, Steps}
 use Rattle.ring_words.specs.Steps.{ClaimsUpTo, HasRoom, Reaches}
 
 -- a processed value that was just loaded leaves room
 pub room_just_loaded : (n : ℕ) (p : Person) (x s : ℕ) → s < x + n → HasRoom n (looked p processed x) s
-room_just_loaded n p x s room = (length p.loads, (load_of processed x, at_last p.loads (load_of processed x) (length p.loads) refl, refl, room))
+room_just_loaded n p x s room = (length p.loads, (load_of processed x, at_behind p.loads (load_of processed x ∷ []) 0 (length p.loads) _ (omega arith) refl, refl, room))
 
 -- a bound on the claim values loaded is one on those loaded before the last load
 pub claims_before : (p : Person) (k y x : ℕ) → ClaimsUpTo (looked p k y) x → ClaimsUpTo p x
@@ -22,13 +21,9 @@ claims_before p k y x most i l there = most i l (at_longer p.loads (load_of k y 
 
 -- a bound on the claim values loaded is one on the claim value that was just loaded
 pub claim_just_loaded : (p : Person) (s x : ℕ) → ClaimsUpTo (looked p claim s) x → s ≤ x
-claim_just_loaded p s x most = most (length p.loads) (load_of claim s) (at_last p.loads (load_of claim s) (length p.loads) refl) refl
+claim_just_loaded p s x most = most (length p.loads) (load_of claim s) (at_behind p.loads (load_of claim s ∷ []) 0 (length p.loads) _ (omega arith) refl) refl
 
--- how many entries are known behind a load of journalled
-pub reached : (x : ℕ) (seen rest : List Message) → Reaches x seen rest → length seen < x → length (seen ++ rest) ≡ x
-reached x seen rest (inl none_more) far = let le : x ≤ length seen = none_more.0 in absurd (omega arith)
-reached x seen rest (inr more) far = more.1
-
+-- where journalled shows no more than is known, no entry more is known
 pub not_reached : (x : ℕ) (seen rest : List Message) → Reaches x seen rest → x ≤ length seen → length (seen ++ rest) ≡ length seen
 not_reached x seen rest (inl none_more) near = ap (λ (l : List Message). length (seen ++ l)) none_more.1 ∙ ap (λ (l : List Message). length l) (append-nil seen)
 not_reached x seen rest (inr more) near = let lt : length seen < x = more.0 in absurd (omega arith)
@@ -38,7 +33,7 @@ pub last_loaded : (k d x : ℕ) (ls : List Load) → last_from k d (ls ++ load_o
 last_loaded k d x [] = cond-true (eqb k k) x d (eq-eqb k k refl)
 last_loaded k d x (l ∷ ls) = last_loaded k (cond (eqb l.place k) l.value d) x ls
 
--- a load of another word leaves it
+-- a load of another word leaves the value that was loaded last
 pub last_kept : (k j d x : ℕ) (ls : List Load) → j ≢ k → last_from k d (ls ++ load_of j x ∷ []) ≡ last_from k d ls
 last_kept k j d x [] ne = cond-false (eqb j k) x d (ne_eqb j k ne)
 last_kept k j d x (l ∷ ls) ne = last_kept k j (cond (eqb l.place k) l.value d) x ls ne

@@ -12,7 +12,7 @@ use Rattle.fix_orders.specs.Formats.{format_of}
 use Rattle.fix_orders.specs.Formats.Format.{number_to}
 use Rattle.fix_orders.specs.Header.{Header, header_of}
 use Rattle.fix_orders.specs.Reading.{number_at, required, is_among, type_of, classes, first_fault, judged, typed, headed, command_of, exact_fields, reads}
-use Rattle.fix_orders.proofs.FaultLemmas.{right_value}
+use Rattle.fix_orders.specs.FaultLaws.{right_value}
 
 -- in a message without a fault a required number is in its range
 required_number : (kind : RefMsgType) (fields : List Field) → first_fault classes kind fields ≡ None

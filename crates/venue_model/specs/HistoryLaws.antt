@@ -25,7 +25,7 @@ use Rattle.venue_model.specs.Orders.{leaves, is_live, crosses, ahead}
 use Rattle.venue_model.specs.Match.{crossing, fill, done, rest, settled, output, exec, insert_by_priority, by_priority, filled_orders, trade, trades, can_fill, live_alone, matched, canceled_rest, match_outputs}
 use Rattle.venue_model.specs.Requests.{Symbols, State, Stepped, most_resting, is_day, new_refusal, new_answered, entering, greatest_of, accepted, is_named, named, others, cancel_refusal, cancel_reject, cancel_answered, order_canceled, replace_refusal, replace_reject, replace_answered, restamped, amended, order_replaced}
 use Rattle.venue_model.specs.Step.{Request, cause, obey, step, empty, state_from, outputs_from, state, outputs, requests_from, requests}
-use Rattle.venue_model.proofs.Replaced.{either_way}
+use Rattle.venue_model.specs.ReplacedLaws.{either_way}
 
 -- HISTORIES
 

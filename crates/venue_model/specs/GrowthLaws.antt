@@ -5,7 +5,7 @@ use Rattle.venue_model.specs.declared.outputs.Output.{Output}
 use Rattle.venue_model.specs.History.{Message}
 use Rattle.venue_model.specs.Requests.{Symbols, State, most_resting}
 use Rattle.venue_model.specs.Step.{Request, step, empty, outputs_from, outputs, requests_from, requests}
-use Rattle.venue_model.proofs.Bounds.{few-step, grows}
+use Rattle.venue_model.specs.HistoryLaws.{few-step, grows}
 
 -- each message is one request
 pub length-requests : (reads : ℕ → Message → Command) (sequence : ℕ) (h : List Message) → length (requests_from reads sequence h) ≡ length h
