@@ -3,6 +3,7 @@ ghost use Rattle.std.specs.Prelude.{◌≡◌, [], false, IfOk, IfSome};
 ghost use Rattle.venue_model.specs.Step.{empty};
 ghost use Rattle.ring_words.specs.At.{IsAt};
 ghost use Rattle.ring_words.specs.Crew.{AreNewGateways, AreNew};
+ghost use Rattle.stages.specs.Crews.{AreAt};
 ghost use Rattle.std.specs.Thread.{IsSync};
 
 use crate::fault::Fault;
@@ -12,11 +13,11 @@ use crate::words::Task;
 use book::{Book, BookLogic};
 use journal::{Journal, NullDisk};
 use ring_words::{GatewaySeat, Seats};
-use stages::{Journaller, Marshaller, Processor, Unmarshaller};
+use stages::{Crew, Turn, Turns};
 use std::alloc::{AllocError, Global};
 use std::sync::atomic::AtomicBool;
 use std::thread::{Threads, join};
-use workers::{Crew, Outcome, Worker, run, work};
+use workers::{Outcome, Worker, run, work};
 
 /// Gateways with their messages, the last one first, and the stages.
 #[derive(Drop)]
@@ -24,7 +25,7 @@ pub struct Path<'a, const G: usize> {
     rings: &'a VenueRings<G>,
     gateways: Vec<Gateway<'a, G>>,
     crew: Crew<NullDisk>,
-    ghost fits: { IsAt rings.now crew.processor.seat },
+    ghost fits: { AreAt rings.now crew },
 }
 
 /// An empty journal. Its disk keeps nothing, so that what the calls of a disk cost is left out of the figures.
@@ -95,11 +96,24 @@ fn serve<R: Threads + Sync, const G: usize>(
 }
 
 /// Looks whether all commands were processed.
-fn check_processed(processor: &Processor, task: &Task) -> Result<(), Fault> {
-    if processor.next_seq() != task.commands {
+fn check_processed(crew: &Crew<NullDisk>, task: &Task) -> Result<(), Fault> {
+    if crew.processor.next_seq() != task.commands {
         return Err(Fault::Wrong);
     }
     Ok(())
+}
+
+/// Whether each stage did something.
+fn did_all(turns: Turns) -> bool {
+    matches!(
+        (
+            turns.unmarshaller,
+            turns.journaller,
+            turns.processor,
+            turns.marshaller
+        ),
+        (Turn::Did(_), Turn::Did(_), Turn::Did(_), Turn::Did(_))
+    )
 }
 
 /// Lets the gateway at this place take its turn, and says whether it did something.
@@ -132,16 +146,11 @@ impl<'a, const G: usize> Path<'a, G> {
         requires seats { AreNew G rings.now seats }
         requires book { book.state ≡ empty }
     {
-        let gateways = gateways(alloc, rings, seats.gateways, task)?;
-        let Ok(processor) = Processor::new(alloc, seats.process, book) else {
+        let journal = empty_journal(alloc)?;
+        let Ok((crew, seats)) = Crew::new(alloc, rings, seats, journal, book) else {
             return Err(AllocError);
         };
-        let crew = Crew {
-            unmarshaller: Unmarshaller::new(seats.unmarshal),
-            journaller: Journaller::new(seats.journal, empty_journal(alloc)?),
-            processor,
-            marshaller: Marshaller::new(seats.marshal),
-        };
+        let gateways = gateways(alloc, rings, seats, task)?;
         Ok(Path {
             rings,
             gateways,
@@ -169,14 +178,14 @@ impl<'a, const G: usize> Path<'a, G> {
             stop,
         );
         served?;
-        check_processed(&crew.processor, task)
+        check_processed(&crew, task)
     }
 
     /// Brings the next message of the gateway at this place through all stages, and what comes of it to all gateways,
     /// and says whether that went well.
     fn pass(&mut self, place: usize) -> bool {
         turn_at(self.gateways.as_mut_slice(), place)
-            && self.crew.turn(self.rings)
+            && did_all(self.crew.poll(self.rings))
             && turn_all(self.gateways.as_mut_slice())
     }
 
@@ -195,6 +204,6 @@ impl<'a, const G: usize> Path<'a, G> {
         for gateway in &self.gateways {
             gateway.check()?;
         }
-        check_processed(&self.crew.processor, task)
+        check_processed(&self.crew, task)
     }
 }

@@ -11,7 +11,7 @@ use Rattle.venue_model.specs.declared.outputs.Output.{Output}
 use Rattle.fix_frame.specs.Grammar.{print_fields}
 use Rattle.fix_orders.specs.Text.{Said, field}
 use Rattle.fix_orders.specs.Writing.{Puts, PutsFields}
-use Rattle.fix_orders.proofs.WritingLemmas.{print_fields-append, ◌⨟◌}
+use Rattle.fix_orders.specs.WritingLaws.{print_fields-append, ◌⨟◌}
 use Rattle.replay.specs.Lines.{said_fields, line_to, client_lines, order_line}
 
 -- a piece and then another one are both together

@@ -1,5 +1,5 @@
 //! Replay: the book and all outputs out of a journal, and a report of them in text. It stands on what the journaller has kept, and reads
-//! it as the processor did.
+//! it as the processor did. The program `venue-replay` is `run`.
 #![tactic(auto)]
 
 mod fault;
@@ -7,8 +7,10 @@ mod job;
 mod lines;
 mod replayed;
 mod reporting;
+mod running;
 
 pub use fault::{ReplayFault, refuse};
 pub use job::{Job, Subject};
 pub use replayed::{Replayed, replay, replay_entries};
 pub use reporting::report;
+pub use running::run;

@@ -28,7 +28,7 @@ pub fn report<D: JournalDisk, O: Write, E: Write>(
     ensures status { (result.0 ≡ 0) ⊎ (result.0 ≡ 1) }
     ensures printed { result.0 ≡ 0 →
         Reports (D.honest disk) (D.tells disk).file job.now.limits job.now.subject (O.contents out.old) (O.contents out.new) }
-    ensures quiet { result.0 ≡ 0 → err.new ≡ err.old }
+    ensures one_stream { ((result.0 ≡ 1) × (out.new ≡ out.old)) ⊎ (err.new ≡ err.old) }
     ensures counts { result.0 ≡ 0 → D.failed result.1 ≡ D.failed disk }
     ensures read { OnlyRead (D.honest disk) (D.honest result.1) (D.tells disk) (D.tells result.1) }
     ensures durable { result.0 ≡ 0 → D.honest disk → Only (D.tells result.1).file (D.tells result.1).may_leave }

@@ -3,15 +3,15 @@ use Rattle.std.proofs.Common.{◌≡◌, ℕ, zero, suc, ◌+◌, List, [], ◌�
 use mathlib.Core.Option.{some, some-ne-none}
 use lib.ListN.{get_elem?}
 use Rattle.venue_model.specs.History.{Message}
+use Rattle.venue_model.specs.ListLaws.{at_end}
 use Rattle.ring_words.specs.declared.view.Person.{Person}
-use Rattle.ring_words.specs.At.{Opened, At, at, IsAt, SamePlace, Steps, number}
+use Rattle.ring_words.specs.At.{Opened, At, at, IsAt, Steps, number}
 use Rattle.ring_words.specs.declared.view.Role.TheVariants.{Gateway}
 use Rattle.ring_words.specs.Rule.{newcomer}
 use Rattle.ring_words.specs.Crew.{AreGateways, AreNewGateways}
-use Rattle.ring_words.proofs.Views.{still_at}
 use Rattle.ring_tests.specs.Seats.{IsSpent, AreSpent}
 use Rattle.ring_words.specs.Meeting.{met}
-use Rattle.ring_words.proofs.Logs.{at_end}
+use Rattle.ring_words.specs.SeatLaws.{still_at}
 
 pub stays : {A : Type 0} (l m : List A) (i : ℕ) (a : A) → get_elem? l i ≡ some a → get_elem? (l ++ m) i ≡ some a
 stays [] m i a at = absurd (some-ne-none a (sym at))
@@ -45,10 +45,6 @@ module _ {L : Type 0} (rings : Opened L) (all front : List (At L)) (s : At L) (i
 
   pub new_front : AreNewGateways rings front
   new_front i x there = new i x (subst (λ (l : List (At L)). get_elem? l i ≡ some x) (sym is) (stays front (s ∷ []) i x there))
-
--- a seat that came back from beside one of these rings is of these rings
-pub beside : {L : Type 0} (rings : Opened L) (a b c : At L) → IsAt rings a → SamePlace a b → c ≡ b → IsAt rings c
-beside rings a b c a_is place is = subst (IsAt rings) (sym is) (still_at rings a b _ a_is place)
 
 -- what `close` asks of the gateways' seats
 pub are_gateways : {L : Type 0} (rings : Opened L) (seats : List (At L)) → AreSpent rings seats → AreGateways rings seats

@@ -4,3 +4,4 @@ pub mod Processing
 pub mod Putting
 pub mod Journalling
 pub mod Marshalling
+pub mod Finishing

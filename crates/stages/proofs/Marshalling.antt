@@ -15,7 +15,7 @@ use Rattle.ring_words.specs.Texts.{text_words, IsPackableText}
 use Rattle.ring_words.specs.Seats.{load_of, looked, knowing, wrote, moved}
 use Rattle.ring_words.specs.At.{At, seated}
 use Rattle.ring_words.specs.Steps.{Shows, WroteText}
-use Rattle.ring_words.proofs.Logs.{stands, at_longer, at_behind}
+use Rattle.venue_model.specs.ListLaws.{stands, at_longer, at_behind}
 use Rattle.barrier.specs.Outputs.{after_output}
 use Rattle.book.specs.Histories.{outputs_of}
 use Rattle.stages.specs.Marshals.{after_marshalling, Marshals}

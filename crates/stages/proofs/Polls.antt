@@ -8,6 +8,7 @@ use Rattle.ring_words.specs.Seats.{looked}
 use Rattle.ring_words.specs.At.{At, seated}
 use Rattle.barrier.specs.Availability.{grown, Shown}
 use Rattle.stages.specs.Turns.{NothingShown}
+use Rattle.stages.specs.PollLaws.{Stopped}
 
 pub none_more : (rest : List Message) → length rest ≡ 0 → rest ≡ []
 none_more [] is = refl
@@ -15,18 +16,6 @@ none_more (e ∷ rest) is = absurd (omega arith)
 
 nothing_grown : (n : ℕ) (v : Person) → grown n v [] ≡ v
 nothing_grown n v = λ k. record v { seen = append-nil v.seen k; loads = append-nil v.loads k }
-
--- how a look ends: a whole ring is known, or the last word loaded shows nothing new
-abbrev pub Stopped : ℕ → Person → Person → List Message → Type 0
-Stopped n v w rest = ((v.own + n ≤ length w.seen) × (w ≡ grown n v rest))
-    ⊎ ((length w.seen < v.own + n) × ((x : ℕ) × (x ≢ suc (length w.seen)) × (w ≡ looked (grown n v rest) (in_row n (length w.seen) 0) x)))
-
--- the own word stays
-pub own_stays : (n : ℕ) (v w : Person) → Shown n v w → w.own ≡ v.own
-own_stays n v w shown = by_case shown.2 where
-  by_case : Stopped n v w shown.0 → w.own ≡ v.own
-  by_case (inl full) = ap (λ (p : Person). p.own) full.1
-  by_case (inr free) = ap (λ (p : Person). p.own) free.1.2
 
 -- a look that leaves no entry to do showed nothing
 pub nothing_shown : (n : ℕ) (v w : Person) → 0 < n → v.own ≤ length v.seen → length w.seen ≤ v.own → Shown n v w → NothingShown n v w

@@ -1,5 +1,5 @@
 -- One command through the processor: it is read at the own word and done in the book, and its outputs are put behind those before.
-use Rattle.std.proofs.Common.{◌≡◌, ℕ, zero, suc, ◌+◌, ◌*◌, ◌<◌, ◌≤◌, List, [], ◌∷◌, ◌++◌, length, take, drop, Some, ap, refl, sym, subst, ◌∙◌, length-append, arith}
+use Rattle.std.proofs.Common.{◌≡◌, ℕ, zero, suc, ◌+◌, ◌*◌, ◌<◌, ◌≤◌, List, [], ◌∷◌, ◌++◌, length, take, drop, ap, refl, sym, subst, ◌∙◌, length-append, arith}
 use Rattle.std.proofs.lemmas.List.{length-take-le}
 use mathlib.Core.Option.{some, some-injective, some-ne-none}
 use lib.ListN.{get_elem?}
@@ -8,14 +8,16 @@ use Rattle.venue_model.specs.declared.commands.Command.{Command}
 use Rattle.venue_model.specs.declared.outputs.Output.{Output}
 use Rattle.venue_model.specs.Requests.{Symbols, State, Stepped}
 use Rattle.venue_model.specs.Step.{Request, IsCommand, requests, state, outputs, step}
-use Rattle.venue_model.proofs.Bounds.{requests_from-more, state-more, outputs-one, few-resting}
+use Rattle.venue_model.specs.HistoryLaws.{requests_from-more, state-more, outputs-one, few-resting}
 use Rattle.fix_orders.specs.Reading.{reads}
-use Rattle.fix_orders.proofs.RangeLemmas.{reads_within}
+use Rattle.fix_orders.specs.RangeLaws.{reads_within}
 use Rattle.ring_words.specs.declared.view.Person.{Person}
 use Rattle.ring_words.specs.Log.{IsEntry}
+use Rattle.ring_words.specs.Places.{journalled}
+use Rattle.ring_words.specs.Seats.{last_from}
 use Rattle.ring_words.specs.At.{At, seated}
 use Rattle.ring_words.specs.Packing.{command_words}
-use Rattle.ring_words.proofs.Logs.{stands}
+use Rattle.venue_model.specs.ListLaws.{stands}
 use Rattle.barrier.specs.Commands.{after_command}
 use Rattle.book.specs.Books.{Book}
 use Rattle.book.specs.Standing.{Below}
@@ -24,6 +26,8 @@ use Rattle.stages.specs.Turns.{after_reading}
 use Rattle.book.specs.Histories.{state_of, outputs_of}
 use Rattle.stages.specs.Processed.{entries_done}
 use Rattle.stages.specs.Processes.{to_put}
+use Rattle.stages.specs.Stations.{AtBook}
+use Rattle.stages.specs.Insides.{Follows}
 
 -- HISTORIES
 
@@ -118,18 +122,22 @@ module _ (v : At Symbols) (s gateway : ℕ) (command : Command)
 
 -- WHAT THE PROCESSOR KEEPS
 
--- the book is that of the first entries, so many; of their outputs all but those left are published
-pub record Follows (v : At Symbols) (book : Book) (applied : ℕ) (left : List Output) : Type 0 where
-  pub logic : v.logic ≡ Some book.symbols
-  pub state : book.state ≡ state_of book.symbols (take applied v.who.seen)
-  pub rest : drop v.who.part.sequence (outputs_of book.symbols (take applied v.who.seen)) ≡ left
-  pub published : length (outputs_of book.symbols (take applied v.who.seen)) ≡ v.who.part.sequence + length left
+-- the command of the sequence s may be taken up
+pub record MayTake (p : AtBook) (s : ℕ) : Type 0 where
+  pub next : s ≡ p.seat.who.own
+  pub all : p.applied ≡ s
+  pub known : s < length p.seat.who.seen
+  pub synced : s < last_from journalled 0 p.seat.who.loads
 
 -- while the command behind those done is under way, its outputs are to be put
 pub left_to_put : (v : At Symbols) (book : Book) (applied : ℕ) (left : List Output) → Follows v book applied left → applied ≡ suc v.who.own
     → to_put book.symbols v.who ≡ left
 left_to_put v book applied left follows one =
     ap (λ (k : ℕ). drop v.who.part.sequence (outputs_of book.symbols (take k v.who.seen))) (sym one) ∙ follows.rest
+
+-- the message of the next sequence was read
+abbrev pub HasRead : ℕ → Person → Person → Type 0
+HasRead n v w = (e : Message) × (get_elem? v.seen v.own ≡ some e) × (w ≡ after_reading n v e)
 
 -- what is put behind nothing is all
 pub all_new : (out before more : List Output) → out ≡ before ++ more → before ≡ [] → out ≡ more

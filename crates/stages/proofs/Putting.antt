@@ -1,13 +1,13 @@
 -- The outputs of one command on their way into the output ring: what one look for room leaves, and what the put ones leave.
-use Rattle.std.proofs.Common.{◌≡◌, ◌⊎◌, inl, inr, ℕ, zero, suc, ◌+◌, ◌<◌, ◌≤◌, Bool, true, false, cond, List, [], ◌∷◌, ◌++◌, length, get_or, take, drop, min, Some, ap, refl, sym, subst, ◌∙◌, append_assoc, length-drop, arith, eqb}
+use Rattle.std.proofs.Common.{◌≡◌, ◌⊎◌, inl, inr, ℕ, zero, suc, ◌+◌, ◌<◌, ◌≤◌, Bool, true, false, cond, List, [], ◌∷◌, ◌++◌, length, get_or, take, drop, min, Some, ap, refl, sym, subst, ◌∙◌, append_assoc, length-drop, arith, add-one, eqb}
 use Rattle.std.proofs.lemmas.List.{append-nil, drop-drop, drop_all, length-take-le}
-use Rattle.std.specs.Prelude.{◌-◌, if◌then◌else◌, nat_le}
-use Rattle.std.specs.Vec.{vec_len}
-use Rattle.std.proofs.lemmas.Bool.{eqb-true, leb-true}
+use Rattle.std.specs.Prelude.{◌-◌, ◌↔◌, if◌then◌else◌, nat_le, nat_eq}
+use Rattle.std.proofs.lemmas.Bool.{eqb-true, eq-eqb, leb-true}
 use mathlib.Core.Option.{some, some-ne-none}
 use lib.ListN.{get_elem?}
 use Rattle.venue_model.specs.History.{Message}
 use Rattle.venue_model.specs.Requests.{Symbols}
+use Rattle.venue_model.specs.Step.{step}
 use Rattle.venue_model.specs.declared.commands.Command.{Command}
 use Rattle.venue_model.specs.declared.outputs.Output.{Output}
 use Rattle.fix_orders.specs.Reading.{reads}
@@ -19,8 +19,7 @@ use Rattle.ring_words.specs.Rule.{at_place}
 use Rattle.ring_words.specs.Seats.{load_of, looked, last_from}
 use Rattle.ring_words.specs.At.{Opened, At, IsAt, seated}
 use Rattle.ring_words.specs.Steps.{HasOutputRoom, Shows, lesser}
-use Rattle.ring_words.proofs.Loads.{some_is}
-use Rattle.ring_words.proofs.Views.{last_kept, last_loaded}
+use Rattle.ring_words.specs.SeatLaws.{last_kept, last_loaded}
 use Rattle.barrier.specs.Availability.{Gated}
 use Rattle.barrier.specs.Commands.{command_loads}
 use Rattle.sequencer.specs.Outputs.{taken_loads, HasLooked}
@@ -28,8 +27,9 @@ use Rattle.book.specs.Books.{Book}
 use Rattle.book.specs.Histories.{state_of, outputs_of}
 use Rattle.stages.specs.Turns.{after_reading}
 use Rattle.stages.specs.Processes.{to_put, TakesUp, ahead, Puts}
-use Rattle.stages.specs.declared.processor.Processor.{Processor}
-use Rattle.stages.proofs.Processing.{Took, Follows, left_to_put}
+use Rattle.stages.specs.Stations.{AtBook}
+use Rattle.stages.specs.Insides.{Follows, IsWorking}
+use Rattle.stages.proofs.Processing.{MayTake, Took, at_rest, follows_on, left_to_put}
 
 -- THE VALUE LOADED LAST
 
@@ -81,6 +81,24 @@ read_leaves n v r s gateway command took above =
     ∙ commands_leave n v.who.own 0 0 (command_words took.entry.gateway (reads took.entry.bytes)) v.who.loads in
     omega (arith, above, place, own, last)
 
+-- the processor with that command taken up, done in the book, and its outputs left
+pub works_on : (n : ℕ) (p : AtBook) (r : At Symbols) (s gateway : ℕ) (command : Command) → IsWorking p → MayTake p s
+    → Took n p.seat r s gateway command → (book : Book) (left : List Output)
+    → book ≡ record p.book { state = (step p.book.symbols p.book.state s (record { gateway = gateway; command = command })).state }
+    → left ≡ (step p.book.symbols p.book.state s (record { gateway = gateway; command = command })).outputs
+    → IsWorking (record { seat = r; book = book; applied = s + 1; left = left })
+works_on n p r s gateway command working may took book left stepped told =
+    let follows = at_rest p.seat p.book p.applied s p.left working.follows may.all (working.whole (may.all ∙ may.next)) in
+    let place = took.place in let known = took.known in
+    let own : r.who.own ≡ p.seat.who.own = ap (λ (z : At Symbols). z.who.own) took.view in
+    let seen : length r.who.seen ≡ length p.seat.who.seen = ap (λ (z : At Symbols). length z.who.seen) took.view in
+    record {
+      follows = follows_on n p.seat r s gateway command took p.book follows book left (s + 1) (add-one s) stepped told;
+      counts = (omega (arith, place, own), omega (arith, place, own), omega (arith, place, known, seen));
+      whole = λ is. absurd (omega (arith, is, place, own));
+      synced = λ _. read_leaves n p.seat r s gateway command took may.synced;
+    }
+
 -- OUTPUTS ONE BEHIND THE OTHER
 
 -- all but the row under way is as before, and published is so many above
@@ -127,7 +145,7 @@ module _ (v u : At Symbols) (k : ℕ) (is : u ≡ seated v (ahead v.who k)) wher
 
 -- the logic of a seat's rings is the one that it is known to have
 pub same_logic : (rings : Opened Symbols) (v : At Symbols) (symbols : Symbols) → IsAt rings v → v.logic ≡ Some symbols → symbols ≡ rings.logic
-same_logic rings v symbols of_rings by = some_is symbols rings.logic (sym by ∙ ap (λ (s : At Symbols). s.logic) of_rings)
+same_logic rings v symbols of_rings by = let same : Some symbols ≡ Some rings.logic = sym by ∙ ap (λ (s : At Symbols). s.logic) of_rings in cc
 
 -- ONE LOOK FOR ROOM
 
@@ -230,35 +248,53 @@ pub all_lent : (put most : ℕ) (items now : List Output) → now ≡ items → 
 all_lent put most items now is within = ap length (lent put most items now is) ∙ length-take-le most (drop put items) within
 
 -- what the processor is when so many were put of those left
-pub record AreGone (m g : ℕ) (p : Processor) (w : At Symbols) (most : ℕ) : Type 0 where
-  pub follows : Follows w p.book p.applied (drop (p.put + most) p.pending.items)
+pub record AreGone (m g : ℕ) (p : AtBook) (w : At Symbols) (most : ℕ) : Type 0 where
+  pub follows : Follows w p.book p.applied (drop most p.left)
   pub own : w.who.own ≡ p.seat.who.own
   pub seen : length w.who.seen ≡ length p.seat.who.seen
   pub last : last_from journalled 0 w.who.loads ≡ last_from journalled 0 p.seat.who.loads
-  pub puts : Puts m g p.seat.who (drop p.put p.pending.items) w.who
+  pub puts : Puts m g p.seat.who p.left w.who
 
-pub of_processor : (p : Processor) → Follows p.seat p.book p.applied (drop p.put p.pending.items)
-of_processor p = record { logic = p.logic; state = p.state; rest = p.left; published = p.published }
-
-pub are_gone : (m g : ℕ) (p : Processor) (u w : At Symbols) (room most : ℕ) (now : List Output) → p.seat.who.own < p.applied
-    → HasLooked g m p.seat.who room u.who → u ≡ seated p.seat u.who → now ≡ p.pending.items
-    → 0 < length (drop p.put p.pending.items) → most ≡ min room (length (drop p.put p.pending.items))
-    → w ≡ seated u (ahead u.who (length (take (p.put + most - p.put) (drop p.put now)))) → AreGone m g p w most
-are_gone m g p u w room most now under_way looked u_is is some_there least put =
-    let v = p.seat in let left = drop p.put p.pending.items in let counts = p.counts in
+-- those left are the outputs from one place on, of which as many as there is room for are lent and put
+pub are_gone : (m g : ℕ) (p : AtBook) (u w : At Symbols) (room most put : ℕ) (items now : List Output) → IsWorking p → p.left ≡ drop put items
+    → p.seat.who.own < p.applied → HasLooked g m p.seat.who room u.who → u ≡ seated p.seat u.who → now ≡ items
+    → 0 < length p.left → most ≡ min room (length p.left)
+    → w ≡ seated u (ahead u.who (length (take (put + most - put) (drop put now)))) → AreGone m g p w most
+are_gone m g p u w room most put items now working left_is under_way looked u_is is some_there least was_put =
+    let v = p.seat in let counts = working.counts in
     let one : p.applied ≡ suc v.who.own = omega (arith, counts, under_way) in
-    let within : most ≤ length left = omega (arith, least) in
+    let within : most ≤ length p.left = omega (arith, least) in
+    let long = ap length left_is in
     let w_is : w ≡ seated u (ahead u.who most) =
-    put ∙ ap (λ (k : ℕ). seated u (ahead u.who k)) (all_lent p.put most p.pending.items now is within) in
-    let kept = same_after g m v u room looked u_is p.book p.applied left (of_processor p) one most within w w_is in
+    was_put ∙ ap (λ (k : ℕ). seated u (ahead u.who k)) (all_lent put most items now is (omega (arith, within, long))) in
+    let kept = same_after g m v u room looked u_is p.book p.applied p.left working.follows one most within w w_is in
     record {
-      follows = subst (Follows w p.book p.applied) (drop-drop most p.put p.pending.items)
-          (follows_after g m v u room looked u_is p.book p.applied left (of_processor p) one most within w w_is);
+      follows = follows_after g m v u room looked u_is p.book p.applied p.left working.follows one most within w w_is;
       own = kept.0;
       seen = kept.1;
       last = kept.2;
-      puts = were_put g m v u room looked u_is p.book p.applied left (of_processor p) one most within w w_is some_there least;
+      puts = were_put g m v u room looked u_is p.book p.applied p.left working.follows one most within w w_is some_there least;
     }
+
+-- the processor with the others left
+pub works_behind : (m g : ℕ) (p : AtBook) (w : At Symbols) (most : ℕ) (rest : List Output) → IsWorking p → p.seat.who.own < p.applied
+    → drop most p.left ≡ rest → AreGone m g p w most → IsWorking (record { seat = w; book = p.book; applied = p.applied; left = rest })
+works_behind m g p w most rest working under_way is gone =
+    let counts = working.counts in let above = working.synced under_way in let own = gone.own in let seen = gone.seen in let last = gone.last in
+    record {
+      follows = subst (Follows w p.book p.applied) is gone.follows;
+      counts = (omega (arith, counts, own), omega (arith, counts, own), omega (arith, counts, seen));
+      whole = λ all. absurd (omega (arith, all, under_way, own));
+      synced = λ _. omega (arith, above, last, own);
+    }
+
+-- none is left where as many were put as were left, and only there
+pub none_left : (put most len : ℕ) (items : List Output) → len ≡ length items → put ≤ len → most ≤ len - put
+    → (nat_eq most (len - put) ≡ true) ↔ (drop (put + most) items ≡ [])
+none_left put most len items long within few = let rest = length-drop (put + most) items in (
+  (λ all. let same = eqb-true most (len - put) all in drop_all (put + most) items (omega (arith, same, long, within))),
+  (λ none. let nil : length (drop (put + most) items) ≡ 0 = ap length none in eq-eqb most (len - put) (omega (arith, rest, nil, long, within, few))),
+)
 
 -- A POLL
 
@@ -284,45 +320,37 @@ took_own n applied v u (inl next) = ap (λ (p : Person). p.own) next.1.2.2 ∙ g
 took_own n applied v u (inr on) = ap (λ (p : Person). p.own) on.1
 
 -- a command is under way: it was taken up, or had been
-pub record UnderWay (n : ℕ) (p b : Processor) : Type 0 where
+pub record UnderWay (n : ℕ) (p b : AtBook) : Type 0 where
   pub taken : TakesUp n p.applied p.seat.who b.seat.who
   pub same : b.book.symbols ≡ p.book.symbols
   pub one : b.applied ≡ suc b.seat.who.own
+  pub working : IsWorking b
 
-pub took_one : (n next : ℕ) (p b : Processor) (u : Person) → p.applied ≡ next → next ≡ p.seat.who.own → Gated p.seat.who u
+pub took_one : (n next : ℕ) (p b : AtBook) (u : Person) → p.applied ≡ next → next ≡ p.seat.who.own → Gated p.seat.who u
     → (e : Message) × (get_elem? u.seen u.own ≡ some e) × (b.seat.who ≡ after_reading n u e)
-    → (b.applied ≡ suc next) × (b.book.symbols ≡ p.book.symbols) → UnderWay n p b
-took_one n next p b u all own gated read applied =
+    → (b.applied ≡ suc next) × (b.book.symbols ≡ p.book.symbols) → IsWorking b → UnderWay n p b
+took_one n next p b u all own gated read applied working =
     let taken : TakesUp n p.applied p.seat.who b.seat.who = inl (all ∙ own, (u, gated, read)) in
-    record { taken = taken; same = applied.1; one = applied.0 ∙ ap suc (own ∙ sym (took_own n p.applied _ _ taken)) }
+    record { taken = taken; same = applied.1; one = applied.0 ∙ ap suc (own ∙ sym (took_own n p.applied _ _ taken)); working = working }
 
-pub goes_on : (n : ℕ) (p : Processor) → p.seat.who.own < p.applied → UnderWay n p p
-goes_on n p under_way = let counts = p.counts in record { taken = inr (under_way, refl); same = refl; one = omega (arith, counts, under_way) }
+pub goes_on : (n : ℕ) (p : AtBook) → IsWorking p → p.seat.who.own < p.applied → UnderWay n p p
+goes_on n p working under_way =
+    let counts = working.counts in record { taken = inr (under_way, refl); same = refl; one = omega (arith, counts, under_way); working = working }
 
--- then its outputs that aren't published are those left in the list
-pub are_left : (n : ℕ) (p b : Processor) → UnderWay n p b → to_put p.book.symbols b.seat.who ≡ drop b.put b.pending.items
-are_left n p b begun = ap (λ (s : Symbols). to_put s b.seat.who) (sym begun.same)
-    ∙ left_to_put b.seat b.book b.applied _ (of_processor b) begun.one
+module _ (n m g : ℕ) (symbols : Symbols) (p b : AtBook) (is : p.book.symbols ≡ symbols) (begun : UnderWay n p b) where
+  -- then its outputs that aren't published are those left
+  are_left : to_put symbols b.seat.who ≡ b.left
+  are_left = ap (λ (s : Symbols). to_put s b.seat.who) (sym (begun.same ∙ is)) ∙ left_to_put b.seat b.book b.applied b.left begun.working.follows begun.one
 
--- and they were put
-pub put_on : (n m g : ℕ) (p b q : Processor) → UnderWay n p b → Puts m g b.seat.who (drop b.put b.pending.items) q.seat.who
-    → Puts m g b.seat.who (to_put p.book.symbols b.seat.who) q.seat.who
-put_on n m g p b q begun puts = subst (λ (l : List Output). Puts m g b.seat.who l q.seat.who) (sym (are_left n p b begun)) puts
+  -- and they were put
+  pub put_on : (w : Person) → Puts m g b.seat.who b.left w → Puts m g b.seat.who (to_put symbols b.seat.who) w
+  put_on w puts = subst (λ (l : List Output). Puts m g b.seat.who l w) (sym are_left) puts
 
-module _ (n : ℕ) (p b q : Processor) (begun : UnderWay n p b) (kept : (q.applied ≡ b.applied) × (q.book ≡ b.book))
-    (own : q.seat.who.own ≡ b.seat.who.own) where
-  pub still_one : q.applied ≡ suc q.seat.who.own
-  still_one = kept.0 ∙ begun.one ∙ ap suc (sym own)
+  module _ (q : AtBook) (kept : (q.applied ≡ b.applied) × (q.book ≡ b.book)) (own : q.seat.who.own ≡ b.seat.who.own) (working : IsWorking q) where
+    pub still_one : q.applied ≡ suc q.seat.who.own
+    still_one = kept.0 ∙ begun.one ∙ ap suc (sym own)
 
-  still_left : to_put p.book.symbols q.seat.who ≡ drop q.put q.pending.items
-  still_left = ap (λ (s : Symbols). to_put s q.seat.who) (sym (ap (λ (b : Book). b.symbols) kept.1 ∙ begun.same))
-      ∙ left_to_put q.seat q.book q.applied _ (of_processor q) still_one
-
-  -- where all are put, none is to be put; and the other way round
-  pub none_to_put : q.put ≡ vec_len q.pending → to_put p.book.symbols q.seat.who ≡ []
-  none_to_put all = let long = q.pending.ok.0 in still_left ∙ drop_all q.put q.pending.items (omega (arith, long, all))
-
-  pub all_were_put : to_put p.book.symbols q.seat.who ≡ [] → q.put ≡ vec_len q.pending
-  all_were_put none =
-      let long = q.pending.ok.0 in let within = q.within in let rest = length-drop q.put q.pending.items in
-      let nil : length (drop q.put q.pending.items) ≡ 0 = ap length (sym still_left ∙ none) in omega (arith, long, within, rest, nil)
+    -- what is left then is to be put
+    pub still_left : to_put symbols q.seat.who ≡ q.left
+    still_left = ap (λ (s : Symbols). to_put s q.seat.who) (sym (ap (λ (b : Book). b.symbols) kept.1 ∙ begun.same ∙ is))
+        ∙ left_to_put q.seat q.book q.applied q.left working.follows still_one

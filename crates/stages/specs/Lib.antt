@@ -3,3 +3,8 @@ pub mod Processed
 pub mod Kept
 pub mod Marshals
 pub mod Processes
+pub mod Stations
+pub mod Insides
+pub mod Crews
+pub mod Finishing
+pub mod PollLaws

@@ -2,12 +2,14 @@
 //! then through the processor and its book; their outputs go through the marshaller. No call waits.
 #![tactic(auto)]
 
+mod crew;
 mod journaller;
 mod marshaller;
 mod processor;
 mod turn;
 mod unmarshaller;
 
+pub use crew::{Crew, CrewAndGateways, Turns};
 pub use journaller::Journaller;
 pub use marshaller::Marshaller;
 pub use processor::{Processor, ProcessorError, Refused};

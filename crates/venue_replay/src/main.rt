@@ -1,12 +1,13 @@
-//! The program `venue-replay`: it reads its words, opens the journal, and prints the report.
+//! The program `venue-replay`: it reads its words, and runs over the folder of its journal, standard output and
+//! standard error.
 #![tactic(auto)]
 
 ghost use Rattle.std.specs.Prelude.{◌≡◌, ◌↔◌};
 ghost use Rattle.std.specs.IoError.{error_kind};
 
-use journal::{FileDisk, StandardStreams, open_to_read};
-use replay::{Job, ReplayFault, refuse, report};
-use std::io::{BufWriter, ErrorKind};
+use journal::{StandardStreams, SystemFolder};
+use replay::{Job, ReplayFault, refuse, run};
+use std::io::{BufWriter, ErrorKind, Stderr};
 use std::process::ExitCode;
 use std::rt::Env;
 use std::{env, io};
@@ -28,26 +29,27 @@ fn unread(error: &io::Error) -> ReplayFault
     }
 }
 
-/// Opens the job's journal and prints the report, and gives the status.
-fn run(rt: &HostRuntime, job: &Job) -> u8 {
-    let mut err = rt.stderr();
+/// Runs over the folder of the journal's name and standard output: the program's status.
+fn start(rt: &HostRuntime, job: &Job, err: &mut Stderr) -> u8 {
     let Ok(mut out) = BufWriter::new(rt.alloc(), rt.stdout()) else {
-        return refuse(ReplayFault::Memory, &mut err);
+        return refuse(ReplayFault::Memory, err);
     };
     let _streams = match StandardStreams::hold(rt) {
         Ok(streams) => streams,
-        Err(fault) => return refuse(fault.into(), &mut err),
+        Err(fault) => return refuse(fault.into(), err),
     };
-    match open_to_read(rt, job.journal.as_str()) {
-        Ok(file) => report(rt.alloc(), job, FileDisk::new(file), &mut out, &mut err).0,
-        Err(fault) => refuse(fault.into(), &mut err),
-    }
+    let Ok(mut folder) = SystemFolder::new(rt, job.journal.as_str()) else {
+        return refuse(ReplayFault::Memory, err);
+    };
+    let (status, _) = run(rt.alloc(), job, &mut folder, &mut out, err);
+    status
 }
 
 fn main(rt: HostRuntime) -> ExitCode {
+    let mut err = rt.stderr();
     let status = match read_words(&rt) {
-        Ok(job) => run(&rt, &job),
-        Err(fault) => refuse(fault, &mut rt.stderr()),
+        Ok(job) => start(&rt, &job, &mut err),
+        Err(fault) => refuse(fault, &mut err),
     };
     ExitCode::from(status)
 }

@@ -1,6 +1,4 @@
 pub mod OpenedLemmas
 pub mod JournallerLemmas
-pub mod VenueLemmas
 pub mod ServingLemmas
-pub mod FinishLemmas
 pub mod RunningLemmas

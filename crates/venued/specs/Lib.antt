@@ -5,7 +5,5 @@ pub mod Opened
 pub mod Venues
 pub mod Crashes
 pub mod Rounds
-pub mod Finishing
 pub mod Serving
-pub mod VenueInsides
 pub mod Running

@@ -1,14 +1,14 @@
--- What holds of the venue's rings and seats as they are opened, and of the processor behind a replayed history.
-use Rattle.std.specs.Prelude.{◌≡◌, ℕ, [], ◌∷◌, length}
+-- What holds of the venue's rings, seats and stages as they are opened behind a history.
+use Rattle.std.specs.Prelude.{◌≡◌, ℕ, false, length}
 use Rattle.venue_model.specs.History.{History}
 use Rattle.venue_model.specs.Requests.{Symbols}
-use Rattle.ring_words.specs.At.{Opened, at}
+use Rattle.ring_words.specs.At.{Opened}
 use Rattle.ring_words.specs.Crew.{AreNew}
-use Rattle.ring_words.specs.Rule.{newcomer, processor}
 use Rattle.ring_words.specs.declared.seats.Seats.{Seats}
-use Rattle.ring_words.specs.declared.view.Role.TheVariants.{Unmarshal, Journal, Marshal, Gateway}
-use Rattle.book.specs.Histories.{outputs_of}
-use Rattle.venued.specs.declared.recovered.Recovered.{Recovered}
+use Rattle.book.specs.Books.{Book}
+use Rattle.book.specs.Histories.{state_of, outputs_of}
+use Rattle.stages.specs.Stations.{OneCrew}
+use Rattle.stages.specs.Crews.{new_crew}
 
 -- the rings are those of this logic behind this history, whose outputs are given
 pub record AreBehind (symbols : Symbols) (base : History) (rings : Opened Symbols) : Type 0 where
@@ -16,17 +16,19 @@ pub record AreBehind (symbols : Symbols) (base : History) (rings : Opened Symbol
   pub base_is : rings.base ≡ base
   pub given : rings.given ≡ length (outputs_of symbols base)
 
--- so they are, and these are all their seats, as they are at the start
-pub record IsOpened (symbols : Symbols) (base : History) (rings : Opened Symbols) (seats : Seats Symbols) : Type 0 where
-  pub behind : AreBehind symbols base rings
-  pub seats_are : AreNew 1 rings seats
+-- the book is that of the history that the rings were opened with
+pub record IsBookOf (rings : Opened Symbols) (book : Book) : Type 0 where
+  pub symbols : book.symbols ≡ rings.logic
+  pub state : book.state ≡ state_of rings.logic rings.base
 
--- The same with the processor at its seat, over the book of this history.
-pub record IsRecovered (symbols : Symbols) (base : History) (r : Recovered) : Type 0 where
-  pub behind : AreBehind symbols base r.rings
-  pub gateways : r.gateways.items ≡ at r.rings (newcomer (Gateway 1) r.rings.base r.rings.given) ∷ []
-  pub unmarshal : r.unmarshal ≡ at r.rings (newcomer Unmarshal r.rings.base (length r.rings.base))
-  pub journal : r.journal ≡ at r.rings (newcomer Journal r.rings.base (length r.rings.base))
-  pub processor_at : r.processor.seat ≡ at r.rings (processor r.rings.base r.rings.given)
-  pub marshal : r.marshal ≡ at r.rings (newcomer Marshal r.rings.base r.rings.given)
-  pub applied : r.processor.applied ≡ length base
+-- the rings, all seats of these, as they are at the start, and the book
+pub record IsRecovered (symbols : Symbols) (base : History) (g : ℕ) (rings : Opened Symbols) (seats : Seats Symbols) (book : Book) : Type 0 where
+  pub behind : AreBehind symbols base rings
+  pub seats_are : AreNew g rings seats
+  pub book_is : IsBookOf rings book
+
+-- the stages at these rings, as they are at the start, with a journal that hasn't failed
+pub record IsNewCrew {D : Type 0} (rings : Opened Symbols) (crew : OneCrew D) : Type 0 where
+  pub crew_is : crew ≡ new_crew rings crew.journaller.journal crew.processor.book
+  pub ready : crew.journaller.journal.failed ≡ false
+  pub book_is : IsBookOf rings crew.processor.book

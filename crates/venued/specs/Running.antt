@@ -6,14 +6,16 @@ use Rattle.journal.specs.Format.{IsJournal}
 use Rattle.journal.specs.Places.{Place, IsLeft}
 use Rattle.venued.specs.Venues.{IsJournalBehind}
 
--- What may stand in the file of a journal behind a run that began in this place: where there was a file, what a crash might have left of it, or
--- the journal of a history that begins with that of the file; where there was none, a journal.
+-- What may stand in the file of a journal behind a run that began in this place: where there was a file, what a crash
+-- might have left of it, or the journal of a history that begins with that of the file; where there was none, a
+-- journal.
 abbrev pub StandsFrom : Place → List ℕ → Type 0
 StandsFrom place c =
     ((place.there ≡ true) × (place.named.may_leave c ⊎ ((base : History) × IsJournal place.named.file base × IsJournalBehind base c)))
     ⊎ ((place.there ≡ false) × ((h : History) × IsJournal c h))
 
--- A run over the file of this place: a crash at any moment since the file was opened leaves such a one, and leaves one under the name.
+-- A run over the file of this place: a crash at any moment since the file was opened leaves such a one, and leaves one
+-- under the name.
 pub record Runs (old new : Place) (disk : Told) : Type 0 where
   pub opened : ℕ
   pub later : opened ≤ disk.moment

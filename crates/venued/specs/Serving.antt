@@ -1,9 +1,8 @@
 -- What a run of the mode `-` comes to.
-use Rattle.std.specs.Prelude.{◌≡◌, ◌⊎◌, ℕ, Result}
+use Rattle.std.specs.Prelude.{◌≡◌, ◌⊎◌, ℕ, [], ◌∷◌, Result}
 use Rattle.venue_model.specs.Counts.{Rose}
 use Rattle.venue_model.specs.History.{History}
 use Rattle.venue_model.specs.Requests.{Symbols}
-use Rattle.gateway.specs.AtRings.{AtRings}
 use Rattle.gateway.specs.Delivers.{Course, Delivers, starts}
 use Rattle.gateway.specs.Gateways.{begun}
 use Rattle.gateway.specs.Seats.{ledger_of}
@@ -13,11 +12,12 @@ use Rattle.journal.specs.Format.{IsJournal}
 use Rattle.journal.specs.Journals.{IsOpened}
 use Rattle.ring_words.specs.declared.close.Summary.{Summary}
 use Rattle.venued.specs.Faults.{status_of_end}
-use Rattle.venued.specs.Finishing.{Finished}
-use Rattle.venued.specs.Opened.{AreBehind}
-use Rattle.venued.specs.Rounds.{Whole, Honesty, Served}
+use Rattle.stages.specs.Stations.{disk_of}
+use Rattle.stages.specs.Finishing.{Finished}
+use Rattle.venued.specs.Opened.{AreBehind, IsNewCrew}
+use Rattle.venued.specs.Rounds.{Served}
 use Rattle.venued.specs.VenueRings.{IsFirst}
-use Rattle.venued.specs.Venues.{IsJournalBehind, opened}
+use Rattle.venued.specs.Venues.{Venue, Device, IsJournalBehind}
 use Rattle.venued.specs.declared.fault.ServeFault.{ServeFault}
 
 -- A crash at any moment since old leaves a file that it might have left then, or the journal of a history that begins with that of the
@@ -37,30 +37,30 @@ pub record Outside (D : Type 0) : Type 0 where
 
 module _ {D : Type 0} where
   -- Gateway 1 has begun a session, and nothing was done: the venue stands behind the journal's history, and so does the gateway's seat.
-  pub record Opens (symbols : Symbols) (disk : Honesty D) (old : Outside D) (s : Whole D) : Type 0 where
-    pub venue : s.venue ≡ opened s.venue.rings s.venue.disk
-    pub behind : AreBehind symbols s.venue.rings.base s.venue.rings
-    pub seat : IsFirst s.venue.rings s.gateway.seat
+  pub record Opens (symbols : Symbols) (device : Device D) (old : Outside D) (s : Venue D) : Type 0 where
+    pub crew : IsNewCrew s.rings s.crew
+    pub behind : AreBehind symbols s.rings.base s.rings
+    pub seat : IsFirst s.rings s.gateway.seat
     pub session : s.gateway.front ≡ begun 1 0
     pub wire : s.wire ≡ old.wire
-    pub disk_is : IsOpened (disk.honest old.disk) (disk.honest s.venue.disk) (disk.tells old.disk) (disk.tells s.venue.disk) s.venue.rings.base
+    pub disk_is : IsOpened (device.honest old.disk) (device.honest (disk_of s.crew)) (device.tells old.disk) (device.tells (disk_of s.crew)) s.rings.base
 
   -- The session was served. It ended by itself (or 2 ^ 64 - 1 rounds were taken), or the journal failed. What the client sent, was given and was written
   -- is the course of the session; and one log tells of all.
-  pub record Serves (symbols : Symbols) (disk : Honesty D) (old new : Outside D) (result : Result (Unit {0}) ServeFault) : Type 0 where
-    pub start : Whole D
-    pub end : Whole D
-    pub opens : Opens symbols disk old start
-    pub serves : Served disk start end result
+  pub record Serves (symbols : Symbols) (device : Device D) (old new : Outside D) (result : Result (Unit {0}) ServeFault) : Type 0 where
+    pub start : Venue D
+    pub end : Venue D
+    pub opens : Opens symbols device old start
+    pub serves : Served device start end result
     pub course : Course
     pub delivers : Delivers (starts 1024 start.gateway start.wire) end.gateway.front end.wire (ledger_of 1024 end.gateway.seat) course
     pub summary : Summary
-    pub finished : Finished end.gateway.seat end.venue (disk.honest end.venue.disk) (disk.tells end.venue.disk) summary
+    pub finished : Finished end.rings (end.gateway.seat ∷ []) end.crew (device.honest new.disk) (device.tells new.disk) summary
     pub wire : new.wire ≡ end.wire
-    pub disk_is : new.disk ≡ end.venue.disk
+    pub disk_is : new.disk ≡ disk_of end.crew
 
   -- what the program's status says: 1 where the session didn't begin, and the disk was only read; and else how it ended
-  abbrev pub EndsWith : Symbols → Honesty D → Outside D → Outside D → ℕ → Type 0
-  EndsWith symbols disk old new status =
-      ((status ≡ 1) × OnlyRead (disk.honest old.disk) (disk.honest new.disk) (disk.tells old.disk) (disk.tells new.disk))
-      ⊎ ((result : Result (Unit {0}) ServeFault) × (status ≡ status_of_end result) × Serves symbols disk old new result)
+  abbrev pub EndsWith : Symbols → Device D → Outside D → Outside D → ℕ → Type 0
+  EndsWith symbols device old new status =
+      ((status ≡ 1) × OnlyRead (device.honest old.disk) (device.honest new.disk) (device.tells old.disk) (device.tells new.disk))
+      ⊎ ((result : Result (Unit {0}) ServeFault) × (status ≡ status_of_end result) × Serves symbols device old new result)

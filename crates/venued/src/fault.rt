@@ -35,8 +35,8 @@ impl From<JournalFault> for ServeFault {
 impl ServeFault {
     ghost use Rattle.venued.specs.Faults.{status_of};
 
-    /// Prints the fault's line, and gives the status for it: 2 where the venue served before, else 1. A line that can't be printed is
-    /// let go.
+    /// Prints the fault's line, and gives the status for it: 2 where the venue served before, else 1. A line that can't
+    /// be printed is let go.
     pub fn say<E: Write>(self, err: &mut E) -> u8
         ensures { result ≡ status_of self }
     {

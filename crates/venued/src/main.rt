@@ -5,12 +5,10 @@ ghost use Rattle.std.specs.Prelude.{◌≡◌, ◌↔◌};
 ghost use Rattle.std.specs.IoError.{error_kind};
 
 mod fault;
-mod polled;
-mod recovered;
+mod opening;
 mod rings;
 mod running;
 mod serve;
-mod venue;
 mod words;
 
 use crate::fault::ServeFault;

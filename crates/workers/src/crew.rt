@@ -1,43 +1,15 @@
-//! The four stages of one venue together, on one thread or on four.
-ghost use Rattle.ring_words.specs.At.{IsAt, SamePlace};
+//! The four stages of one venue, each on a thread of its own.
+ghost use Rattle.ring_words.specs.At.{IsAt};
+ghost use Rattle.stages.specs.Crews.{AreAt};
 ghost use denote.Param.Send.{IsSend, IsSync};
 
 use crate::stations::{keep, marshal, process, unmarshal};
 use book::BookLogic;
 use journal::JournalDisk;
 use ring_words::Rings;
-use stages::{Journaller, Marshaller, Processor, Turn, Unmarshaller};
+use stages::{Crew, Journaller, Marshaller, Processor, Unmarshaller};
 use std::sync::atomic::AtomicBool;
 use std::thread::{Threads, join};
-
-/// The four stages, all at the same rings.
-#[derive(Drop)]
-pub struct Crew<D: JournalDisk> {
-    pub unmarshaller: Unmarshaller,
-    pub journaller: Journaller<D>,
-    pub processor: Processor,
-    pub marshaller: Marshaller,
-    ghost unmarshals: { SamePlace processor.seat unmarshaller.seat },
-    ghost journals: { SamePlace processor.seat journaller.seat },
-    ghost marshals: { SamePlace processor.seat marshaller.seat },
-}
-
-impl<D: JournalDisk> Crew<D> {
-    /// Lets each stage do what is next for it, in the order in which a message meets them, as long as each did
-    /// something, and says whether all did.
-    pub fn turn<const N: usize, const M: usize, const G: usize>(
-        &mut self,
-        rings: &Rings<BookLogic, N, M, G>,
-    ) -> bool
-        requires { IsAt rings.now self.old.processor.seat }
-        ensures { SamePlace self.old.processor.seat self.new.processor.seat }
-    {
-        matches!(self.unmarshaller.poll(rings), Turn::Did(_))
-            && matches!(self.journaller.poll(rings), Turn::Did(_))
-            && matches!(self.processor.poll(rings), Turn::Did(_))
-            && matches!(self.marshaller.poll(rings), Turn::Did(_))
-    }
-}
 
 /// Lets the two stages that read what gateways publish work, each on a thread of its own, until the flag says stop.
 fn read<
@@ -53,16 +25,16 @@ fn read<
     journaller: Journaller<D>,
     stop: &AtomicBool,
 ) -> (Unmarshaller, Journaller<D>)
-    requires unmarshaller { IsAt rings.now unmarshaller.seat }
+    requires unmarshaller { IsAt rings.now unmarshaller }
     requires journaller { IsAt rings.now journaller.seat }
-    ensures unmarshaller { IsAt rings.now result.0.seat }
+    ensures unmarshaller { IsAt rings.now result.0 }
     ensures journaller { IsAt rings.now result.1.seat }
 {
     join(
         rt,
         move || -> Unmarshaller
-            requires { IsAt rings.now unmarshaller.seat }
-            ensures { IsAt rings.entry.now result.seat }
+            requires { IsAt rings.now unmarshaller }
+            ensures { IsAt rings.entry.now result }
         { unmarshal(rings, unmarshaller, stop) },
         move || -> Journaller<D>
             requires { IsAt rings.now journaller.seat }
@@ -80,9 +52,9 @@ fn answer<R: Threads + Sync, const N: usize, const M: usize, const G: usize>(
     stop: &AtomicBool,
 ) -> (Processor, Marshaller)
     requires processor { IsAt rings.now processor.seat }
-    requires marshaller { IsAt rings.now marshaller.seat }
+    requires marshaller { IsAt rings.now marshaller }
     ensures processor { IsAt rings.now result.0.seat }
-    ensures marshaller { IsAt rings.now result.1.seat }
+    ensures marshaller { IsAt rings.now result.1 }
 {
     join(
         rt,
@@ -91,8 +63,8 @@ fn answer<R: Threads + Sync, const N: usize, const M: usize, const G: usize>(
             ensures { IsAt rings.entry.now result.seat }
         { process(rings, processor, stop) },
         move || -> Marshaller
-            requires { IsAt rings.now marshaller.seat }
-            ensures { IsAt rings.entry.now result.seat }
+            requires { IsAt rings.now marshaller }
+            ensures { IsAt rings.entry.now result }
         { marshal(rings, marshaller, stop) },
     )
 }
@@ -106,8 +78,8 @@ pub(crate) fn run_stages<
     const M: usize,
     const G: usize,
 >(rt: &R, rings: &Rings<BookLogic, N, M, G>, crew: Crew<D>, stop: &AtomicBool) -> Crew<D>
-    requires { IsAt rings.now crew.processor.seat }
-    ensures { IsAt rings.now result.processor.seat }
+    requires { AreAt rings.now crew }
+    ensures { AreAt rings.now result }
 {
     let Crew {
         unmarshaller,
@@ -118,16 +90,16 @@ pub(crate) fn run_stages<
     let ((unmarshaller, journaller), (processor, marshaller)) = join(
         rt,
         move || -> (Unmarshaller, Journaller<D>)
-            requires { IsSync R.row × IsSend D.row × (IsAt rings.now unmarshaller.seat)
+            requires { IsSync R.row × IsSend D.row × (IsAt rings.now unmarshaller)
                 × (IsAt rings.now journaller.seat) }
-            ensures { (IsAt rings.entry.now result.0.seat)
+            ensures { (IsAt rings.entry.now result.0)
                 × (IsAt rings.entry.now result.1.seat) }
         { read(rt, rings, unmarshaller, journaller, stop) },
         move || -> (Processor, Marshaller)
             requires { IsSync R.row × (IsAt rings.now processor.seat)
-                × (IsAt rings.now marshaller.seat) }
+                × (IsAt rings.now marshaller) }
             ensures { (IsAt rings.entry.now result.0.seat)
-                × (IsAt rings.entry.now result.1.seat) }
+                × (IsAt rings.entry.now result.1) }
         { answer(rt, rings, processor, marshaller, stop) },
     );
     Crew {

@@ -7,6 +7,5 @@ mod stations;
 mod threads;
 mod worker;
 
-pub use crew::Crew;
 pub use threads::run;
 pub use worker::{Outcome, Worker, work};

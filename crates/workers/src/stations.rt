@@ -25,7 +25,7 @@ fn outcome(turn: Turn) -> Outcome {
 struct Unmarshalling<'a, const N: usize, const M: usize, const G: usize> {
     rings: &'a Rings<BookLogic, N, M, G>,
     stage: Unmarshaller,
-    ghost fits: { IsAt rings.now stage.seat },
+    ghost fits: { IsAt rings.now stage },
 }
 
 impl<const N: usize, const M: usize, const G: usize> Worker for Unmarshalling<'_, N, M, G> {
@@ -44,8 +44,8 @@ pub(crate) fn unmarshal<const N: usize, const M: usize, const G: usize>(
     stage: Unmarshaller,
     stop: &AtomicBool,
 ) -> Unmarshaller
-    requires { IsAt rings.now stage.seat }
-    ensures { IsAt rings.now result.seat }
+    requires { IsAt rings.now stage }
+    ensures { IsAt rings.now result }
 {
     let mut worker = Unmarshalling { rings, stage };
     work(&mut worker, stop);
@@ -110,7 +110,7 @@ pub(crate) fn process<const N: usize, const M: usize, const G: usize>(
 struct Marshalling<'a, const N: usize, const M: usize, const G: usize> {
     rings: &'a Rings<BookLogic, N, M, G>,
     stage: Marshaller,
-    ghost fits: { IsAt rings.now stage.seat },
+    ghost fits: { IsAt rings.now stage },
 }
 
 impl<const N: usize, const M: usize, const G: usize> Worker for Marshalling<'_, N, M, G> {
@@ -129,8 +129,8 @@ pub(crate) fn marshal<const N: usize, const M: usize, const G: usize>(
     stage: Marshaller,
     stop: &AtomicBool,
 ) -> Marshaller
-    requires { IsAt rings.now stage.seat }
-    ensures { IsAt rings.now result.seat }
+    requires { IsAt rings.now stage }
+    ensures { IsAt rings.now result }
 {
     let mut worker = Marshalling { rings, stage };
     work(&mut worker, stop);

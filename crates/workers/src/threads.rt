@@ -1,11 +1,12 @@
 //! A run: stages, and what is to happen beside them, at the same time.
-ghost use Rattle.ring_words.specs.At.{IsAt};
+ghost use Rattle.stages.specs.Crews.{AreAt};
 ghost use denote.Param.Send.{IsSend, IsSync};
 
-use crate::crew::{Crew, run_stages};
+use crate::crew::run_stages;
 use book::BookLogic;
 use journal::JournalDisk;
 use ring_words::Rings;
+use stages::Crew;
 use std::sync::atomic::{AtomicBool, Ordering};
 use std::thread::{Threads, join};
 
@@ -28,17 +29,16 @@ pub fn run<
     others: F,
     stop: &AtomicBool,
 ) -> (Crew<D>, X)
-    requires rings { IsAt rings.now crew.processor.seat }
+    requires rings { AreAt rings.now crew }
     requires others { F.pre others }
-    ensures rings { IsAt rings.now result.0.processor.seat }
+    ensures rings { AreAt rings.now result.0 }
     ensures others { F.post others result.1 }
 {
     join(
         rt,
         move || -> Crew<D>
-            requires { IsSync R.row × IsSend D.row
-                × (IsAt rings.now crew.processor.seat) }
-            ensures { IsAt rings.entry.now result.processor.seat }
+            requires { IsSync R.row × IsSend D.row × (AreAt rings.now crew) }
+            ensures { AreAt rings.entry.now result }
         { run_stages(rt, rings, crew, stop) },
         move || -> X
             requires { F.pre others }

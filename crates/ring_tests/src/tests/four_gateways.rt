@@ -1,9 +1,10 @@
 //! Four gateways and the stages, each on a thread of its own, at a ring of four input rows.
 ghost use Rattle.std.specs.Prelude.{◌≡◌, ◌≤◌};
 ghost use Rattle.ring_words.specs.At.{IsAt};
+ghost use Rattle.stages.specs.Crews.{AreAt};
 ghost use Rattle.std.specs.Thread.{IsSync};
 
-use super::crew::Stages;
+use super::crew::{Stages, stages_of};
 use super::gateways_meet::{Crew, Day, run, trade_both};
 use super::member::{Member, next_member};
 use super::venue::{TestRings, abc, open};
@@ -27,7 +28,7 @@ fn run_four<R: Threads + Sync>(
 ) -> bool
     requires third { IsAt rings.now third }
     requires fourth { IsAt rings.now fourth }
-    requires crew { (IsAt rings.now crew.0) × (IsAt rings.now crew.1) × (IsAt rings.now crew.2.processor.seat) }
+    requires crew { (IsAt rings.now crew.0) × (IsAt rings.now crew.1) × (AreAt rings.now crew.2) }
 {
     let ((third, fourth), crew) = join(
         rt,
@@ -38,7 +39,7 @@ fn run_four<R: Threads + Sync>(
             requires { IsSync R.row × (IsAt rings.now third) × (IsAt rings.now fourth) }
         { trade_both(rt, rings, third, fourth, *b"34", day) },
         move || -> Option<Crew>
-            requires { IsSync R.row × (IsAt rings.now crew.0) × (IsAt rings.now crew.1) × (IsAt rings.now crew.2.processor.seat) }
+            requires { IsSync R.row × (IsAt rings.now crew.0) × (IsAt rings.now crew.1) × (AreAt rings.now crew.2) }
         { run(rt, rings, crew, *b"12", day) },
     );
     third.is_some() && fourth.is_some() && crew.is_some()
@@ -47,7 +48,7 @@ fn run_four<R: Threads + Sync>(
 /// Lets four gateways trade at rings of these symbols, and says whether all went well.
 fn trade_all<R: Threads + Sync>(rt: &R, alloc: Global, limits: &Limits) -> Result<bool, Fail> {
     let (rings, seats) = open::<4, 16, 4>(alloc, limits)?;
-    let (stages, mut gateways) = Stages::new(alloc, &rings, seats, limits)?;
+    let (stages, mut gateways) = stages_of(alloc, &rings, seats, limits)?;
     let Some(Member { seat: fourth, .. }) = next_member(&rings, &mut gateways) else {
         return Ok(false);
     };

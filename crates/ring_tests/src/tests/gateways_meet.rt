@@ -3,10 +3,11 @@
 //! rings are closed behind them.
 ghost use Rattle.std.specs.Prelude.{◌≡◌, ◌≤◌, IfSome};
 ghost use Rattle.ring_words.specs.At.{IsAt};
+ghost use Rattle.stages.specs.Crews.{AreAt};
 ghost use Rattle.std.specs.Thread.{IsSync};
 ghost use Rattle.ring_tests.specs.Seats.{StaysSpent};
 
-use super::crew::Stages;
+use super::crew::{Stages, marshalled, stages_of};
 use super::member::{Member, next_member};
 use super::orders::{Count, acknowledgement_of, next, order_of};
 use super::venue::{TestRings, abc, open};
@@ -119,11 +120,11 @@ fn process<const N: usize, const M: usize, const G: usize>(
     mut stages: Stages,
     outputs: u64,
 ) -> Option<Stages>
-    requires { IsAt rings.now stages.processor.seat }
-    ensures { IfSome result (λ s. IsAt rings.now s.processor.seat) }
+    requires { AreAt rings.now stages }
+    ensures { IfSome result (AreAt rings.now) }
 {
     for _ in 0..TRIES {
-        if stages.marshaller.next_seq() == outputs {
+        if marshalled(&stages) == outputs {
             return Some(stages);
         }
         stages.poll(rings);
@@ -144,10 +145,10 @@ pub fn run<R: Threads + Sync, const N: usize, const M: usize, const G: usize>(
 ) -> Option<Crew>
     requires one { IsAt rings.now crew.0 }
     requires other { IsAt rings.now crew.1 }
-    requires rings { IsAt rings.now crew.2.processor.seat }
+    requires rings { AreAt rings.now crew.2 }
     ensures one { IfSome result (λ r. StaysSpent crew.0 r.0) }
     ensures other { IfSome result (λ r. StaysSpent crew.1 r.1) }
-    ensures rings { IfSome result (λ r. IsAt rings.now r.2.processor.seat) }
+    ensures rings { IfSome result (λ r. AreAt rings.now r.2) }
 {
     let (one, other, stages) = crew;
     let ((one, other), stages) = join(
@@ -161,8 +162,8 @@ pub fn run<R: Threads + Sync, const N: usize, const M: usize, const G: usize>(
             ensures other { IfSome result.1 (StaysSpent other) }
         { trade_both(rt, rings, one, other, clients, day) },
         move || -> Option<Stages>
-            requires { IsAt rings.now stages.processor.seat }
-            ensures { IfSome result (λ s. IsAt rings.entry.now s.processor.seat) }
+            requires { AreAt rings.now stages }
+            ensures { IfSome result (AreAt rings.entry.now) }
         { process(rings, stages, day.outputs) },
     );
     Some((one?, other?, stages?))
@@ -175,7 +176,7 @@ fn close_behind<R: Threads + Sync>(
     limits: &Limits,
 ) -> Result<Option<Summary>, Fail> {
     let (rings, seats) = open::<4, 2, 2>(alloc, limits)?;
-    let (stages, mut gateways) = Stages::new(alloc, &rings, seats, limits)?;
+    let (stages, mut gateways) = stages_of(alloc, &rings, seats, limits)?;
     let Some(other) = next_member(&rings, &mut gateways) else {
         return Ok(None);
     };
@@ -195,7 +196,7 @@ fn close_behind<R: Threads + Sync>(
     rings.meet(&mut one, &mut other);
     gateways.push(one)?;
     gateways.push(other)?;
-    Ok(Some(rings.close(stages.end(gateways))))
+    Ok(Some(stages.close(rings, gateways).0))
 }
 
 #[test]

@@ -1,6 +1,6 @@
-//! One gateway publishes one order, each stage polls once, the gateway takes what came of it, finds no more, and meets the journaller, and the rings
-//! are closed behind them.
-use super::crew::Stages;
+//! One gateway publishes one order, each stage polls once, the gateway takes what came of it and finds no more, and the rings are closed behind
+//! them.
+use super::crew::{stages_of, turns_of};
 use super::member::{Member, next_member};
 use super::messages::{FIRST_ACKNOWLEDGED, FIRST_BUY};
 use super::venue::{abc, open};
@@ -14,7 +14,7 @@ use venue_model::Limits;
 /// Puts the order through rings of these symbols, and closes them. Answers what had been done, where each step succeeded.
 fn close_behind(alloc: Global, limits: &Limits) -> Result<Option<Summary>, Fail> {
     let (rings, seats) = open::<4, 2, 1>(alloc, limits)?;
-    let (mut stages, mut gateways) = Stages::new(alloc, &rings, seats, limits)?;
+    let (mut stages, mut gateways) = stages_of(alloc, &rings, seats, limits)?;
     let Some(mut gateway) = next_member(&rings, &mut gateways) else {
         return Ok(None);
     };
@@ -24,18 +24,16 @@ fn close_behind(alloc: Global, limits: &Limits) -> Result<Option<Summary>, Fail>
     let taken = gateway.take(&mut body);
     let next = gateway.take(&mut [0; 320]);
     if !published
-        || turns != [Did(1); 4]
+        || turns != turns_of([Did(1); 4])
         || !matches!(taken, Take::Mine(_))
         || !matches!(next, Take::Nothing)
         || !body.starts_with(FIRST_ACKNOWLEDGED)
     {
         return Ok(None);
     }
-    let Member { mut seat, .. } = gateway;
-    let mut seats = stages.end(gateways);
-    rings.meet_journal(&mut seat, &mut seats.journal);
-    seats.gateways.push(seat)?;
-    Ok(Some(rings.close(seats)))
+    let Member { seat, .. } = gateway;
+    gateways.push(seat)?;
+    Ok(Some(stages.close(rings, gateways).0))
 }
 
 #[test]

@@ -1,8 +1,8 @@
 //! Seven outputs go through an output ring of two rows: the processor puts more only as both gateways take them or pass them over.
 ghost use Rattle.std.specs.Prelude.{◌≡◌, ◌≤◌, length};
-ghost use Rattle.ring_words.specs.At.{IsAt};
+ghost use Rattle.stages.specs.Crews.{AreAt};
 
-use super::crew::Stages;
+use super::crew::{Stages, processed, stages_of};
 use super::member::{Member, next_member};
 use super::messages::{BUY_THREE, SELL_ONE, SELL_THREE, SELL_TWO};
 use super::venue::{TestRings, abc, open};
@@ -31,12 +31,12 @@ fn taken(gateway: &mut Pair<'_>) -> (u8, u8) {
 
 /// Lets the stages poll twice, so that two outputs are marshalled, and answers what the processor did first.
 fn process(rings: &PairRings, stages: &mut Stages) -> Turn
-    requires stages { IsAt rings.now stages.old.processor.seat }
-    ensures stages { IsAt rings.now stages.new.processor.seat }
+    requires stages { AreAt rings.now stages.old }
+    ensures stages { AreAt rings.now stages.new }
 {
-    let [_, _, turn, _] = stages.poll(rings);
+    let turns = stages.poll(rings);
     stages.poll(rings);
-    turn
+    turns.processor
 }
 
 /// The first gateway sells, and takes the acknowledgement.
@@ -48,9 +48,9 @@ fn sell<A: Abort>(
     stages: &mut Stages,
     order: &[u8],
 )
-    requires stages { IsAt rings.now stages.old.processor.seat }
+    requires stages { AreAt rings.now stages.old }
     requires order { (1 ≤ length order.now) × (length order.now ≤ 320) }
-    ensures stages { IsAt rings.now stages.new.processor.seat }
+    ensures stages { AreAt rings.now stages.new }
 {
     assert!(rt; one.publish(order).is_ok());
     assert_eq!(rt; process(rings, stages), Did(1));
@@ -65,11 +65,11 @@ fn put_two<A: Abort>(
     other: &mut Pair<'_>,
     stages: &mut Stages,
 )
-    requires stages { IsAt rings.now stages.old.processor.seat }
-    ensures stages { IsAt rings.now stages.new.processor.seat }
+    requires stages { AreAt rings.now stages.old }
+    ensures stages { AreAt rings.now stages.new }
 {
     assert_eq!(rt; process(rings, stages), OutFull);
-    assert_eq!(rt; stages.processor.next_seq(), 3);
+    assert_eq!(rt; processed(stages), 3);
     assert_eq!(rt; (taken(one), taken(other)), ((1, 1), (1, 1)));
 }
 
@@ -81,7 +81,7 @@ fn trade<A: Abort>(
     other: &mut Pair<'_>,
     stages: &mut Stages,
 )
-    requires stages { IsAt rings.now stages.old.processor.seat }
+    requires stages { AreAt rings.now stages.old }
 {
     sell(rt, rings, one, other, stages, SELL_ONE);
     sell(rt, rings, one, other, stages, SELL_TWO);
@@ -91,7 +91,7 @@ fn trade<A: Abort>(
     put_two(rt, rings, one, other, stages);
     put_two(rt, rings, one, other, stages);
     assert_eq!(rt; process(rings, stages), Did(1));
-    assert_eq!(rt; stages.processor.next_seq(), 4);
+    assert_eq!(rt; processed(stages), 4);
     assert_eq!(rt; (taken(one), taken(other)), ((0, 1), (1, 0)));
 }
 
@@ -99,7 +99,7 @@ fn trade<A: Abort>(
 fn output_ring_of_two(rt: HostRuntime) -> Result<(), Fail> {
     let limits = abc(rt.alloc()).ok_or("no memory")?;
     let (rings, seats) = open::<4, 2, 2>(rt.alloc(), &limits)?;
-    let (mut stages, mut gateways) = Stages::new(rt.alloc(), &rings, seats, &limits)?;
+    let (mut stages, mut gateways) = stages_of(rt.alloc(), &rings, seats, &limits)?;
     let mut second = next_member(&rings, &mut gateways).ok_or("no gateway 2")?;
     let mut first = next_member(&rings, &mut gateways).ok_or("no gateway 1")?;
     trade(&rt, &rings, &mut first, &mut second, &mut stages);

@@ -1,8 +1,8 @@
 //! Two gateways fill a ring of two rows; once the stages have done its first message, the row is claimed again.
 ghost use Rattle.std.specs.Prelude.{◌≡◌};
-ghost use Rattle.ring_words.specs.At.{IsAt};
+ghost use Rattle.stages.specs.Crews.{AreAt};
 
-use super::crew::Stages;
+use super::crew::{Stages, stages_of, turns_of};
 use super::member::{Member, next_member};
 use super::messages::{FIRST_BUY, THIRD_ACKNOWLEDGED};
 use super::venue::{TestRings, abc, open};
@@ -22,8 +22,8 @@ fn publish_both(
     other: &mut Pair<'_>,
     stages: &mut Stages,
 ) -> Result<Option<(u64, u64)>, ClaimRefusal>
-    requires stages { IsAt rings.now stages.old.processor.seat }
-    ensures stages { IsAt rings.now stages.new.processor.seat }
+    requires stages { AreAt rings.now stages.old }
+    ensures stages { AreAt rings.now stages.new }
 {
     let first = try_claim(one.rings, &mut one.seat)?;
     let second = match try_claim(other.rings, &mut other.seat) {
@@ -36,7 +36,7 @@ fn publish_both(
     let at = second.publish(other.rings, &mut other.seat, b"AB");
     let turns = stages.poll(rings);
     let before = first.publish(one.rings, &mut one.seat, b"AB");
-    if turns != [Idle; 4] {
+    if turns != turns_of([Idle; 4]) {
         return Ok(None);
     }
     Ok(Some((before, at)))
@@ -50,15 +50,21 @@ fn fill<A: Abort>(
     other: &mut Pair<'_>,
     stages: &mut Stages,
 )
-    requires stages { IsAt rings.now stages.old.processor.seat }
+    requires stages { AreAt rings.now stages.old }
 {
     assert_eq!(rt; publish_both(rings, one, other, stages), Ok(Some((0, 1))));
     assert_eq!(rt; one.publish(FIRST_BUY), Err(ClaimRefusal::Full));
-    assert_eq!(rt; stages.poll(rings), [Did(1), Did(1), Did(1), Idle]);
+    assert_eq!(rt;
+        stages.poll(rings),
+        turns_of([Did(1), Did(1), Did(1), Idle])
+    );
     assert_eq!(rt; one.publish(FIRST_BUY), Ok(2));
-    assert_eq!(rt; stages.poll(rings), [Did(1), Did(1), Did(1), Idle]);
-    assert_eq!(rt; stages.poll(rings), [Did(1); 4]);
-    assert_eq!(rt; stages.poll(rings), [Idle; 4]);
+    assert_eq!(rt;
+        stages.poll(rings),
+        turns_of([Did(1), Did(1), Did(1), Idle])
+    );
+    assert_eq!(rt; stages.poll(rings), turns_of([Did(1); 4]));
+    assert_eq!(rt; stages.poll(rings), turns_of([Idle; 4]));
     let mut body = [0; 320];
     assert!(rt; matches!(one.take(&mut body), Take::Mine(_)));
     assert!(rt; body.starts_with(THIRD_ACKNOWLEDGED));
@@ -70,7 +76,7 @@ fn fill<A: Abort>(
 fn ring_of_two(rt: HostRuntime) -> Result<(), Fail> {
     let limits = abc(rt.alloc()).ok_or("no memory")?;
     let (rings, seats) = open::<2, 2, 2>(rt.alloc(), &limits)?;
-    let (mut stages, mut gateways) = Stages::new(rt.alloc(), &rings, seats, &limits)?;
+    let (mut stages, mut gateways) = stages_of(rt.alloc(), &rings, seats, &limits)?;
     let mut second = next_member(&rings, &mut gateways).ok_or("no gateway 2")?;
     let mut first = next_member(&rings, &mut gateways).ok_or("no gateway 1")?;
     fill(&rt, &rings, &mut first, &mut second, &mut stages);

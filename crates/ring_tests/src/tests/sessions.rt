@@ -4,8 +4,9 @@ ghost use Rattle.std.specs.Prelude.{None, ◌≡◌, true, false, [], IfOk, IsSo
 ghost use Rattle.ring_words.specs.declared.view.Role.TheVariants as role;
 ghost use Rattle.ring_words.specs.Rule.{newcomer};
 ghost use Rattle.ring_words.specs.At.{at, IsAt, number};
+ghost use Rattle.stages.specs.Crews.{AreAt};
 
-use super::crew::Stages;
+use super::crew::{Stages, stages_of};
 use super::venue::{TestRings, abc, open};
 use book::BookLogic;
 use gateway::{Gateway, MemWire, Reason, Turned};
@@ -97,8 +98,8 @@ fn serve(
 ) -> Option<Reason>
     requires live { gateway.old.front.live ≡ true }
     requires at { IsAt rings.now gateway.old.seat }
-    requires stages { IsAt rings.now stages.old.processor.seat }
-    ensures stages { IsAt rings.now stages.new.processor.seat }
+    requires stages { AreAt rings.now stages.old }
+    ensures stages { AreAt rings.now stages.new }
     ensures table { IsAt rings.now gateway.new.seat }
     ensures over { IsSome result → gateway.new.front.live ≡ false }
     ensures alive { result ≡ None → gateway.new.front.live ≡ true }
@@ -134,7 +135,7 @@ struct Wires {
 /// each session ended as it is to end.
 fn trade(alloc: Global, limits: &Limits, wires: &mut Wires) -> Result<Option<u64>, Fail> {
     let (rings, seats) = open::<4, 4, 2>(alloc, limits)?;
-    let (mut stages, mut gateways) = Stages::new(alloc, &rings, seats, limits)?;
+    let (mut stages, mut gateways) = stages_of(alloc, &rings, seats, limits)?;
     let Some(seat) = gateways.pop() else {
         return Ok(None);
     };

@@ -1,28 +1,28 @@
 -- The seat is that of gateway 1, as the rings were opened with it; and what was opened was served from there on.
-use Rattle.std.proofs.Common.{inr, refl, subst, sym, ap}
+use Rattle.std.proofs.Common.{[], ◌∷◌, inr, refl, subst, sym}
 use Rattle.gateway.specs.Delivers.{nothing_yet, starts}
 use Rattle.ring_words.specs.At.{At}
 use Rattle.venue_model.specs.Requests.{Symbols}
-use Rattle.venued.specs.Finishing.{Finished}
-use Rattle.venued.specs.Rounds.{Whole}
+use Rattle.stages.specs.Stations.{disk_of}
+use Rattle.stages.specs.Finishing.{Finished}
 use Rattle.venued.specs.Serving.{LeavesFrom}
 use Rattle.venued.specs.VenueRings.{IsFirst}
+use Rattle.venued.specs.Venues.{Venue}
 use Rattle.venued.proofs.ServingLemmas.{first_seen, began, serve_leaves}
 use Rattle.venued.proofs.serve.serve.Goals as goal
 
 pub new-requires : goal.new-requires
-new-requires g c = first_seen _ _ _ _ c.in-Ok.ensures.opened.1 c.in-Ok.ensures.seat c.in-Ok.ensures.disk.few
+new-requires g c = first_seen _ _ _ _ c.in-Ok.ensures.opened.0 c.first_seat-seat.ensures.seat c.in-Ok.ensures.disk.few
 
 pub returns-clause-served : goal.returns-clause-served
 returns-clause-served g c =
-    let tells = g.W.Wire.tells in
-    let opened = c.in-Ok.ensures in
-    let venue = c.in-Ok.opened.0 in
-    let seat = c.in-Ok.opened.1 in
-    let start : Whole g.row.D.Denot = record { gateway = c.begin.new.self; venue = venue; wire = tells c.args.wire.now } in
-    let end : Whole g.row.D.Denot = record { gateway = c.take_turns.new.gateway; venue = c.take_turns.new.venue; wire = tells c.take_turns.new.wire } in
-    let first = began venue.rings c.in-Ok-new.gateway c.begin.new.self seat c.in-Ok-new.ensures.made c.begin.ensures.new opened.seat in
+    let tells = g.W.Wire.tells in let opened = c.in-Ok.ensures in
+    let rings = c.in-Ok.opened.0 in let seat = c.first_seat-seat.result in
+    let start : Venue g.row.D.Denot = record { rings = rings; gateway = c.begin.new.self; crew = c.in-Ok.opened.1; wire = tells c.args.wire.now } in
+    let end : Venue g.row.D.Denot = record { rings = rings; gateway = c.take_turns.new.gateway; crew = c.take_turns.new.crew; wire = tells c.take_turns.new.wire } in
+    let first = began rings c.in-Ok-new.gateway c.begin.new.self seat c.in-Ok-new.ensures.made c.begin.ensures.new c.first_seat-seat.ensures.seat in
     let course = c.take_turns.ensures.delivers (starts 1024 start.gateway start.wire) nothing_yet (c.begin.ensures.begins 1024 start.wire) in
+    let device = c.finish-disk-2.result.1 in
     inr (
       c.take_turns.result,
       c.status_of-status.ensures,
@@ -30,9 +30,9 @@ returns-clause-served g c =
         start = start;
         end = end;
         opens = record {
-          venue = opened.opened.0;
-          behind = opened.opened.1;
-          seat = subst (λ (s : At Symbols). IsFirst venue.rings s) (sym first.1) opened.seat;
+          crew = opened.opened.1;
+          behind = opened.opened.0;
+          seat = subst (λ (s : At Symbols). IsFirst rings s) (sym first.1) c.first_seat-seat.ensures.seat;
           session = first.0;
           wire = refl;
           disk_is = opened.disk;
@@ -41,18 +41,16 @@ returns-clause-served g c =
         course = course.0;
         delivers = course.1;
         summary = c.finish-disk-2.result.0;
-        finished = subst (λ (s : At Symbols). Finished s end.venue (g.D.JournalDisk.honest end.venue.disk) (g.D.JournalDisk.tells end.venue.disk) c.finish-disk-2.result.0) c.end.ensures.seat c.finish-disk-2.ensures.finished;
+        finished = subst (λ (s : At Symbols). Finished rings (s ∷ []) end.crew (g.D.JournalDisk.honest device) (g.D.JournalDisk.tells device) c.finish-disk-2.result.0)
+            c.end.ensures.seat c.finish-disk-2.ensures.finished;
         wire = refl;
         disk_is = c.finish-disk-2.ensures.disk;
       },
     )
 
 pub returns-clause-any_moment : goal.returns-clause-any_moment
-returns-clause-any_moment g c honest =
-    let tells = g.D.JournalDisk.tells in
-    let opened = c.in-Ok.ensures in
-    let read = opened.disk.read in
-    let venue = c.in-Ok.opened.0 in
+returns-clause-any_moment g c = λ honest.
+    let tells = g.D.JournalDisk.tells in let opened = c.in-Ok.ensures.disk in let crew = c.in-Ok.opened.1 in
     subst (λ (d : g.row.D.Denot). LeavesFrom (tells c.args.disk) (tells d)) (sym c.finish-disk-2.ensures.disk)
-    (serve_leaves (tells c.args.disk) (tells venue.disk) (tells c.take_turns.new.venue.disk) venue.rings.base (read.any_moment.leaves honest) (read.file honest)
-    (opened.disk.durable honest) (opened.disk.history honest) (c.take_turns.ensures.any_moment (read.any_moment.honest.0 honest)))
+    (serve_leaves (tells c.args.disk) (tells (disk_of crew)) (tells (disk_of c.take_turns.new.crew)) c.in-Ok.opened.0.base (opened.read.any_moment.leaves honest)
+    (opened.read.file honest) (opened.durable honest) (opened.history honest) (c.take_turns.ensures.any_moment (opened.read.any_moment.honest.0 honest)))

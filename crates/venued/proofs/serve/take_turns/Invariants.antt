@@ -5,8 +5,10 @@ use Rattle.gateway.specs.Delivers.{Start, Course, Delivers}
 use Rattle.gateway.specs.Seats.{ledger_of}
 use Rattle.journal.specs.Disk.{Both, LeavesOnly}
 use Rattle.ring_words.specs.At.{IsAt}
+use Rattle.stages.specs.Stations.{disk_of}
+use Rattle.stages.specs.Crews.{AreAt}
 use Rattle.venued.specs.Crashes.{Behind}
-use Rattle.venued.specs.Rounds.{Whole, Rounds}
+use Rattle.venued.specs.Rounds.{Rounds}
 use Rattle.venued.proofs.ServingLemmas.{LeftOrBehind}
 use Rattle.venued.proofs.serve.take_turns.Given as goal
 
@@ -15,16 +17,17 @@ invariant-loop-round g l =
     let tells = g.D.JournalDisk.tells in
     let wire = g.W.Wire.tells in record {
       live : l.gateway.front.live ≡ true;
-      at : IsAt l.venue.rings l.gateway.seat;
+      at : IsAt l.rings l.gateway.seat;
       role : l.gateway.seat.who.role ≡ l.fn.gateway.seat.who.role;
-      ready : l.venue.failed ≡ false;
-      rings : l.venue.rings ≡ l.fn.venue.rings;
-      behind : Behind l.venue.rings.base l.venue.journaller;
-      honest : Both (g.D.JournalDisk.honest l.fn.venue.disk) (g.D.JournalDisk.honest l.venue.disk);
-      counts : g.D.JournalDisk.failed l.venue.disk ≡ g.D.JournalDisk.failed l.fn.venue.disk;
-      leaves : g.D.JournalDisk.honest l.fn.venue.disk → LeavesOnly (tells l.fn.venue.disk) (tells l.venue.disk) (LeftOrBehind (tells l.fn.venue.disk) l.fn.venue.rings.base);
+      crew : AreAt l.rings l.crew;
+      ready : l.crew.journaller.journal.failed ≡ false;
+      behind : Behind l.rings.base l.crew.journaller.seat.who;
+      honest : Both (g.D.JournalDisk.honest (disk_of l.fn.crew)) (g.D.JournalDisk.honest (disk_of l.crew));
+      counts : g.D.JournalDisk.failed (disk_of l.crew) ≡ g.D.JournalDisk.failed (disk_of l.fn.crew);
+      leaves : g.D.JournalDisk.honest (disk_of l.fn.crew) → LeavesOnly (tells (disk_of l.fn.crew)) (tells (disk_of l.crew)) (LeftOrBehind (tells (disk_of l.fn.crew)) l.rings.base);
       rounds : Rounds (record { honest = g.D.JournalDisk.honest; tells = tells }) l._round
-          (record { gateway = l.fn.gateway; venue = l.fn.venue; wire = wire l.fn.wire }) (record { gateway = l.gateway; venue = l.venue; wire = wire l.wire });
+          (record { rings = l.rings; gateway = l.fn.gateway; crew = l.fn.crew; wire = wire l.fn.wire })
+          (record { rings = l.rings; gateway = l.gateway; crew = l.crew; wire = wire l.wire });
       delivers : (start : Start) (c : Course) → Delivers start l.fn.gateway.front (wire l.fn.wire) (ledger_of 1024 l.fn.gateway.seat) c →
           (d : Course) × Delivers start l.gateway.front (wire l.wire) (ledger_of 1024 l.gateway.seat) d;
     }

@@ -1,8 +1,7 @@
--- Both gateways' seats come back with no claim, and each stage's seat, to the rings that they were opened with.
-use Rattle.std.proofs.Common.{◌+◌, length, sym, ap, subst, ◌∙◌, arith}
-use Rattle.ring_words.specs.At.{IsAt}
+-- Both gateways' seats come back with no claim, to the rings that they and the stages were opened with.
+use Rattle.std.proofs.Common.{◌+◌, length, sym, ap, subst, arith}
 use Rattle.ring_tests.specs.Seats.{IsSpent, AreSpent}
-use Rattle.ring_tests.proofs.Seats.{one_more, met_spent, beside, are_gateways}
+use Rattle.ring_tests.proofs.Seats.{one_more, met_spent, are_gateways}
 use Rattle.ring_tests.proofs.tests.gateways_meet.close_behind.Goals as goal
 
 pub meet-requires : goal.meet-requires
@@ -25,19 +24,16 @@ close-requires g c =
     (met_spent rings _ c.in-Some-run.other other _ _ c.meet.ensures.steps.2 (c.in-Some-run.ensures.other rings _ c.in-Some.ensures.member)) in
     let one_is : AreSpent rings with_one.items =
     subst (λ seats. AreSpent rings seats) (sym c.in_ok-push.ensures.items) (one_more (λ k s. IsSpent rings k s) left.items one c.in-Some-next_member.ensures.left met_one) in
-    let both_are = subst (λ seats. AreSpent rings seats) (sym c.in_ok-push-2.ensures.items) (one_more (λ k s. IsSpent rings k s) with_one.items other one_is met_other) in
-    let are_spent = subst (λ seats. AreSpent rings seats) (sym (ap (λ v. v.items) c.end.ensures.gateways)) both_are in
-    let processes = c.in-Some-run.ensures.rings in (
+    let both_are = subst (λ seats. AreSpent rings seats) (sym c.in_ok-push-2.ensures.items) (one_more (λ k s. IsSpent rings k s) with_one.items other one_is met_other) in (
       omega arith,
       (
-        record {
-          count = omega (arith, ap (λ v. v.len) c.end.ensures.gateways, c.in_ok-push.ensures.len, c.in_ok-push-2.ensures.len, c.in-Some.ensures.count, c.in-Some-next_member.ensures.count, c.in_ok-rings.ensures.seats.count, ap (λ v. v.len) c.in_ok-stages.ensures.gateways);
-          gateways = are_gateways rings _ are_spent;
-          unmarshal = beside rings _ _ _ processes c.in-Some-run.stages.unmarshals c.end.ensures.unmarshal;
-          journal = beside rings _ _ _ processes c.in-Some-run.stages.journals c.end.ensures.journal;
-          process = subst (IsAt rings) (sym c.end.ensures.process) processes;
-          marshal = beside rings _ _ _ processes c.in-Some-run.stages.marshals c.end.ensures.marshal;
-        },
-        λ i s there. (are_spent i s there).claims,
+        c.in-Some-run.ensures.rings,
+        (
+          are_gateways rings _ both_are,
+          (
+            omega (arith, c.in_ok-push.ensures.len, c.in_ok-push-2.ensures.len, c.in-Some.ensures.count, c.in-Some-next_member.ensures.count, c.in_ok-rings.ensures.seats.count, ap (λ v. v.len) c.in_ok-stages.ensures.gateways),
+            λ i s there. (both_are i s there).claims,
+          ),
+        ),
       ),
     )

@@ -1,5 +1,5 @@
 -- A turn that ends the session says so, and any leaves the gateway at its rings.
-use Rattle.ring_words.proofs.Views.{still_at}
+use Rattle.ring_words.specs.SeatLaws.{still_at}
 use Rattle.ring_tests.proofs.Turns.{lives}
 use Rattle.ring_tests.proofs.tests.sessions.turn.Goals as goal
 

@@ -1,60 +1,67 @@
 -- The command that was read is that of the next entry: the book follows when it is done, and its outputs are left.
-use Rattle.std.proofs.Common.{◌≡◌, ℕ, ◌+◌, length, take, ap, subst, ◌∙◌, arith, add-one}
+use Rattle.std.proofs.Common.{ℕ, ◌<◌, length, take, ap, subst, sym, ◌∙◌, arith}
 use Rattle.ring_words.specs.At.{At}
 use Rattle.book.specs.Standing.{Below}
+use Rattle.stages.specs.Stations.{AtBook}
 use Rattle.stages.proofs.Polls.{has_person}
-use Rattle.stages.proofs.Processing.{behind, has_room, took, may_apply, all_new, at_rest, follows_on}
-use Rattle.stages.proofs.Putting.{read_leaves}
+use Rattle.stages.proofs.Processing.{MayTake, HasRead, behind, has_room, took, may_apply, all_new}
+use Rattle.stages.proofs.Putting.{works_on}
 use Rattle.stages.proofs.processor.Processor.apply.Goals as goal
 
 pub apply-requires-clause-behind : goal.apply-requires-clause-behind
-apply-requires-clause-behind g c = let p = c.args.self.now in
-    subst (λ (k : ℕ). Below k p.book.state.orders) c.requires.all (behind p.book.symbols p.applied p.seat.who.seen p.book.state p.state)
+apply-requires-clause-behind g c = let p = c.self.inside in
+    let all = ap (λ (w : AtBook). w.applied) c.self.view_is ∙ c.requires.all in
+    subst (λ (k : ℕ). Below k p.book.state.orders) all (behind p.book.symbols p.applied p.seat.who.seen p.book.state c.self.invariant.0.follows.state)
 
 pub apply-requires-clause-gateway : goal.apply-requires-clause-gateway
-apply-requires-clause-gateway g c = let p = c.args.self.now in
-    let may = may_apply p.seat _ _ _ c.requires.known c.read_command-gateway.ensures.command in
+apply-requires-clause-gateway g c = let p = c.self.inside in
+    let known = subst (λ (w : AtBook). c.args.next < length w.seat.who.seen) (sym c.self.view_is) c.requires.known in
+    let may = may_apply p.seat _ _ _ known c.read_command-gateway.ensures.command in
     (may.0, may.1)
 
 pub apply-requires-clause-command : goal.apply-requires-clause-command
-apply-requires-clause-command g c = let p = c.args.self.now in
-    (may_apply p.seat _ _ _ c.requires.known c.read_command-gateway.ensures.command).2
+apply-requires-clause-command g c = let p = c.self.inside in
+    let known = subst (λ (w : AtBook). c.args.next < length w.seat.who.seen) (sym c.self.view_is) c.requires.known in
+    (may_apply p.seat _ _ _ known c.read_command-gateway.ensures.command).2
 
 pub unreachable-requires : goal.unreachable-requires
-unreachable-requires g c = let p = c.args.self.now in
-    let enough = has_room p.book.symbols (take p.applied p.seat.who.seen) p.book.state p.state in
-    let full = c.in-Err.ensures.refused.2 in let none = c.clear.ensures.len in let same = c.clear.ensures.capacity in let room = p.room in
+unreachable-requires g c = let p = c.self.inside in
+    let enough = has_room p.book.symbols (take p.applied p.seat.who.seen) p.book.state c.self.invariant.0.follows.state in
+    let full = c.in-Err.ensures.refused.2 in let none = c.clear.ensures.len in let same = c.clear.ensures.capacity in let room = c.self.invariant.2 in
     omega (arith, enough, full, none, same, room)
 
 pub invariant_of-self : goal.invariant_of-self
-invariant_of-self g c = let p = c.args.self.now in let read = c.read_command-gateway.ensures in
-    let took = took p.seat _ _ _ c.requires.known read.command g.row.N _ c.requires.next read.step in
-    let follows = at_rest p.seat p.book p.applied c.args.next _ (record { logic = p.logic; state = p.state; rest = p.left; published = p.published })
-    c.requires.all (p.whole (c.requires.all ∙ c.requires.next)) in
+invariant_of-self g c = let p = c.self.inside in let read = c.read_command-gateway.ensures in
+    let may = subst (λ (w : AtBook). MayTake w c.args.next) (sym c.self.view_is)
+    (record { next = c.requires.next; all = c.requires.all; known = c.requires.known; synced = c.requires.synced }) in
+    let took = took p.seat c.args.next _ _ may.known read.command g.row.N c.read_command-gateway.new.seat may.next read.step in
     let told = all_new _ _ _ c.in-Ok.ensures.told c.clear.ensures.items in
-    let on = follows_on g.row.N _ _ _ _ _ took p.book follows c.apply.new.self c.apply.new.out.items (c.args.next + 1) (add-one c.args.next) c.in-Ok.ensures.state.state told in
-    let place = took.place in let known = took.known in
-    let own : c.read_command-gateway.new.seat.who.own ≡ p.seat.who.own = ap (λ z. z.who.own) took.view in
-    let seen : length c.read_command-gateway.new.seat.who.seen ≡ length p.seat.who.seen = ap (λ z. length z.who.seen) took.view in
-    let kept = c.apply.ensures.room in let same = c.clear.ensures.capacity in let room = p.room in
-    record {
-      logic = on.logic;
-      counts = (omega (arith, place, own), omega (arith, place, own), omega (arith, place, known, seen));
-      state = on.state;
-      left = on.rest;
-      published = on.published;
-      whole = λ is. absurd (omega (arith, is, place, own));
-      synced = λ _. read_leaves g.row.N _ _ _ _ _ took c.requires.synced;
-      within = omega arith;
-      room = omega (arith, kept, same, room);
-    }
+    let working = works_on g.row.N _ c.read_command-gateway.new.seat c.args.next _ _ c.self.invariant.0 may took c.apply.new.self c.apply.new.out.items
+    c.in-Ok.ensures.state.state told in
+    let kept = c.apply.ensures.room in let same = c.clear.ensures.capacity in let room = c.self.invariant.2 in
+    (working, omega arith, omega (arith, kept, same, room))
+
+pub returns-clause-working : goal.returns-clause-working
+returns-clause-working g c = let p = c.self.inside in let read = c.read_command-gateway.ensures in
+    let may = subst (λ (w : AtBook). MayTake w c.args.next) (sym c.self.view_is)
+    (record { next = c.requires.next; all = c.requires.all; known = c.requires.known; synced = c.requires.synced }) in
+    let took = took p.seat c.args.next _ _ may.known read.command g.row.N c.read_command-gateway.new.seat may.next read.step in
+    let told = all_new _ _ _ c.in-Ok.ensures.told c.clear.ensures.items in
+    let working = works_on g.row.N _ c.read_command-gateway.new.seat c.args.next _ _ c.self.invariant.0 may took c.apply.new.self c.apply.new.out.items
+    c.in-Ok.ensures.state.state told in
+    working
 
 pub returns-clause-step : goal.returns-clause-step
-returns-clause-step g c = let p = c.args.self.now in let read = c.read_command-gateway.ensures in
-    let took = took p.seat _ _ _ c.requires.known read.command g.row.N _ c.requires.next read.step in
-    has_person p.seat _ _ took.view
+returns-clause-step g c = let p = c.self.inside in let read = c.read_command-gateway.ensures in
+    let may = subst (λ (w : AtBook). MayTake w c.args.next) (sym c.self.view_is)
+    (record { next = c.requires.next; all = c.requires.all; known = c.requires.known; synced = c.requires.synced }) in
+    let took = took p.seat c.args.next _ _ may.known read.command g.row.N c.read_command-gateway.new.seat may.next read.step in
+    rw (← c.self.view_is) (has_person p.seat _ _ took.view)
 
 pub returns-clause-read : goal.returns-clause-read
-returns-clause-read g c = let p = c.args.self.now in let read = c.read_command-gateway.ensures in
-    let took = took p.seat _ _ _ c.requires.known read.command g.row.N _ c.requires.next read.step in
+returns-clause-read g c = let p = c.self.inside in let read = c.read_command-gateway.ensures in
+    let may = subst (λ (w : AtBook). MayTake w c.args.next) (sym c.self.view_is)
+    (record { next = c.requires.next; all = c.requires.all; known = c.requires.known; synced = c.requires.synced }) in
+    let took = took p.seat c.args.next _ _ may.known read.command g.row.N c.read_command-gateway.new.seat may.next read.step in
+    subst (λ (w : AtBook). HasRead g.row.N w.seat.who c.read_command-gateway.new.seat.who) c.self.view_is
     (took.entry, took.at, ap (λ (s : At _). s.who) took.view)

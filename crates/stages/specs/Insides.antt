@@ -1,0 +1,34 @@
+-- What holds of the fields of a stage that holds more than a seat.
+use Rattle.std.specs.Prelude.{◌≡◌, ℕ, suc, ◌+◌, ◌<◌, ◌≤◌, false, List, [], length, take, drop, Some}
+use Rattle.venue_model.specs.Requests.{Symbols}
+use Rattle.venue_model.specs.declared.outputs.Output.{Output}
+use Rattle.ring_words.specs.declared.view.Person.{Person}
+use Rattle.ring_words.specs.Places.{journalled}
+use Rattle.ring_words.specs.Seats.{last_from}
+use Rattle.ring_words.specs.At.{At}
+use Rattle.journal.specs.Disk.{Told}
+use Rattle.journal.specs.Journals.{OneJournal}
+use Rattle.book.specs.Books.{Book}
+use Rattle.book.specs.Histories.{state_of, outputs_of}
+use Rattle.stages.specs.Kept.{HoldsDone, KeepsDone}
+use Rattle.stages.specs.Stations.{AtBook}
+
+-- the journal has just the entries that are done, while none failed; and whatever a crash leaves has them
+pub record IsKeeping {D : Type 0} (honest : Type 0) (disk : Told) (who : Person) (journal : OneJournal D) : Type 0 where
+  pub counts : journal.failed ≡ false → journal.count ≡ who.own
+  pub holds : honest → journal.failed ≡ false → ∥ HoldsDone disk who ∥₁
+  pub keeps : honest → ∥ KeepsDone disk who ∥₁
+
+-- the book is that of the first entries, so many; of their outputs all but those left are published
+pub record Follows (v : At Symbols) (book : Book) (applied : ℕ) (left : List Output) : Type 0 where
+  pub logic : v.logic ≡ Some book.symbols
+  pub state : book.state ≡ state_of book.symbols (take applied v.who.seen)
+  pub rest : drop v.who.part.sequence (outputs_of book.symbols (take applied v.who.seen)) ≡ left
+  pub published : length (outputs_of book.symbols (take applied v.who.seen)) ≡ v.who.part.sequence + length left
+
+-- So it is of the entries that are done, or of one more, which was seen journalled, while outputs of it are left.
+pub record IsWorking (p : AtBook) : Type 0 where
+  pub follows : Follows p.seat p.book p.applied p.left
+  pub counts : (p.seat.who.own ≤ p.applied) × (p.applied ≤ suc p.seat.who.own) × (p.applied ≤ length p.seat.who.seen)
+  pub whole : p.applied ≡ p.seat.who.own → p.left ≡ []
+  pub synced : p.seat.who.own < p.applied → p.seat.who.own < last_from journalled 0 p.seat.who.loads
