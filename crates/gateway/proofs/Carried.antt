@@ -7,7 +7,7 @@ use Rattle.fix_frame.specs.Ascii.{soh}
 use Rattle.fix_frame.specs.Grammar.{Field, IsField, LacksSoh}
 use Rattle.fix_orders.specs.Formats.{time_text}
 use Rattle.fix_orders.specs.Text.{kind_of, type_of, field, number, text, text_bytes, body_fields, exec_fields, event_fields, orig_fields, order_fields, last_fields, filled_fields, refusal_fields, leaves_after, average, named_id}
-use Rattle.fix_orders.proofs.BodyLemmas.{symbol_field, exec_field, status_field, named_field, side_field, response_field, cancel_reason_field, type_field, reason_field, text_field, all_append}
+use Rattle.fix_orders.specs.BodyLaws.{symbol_field, exec_field, status_field, named_field, side_field, response_field, cancel_reason_field, type_field, reason_field, text_field, all_append}
 use Rattle.venue_model.specs.declared.orders.Order.{Order}
 use Rattle.venue_model.specs.declared.outputs.ExecType.{ExecType}
 use Rattle.venue_model.specs.declared.outputs.ExecType.TheVariants.{New, Trade, Canceled, Replaced, Rejected}

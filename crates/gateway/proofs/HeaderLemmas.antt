@@ -12,7 +12,7 @@ use Rattle.fix_frame.specs.Writing.{Spells as SpellsFrame}
 use Rattle.fix_orders.specs.Formats.{last_digits, time_text}
 use Rattle.fix_orders.specs.Text.{Said, field, number}
 use Rattle.fix_orders.specs.Writing.{Puts, PutsFields}
-use Rattle.fix_orders.proofs.WritingLemmas.{print_fields-append}
+use Rattle.fix_orders.specs.WritingLaws.{print_fields-append}
 use Rattle.gateway.specs.Verdict.{client_name, venue_name}
 use Rattle.gateway.specs.Session.{message_text}
 use Rattle.gateway.specs.Messages.{IsTypeText, AreFields, Spells}

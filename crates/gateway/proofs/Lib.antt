@@ -12,6 +12,7 @@ pub mod HearLemmas
 pub mod HandLemmas
 pub mod TurnLemmas
 mod MemWireLemmas
+mod BufferLemmas
 pub mod NameLemmas
 pub mod FrameBytes
 pub mod HeaderLemmas

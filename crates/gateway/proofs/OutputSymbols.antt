@@ -10,7 +10,7 @@ use Rattle.fix_frame.specs.Grammar.{Field}
 use Rattle.fix_orders.specs.declared.faults.Fault.{Fault}
 use Rattle.fix_orders.specs.Header.{Header, header_of}
 use Rattle.fix_orders.specs.Reading.{value_at, type_of, classes, first_fault, judged, typed, headed, command_of, exact_fields, reads}
-use Rattle.fix_orders.proofs.FaultLemmas.{right_value, spelling}
+use Rattle.fix_orders.specs.FaultLaws.{right_value, spelling}
 use Rattle.venue_model.specs.History.{Message}
 use Rattle.venue_model.specs.Spelling.{IsSpelling}
 use Rattle.venue_model.specs.declared.commands.Command.{Command}
@@ -35,7 +35,7 @@ use Rattle.venue_model.specs.Orders.{leaves, is_live, crosses, ahead}
 use Rattle.venue_model.specs.Match.{crossing, fill, after_fill, after_fills, done, settled, rest, insert_by_priority, by_priority, filled_orders, output, exec, trade, trades, can_fill, live_alone, matched, canceled_rest, match_outputs}
 use Rattle.venue_model.specs.Requests.{Symbols, State, Stepped, answered, new_refusal, new_answered, entering, is_named, named, others, cancel_refusal, cancel_reject, cancel_answered, canceled, order_canceled, amended, restamped, replace_refusal, replace_reject, replace_answered, order_replaced}
 use Rattle.venue_model.specs.Step.{Request, cause, obey, step, empty, outputs_from, requests_from}
-use Rattle.venue_model.proofs.Replaced.{either_way}
+use Rattle.venue_model.specs.ReplacedLaws.{either_way}
 use Rattle.book.specs.Histories.{outputs_of}
 
 -- READING

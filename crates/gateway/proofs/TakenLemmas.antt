@@ -10,9 +10,9 @@ use Rattle.fix_orders.specs.Text.{Said, text}
 use Rattle.venue_model.specs.History.{Message}
 use Rattle.venue_model.specs.Requests.{Symbols}
 use Rattle.venue_model.specs.declared.outputs.Output.{Output}
-use Rattle.venue_model.proofs.Growth.{grows-by, few-told-by}
+use Rattle.venue_model.specs.ListLaws.{within}
+use Rattle.venue_model.specs.GrowthLaws.{grows-by, few-told-by}
 use Rattle.ring_words.specs.declared.view.Person.{Person}
-use Rattle.ring_words.proofs.Logs.{within}
 use Rattle.sequencer.specs.Outputs.{TakesNext}
 use Rattle.book.specs.Histories.{outputs_of}
 use Rattle.gateway.proofs.Lists.{take_next}

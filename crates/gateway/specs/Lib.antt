@@ -5,6 +5,10 @@ pub mod Moves
 pub mod Wires
 pub mod MemWires
 pub mod StdWires
+pub mod Counting
+pub mod Gatherings
+pub mod GatheringWires
+pub mod StreamWires
 pub mod Ledgers
 pub mod Turns
 pub mod Parts
@@ -20,3 +24,4 @@ pub mod Headings
 pub mod Seats
 pub mod AtRings
 pub mod Delivers
+pub mod Accepting

@@ -3,6 +3,7 @@
 //! none but `new` takes memory.
 #![tactic(auto)]
 
+mod acceptor;
 mod client_side;
 mod ending;
 mod flushing;
@@ -16,6 +17,9 @@ mod seat;
 mod session;
 mod wire;
 
+pub use acceptor::Acceptor;
 pub use ending::{Reason, Turned};
 pub use gateway::Gateway;
-pub use wire::{Counts, MemWire, StdWire, TryRead, TryWrite, Wire};
+pub use wire::{
+    Counts, GatheringWire, MemWire, StdWire, StreamWire, TcpWire, TryRead, TryWrite, Wire, tcp_wire,
+};

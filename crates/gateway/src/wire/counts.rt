@@ -1,6 +1,9 @@
 //! What every wire counts of its own calls.
 ghost use Rattle.std.specs.Prelude.{◌≡◌};
 ghost use Rattle.venue_model.specs.Counts.{Rose};
+ghost use Rattle.gateway.specs.Counting.{CountsRead, CountsWrite};
+
+use super::{TryRead, TryWrite};
 
 /// How many calls failed, how many reads and how many writes answered `Nothing`, and how many reads answered `End`. A count that is full
 /// stays.
@@ -55,5 +58,28 @@ impl Counts {
         ensures others { self.new ≡ record self.old { ends = self.new.ends } }
     {
         self.ends = self.ends.saturating_add(1);
+    }
+
+    /// Counts a read that answered so.
+    pub fn count_read(&mut self, answer: TryRead)
+        ensures { CountsRead self.old self.new answer }
+    {
+        match answer {
+            TryRead::Got(_) => {}
+            TryRead::Nothing => self.empty_read(),
+            TryRead::End => self.ended(),
+            TryRead::Failed => self.failed(),
+        }
+    }
+
+    /// Counts a write that answered so.
+    pub fn count_write(&mut self, answer: TryWrite)
+        ensures { CountsWrite self.old self.new answer }
+    {
+        match answer {
+            TryWrite::Put(_) => {}
+            TryWrite::Nothing => self.full_write(),
+            TryWrite::Failed => self.failed(),
+        }
     }
 }

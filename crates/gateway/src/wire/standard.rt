@@ -42,7 +42,7 @@ impl<R: Read + Drop, W: Write + Drop> StdWire<R, W> {
 }
 
 /// Whether the same call may succeed when it is tried again.
-fn is_passing(error: &io::Error) -> bool
+pub(super) fn is_passing(error: &io::Error) -> bool
     ensures { IsTrue result ↔ IsPassing (error_kind error.now) }
 {
     matches!(error.kind(), ErrorKind::Interrupted | ErrorKind::WouldBlock)

@@ -1,6 +1,6 @@
 use Rattle.std.proofs.Common.{◌∙◌, length, ap, arith}
 use Rattle.fix_orders.specs.Formats.{time_text}
-use Rattle.fix_orders.proofs.WritingLemmas.{◌⨟◌}
+use Rattle.fix_orders.specs.WritingLaws.{◌⨟◌}
 use Rattle.gateway.proofs.HeaderLemmas.{header_put, length_header, length_time}
 use Rattle.gateway.proofs.message.put_header.Goals as goal
 

@@ -1,0 +1,22 @@
+//! The wire of a client that came over TCP.
+ghost use Rattle.std.specs.Prelude.{IfOk};
+ghost use Rattle.gateway.specs.GatheringWires.{IsFresh};
+
+use super::gathering::GatheringWire;
+use super::stream::StreamWire;
+use std::alloc::Global;
+use std::io;
+use std::net::TcpStream;
+
+/// A wire that gathers in front of a stream.
+pub type TcpWire<S = TcpStream> = GatheringWire<StreamWire<S>>;
+
+/// The wire over a stream that was accepted: from now on that never waits, and sends at once what it is given. It is
+/// closed where it can't be set so, or there is no memory.
+pub fn tcp_wire(alloc: Global, stream: TcpStream) -> io::Result<TcpWire>
+    ensures { IfOk result IsFresh }
+{
+    stream.set_nonblocking(true)?;
+    stream.set_nodelay(true)?;
+    Ok(GatheringWire::new(alloc, StreamWire::new(stream))?)
+}
