@@ -9,7 +9,7 @@ use Rattle.venue_model.specs.ListLaws.{read_at}
 use Rattle.ring_words.specs.declared.view.Load.{Load}
 use Rattle.ring_words.specs.Places.{in_row}
 use Rattle.ring_words.specs.Seats.{load_of, looked}
-use Rattle.ring_words.specs.At.{At, seated}
+use Rattle.ring_words.specs.At.{At, Steps, seated}
 use Rattle.barrier.specs.Commands.{command_loads, after_command}
 
 -- one load more, of the word behind these
@@ -40,7 +40,7 @@ agree_whole words ws i count same ended all =
 module _ {L : Type 0} (n : ℕ) (v u w : At L) (s : ℕ) where
   -- one word more is loaded
   pub loads_more : (words : List ℕ) (i x : ℕ) → u ≡ seated v (after_command n v.who s (take i words)) → i < length words
-      → w ≡ seated u (looked u.who (in_row n s (i + 48)) x) → w ≡ seated v (after_command n v.who s (take (i + 1) (set words i x)))
+      → Steps u (looked u.who (in_row n s (i + 48)) x) w → w ≡ seated v (after_command n v.who s (take (i + 1) (set words i x)))
   loads_more words i x so_far within step =
       let ws = take i words in let long : i ≡ 0 + length ws = let is = length-take-le i words (omega arith) in omega arith in
       rw so_far at step
