@@ -13,7 +13,7 @@ use Rattle.book.specs.Histories.{state_of, outputs_of}
 use Rattle.stages.specs.Kept.{HoldsDone, KeepsDone}
 use Rattle.stages.specs.Stations.{AtBook}
 
--- the journal has just the entries that are done, while none failed; and whatever a crash leaves has them
+-- the journal has just the entries that are done, while no append failed; and whatever a crash leaves has them
 pub record IsKeeping {D : Type 0} (honest : Type 0) (disk : Told) (who : Person) (journal : OneJournal D) : Type 0 where
   pub counts : journal.failed ≡ false → journal.count ≡ who.own
   pub holds : honest → journal.failed ≡ false → ∥ HoldsDone disk who ∥₁
@@ -26,7 +26,7 @@ pub record Follows (v : At Symbols) (book : Book) (applied : ℕ) (left : List O
   pub rest : drop v.who.part.sequence (outputs_of book.symbols (take applied v.who.seen)) ≡ left
   pub published : length (outputs_of book.symbols (take applied v.who.seen)) ≡ v.who.part.sequence + length left
 
--- So it is of the entries that are done, or of one more, which was seen journalled, while outputs of it are left.
+-- So it is of the entries that are done, or of one more, which was seen journalled, of which some outputs may be left.
 pub record IsWorking (p : AtBook) : Type 0 where
   pub follows : Follows p.seat p.book p.applied p.left
   pub counts : (p.seat.who.own ≤ p.applied) × (p.applied ≤ suc p.seat.who.own) × (p.applied ≤ length p.seat.who.seen)

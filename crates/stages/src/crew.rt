@@ -5,10 +5,11 @@ ghost use Rattle.ring_words.specs.Crew.{AreGateways, AreNew};
 ghost use Rattle.ring_words.specs.Ending.{AreSpent};
 ghost use Rattle.journal.specs.Journals.{Holds};
 ghost use Rattle.book.specs.Histories.{state_of, outputs_of};
-ghost use Rattle.stages.specs.Kept.{KeepsDone, Fails, LeavesJournals};
+ghost use Rattle.stages.specs.Kept.{KeepsDone, Fails, IsUntouched, LeavesJournals};
 ghost use Rattle.stages.specs.Stations.{disk_of};
 ghost use Rattle.stages.specs.Crews.{AreAt, AreIdle, new_crew, Polls};
 ghost use Rattle.stages.specs.Processes.{sizes};
+ghost use Rattle.stages.specs.Turns.{OnlyRead};
 ghost use Rattle.stages.specs.Finishing.{Finished};
 
 use crate::journaller::Journaller;
@@ -115,6 +116,9 @@ impl<D: JournalDisk> Crew<D> {
         ensures stays { AreAt rings.now self.new }
         ensures polls { Polls (sizes N M G) rings.now.logic self.old self.new result }
         ensures failed { Fails D.failed self.old.journaller.journal self.new.journaller.journal result.journaller }
+        ensures untouched { IsUntouched self.old.journaller self.new.journaller result.journaller }
+        ensures not_kept { self.old.journaller.journal.failed ≡ false → result.journaller ≡ Turn.JournalFailed →
+            OnlyRead N self.old.journaller.seat.who self.new.journaller.seat.who }
         ensures any_moment { LeavesJournals D.honest D.tells self.old.journaller self.new.journaller }
         ensures keeps { D.honest (disk_of self.new) → KeepsDone (D.tells (disk_of self.new)) self.new.journaller.seat.who }
     {
