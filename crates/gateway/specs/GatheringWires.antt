@@ -11,7 +11,7 @@ use Rattle.gateway.specs.StdWires.{untold}
 use Rattle.gateway.specs.Flushing.{Flushes}
 use Rattle.gateway.specs.Gatherings.{HandsOut, Gathers}
 
--- it tells its counts, and whether all is quiet
+-- it tells its counts, and whether it was last told to rest
 abbrev pub told : {W : Type 0} → GatheringWire W → Told
 told w = record {
   gave = None;
@@ -35,7 +35,7 @@ ahead_of w = w.ahead
 abbrev pub waiting_of : {W : Type 0} → GatheringWire W → List ℕ
 waiting_of w = w.waiting
 
--- whether a write of the wire below failed: from then on each call fails, and that wire is asked for nothing
+-- whether a write of the wire below failed: from then on each read and write fails, and that wire moves no bytes
 abbrev pub broken_of : {W : Type 0} → GatheringWire W → Bool
 broken_of w = w.broken
 
@@ -64,7 +64,7 @@ pub record HoldsSame {W : Type 0} (old new : GatheringWire W) : Type 0 where
   pub waiting : waiting_of new ≡ waiting_of old
   pub broken : broken_of new ≡ broken_of old
 
--- the wire below was told whether all is quiet
+-- the wire below was told whether to rest
 abbrev pub rested : Holding → Bool → Holding
 rested h quiet = record h { below = record h.below { quiet = quiet } }
 

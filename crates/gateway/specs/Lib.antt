@@ -25,3 +25,4 @@ pub mod Seats
 pub mod AtRings
 pub mod Delivers
 pub mod Accepting
+pub mod AcceptingLaws

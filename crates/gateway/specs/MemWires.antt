@@ -6,7 +6,7 @@ use Rattle.gateway.specs.declared.wire.TryWrite.{TryWrite}
 use Rattle.gateway.specs.declared.wire.TryWrite.TheVariants as write
 use Rattle.gateway.specs.Wires.{Told}
 
--- what it has to give and how much of that it gave, what it took, its counts, whether all is quiet, and how it was set
+-- what it has to give and how much of that it gave, what it took, its counts, whether it was last told to rest, and how it was set
 pub record Memory : Type 0 where
   pub input : List ℕ
   pub given : ℕ

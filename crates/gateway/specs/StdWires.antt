@@ -10,7 +10,7 @@ use Rattle.gateway.specs.declared.wire.TryWrite.TheVariants as write
 use Rattle.gateway.specs.declared.wire.standard.StdWire.{StdWire}
 use Rattle.gateway.specs.Wires.{Told}
 
--- it tells its counts, and whether all is quiet
+-- it tells its counts, and whether it was last told to rest
 abbrev pub told : {R W : Type 0} → StdWire R W → Told
 told w = record {
   gave = None;
@@ -32,7 +32,7 @@ reader_of w = w.reader
 abbrev pub writer_of : {R W : Type 0} → StdWire R W → W
 writer_of w = w.writer
 
--- it was made, or told that all is quiet, since bytes were last read or written: the next read asks the reader
+-- it was made, or told to rest, since bytes were last read or written: the next read asks the reader
 abbrev pub rested_of : {R W : Type 0} → StdWire R W → Bool
 rested_of w = w.rested
 

@@ -11,7 +11,7 @@ use Rattle.gateway.specs.declared.wire.TryWrite.TheVariants as write
 use Rattle.gateway.specs.Wires.{Told}
 use Rattle.gateway.specs.StdWires.{IsPassing}
 
--- it tells its counts, and whether all is quiet
+-- it tells its counts, and whether it was last told to rest
 abbrev pub told : {S : Type 0} → StreamWire S → Told
 told w = record {
   gave = None;

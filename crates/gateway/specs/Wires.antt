@@ -8,7 +8,7 @@ use Rattle.gateway.specs.declared.wire.TryWrite.{TryWrite}
 use Rattle.gateway.specs.declared.wire.TryWrite.TheVariants as write
 
 -- the bytes that it gave and took, each None where it tells none; the calls that failed; the reads and the writes
--- that answered Nothing; the reads that answered End; and whether it was last told that all is quiet
+-- that answered Nothing; the reads that answered End; and whether it was last told to rest
 pub record Told : Type 0 where
   pub gave : Option (List ℕ)
   pub took : Option (List ℕ)

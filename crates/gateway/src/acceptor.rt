@@ -1,5 +1,7 @@
-//! The acceptor of one member: a gateway and, while a client is connected, its wire. Between two clients the gateway passes its outputs over, so that
-//! the output ring doesn't wait for it. Who lets clients in decides when; one is served at a time.
+//! The acceptor of one member: a gateway and, while a client is connected, its wire. Between two clients the gateway
+//! passes its outputs over, so that the output ring doesn't wait for it. Who lets clients in decides when; one is
+//! served at a time. It is for wires whose reads never wait: behind a turn in which nothing moved the wire is told to
+//! rest, though more may come about before the client sends.
 ghost use Rattle.std.specs.Prelude.{◌≡◌, ◌↔◌, Some, None, true, false, IfOk, IfErr};
 ghost use Rattle.ring_words.specs.At.{IsAt};
 
@@ -30,7 +32,7 @@ impl<W: Wire + Drop> Model for Acceptor<W> {
 
 impl<W: Wire + Drop> Acceptor<W> {
     ghost use Rattle.ring_words.specs.At.{number};
-    ghost use Rattle.gateway.specs.Accepting.{TakesTurn};
+    ghost use Rattle.gateway.specs.Accepting.{Admits, TakesTurn, told_by};
     ghost use Rattle.gateway.specs.Gateways.{begun};
     ghost use Rattle.gateway.specs.Seats.{HasSeen, StaysSeated};
 
@@ -64,34 +66,34 @@ impl<W: Wire + Drop> Acceptor<W> {
     /// A client has come: its session begins.
     pub fn admit(&mut self, wire: W)
         requires free { self.old.wire ≡ None }
-        ensures { self.new ≡ record {
-          gateway = record self.old.gateway { front = begun (number self.old.gateway.seat) self.old.gateway.front.passed };
-          wire = Some (W.tells wire);
-        } }
+        ensures { Admits self.old (W.tells wire) self.new }
     {
         self.gateway.begin();
         self.wire = Some(wire);
     }
 
-    /// One turn: of the client's session, behind which the wire is told whether all is quiet, or without a client. Where the session ended the wire
-    /// is told so too, so that it sends what it holds, and is let go, by which the connection is closed.
+    /// One turn: of the client's session, behind which the wire is told whether to rest, or without a client. Where the
+    /// session ended the wire is told to rest, so that it sends what it holds, and is handed back. It may still hold
+    /// what couldn't be sent at once: the caller goes on flushing until all is sent, or for as long as it likes. As it
+    /// drops the wire, the connection is closed.
     pub fn turn<const N: usize, const M: usize, const G: usize>(
         &mut self,
         rings: &Rings<BookLogic, N, M, G>,
-    ) -> Turned
+    ) -> (Turned, Option<W>)
         requires at { IsAt rings.now self.old.gateway.seat }
-        ensures turn { TakesTurn N self.old self.new result }
+        ensures turn { TakesTurn N self.old self.new result.0 (told_by W.tells result.1) }
         ensures stays { StaysSeated self.old.gateway.seat self.new.gateway.seat }
     {
         let Some(mut wire) = self.wire.take() else {
-            return self.gateway.idle(rings);
+            return (self.gateway.idle(rings), None);
         };
         let turned = self.gateway.turn(rings, &mut wire);
         wire.rest(turned != Turned::Worked);
-        if !matches!(turned, Turned::Ended(_)) {
-            self.wire = Some(wire);
+        if matches!(turned, Turned::Ended(_)) {
+            return (turned, Some(wire));
         }
-        turned
+        self.wire = Some(wire);
+        (turned, None)
     }
 
     /// How many outputs to the client were passed over, since it wasn't logged on.
@@ -101,12 +103,15 @@ impl<W: Wire + Drop> Acceptor<W> {
         self.gateway.passed()
     }
 
-    /// Gives the seat back, which has published at each place that it claimed. A client that is still connected is let go without a word.
-    pub fn end(self) -> GatewaySeat<BookLogic>
-        ensures seat { result ≡ self.gateway.seat }
-        ensures seen { HasSeen result }
+    /// Gives the seat back, which has published at each place that it claimed, and the wire of a client that is still
+    /// connected, as it is: no Logout is written. The caller goes on flushing the wire until all is sent, or for as
+    /// long as it likes.
+    pub fn end(self) -> (GatewaySeat<BookLogic>, Option<W>)
+        ensures seat { result.0 ≡ self.gateway.seat }
+        ensures seen { HasSeen result.0 }
+        ensures wire { told_by W.tells result.1 ≡ self.wire }
     {
-        let Acceptor { gateway, .. } = self;
-        gateway.end()
+        let Acceptor { gateway, wire } = self;
+        (gateway.end(), wire)
     }
 }

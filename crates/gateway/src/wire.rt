@@ -55,7 +55,8 @@ pub trait Wire {
         requires { 0 < length bytes.now }
         ensures { WriteTells (tells self.old) (tells self.new) bytes.now result };
 
-    /// Says whether all is quiet: whether nothing comes about until the client sends. While it is, a read may wait for it.
+    /// Says whether to rest: nothing moved in the last turn. Before a wire whose read may wait, the caller says so only
+    /// while nothing comes about until the client sends.
     fn rest(&mut self, quiet: bool)
         ensures { tells self.new ≡ record (tells self.old) { quiet = quiet } };
 

@@ -13,9 +13,9 @@ use crate::flushing::Flushed;
 use std::alloc::{AllocFailed, Global};
 
 /// A wire in front of another one. A read hands out what was read ahead, and the wire below is read only where that is
-/// nothing. What is written waits: it is sent by `flush`, by `rest` where all is quiet, and, as far as one write of the
-/// wire below takes it, by a write that finds no room. Once a write of the wire below has failed, this one is broken:
-/// each later call fails. Bytes that wait as it is dropped are lost. It tells no bytes.
+/// nothing. What is written waits: it is sent by `flush`, by `rest` where it is told to rest, and, as far as one write
+/// of the wire below takes it, by a write that finds no room. Once a write of the wire below has failed, this one is
+/// broken: each later read and write fails. Bytes that wait as it is dropped are lost. It tells no bytes.
 #[derive(Drop)]
 pub struct GatheringWire<W> {
     below: W,
@@ -44,6 +44,13 @@ impl<W: Wire + Drop> GatheringWire<W> {
             quiet: true,
             broken: false,
         })
+    }
+
+    /// The wire below.
+    pub fn below(&self) -> &W
+        ensures { result.now ≡ below_of self.now }
+    {
+        &self.below
     }
 
     /// Sends what waits, as far as the wire below takes it, and says whether nothing waits any more.

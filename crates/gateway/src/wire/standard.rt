@@ -11,9 +11,9 @@ use std::io::{ErrorKind, Read, Write};
 
 /// A wire over a reader and a writer. It has no buffer and tells no bytes. Its reader may wait for the client, and the
 /// client for a report before it sends more: so the reader is asked only while the wire rests, and else a read answers
-/// `Nothing`. The wire rests as it is made, and from when it is told that all is quiet until bytes come or go, or it is
-/// told otherwise. A call that was interrupted, or refused since it would wait, answers `Nothing`: the next one tries
-/// again. What is written is flushed at once, and a flush that fails fails the write.
+/// `Nothing`. The wire rests as it is made, and from when it is told to until bytes come or go, or it is told not to. A
+/// call that was interrupted, or refused since it would wait, answers `Nothing`: the next one tries again. What is
+/// written is flushed at once, and a flush that fails fails the write.
 #[derive(Drop)]
 pub struct StdWire<R, W> {
     reader: R,

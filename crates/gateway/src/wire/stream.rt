@@ -31,6 +31,13 @@ impl<S: Read + Write + Drop> StreamWire<S> {
             quiet: true,
         }
     }
+
+    /// The stream.
+    pub fn stream(&self) -> &S
+        ensures { result.now ≡ stream_of self.now }
+    {
+        &self.stream
+    }
 }
 
 /// What a stream's answer to a read means.

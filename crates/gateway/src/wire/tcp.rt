@@ -1,6 +1,7 @@
 //! The wire of a client that came over TCP.
-ghost use Rattle.std.specs.Prelude.{IfOk};
-ghost use Rattle.gateway.specs.GatheringWires.{IsFresh};
+ghost use Rattle.std.specs.Prelude.{◌≡◌, IfOk};
+ghost use Rattle.gateway.specs.GatheringWires.{IsFresh, below_of};
+ghost use Rattle.gateway.specs.StreamWires.{stream_of};
 
 use super::gathering::GatheringWire;
 use super::stream::StreamWire;
@@ -14,7 +15,8 @@ pub type TcpWire<S = TcpStream> = GatheringWire<StreamWire<S>>;
 /// The wire over a stream that was accepted: from now on that never waits, and sends at once what it is given. It is
 /// closed where it can't be set so, or there is no memory.
 pub fn tcp_wire(alloc: Global, stream: TcpStream) -> io::Result<TcpWire>
-    ensures { IfOk result IsFresh }
+    ensures fresh { IfOk result IsFresh }
+    ensures stream { IfOk result (λ wire. stream_of (below_of wire) ≡ stream) }
 {
     stream.set_nonblocking(true)?;
     stream.set_nodelay(true)?;
