@@ -1,5 +1,5 @@
 //! A gateway with the messages that it publishes, in their order, and the counts of what it is answered.
-ghost use Rattle.std.specs.Prelude.{◌≡◌, ℕ};
+ghost use Rattle.std.specs.Prelude.{◌≡◌, ⊤};
 ghost use Rattle.ring_words.specs.At.{IsAt};
 
 use crate::answers::Answers;
@@ -14,8 +14,8 @@ use std::alloc::{AllocError, Global};
 use venue_model::Entry;
 use workers::{Outcome, Worker};
 
-/// How many turns in a row a gateway may find nothing to do: long enough for any machine, and no hang.
-const MOST_IDLE: u64 = 10_000_000;
+/// How many turns in a row a gateway may find nothing to do: about half a minute, with the sleeps between them, and no hang.
+const MOST_IDLE: u64 = 50_000;
 
 /// A gateway at the rings. It has published the first of its messages, and counted what the outputs that it took say.
 #[derive(Drop)]
@@ -57,6 +57,11 @@ impl<const G: usize> Gateway<'_, G> {
             },
             idle: 0,
         })
+    }
+
+    /// Its number, from 1 on.
+    pub fn number(&self) -> u64 {
+        self.seat.number()
     }
 
     /// Whether it has found nothing to do for too long.
@@ -109,9 +114,11 @@ impl<const G: usize> Gateway<'_, G> {
 }
 
 impl<const G: usize> Worker for Gateway<'_, G> {
-    ghost Place = { ℕ };
+    ghost goes = { λ x y. ⊤ };
 
-    ghost place = { λ g. 0 };
+    ghost stays = { λ x. tt };
+
+    ghost further = { λ x y z first second. tt };
 
     /// Takes the next output; where there is none, publishes the next message.
     fn turn(&mut self) -> Outcome {

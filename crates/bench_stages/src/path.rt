@@ -15,9 +15,9 @@ use journal::{Journal, NullDisk};
 use ring_words::{GatewaySeat, Seats};
 use stages::{Crew, Turn, Turns};
 use std::alloc::{AllocError, Global};
-use std::sync::atomic::AtomicBool;
+use std::rt::Clock;
 use std::thread::{Threads, join};
-use workers::{Outcome, Worker, run, work};
+use workers::{NoGate, Outcome, Signals, Station, Worker, run, work};
 
 /// Gateways with their messages, the last one first, and the stages.
 #[derive(Drop)]
@@ -27,6 +27,9 @@ pub struct Path<'a, const G: usize> {
     crew: Crew<NullDisk>,
     ghost fits: { AreAt rings.now crew },
 }
+
+/// How many stages there are.
+const STAGES: u64 = 4;
 
 /// An empty journal. Its disk keeps nothing, so that what the calls of a disk cost is left out of the figures.
 fn empty_journal(alloc: Global) -> Result<Journal<NullDisk>, AllocError>
@@ -70,26 +73,33 @@ fn gateways<'a, const G: usize>(
 }
 
 /// Lets the gateway work until it is over, and looks whether it has what is due to it.
-fn trade<const G: usize>(mut gateway: Gateway<'_, G>, stop: &AtomicBool) -> Result<(), Fault> {
-    work(&mut gateway, stop);
+fn trade<C: Clock, const G: usize>(
+    clock: &C,
+    mut gateway: Gateway<'_, G>,
+    signals: &Signals,
+) -> Result<(), Fault> {
+    let station = Station::Gateway(gateway.number());
+    work(clock, &NoGate, station, &mut gateway, signals);
     gateway.check()
 }
 
 /// Lets each gateway do that on a thread of its own.
-fn serve<R: Threads + Sync, const G: usize>(
+fn serve<R: Threads + Clock + Sync, const G: usize>(
     rt: &R,
     mut gateways: Vec<Gateway<'_, G>>,
-    stop: &AtomicBool,
+    signals: &Signals,
 ) -> Result<(), Fault> {
     let Some(gateway) = gateways.pop() else {
         return Ok(());
     };
     let (one, others) = join(
         rt,
-        move || trade(gateway, stop),
         move || -> Result<(), Fault>
             requires { IsSync R.row }
-        { serve(rt, gateways, stop) },
+        { trade(rt, gateway, signals) },
+        move || -> Result<(), Fault>
+            requires { IsSync R.row }
+        { serve(rt, gateways, signals) },
     );
     one?;
     others
@@ -160,22 +170,27 @@ impl<'a, const G: usize> Path<'a, G> {
 
     /// Lets gateways and stages do the task, each on a thread of its own, and looks whether each gateway has what is
     /// due to it and all commands were processed.
-    pub fn run_on_threads<R: Threads + Sync>(self, rt: &R, task: &Task) -> Result<(), Fault> {
+    pub fn run_on_threads<R: Threads + Clock + Sync>(
+        self,
+        rt: &R,
+        task: &Task,
+    ) -> Result<(), Fault> {
         let Path {
             rings,
             gateways,
             crew,
         } = self;
-        let flag = AtomicBool::new(false);
-        let stop = &flag;
+        let all = Signals::new(task.gateways + STAGES);
+        let signals = &all;
         let (crew, served) = run(
             rt,
+            &NoGate,
             rings,
             crew,
             move || -> Result<(), Fault>
                 requires { IsSync R.row }
-            { serve(rt, gateways, stop) },
-            stop,
+            { serve(rt, gateways, signals) },
+            signals,
         );
         served?;
         check_processed(&crew, task)

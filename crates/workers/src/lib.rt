@@ -1,11 +1,17 @@
-//! Stages and gateways at the rings as workers: each takes its turns on a thread of its own until a flag says stop, and
+//! Stages and gateways at the rings as workers: each takes its turns on a thread of its own until it is told to stop, and
 //! all come back.
 #![tactic(auto)]
 
 mod crew;
+mod gate;
+mod keeping;
+mod rest;
+mod signals;
 mod stations;
 mod threads;
 mod worker;
 
+pub use gate::{Gate, NoGate, Station};
+pub use signals::Signals;
 pub use threads::run;
 pub use worker::{Outcome, Worker, work};

@@ -1,18 +1,19 @@
-//! The four stages as workers: each function lets one work on the thread that calls it, and gives it back at the same
-//! rings.
-ghost use Rattle.venue_model.specs.Requests.{Symbols};
-ghost use Rattle.ring_words.specs.At.{Opened, IsAt};
+//! Three of the stages as workers: each function lets one work on the thread that calls it, and gives it back at the
+//! same rings. The fourth is the journaller, in keeping.rt.
+ghost use Rattle.std.specs.Prelude.{◌≡◌};
+ghost use mathlib.Core.Path.{refl, ◌∙◌};
+ghost use Rattle.ring_words.specs.At.{IsAt};
 
-use crate::worker::{Outcome, Worker, goes_on, work};
+use crate::gate::{Gate, Station};
+use crate::signals::Signals;
+use crate::worker::{Outcome, Worker, work};
 use book::BookLogic;
-use crossbeam_utils::Backoff;
-use journal::JournalDisk;
 use ring_words::Rings;
-use stages::{Journaller, Marshaller, Processor, Turn, Unmarshaller};
-use std::sync::atomic::{AtomicBool, Ordering};
+use stages::{Marshaller, Processor, Turn, Unmarshaller};
+use std::rt::Clock;
 
 /// What a poll came to for its thread: where the output ring has no room, all it can do is to let others work.
-fn outcome(turn: Turn) -> Outcome {
+pub(crate) fn outcome(turn: Turn) -> Outcome {
     match turn {
         Turn::Did(_) => Outcome::Worked,
         Turn::Idle | Turn::OutFull => Outcome::Idle,
@@ -29,46 +30,35 @@ struct Unmarshalling<'a, const N: usize, const M: usize, const G: usize> {
 }
 
 impl<const N: usize, const M: usize, const G: usize> Worker for Unmarshalling<'_, N, M, G> {
-    ghost Place = { Opened Symbols };
+    ghost goes = { λ x y. y.rings.now ≡ x.rings.now };
 
-    ghost place = { λ w. w.rings.now };
+    ghost stays = { λ x. refl };
+
+    ghost further = { λ x y z first second. second ∙ first };
+
+    fn seq(&self, _turns: u64) -> u64 {
+        self.stage.next_seq()
+    }
 
     fn turn(&mut self) -> Outcome {
         outcome(self.stage.poll(self.rings))
     }
 }
 
-/// Lets the unmarshaller work until the flag says stop.
-pub(crate) fn unmarshal<const N: usize, const M: usize, const G: usize>(
+/// Lets the unmarshaller work until the signals say stop.
+pub(crate) fn unmarshal<C: Clock, Q: Gate, const N: usize, const M: usize, const G: usize>(
+    clock: &C,
+    gate: &Q,
     rings: &Rings<BookLogic, N, M, G>,
     stage: Unmarshaller,
-    stop: &AtomicBool,
+    signals: &Signals,
 ) -> Unmarshaller
     requires { IsAt rings.now stage }
     ensures { IsAt rings.now result }
 {
     let mut worker = Unmarshalling { rings, stage };
-    work(&mut worker, stop);
+    work(clock, gate, Station::Unmarshaller, &mut worker, signals);
     let Unmarshalling { stage, .. } = worker;
-    stage
-}
-
-/// Lets the journaller work until the flag says stop or its journal fails. Then the flag says stop.
-pub(crate) fn keep<D: JournalDisk, const N: usize, const M: usize, const G: usize>(
-    rings: &Rings<BookLogic, N, M, G>,
-    mut stage: Journaller<D>,
-    stop: &AtomicBool,
-) -> Journaller<D>
-    requires { IsAt rings.now stage.seat }
-    ensures { IsAt rings.now result.seat }
-{
-    let backoff = Backoff::new();
-    for _ in 0..u64::MAX {
-        if stop.load(Ordering::SeqCst) || !goes_on(outcome(stage.poll(rings)), &backoff) {
-            break;
-        }
-    }
-    stop.store(true, Ordering::SeqCst);
     stage
 }
 
@@ -81,26 +71,34 @@ struct Processing<'a, const N: usize, const M: usize, const G: usize> {
 }
 
 impl<const N: usize, const M: usize, const G: usize> Worker for Processing<'_, N, M, G> {
-    ghost Place = { Opened Symbols };
+    ghost goes = { λ x y. y.rings.now ≡ x.rings.now };
 
-    ghost place = { λ w. w.rings.now };
+    ghost stays = { λ x. refl };
+
+    ghost further = { λ x y z first second. second ∙ first };
+
+    fn seq(&self, _turns: u64) -> u64 {
+        self.stage.next_seq()
+    }
 
     fn turn(&mut self) -> Outcome {
         outcome(self.stage.poll(self.rings))
     }
 }
 
-/// Lets the processor work until the flag says stop.
-pub(crate) fn process<const N: usize, const M: usize, const G: usize>(
+/// Lets the processor work until the signals say stop.
+pub(crate) fn process<C: Clock, Q: Gate, const N: usize, const M: usize, const G: usize>(
+    clock: &C,
+    gate: &Q,
     rings: &Rings<BookLogic, N, M, G>,
     stage: Processor,
-    stop: &AtomicBool,
+    signals: &Signals,
 ) -> Processor
     requires { IsAt rings.now stage.seat }
     ensures { IsAt rings.now result.seat }
 {
     let mut worker = Processing { rings, stage };
-    work(&mut worker, stop);
+    work(clock, gate, Station::Processor, &mut worker, signals);
     let Processing { stage, .. } = worker;
     stage
 }
@@ -114,26 +112,34 @@ struct Marshalling<'a, const N: usize, const M: usize, const G: usize> {
 }
 
 impl<const N: usize, const M: usize, const G: usize> Worker for Marshalling<'_, N, M, G> {
-    ghost Place = { Opened Symbols };
+    ghost goes = { λ x y. y.rings.now ≡ x.rings.now };
 
-    ghost place = { λ w. w.rings.now };
+    ghost stays = { λ x. refl };
+
+    ghost further = { λ x y z first second. second ∙ first };
+
+    fn seq(&self, _turns: u64) -> u64 {
+        self.stage.next_seq()
+    }
 
     fn turn(&mut self) -> Outcome {
         outcome(self.stage.poll(self.rings))
     }
 }
 
-/// Lets the marshaller work until the flag says stop.
-pub(crate) fn marshal<const N: usize, const M: usize, const G: usize>(
+/// Lets the marshaller work until the signals say stop.
+pub(crate) fn marshal<C: Clock, Q: Gate, const N: usize, const M: usize, const G: usize>(
+    clock: &C,
+    gate: &Q,
     rings: &Rings<BookLogic, N, M, G>,
     stage: Marshaller,
-    stop: &AtomicBool,
+    signals: &Signals,
 ) -> Marshaller
     requires { IsAt rings.now stage }
     ensures { IsAt rings.now result }
 {
     let mut worker = Marshalling { rings, stage };
-    work(&mut worker, stop);
+    work(clock, gate, Station::Marshaller, &mut worker, signals);
     let Marshalling { stage, .. } = worker;
     stage
 }

@@ -1,21 +1,25 @@
 //! A run: stages, and what is to happen beside them, at the same time.
 ghost use Rattle.stages.specs.Crews.{AreAt};
+ghost use Rattle.workers.specs.Journalling.{WorksOn};
 ghost use denote.Param.Send.{IsSend, IsSync};
 
 use crate::crew::run_stages;
+use crate::gate::Gate;
+use crate::signals::Signals;
 use book::BookLogic;
 use journal::JournalDisk;
 use ring_words::Rings;
 use stages::Crew;
-use std::sync::atomic::{AtomicBool, Ordering};
+use std::rt::Clock;
 use std::thread::{Threads, join};
 
 /// Lets the stages work, each on a thread of its own, while the others work on this thread and those that they start,
-/// and gives the stages back at their rings, with what the others came to. The stages end when the flag says stop,
-/// which it does once the others are over, once the journal has failed, or when the caller's own code sets it. No
+/// and gives the stages back at their rings, with what the others came to. The stages end when the signals say stop,
+/// which they do once the others are over, once the journal has failed, or when the caller's own code says so. No
 /// clause says that a run ends.
 pub fn run<
-    R: Threads + Sync,
+    R: Threads + Clock + Sync,
+    Q: Gate + Sync,
     D: JournalDisk + Drop + Send,
     F: FnOnce() -> X,
     X,
@@ -24,28 +28,29 @@ pub fn run<
     const G: usize,
 >(
     rt: &R,
+    gate: &Q,
     rings: &Rings<BookLogic, N, M, G>,
     crew: Crew<D>,
     others: F,
-    stop: &AtomicBool,
+    signals: &Signals,
 ) -> (Crew<D>, X)
     requires rings { AreAt rings.now crew }
     requires others { F.pre others }
-    ensures rings { AreAt rings.now result.0 }
+    ensures crew { WorksOn rings.now D.honest D.tells D.failed crew result.0 }
     ensures others { F.post others result.1 }
 {
     join(
         rt,
         move || -> Crew<D>
-            requires { IsSync R.row × IsSend D.row × (AreAt rings.now crew) }
-            ensures { AreAt rings.entry.now result }
-        { run_stages(rt, rings, crew, stop) },
+            requires { IsSync R.row × IsSync Q.row × IsSend D.row × (AreAt rings.now crew) }
+            ensures { WorksOn rings.entry.now D.honest D.tells D.failed crew result }
+        { run_stages(rt, gate, rings, crew, signals) },
         move || -> X
             requires { F.pre others }
             ensures { F.post others result }
         {
             let came_to = others();
-            stop.store(true, Ordering::SeqCst);
+            signals.stop();
             came_to
         },
     )

@@ -1,9 +1,10 @@
-//! A worker, a stage or a gateway at the rings, and the loop in which it takes its turns (Disruptor: an event processor
-//! and its wait strategy).
+//! A worker, a stage or a gateway at the rings, and the loop in which it takes its turns (Disruptor: an event processor).
 ghost use Rattle.std.specs.Prelude.{◌≡◌};
 
-use crossbeam_utils::Backoff;
-use std::sync::atomic::{AtomicBool, Ordering};
+use crate::gate::{Gate, Station};
+use crate::rest::Rest;
+use crate::signals::Signals;
+use std::rt::Clock;
 
 /// What one turn of a worker came to.
 #[derive(Clone, Copy)]
@@ -18,35 +19,53 @@ pub enum Outcome {
 
 /// A stage or a gateway at its rings.
 pub trait Worker {
-    /// The places that such workers have: for instance rings, or rings and a number.
-    ghost Place: { Type 0 };
+    /// What turns come to, none or one or many of them: for instance that it is at the same rings.
+    ghost goes: { Self → Self → Type 0 };
 
-    /// The place of this one.
-    ghost place: { Self → Place };
+    /// So it is before the first turn.
+    ghost stays: { (x : Self) → goes x x };
 
-    /// Does what is next for it, if there is something. It doesn't wait, and it stays at its place.
-    fn turn(&mut self) -> Outcome
-        ensures { place self.new ≡ place self.old };
-}
+    /// And so it is behind one turn more.
+    ghost further: { (x y z : Self) → goes x y → goes y z → goes x z };
 
-/// Lets a thread rest as what its last turn came to asks for, and says whether it is to go on: while there is nothing
-/// to do it spins for a while, and then lets other threads run.
-pub(crate) fn goes_on(outcome: Outcome, backoff: &Backoff) -> bool {
-    match outcome {
-        Outcome::Worked => backoff.reset(),
-        Outcome::Idle => backoff.snooze(),
-        Outcome::Over => return false,
+    /// The number that the gate is told with a turn behind which so many were: of a stage its next sequence.
+    fn seq(&self, turns: u64) -> u64 {
+        turns
     }
-    true
+
+    /// Does what is next for it, if there is something. It doesn't wait.
+    fn turn(&mut self) -> Outcome
+        ensures { goes self.old self.new };
 }
 
-/// Lets the worker take turns until it is over or the flag says stop.
-pub fn work<W: Worker>(worker: &mut W, stop: &AtomicBool)
-    ensures { W.place worker.new ≡ W.place worker.old }
+/// Lets the worker take a turn behind so many, and tells the gate of it.
+fn turn_at<Q: Gate, W: Worker>(gate: &Q, station: Station, worker: &mut W, turns: u64) -> Outcome
+    ensures { W.goes worker.old worker.new }
 {
-    let backoff = Backoff::new();
-    for _ in 0..u64::MAX {
-        if stop.load(Ordering::SeqCst) || !goes_on(worker.turn(), &backoff) {
+    gate.enter(station, worker.seq(turns));
+    let outcome = worker.turn();
+    gate.leave(station, worker.seq(turns));
+    outcome
+}
+
+/// Lets the worker of this station take turns until it is over or the signals say stop.
+pub fn work<C: Clock, Q: Gate, W: Worker>(
+    clock: &C,
+    gate: &Q,
+    station: Station,
+    worker: &mut W,
+    signals: &Signals,
+)
+    ensures { W.goes worker.old worker.new }
+{
+    signals.begin();
+    let mut rest = Rest::new();
+    for turns in 0..u64::MAX {
+        if signals.say_stop() {
+            break;
+        }
+        let outcome = turn_at(gate, station, worker, turns);
+        if !rest.goes_on(clock, outcome) {
             break;
         }
     }
