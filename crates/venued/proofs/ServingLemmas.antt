@@ -38,7 +38,7 @@ use Rattle.venued.specs.Crashes.{Behind}
 use Rattle.venued.specs.Rounds.{Round, Rounds}
 use Rattle.venued.specs.Serving.{LeavesFrom}
 use Rattle.venued.specs.Opened.{AreBehind, IsNewCrew}
-use Rattle.venued.specs.VenueRings.{IsFirst}
+use Rattle.venued.specs.VenueRings.{IsNew, IsFirst}
 use Rattle.stages.specs.PollLaws.{journaller_grows}
 use Rattle.venued.proofs.JournallerLemmas.{leaves_behind}
 use Rattle.venued.specs.Venues.{Venue, Device, IsJournalBehind}
@@ -81,15 +81,15 @@ pub risen : (failed : Bool) (old mid new : ℕ) → failed ≡ false → mid ≡
 risen failed old mid new ready same (inl was) = let no : true ≡ false = sym was ∙ ready in cc
 risen failed old mid new ready same (inr rose) = subst (λ (n : ℕ). Rose n new) same rose
 
--- the seat of gateway 1 knows the symbols, and has counted the outputs of the history at the start, which are few
-pub first_seen : (symbols : Symbols) (base : History) (rings : Opened Symbols) (seat : At Symbols) → AreBehind symbols base rings → IsFirst rings seat
+-- a gateway's seat at the start knows the symbols, and has counted the outputs of the history at the start, which are few
+pub new_seen : (symbols : Symbols) (base : History) (rings : Opened Symbols) (k : ℕ) (seat : At Symbols) → AreBehind symbols base rings → IsNew rings k seat
     → length base ≤ 2 ^ 48 → HasSeen seat
-first_seen symbols base rings seat behind first short =
+new_seen symbols base rings k seat behind new short =
     let told = few-told-by (λ sequence m. reads m.bytes) symbols base in
     let given : rings.given ≡ length (outputs_of rings.logic rings.base) =
     behind.given ∙ ap (λ (l : Symbols). length (outputs_of l base)) (sym behind.logic) ∙ ap (λ (h : History). length (outputs_of rings.logic h)) (sym behind.base_is) in
     let few : rings.given ≤ 2 ^ 62 = let is = behind.given in omega (arith, told, short, is) in
-    subst HasSeen (sym first) (record { logic = refl; from = omega (arith, given); to = omega (arith, given); few = few; spent = refl })
+    subst HasSeen (sym new) (record { logic = refl; from = omega (arith, given); to = omega (arith, given); few = few; spent = refl })
 
 -- one round more
 pub next_round : {D : Type 0} (device : Device D) (n : ℕ) (s t u : Venue D) → Rounds device n s t → Round device t u → Rounds device (n + 1) s u

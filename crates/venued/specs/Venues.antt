@@ -19,13 +19,14 @@ pub record Venue (D : Type 0) : Type 0 where
 abbrev pub venue : {D : Type 0} → Opened Symbols → AtRings → OneCrew D → Told → Venue D
 venue rings gateway crew wire = record { rings = rings; gateway = gateway; crew = crew; wire = wire }
 
--- what a device is: whether it is honest, and what it tells then
+-- what a device is: whether it is honest, what it tells then, and how many of its calls failed
 pub record Device (D : Type 0) : Type 1 where
   pub honest : D → Type 0
   pub tells : D → disk.Told
+  pub failed : D → ℕ
 
-abbrev pub device : {D : Type 0} → (D → Type 0) → (D → disk.Told) → Device D
-device honest tells = record { honest = honest; tells = tells }
+abbrev pub device : {D : Type 0} → (D → Type 0) → (D → disk.Told) → (D → ℕ) → Device D
+device honest tells failed = record { honest = honest; tells = tells; failed = failed }
 
 -- the file is the journal of a history that begins with this one
 abbrev pub IsJournalBehind : History → List ℕ → Type 0

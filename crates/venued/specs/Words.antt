@@ -1,15 +1,30 @@
--- The words of the program's command line, in the one mode that there is: standard input and output, one gateway.
-use Rattle.std.specs.Prelude.{◌≡◌, ℕ, ◌≤◌, List, ◌∷◌, length, codes}
+-- The words of the program's command line (docs/OPERATING.md, "Commands"): PORT, JOURNAL, GATEWAYS, and the symbols.
+use Rattle.std.specs.Prelude.{⊤, ◌≡◌, ℕ, ◌≤◌, List, ◌∷◌, length, codes}
+use Rattle.std.specs.Fmt.{decimal}
 use Rattle.venue_model.specs.Spelling.{AreSymbols}
+use Rattle.venued.specs.declared.words.Mode.{Mode}
+use Rattle.venued.specs.declared.words.Mode.TheVariants.{Standard, Listening}
 
--- PORT, JOURNAL and GATEWAYS are `-`, one byte or more, and `1`
-pub record IsServed (port journal gateways : List ℕ) : Type 0 where
-  pub port_is : port ≡ codes "-"
-  pub named : 1 ≤ length journal
-  pub gateways_is : gateways ≡ codes "1"
+-- the word is the number n, 1 to `most`, in decimal digits, with no sign and no 0 in front
+pub record IsNumberTo (most : ℕ) (word : List ℕ) (n : ℕ) : Type 0 where
+  pub spelled : word ≡ decimal n
+  pub range : (1 ≤ n) × (n ≤ most)
 
--- the words `- JOURNAL 1 SYMBOL...` with this journal and these symbols
-pub record AreWords (words : List (List ℕ)) (journal : List ℕ) (symbols : List (List ℕ)) : Type 0 where
-  pub spelled : words ≡ codes "-" ∷ journal ∷ codes "1" ∷ symbols
+-- PORT and GATEWAYS say this mode: `-` and `1`, or the first gateway's port and how many gateways there are
+abbrev pub IsMode : List ℕ → List ℕ → Mode → Type 0
+IsMode port gateways Standard = (port ≡ codes "-") × (gateways ≡ codes "1")
+IsMode port gateways (Listening first many) = IsNumberTo 65528 port first × IsNumberTo 8 gateways many
+
+-- the range of a mode's numbers
+abbrev pub IsInRange : Mode → Type 0
+IsInRange Standard = ⊤
+IsInRange (Listening first many) = (first ≤ 65528) × (1 ≤ many) × (many ≤ 8)
+
+-- the words `PORT JOURNAL GATEWAYS SYMBOL...` with this mode, this journal and these symbols
+pub record AreWords (words : List (List ℕ)) (mode : Mode) (journal : List ℕ) (symbols : List (List ℕ)) : Type 0 where
+  pub port : List ℕ
+  pub gateways : List ℕ
+  pub spelled : words ≡ port ∷ journal ∷ gateways ∷ symbols
+  pub mode_is : IsMode port gateways mode
   pub named : 1 ≤ length journal
   pub traded : AreSymbols symbols

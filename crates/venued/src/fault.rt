@@ -11,7 +11,10 @@ pub enum ServeFault {
     /// 41 to 43: the journal can't be opened.
     #[error("venued: {0}")]
     Journal(JournalFault),
-    /// 12, 22 or 44: memory was refused.
+    /// The venue can't listen on this port: another process does, or the system refuses it.
+    #[error("venued: cannot listen on {0}")]
+    CannotListen(u16),
+    /// 12, 22 or 44: memory was refused, or a thread.
     #[error("venued: no memory")]
     Memory,
     /// 41: the journal failed while the venue served.

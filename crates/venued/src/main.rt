@@ -1,29 +1,42 @@
 //! The venue's program: it reads its words, and runs over the folder of its journal, standard input and output.
 #![tactic(auto)]
 
-ghost use Rattle.std.specs.Prelude.{◌≡◌, ◌↔◌};
+ghost use Rattle.std.specs.Prelude.{◌≡◌, ◌↔◌, IfOk};
+ghost use Rattle.venued.specs.Words.{IsInRange};
 ghost use Rattle.std.specs.IoError.{error_kind};
 
 mod fault;
+mod leaving;
+mod listening;
+mod member;
+mod members;
 mod opening;
 mod rings;
 mod running;
 mod serve;
+mod stop;
+mod watch;
 mod words;
 
 use crate::fault::ServeFault;
-use crate::running::run;
+use crate::running::{run, run_for};
 use crate::serve::refuse;
-use crate::words::{Words, WordsFault};
-use gateway::StdWire;
+use crate::stop::StopFile;
+use crate::words::{Mode, Words, WordsFault};
+use gateway::{StdWire, Wire};
 use journal::{StandardStreams, SystemFolder};
-use std::io::{ErrorKind, Stderr};
+use std::fs::{File, Files};
+use std::io::{ErrorKind, Write};
+use std::net::{Net, TcpListener, TcpStream};
 use std::process::ExitCode;
-use std::rt::Env;
+use std::rt::{Clock, Env};
+use std::thread::Threads;
 use std::{env, io};
 
 /// The words of the command line, without the program's name.
-fn read_words<R: Env + AllocGlobal>(rt: &R) -> Result<Words, WordsFault> {
+fn read_words<R: Env + AllocGlobal>(rt: &R) -> Result<Words, WordsFault>
+    ensures { IfOk result (λ words. IsInRange words.mode) }
+{
     let all = env::args(rt).map_err(|error| unread(&error))?;
     let words: Vec<String> = all.skip(1).collect(rt.alloc())?;
     Words::read(rt.alloc(), &words)
@@ -39,24 +52,48 @@ fn unread(error: &io::Error) -> WordsFault
     }
 }
 
-/// Runs over the folder of the journal's name, standard input and output: the program's status.
-fn start(rt: &HostRuntime, words: &Words, err: &mut Stderr) -> u8 {
+/// Runs over the folder of the journal's name, as the words say: the program's status.
+fn start<
+    R: Threads
+        + Clock
+        + Net<Listener = TcpListener, Stream = TcpStream>
+        + Files<File = File>
+        + AllocGlobal
+        + Sync,
+    W: Wire,
+    O: Write,
+    E: Write,
+>(rt: &R, words: &Words, wire: &mut W, out: &mut O, err: &mut E) -> u8
+    requires { IsInRange words.now.mode }
+{
     let _streams = match StandardStreams::hold(rt) {
         Ok(streams) => streams,
         Err(fault) => return ServeFault::from(fault).say(err),
     };
-    let Ok(mut folder) = SystemFolder::new(rt, words.journal.as_str()) else {
+    let journal = words.journal.as_str();
+    let Ok(mut folder) = SystemFolder::new(rt, journal) else {
         return ServeFault::Memory.say(err);
     };
-    let mut wire = StdWire::new(rt.stdin(), rt.stdout());
-    let (status, _) = run(rt.alloc(), words, &mut folder, &mut wire, err);
-    status
+    let Ok(mut sign) = StopFile::beside(rt, journal) else {
+        return ServeFault::Memory.say(err);
+    };
+    match words.mode {
+        Mode::Standard => {
+            let (status, _) = run(rt.alloc(), words, &mut folder, wire, err);
+            status
+        }
+        Mode::Listening { port, gateways } => {
+            run_for(rt, words, port, gateways, &mut folder, &mut sign, out, err)
+        }
+    }
 }
 
 fn main(rt: HostRuntime) -> ExitCode {
     let mut err = rt.stderr();
+    let mut out = rt.stdout();
+    let mut wire = StdWire::new(rt.stdin(), rt.stdout());
     let status = match read_words(&rt) {
-        Ok(words) => start(&rt, &words, &mut err),
+        Ok(words) => start(&rt, &words, &mut wire, &mut out, &mut err),
         Err(fault) => refuse(fault, &mut err),
     };
     ExitCode::from(status)

@@ -1,17 +1,24 @@
-//! A run of the program: its journal's file is opened, and a client served behind the history that stands there. It is
-//! proved over any folder, wire and error line; `main` gives it those of the system.
-ghost use Rattle.std.specs.Prelude.{◌≡◌, IfNone, IfSome};
+//! A run of the program: its journal's file is opened, and one client or all members are served behind the history that
+//! stands there. It is proved over any folder, wire and line; `main` gives it those of the system.
+ghost use Rattle.std.specs.Prelude.{◌≡◌, ◌≤◌, ◌+◌, true, IfNone, IfSome};
+ghost use Rattle.venue_model.specs.Counts.{Rose};
 ghost use Rattle.journal.specs.Places.{LeavesUnder, LeftOrNew};
 ghost use Rattle.venued.specs.Running.{Runs};
 ghost use Rattle.venued.specs.Serving.{IsStatus};
 
 use crate::fault::ServeFault;
+use crate::listening::listen;
 use crate::serve::serve;
+use crate::stop::StopSign;
 use crate::words::Words;
 use gateway::Wire;
-use journal::{FileDisk, Folder, JournalDisk, open_journal};
+use journal::{FileDisk, Folder, JournalDisk, RawFile, open_journal};
 use std::alloc::Global;
 use std::io::Write;
+use std::net::{Net, TcpListener, TcpStream};
+use std::rt::Clock;
+use std::thread::Threads;
+use workers::{Gate, NoGate};
 
 /// Opens the file of the journal, or makes it, and serves over it: the program's status, and the disk if the file could
 /// be opened. The status is that of `serve`, or 1, with the fault's line, where the file couldn't be opened.
@@ -22,7 +29,10 @@ pub fn run<P: Folder, W: Wire, E: Write>(
     wire: &mut W,
     err: &mut E,
 ) -> (u8, Option<FileDisk<P::File>>)
-    ensures unopened { IfNone result.1 ((result.0 ≡ 1) × (wire.new ≡ wire.old)) }
+    ensures unopened { IfNone result.1 (result.0 ≡ 1) }
+    ensures cause { P.honest folder.old → (P.tells folder.old).there ≡ true →
+        IfNone result.1 (Rose (P.failures folder.old).all (P.failures folder.new).all) }
+    ensures untouched { result.0 ≡ 1 → wire.new ≡ wire.old }
     ensures status { IfSome result.1 (λ disk.
         IsStatus (W.tells wire.old) (W.tells wire.new) 0 (⟦<FileDisk<P::File> as JournalDisk>⟧.failed disk) result.0) }
     ensures honest { P.honest folder.old → IfSome result.1 (λ disk. P.File.honest disk.file) }
@@ -38,4 +48,104 @@ pub fn run<P: Folder, W: Wire, E: Write>(
         }
         Err(fault) => (ServeFault::from(fault).say(err), None),
     }
+}
+
+/// Opens the file of the journal, or makes it, and listens over it for `G` members, from `port` on: the program's status, and
+/// the disk if the file could be opened. The status is that of `listen`, or 1, with the fault's line, where the file
+/// couldn't be opened.
+pub fn run_listening<
+    R: Threads + Clock + Net<Listener = TcpListener, Stream = TcpStream> + AllocGlobal + Sync,
+    Q: Gate + Sync,
+    F: RawFile + Send,
+    P: Folder<File = F>,
+    S: StopSign,
+    O: Write,
+    E: Write,
+    const G: usize,
+>(
+    rt: &R,
+    gate: &Q,
+    words: &Words,
+    port: u16,
+    folder: &mut P,
+    sign: &mut S,
+    out: &mut O,
+    err: &mut E,
+) -> (u8, Option<FileDisk<F>>)
+    requires gateways { (1 ≤ G) × (G ≤ 8) }
+    requires ports { port + G ≤ 65536 }
+    ensures unopened { IfNone result.1 (result.0 ≡ 1) }
+    ensures cause { P.honest folder.old → (P.tells folder.old).there ≡ true →
+        IfNone result.1 (Rose (P.failures folder.old).all (P.failures folder.new).all) }
+    ensures honest { P.honest folder.old → IfSome result.1 (λ disk. F.honest disk.file) }
+    ensures journal { P.honest folder.old →
+        IfSome result.1 (λ disk. Runs (P.tells folder.old) (P.tells folder.new) (F.tells disk.file)) }
+    ensures any_moment { P.honest folder.old →
+        LeavesUnder (P.tells folder.old) (P.tells folder.new) (LeftOrNew (P.tells folder.old)) }
+{
+    match open_journal(folder) {
+        Ok(disk) => {
+            let (status, disk) = listen::<R, Q, FileDisk<F>, S, O, E, G>(
+                rt,
+                gate,
+                &words.limits,
+                port,
+                disk,
+                sign,
+                out,
+                err,
+            );
+            (status, Some(disk))
+        }
+        Err(fault) => (ServeFault::from(fault).say(err), None),
+    }
+}
+
+/// Listens so for as many members as the command line says, 1 to 8.
+pub fn run_for<
+    R: Threads + Clock + Net<Listener = TcpListener, Stream = TcpStream> + AllocGlobal + Sync,
+    F: RawFile + Send,
+    P: Folder<File = F>,
+    S: StopSign,
+    O: Write,
+    E: Write,
+>(
+    rt: &R,
+    words: &Words,
+    port: u16,
+    gateways: u8,
+    folder: &mut P,
+    sign: &mut S,
+    out: &mut O,
+    err: &mut E,
+) -> u8
+    requires { port ≤ 65528 }
+{
+    let (status, _) = match gateways {
+        1 => run_listening::<R, NoGate, F, P, S, O, E, 1>(
+            rt, &NoGate, words, port, folder, sign, out, err,
+        ),
+        2 => run_listening::<R, NoGate, F, P, S, O, E, 2>(
+            rt, &NoGate, words, port, folder, sign, out, err,
+        ),
+        3 => run_listening::<R, NoGate, F, P, S, O, E, 3>(
+            rt, &NoGate, words, port, folder, sign, out, err,
+        ),
+        4 => run_listening::<R, NoGate, F, P, S, O, E, 4>(
+            rt, &NoGate, words, port, folder, sign, out, err,
+        ),
+        5 => run_listening::<R, NoGate, F, P, S, O, E, 5>(
+            rt, &NoGate, words, port, folder, sign, out, err,
+        ),
+        6 => run_listening::<R, NoGate, F, P, S, O, E, 6>(
+            rt, &NoGate, words, port, folder, sign, out, err,
+        ),
+        7 => run_listening::<R, NoGate, F, P, S, O, E, 7>(
+            rt, &NoGate, words, port, folder, sign, out, err,
+        ),
+        _ => run_listening::<R, NoGate, F, P, S, O, E, 8>(
+            rt, &NoGate, words, port, folder, sign, out, err,
+        ),
+    };
+    status
 }

@@ -39,7 +39,8 @@ pub fn serve<D: JournalDisk, W: Wire, E: Write>(
     err: &mut E,
 ) -> (u8, D)
     ensures status { IsStatus (W.tells wire.old) (W.tells wire.new) (D.failed disk) (D.failed result.1) result.0 }
-    ensures served { EndsWith words.now.limits (device D.honest D.tells) (record { disk = disk; wire = W.tells wire.old })
+    ensures untouched { result.0 ≡ 1 → wire.new ≡ wire.old }
+    ensures served { EndsWith words.now.limits (device D.honest D.tells D.failed) (record { disk = disk; wire = W.tells wire.old })
         (record { disk = result.1; wire = W.tells wire.new }) result.0 }
     ensures honest { Both (D.honest disk) (D.honest result.1) }
     ensures any_moment { D.honest disk → LeavesFrom (D.tells disk) (D.tells result.1) }
@@ -137,7 +138,7 @@ fn take_turns<D: JournalDisk, W: Wire>(
     ensures honest { Both (D.honest (disk_of crew.old)) (D.honest (disk_of crew.new)) }
     ensures any_moment { D.honest (disk_of crew.old) → LeavesOnly (D.tells (disk_of crew.old)) (D.tells (disk_of crew.new))
         (λ file. (D.tells (disk_of crew.old)).may_leave file ⊎ IsJournalBehind rings.now.base file) }
-    ensures served { Served (device D.honest D.tells) (venue rings.now gateway.old crew.old (W.tells wire.old))
+    ensures served { Served (device D.honest D.tells D.failed) (venue rings.now gateway.old crew.old (W.tells wire.old))
         (venue rings.now gateway.new crew.new (W.tells wire.new)) result }
     ensures delivers { DeliversOn (venue rings.now gateway.old crew.old (W.tells wire.old))
         (venue rings.now gateway.new crew.new (W.tells wire.new)) }

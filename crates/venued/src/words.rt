@@ -1,10 +1,17 @@
 //! The words of the command line. They are read before anything is opened or served.
-ghost use Rattle.std.specs.Prelude.{◌≡◌, ◌↔◌, ℕ, List, map, string_bytes, IsTrue, IfOk, IsErrOf};
-ghost use Rattle.venued.specs.Words.{AreWords, IsServed};
+ghost use Rattle.std.specs.Prelude.{◌≡◌, ℕ, List, map, string_bytes, IfOk, IsErrOf, MatchOption};
+ghost use Rattle.venued.specs.declared.words.Mode.{Mode};
+ghost use Rattle.venued.specs.Words.{AreWords, IsMode, IsNumberTo, IsInRange};
 
 use std::alloc::{AllocError, Global};
 use thiserror::Error;
 use venue_model::{Limits, LimitsFault};
+
+/// The greatest PORT: with it gateway 8 listens at 65,535, the last port that there is.
+const MOST_PORT: u16 = 65_528;
+
+/// The greatest GATEWAYS.
+const MOST_GATEWAYS: u16 = 8;
 
 /// Why a command line can't be served. The text is the line that the program prints.
 #[derive(Clone, Copy, Debug, PartialEq, Eq, Error)]
@@ -40,10 +47,25 @@ impl From<AllocError> for WordsFault {
     }
 }
 
-/// What `venued PORT JOURNAL GATEWAYS SYMBOL...` says. PORT is `-`, for standard input and output, and GATEWAYS is
-/// then `1`. A PORT that is a number (1 to 65,528, for 1 to 8 gateways) is a fault of usage until the venue listens.
+/// Whom the venue serves, and where.
+#[derive(Clone, Copy, Debug, PartialEq, Eq)]
+pub enum Mode {
+    /// One client, `C1`, over standard input and output: PORT is `-`, and GATEWAYS `1`.
+    Standard,
+    /// Gateway k, 1 to `gateways`, listens at `port` + k - 1.
+    Listening {
+        /// PORT, 1 to 65,528.
+        port: u16,
+        /// GATEWAYS, 1 to 8.
+        gateways: u8,
+    },
+}
+
+/// What `venued PORT JOURNAL GATEWAYS SYMBOL...` says.
 #[derive(Drop)]
 pub struct Words {
+    /// What PORT and GATEWAYS say.
+    pub mode: Mode,
     /// The name of the journal's file, one byte or more.
     pub journal: String,
     /// The symbols that the venue trades, in the order of the command line.
@@ -54,26 +76,53 @@ impl Words {
     /// Reads the words behind the program's name.
     pub fn read(alloc: Global, words: &[String]) -> Result<Words, WordsFault>
         ensures said { IfOk result (λ w.
-            AreWords (map string_bytes words.now) (string_bytes w.journal) w.limits) }
+            AreWords (map string_bytes words.now) w.mode (string_bytes w.journal) w.limits) }
+        ensures range { IfOk result (λ w. IsInRange w.mode) }
         ensures wrong { IsErrOf result WordsFault.Usage
-            → (journal : List ℕ) (symbols : List (List ℕ))
-            → AreWords (map string_bytes words.now) journal symbols → ⊥ }
+            → (mode : Mode) (journal : List ℕ) (symbols : List (List ℕ))
+            → AreWords (map string_bytes words.now) mode journal symbols → ⊥ }
     {
         let [port, journal, gateways, symbols @ ..] = words else {
             return Err(WordsFault::Usage);
         };
-        if !is_served(port.as_str(), journal.as_str(), gateways.as_str()) {
+        let Some(mode) = mode_of(port.as_str(), gateways.as_str()) else {
+            return Err(WordsFault::Usage);
+        };
+        if journal.is_empty() {
             return Err(WordsFault::Usage);
         }
         let limits = Limits::new(alloc, symbols)?;
         let journal = String::from_str(alloc, journal.as_str())?;
-        Ok(Words { journal, limits })
+        Ok(Words {
+            mode,
+            journal,
+            limits,
+        })
     }
 }
 
-/// Whether the venue has the mode that these words ask for, and they name a file.
-fn is_served(port: &str, journal: &str, gateways: &str) -> bool
-    ensures { IsTrue result ↔ IsServed port.now journal.now gateways.now }
+/// The mode that PORT and GATEWAYS say, if there is one.
+fn mode_of(port: &str, gateways: &str) -> Option<Mode>
+    ensures { MatchOption result ((mode : Mode) → IsMode port.now gateways.now mode → ⊥)
+        (IsMode port.now gateways.now) }
 {
-    port == "-" && !journal.is_empty() && gateways == "1"
+    if port == "-" && gateways == "1" {
+        return Some(Mode::Standard);
+    }
+    let port = number_to(MOST_PORT, port)?;
+    let gateways = number_to(MOST_GATEWAYS, gateways)? as u8;
+    Some(Mode::Listening { port, gateways })
+}
+
+/// The number 1 to `most` that the word is. One with a sign, or with a 0 in front, is none.
+fn number_to(most: u16, word: &str) -> Option<u16>
+    ensures { MatchOption result ((n : ℕ) → IsNumberTo most word.now n → ⊥) (IsNumberTo most word.now) }
+{
+    if word.starts_with('+') || word.starts_with('0') {
+        return None;
+    }
+    match word.parse::<u16>() {
+        Ok(number) if number <= most => Some(number),
+        _ => None,
+    }
 }

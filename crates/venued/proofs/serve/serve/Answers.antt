@@ -8,11 +8,11 @@ use Rattle.stages.specs.Finishing.{Finished}
 use Rattle.venued.specs.Serving.{LeavesFrom}
 use Rattle.venued.specs.VenueRings.{IsFirst}
 use Rattle.venued.specs.Venues.{Venue}
-use Rattle.venued.proofs.ServingLemmas.{first_seen, began, serve_leaves}
+use Rattle.venued.proofs.ServingLemmas.{new_seen, began, serve_leaves}
 use Rattle.venued.proofs.serve.serve.Goals as goal
 
 pub new-requires : goal.new-requires
-new-requires g c = first_seen _ _ _ _ c.in-Ok.ensures.opened.0 c.first_seat-seat.ensures.seat c.in-Ok.ensures.disk.few
+new-requires g c = new_seen _ _ _ 1 _ c.in-Ok.ensures.opened.0 c.first_seat-seat.ensures.seat c.in-Ok.ensures.disk.few
 
 pub returns-clause-served : goal.returns-clause-served
 returns-clause-served g c =

@@ -42,7 +42,7 @@ loop-round-preserved g c =
     let keeps : c.poll-polled.result.journaller ≢ JournalFailed = λ is. true≢false (sym (rw is at c.eq.ensures) ∙ c.if-eq.false) in
     let ready = still_ready g.D.JournalDisk.failed old.journaller.journal new.journaller.journal c.poll-polled.result.journaller keeps polled.failed in
     let live = lives _ _ c.turn-turned.result turned.turn.turn c.in_default.not-Ended in
-    let device : Device g.row.D.Denot = record { honest = g.D.JournalDisk.honest; tells = tells } in
+    let device : Device g.row.D.Denot = record { honest = g.D.JournalDisk.honest; tells = tells; failed = g.D.JournalDisk.failed } in
     let start : Venue g.row.D.Denot = record { rings = rings; gateway = c.args.gateway.now; crew = first; wire = wire c.args.wire.now } in
     let now : Venue g.row.D.Denot = record { rings = rings; gateway = c.loop-round.gateway; crew = old; wire = wire c.loop-round.wire } in
     let between : Venue g.row.D.Denot = record { rings = rings; gateway = c.turn-turned.new.self; crew = old; wire = wire c.turn-turned.new.wire } in
@@ -67,7 +67,7 @@ loop-round-preserved g c =
         turns = record { turn = turned.turn; uses = turned.uses; others = refl };
         lives = live;
         after = after;
-        polls = record { polls = polled.polls; leaves = polled.any_moment; keeps = polled.keeps; others = refl };
+        polls = record { polls = polled.polls; fails = polled.failed; leaves = polled.any_moment; keeps = polled.keeps; others = refl };
         keeps = keeps;
         rests = told_quiet after (wire c.rest.new.self) _ c.rest.ensures;
         quiet = subst (λ (q : Bool). q ≡ true ↔ ((c.turn-turned.result ≡ Quiet) × AreIdle c.poll-polled.result)) (sym (ap (λ (t : Told). t.quiet) c.rest.ensures)) c.is_quiet.ensures;
@@ -125,7 +125,7 @@ returns-then-eq g c =
           c.poll-polled.result,
           record { turn = turned.turn; uses = turned.uses; others = refl },
           lives _ _ c.turn-turned.result turned.turn.turn c.in_default.not-Ended,
-          record { polls = polled.polls; leaves = polled.any_moment; keeps = polled.keeps; others = refl },
+          record { polls = polled.polls; fails = polled.failed; leaves = polled.any_moment; keeps = polled.keeps; others = refl },
           failed,
         );
       };

@@ -25,7 +25,7 @@ invariant-loop-round g l =
       honest : Both (g.D.JournalDisk.honest (disk_of l.fn.crew)) (g.D.JournalDisk.honest (disk_of l.crew));
       counts : g.D.JournalDisk.failed (disk_of l.crew) ≡ g.D.JournalDisk.failed (disk_of l.fn.crew);
       leaves : g.D.JournalDisk.honest (disk_of l.fn.crew) → LeavesOnly (tells (disk_of l.fn.crew)) (tells (disk_of l.crew)) (LeftOrBehind (tells (disk_of l.fn.crew)) l.rings.base);
-      rounds : Rounds (record { honest = g.D.JournalDisk.honest; tells = tells }) l._round
+      rounds : Rounds (record { honest = g.D.JournalDisk.honest; tells = tells; failed = g.D.JournalDisk.failed }) l._round
           (record { rings = l.rings; gateway = l.fn.gateway; crew = l.fn.crew; wire = wire l.fn.wire })
           (record { rings = l.rings; gateway = l.gateway; crew = l.crew; wire = wire l.wire });
       delivers : (start : Start) (c : Course) → Delivers start l.fn.gateway.front (wire l.fn.wire) (ledger_of 1024 l.fn.gateway.seat) c →

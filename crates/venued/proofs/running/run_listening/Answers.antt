@@ -1,0 +1,8 @@
+-- What was opened is served.
+use Rattle.venued.proofs.RunningLemmas.{runs}
+use Rattle.venued.proofs.running.run_listening.Goals as goal
+
+pub returns-in-Ok-clause-journal : goal.returns-in-Ok-clause-journal
+returns-in-Ok-clause-journal g c honest =
+    let opens = c.in-Ok.ensures.opened honest in
+    runs _ _ _ _ opens _ (c.listen-status.ensures.any_moment opens.is_honest)
