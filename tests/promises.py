@@ -1,0 +1,204 @@
+#!/usr/bin/env python3
+"""Checks that the sources have what docs/PROMISES.md cites: functions and clauses, definitions and their fields.
+
+    tests/promises.py [PROMISES]
+
+Citations stand in backquotes, in each item `- **Clauses**:` and in the section "The parts, by crate":
+
+    `Type::name`, `crate::name`     a public function of this type, crate or module
+    `name`                          a further one of the type named last, or the one free function of this name
+    `Trait for Type`                all functions of the trait as the type keeps it
+    `Name`, `name.rt`, `crate`      a type, a trait or a definition; a file; a crate
+    (`one`, `two`)                  right behind a function or a trait: clauses of it, or conditions
+    (`one`: `Record` with `two`)    behind a colon, up to a semicolon: definitions, and fields of these
+
+Each citation that isn't there has a line of its own; the last line is `N passed, M failed`, and the status is 1 where
+one failed. The benchmarks promise nothing and aren't looked at.
+"""
+import glob
+import os
+import re
+import sys
+
+ROOT = os.path.dirname(os.path.dirname(os.path.abspath(__file__)))
+
+TRAIT = re.compile(r"pub trait (\w+)")
+IMPL = re.compile(r"impl\b(?:<[^{]*?>)? (?:(?:\w+::)*(?P<trait>\w+)(?:<[^{]*>)? for )?(?:\w+::)*(?P<type>\w+)")
+TYPE = re.compile(r"pub (?:struct|enum|type) (\w+)")
+FUNCTION = re.compile(r"( *)(pub(?:\([a-z ]+\))? )?(?:const )?(?:unsafe )?fn (\w+)")
+CLAUSE = re.compile(r"( +)(?:requires|ensures)\*? (\w+) \{")
+GHOST = re.compile(r"    ghost (\w+)(?: =|:)")
+DEFINITION = re.compile(r"( *)(?:(?:abbrev|unfoldable) pub|pub (?:record|data)) (\w+)")
+FIELD = re.compile(r"( *)pub (\w+) :")
+
+PROMISE = re.compile(r"## \d+\. ")
+CLAUSES = "- **Clauses**:"
+PARTS = "## The parts, by crate"
+CRATE = re.compile(r"\*\*`(\w+)`\*\*$")
+CITATION = re.compile(r"`([^`]+)`(?:\s+\(([^()]*)\))?")
+QUOTED = re.compile(r"`([^`]+)`")
+
+
+class Function:
+    """A function of the sources: its place, whose it is, and its clauses."""
+
+    def __init__(self, place, owner, name, is_public):
+        self.crate, self.module = place
+        self.owner, self.name, self.is_public, self.clauses = owner, name, is_public, set()
+
+    def stands_in(self, word):
+        """Whether the word may stand in front of its name."""
+        return word == self.owner if self.owner else word in (self.crate, self.module)
+
+
+class Sources:
+    """What there is to be cited. A trait stands in `kept` with its clauses, alone and as each type keeps it."""
+
+    def __init__(self):
+        self.functions, self.kept, self.types, self.fields, self.others = [], {}, set(), {}, set()
+        for crate in sorted(it for it in os.listdir(f"{ROOT}/crates") if not it.startswith("bench_")):
+            self.others.add(crate)
+            for path in sorted(glob.glob(f"{ROOT}/crates/{crate}/src/**/*.rt", recursive=True)):
+                self.others.add(os.path.basename(path))
+                self.add_code((crate, os.path.basename(path).removesuffix(".rt")), lines_of(path))
+            for path in sorted(glob.glob(f"{ROOT}/crates/{crate}/specs/**/*.antt", recursive=True)):
+                self.add_definitions(lines_of(path))
+
+    def add_code(self, place, lines):
+        """The functions of a file in rt fmt's layout, where a clause stands one step further in than its function."""
+        owner, kept, last, indent = None, None, None, ""
+        for line in lines:
+            if found := TRAIT.match(line):
+                owner, kept = found[1], self.kept.setdefault((found[1], None), set())
+                self.types.add(owner)
+            elif found := IMPL.match(line):
+                owner = found["type"]
+                kept = self.kept.setdefault((found["trait"], owner), set()) if found["trait"] else None
+            elif line == "}":
+                owner, kept = None, None
+            elif found := TYPE.match(line):
+                self.types.add(found[1])
+            elif found := FUNCTION.match(line):
+                is_public, indent = found[2] == "pub " or kept is not None, found[1] + "    "
+                last = Function(place, owner, found[3], is_public)
+                self.functions.append(last)
+            elif (found := CLAUSE.match(line)) and found[1] == indent:
+                last.clauses.add(found[2])
+                if kept is not None:
+                    kept.add(found[2])
+            elif (found := GHOST.match(line)) and kept is not None:
+                kept.add(found[1])
+
+    def add_definitions(self, lines):
+        """The definitions of a file, with the fields of those that are records."""
+        fields, indent = set(), ""
+        for line in lines:
+            if found := DEFINITION.match(line):
+                indent, fields = found[1], self.fields.setdefault(found[2], set())
+            elif (found := FIELD.match(line)) and len(found[1]) > len(indent):
+                fields.add(found[2])
+            elif not line:
+                fields = set()
+
+    def is_named(self, name):
+        return name in self.types or name in self.fields
+
+    def function(self, name, crate, owner):
+        """The functions that a citation may mean, in this crate if one is given, behind one of this type."""
+        word, _, name = name.rpartition("::")
+        named = [it for it in self.functions if it.is_public and it.name == name]
+        if word:
+            return [it for it in named if it.stands_in(word)]
+        of_owner = [it for it in named if owner and it.owner == owner]
+        return of_owner or [it for it in named if not it.owner and crate in (None, it.crate)]
+
+    def trait(self, name):
+        """The clauses of a trait as a type keeps it, or None where it doesn't."""
+        trait, _, owner = name.partition(" for ")
+        own = self.kept.get((trait, owner))
+        return None if own is None else own | self.kept.get((trait, None), set())
+
+
+class Check:
+    """Reads one citation after another, and counts."""
+
+    def __init__(self, sources):
+        self.sources, self.passed, self.faults = sources, 0, []
+
+    def count(self, line, fault):
+        if fault:
+            self.faults.append((line, fault))
+        else:
+            self.passed += 1
+
+    def read(self, line, crate, item):
+        """An item of the page that begins on this line, with the crate that it is of, if it is of one."""
+        owner = None
+        for found in CITATION.finditer(item):
+            at, name = line + item.count("\n", 0, found.start()), " ".join(found[1].split())
+            clauses, fault = None, None
+            if " for " in name:
+                clauses = self.sources.trait(name)
+                fault = None if clauses is not None else "no type keeps this trait"
+            elif name[0].isupper() and "::" not in name:
+                fault = None if self.sources.is_named(name) else "no such type or definition"
+            else:
+                them = self.sources.function(name, crate, owner)
+                if len(them) == 1:
+                    owner, clauses = them[0].owner, them[0].clauses
+                elif them or name not in self.sources.others:
+                    fault = "several functions are named so" if them else "no such public function"
+            self.count(at, fault and f"`{name}`: {fault}")
+            if not fault:
+                self.read_brackets(at, name, clauses, found[2] or "")
+
+    def read_brackets(self, line, name, clauses, text):
+        """What stands in brackets right behind a citation."""
+        for part in text.split(";"):
+            head, *tail = re.split(r"(?<=`):", part, maxsplit=1)
+            for clause in QUOTED.findall(head):
+                has = self.sources.is_named(clause) if clause[0].isupper() else clause in (clauses or ())
+                self.count(line, None if has else f"`{name}` has no clause `{clause}`")
+            names = QUOTED.findall("".join(tail))
+            for it in names:
+                has = self.sources.is_named(it) or any(it in self.sources.fields.get(record, ()) for record in names)
+                self.count(line, None if has else f"`{name}`: no definition or field `{it}` behind {head.strip()}")
+
+
+def lines_of(path):
+    with open(path, encoding="utf-8") as file:
+        return file.read().split("\n")
+
+
+def items_of(lines):
+    """The items with citations: the number of the line that each begins on, the crate that it is of, and its text."""
+    section, crate, item = "", None, []
+    for number, line in enumerate([*lines, ""], 1):
+        if item and (not line or line.startswith("- ")):
+            yield number - len(item), crate, "\n".join(item)
+            item = []
+        if line.startswith("## "):
+            section, crate = line, None
+        elif found := CRATE.match(line):
+            crate = found[1]
+        elif item or line.startswith(CLAUSES) or (section == PARTS and line.startswith("- ")):
+            item.append(line)
+
+
+def main():
+    path = sys.argv[1] if len(sys.argv) > 1 else f"{ROOT}/docs/PROMISES.md"
+    lines, check = lines_of(path), Check(Sources())
+    promises = sum(1 for line in lines if PROMISE.match(line))
+    lists = sum(1 for line in lines if line.startswith(CLAUSES))
+    check.count(1, None if promises == lists > 0 else f"{promises} promises have {lists} lists of clauses")
+    check.count(1, None if PARTS in lines else f"no section '{PARTS}'")
+    for item in items_of(lines):
+        check.read(*item)
+    for line, fault in check.faults:
+        print(f"{os.path.relpath(path)}:{line}: {fault}")
+    print(f"{check.passed} passed, {len(check.faults)} failed")
+    sys.exit(1 if check.faults else 0)
+
+
+if __name__ == "__main__":
+    main()
