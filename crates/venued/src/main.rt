@@ -15,6 +15,8 @@ mod rings;
 mod running;
 mod serve;
 mod stop;
+#[cfg(test)]
+mod tests;
 mod watch;
 mod words;
 

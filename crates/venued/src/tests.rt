@@ -1,0 +1,143 @@
+//! A venue of two members: each of its six workers has a thread of its own, so that all of them are at their first turns together.
+
+use crate::listening::listen;
+use crate::stop::StopSign;
+use journal::{MemDisk, format};
+use std::alloc::Global;
+use std::net::{Net, TcpListener, TcpStream};
+use std::rt::Clock;
+use std::sync::atomic::{AtomicBool, Ordering};
+use std::test::Fail;
+use std::thread;
+use std::thread::Threads;
+use venue_model::Limits;
+use workers::{Gate, Station};
+
+/// How often a worker lets others run before it gives up waiting for them.
+const MOST_YIELDS: u64 = 10_000_000;
+
+/// How many pairs of ports are tried, since others may have some.
+const TRIES: u16 = 40;
+
+/// Where the six workers meet: a flag for each, and whether one of them waited in vain.
+#[derive(Drop)]
+struct Meeting {
+    here: [AtomicBool; 6],
+    in_vain: AtomicBool,
+}
+
+impl Meeting {
+    fn new() -> Meeting {
+        Meeting {
+            here: [
+                AtomicBool::new(false),
+                AtomicBool::new(false),
+                AtomicBool::new(false),
+                AtomicBool::new(false),
+                AtomicBool::new(false),
+                AtomicBool::new(false),
+            ],
+            in_vain: AtomicBool::new(false),
+        }
+    }
+
+    /// Sets the worker's flag.
+    fn come(&self, worker: Station) {
+        let place = match worker {
+            Station::Unmarshaller => 0,
+            Station::Journaller => 1,
+            Station::Processor => 2,
+            Station::Marshaller => 3,
+            Station::Gateway(1) => 4,
+            Station::Gateway(_) => 5,
+        };
+        self.here[place].store(true, Ordering::SeqCst);
+    }
+
+    /// Whether all are here.
+    fn is_full(&self) -> bool {
+        let mut all = true;
+        for flag in &self.here {
+            all = all && flag.load(Ordering::SeqCst);
+        }
+        all
+    }
+
+    /// Whether all are here, or one waited in vain.
+    fn is_over(&self) -> bool {
+        self.is_full() || self.in_vain.load(Ordering::SeqCst)
+    }
+}
+
+impl Gate for Meeting {
+    fn enter(&self, worker: Station, seq: u64) {
+        if seq != 0 {
+            return;
+        }
+        self.come(worker);
+        for _ in 0..MOST_YIELDS {
+            if self.is_over() {
+                return;
+            }
+            thread::yield_now();
+        }
+        self.in_vain.store(true, Ordering::SeqCst);
+    }
+
+    fn leave(&self, _worker: Station, _seq: u64) {}
+}
+
+/// The venue is to stop when the meeting is over.
+#[derive(Drop)]
+struct WhenMet<'a>(&'a Meeting);
+
+impl StopSign for WhenMet<'_> {
+    fn clear(&mut self) {}
+
+    fn is_up(&mut self) -> bool {
+        self.0.is_over()
+    }
+}
+
+/// The venue's status, and what it printed, at some free ports.
+fn serve_two<
+    R: Threads + Clock + Net<Listener = TcpListener, Stream = TcpStream> + AllocGlobal + Sync,
+>(rt: &R, meeting: &Meeting, limits: &Limits) -> Result<(u8, Vec<u8>), Fail> {
+    for at in 0..TRIES {
+        let mut disk = MemDisk::new(rt.alloc(), b"")?;
+        format(&mut disk)?;
+        let (mut out, mut err) = (Vec::new(rt.alloc()), Vec::new(rt.alloc()));
+        let mut sign = WhenMet(meeting);
+        let (status, _) = listen::<R, Meeting, MemDisk, WhenMet<'_>, Vec<u8>, Vec<u8>, 2>(
+            rt,
+            meeting,
+            limits,
+            20_000 + 997 * at,
+            disk,
+            &mut sign,
+            &mut out,
+            &mut err,
+        );
+        if status == 0 {
+            return Ok((status, out));
+        }
+    }
+    Err(Fail::from("no ports"))
+}
+
+#[test]
+fn side_by_side(rt: HostRuntime) -> Result<(), Fail> {
+    let words = [String::from_str(rt.alloc(), "ABC")?];
+    let Ok(limits) = Limits::new(rt.alloc(), &words) else {
+        return Err(Fail::from("no symbols"));
+    };
+    let meeting = Meeting::new();
+    let (status, out) = serve_two(&rt, &meeting, &limits)?;
+    assert_eq!(rt; status, 0);
+    assert!(rt; meeting.is_full());
+    assert_eq!(rt;
+        out.as_slice(),
+        b"venued: ready, 0 commands, 0 outputs\nvenued: stopped, 0 commands, 0 outputs\n".as_slice()
+    );
+    Ok(())
+}
