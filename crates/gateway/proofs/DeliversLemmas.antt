@@ -1,5 +1,5 @@
 -- A session that goes on by a turn has delivered what moved in the turn besides.
-use Rattle.std.proofs.Common.{◌≡◌, ℕ, ◌+◌, Bool, true, false, true≢false, ◌&&◌, if◌then◌else◌, List, [], ◌∷◌, ◌++◌, length, refl, ap, sym, subst, ◌∙◌, arith, append_assoc, append-nil, length-append}
+use Rattle.std.proofs.Common.{◌≡◌, ℕ, Bool, true, false, List, [], ◌∷◌, ◌++◌, refl, ap, sym, ◌∙◌, arith, append_assoc, append-nil, length-append}
 use Rattle.std.specs.List.{flat_map, list_any}
 use Rattle.fix_orders.specs.Text.{Said}
 use Rattle.gateway.specs.Answers.{Logon, Heartbeat, Logout}

@@ -1,5 +1,5 @@
 -- What the parts that hear come to.
-use Rattle.std.proofs.Common.{◌≡◌, ◌≢◌, ◌⊎◌, inl, inr, ℕ, zero, suc, ◌+◌, ◌^◌, ◌<◌, ◌≤◌, Bool, false, List, [], ◌∷◌, ◌++◌, length, take, drop, refl, ap, sym, subst, ◌∙◌, arith, append-nil, take-append-drop, Option, Some, None, is_some}
+use Rattle.std.proofs.Common.{◌≡◌, ◌≢◌, ◌⊎◌, inl, inr, ℕ, zero, suc, ◌+◌, ◌^◌, ◌≤◌, Bool, false, List, [], ◌∷◌, ◌++◌, length, take, drop, refl, ap, sym, subst, ◌∙◌, arith, append-nil, take-append-drop, Option, Some, None, is_some}
 use Rattle.fix_orders.specs.Text.{Said}
 use Rattle.ring_words.specs.declared.view.Load.{Load}
 use Rattle.gateway.specs.declared.ending.Reason.TheVariants as reason
@@ -14,7 +14,7 @@ use Rattle.gateway.specs.Ledgers.{Ledger, loading, IsClaimed, IsRefused}
 use Rattle.gateway.specs.Verdict.{Verdict, Welcome, Beat, Hold, Pass, Leave, Refuse, verdict}
 use Rattle.gateway.specs.Session.{Standing, At}
 use Rattle.gateway.specs.Moves.{heard}
-use Rattle.gateway.specs.Turns.{world, Front, Moved, nothing_moved, Moves, Counts, ClosesBy, farewell}
+use Rattle.gateway.specs.Turns.{world, Front, nothing_moved, Moves, Counts, ClosesBy, farewell}
 use Rattle.gateway.specs.Parts.{Tries, Listens, Unheard, HeardFrame, HeardFault}
 use Rattle.gateway.specs.HeardOf.{heard_of}
 use Rattle.gateway.specs.Gateways.{Hears, HeardSo, Reads, ReadSo}

@@ -1,5 +1,5 @@
 -- An acceptor that went on twice has gone on.
-use Rattle.std.specs.Prelude.{◌≡◌, ℕ, zero, suc}
+use Rattle.std.specs.Prelude.{ℕ, zero, suc}
 use Rattle.std.proofs.Common.{refl, sym, subst}
 use Rattle.gateway.specs.Accepting.{Accepting, Goes, AttendsFor, Attends}
 

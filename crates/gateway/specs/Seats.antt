@@ -7,7 +7,7 @@ use Rattle.venue_model.specs.History.{History, Message}
 use Rattle.venue_model.specs.Requests.{Symbols}
 use Rattle.venue_model.specs.declared.outputs.Output.{Output}
 use Rattle.book.specs.Histories.{outputs_of}
-use Rattle.ring_words.specs.At.{At, Steps, seated, number}
+use Rattle.ring_words.specs.At.{At, Steps, number}
 use Rattle.ring_words.specs.declared.view.Person.{Person}
 use Rattle.ring_words.specs.declared.view.Sent.{Sent}
 use Rattle.ring_words.specs.Places as place

@@ -1,8 +1,8 @@
 -- What holds at each place of a list, counted from 1, holds of its front and of its last one; and with one more behind it, of the whole.
-use Rattle.std.proofs.Common.{◌≡◌, ◌∙◌, ℕ, ◌+◌, List, [], ◌∷◌, ◌++◌, ⊎_elim, length, refl, ap, sym, subst, arith, length-append}
+use Rattle.std.proofs.Common.{◌≡◌, ℕ, ◌+◌, List, [], ◌∷◌, ◌++◌, ⊎_elim, length, refl, ap, sym, subst, arith, length-append}
 use mathlib.Core.Option.{some}
 use lib.ListN.{get_elem?}
-use Rattle.venue_model.specs.ListLaws.{at_longer, at_behind, at_end}
+use Rattle.venue_model.specs.ListLaws.{at_behind, at_end}
 
 module _ {A : Type 0} (P : ℕ → A → Type 0) (all front : List A) (x : A) (is : all ≡ front ++ x ∷ []) where
   pub of_last : ((i : ℕ) (y : A) → get_elem? all i ≡ some y → P (i + 1) y) → (n : ℕ) → n ≡ length all → P n x

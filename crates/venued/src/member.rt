@@ -128,7 +128,7 @@ pub fn trade<C: Clock, Q: Gate, const G: usize>(
     signals: &Signals,
 ) -> GatewaySeat<BookLogic>
     requires { post.acceptor ≡ fresh rings.now post.number }
-    ensures { IsBack rings.now post.number result }
+    ensures back { IsBack rings.now post.number result }
 {
     let station = Station::Gateway(post.number);
     let mut member = Member {

@@ -99,7 +99,7 @@ impl StopSign for WhenMet<'_> {
     }
 }
 
-/// The venue's status, and what it printed, at some free ports.
+/// The venue's status behind the meeting, and what it printed, at some free ports.
 fn serve_two<
     R: Threads + Clock + Net<Listener = TcpListener, Stream = TcpStream> + AllocGlobal + Sync,
 >(rt: &R, meeting: &Meeting, limits: &Limits) -> Result<(u8, Vec<u8>), Fail> {
@@ -118,7 +118,7 @@ fn serve_two<
             &mut out,
             &mut err,
         );
-        if status == 0 {
+        if meeting.is_over() {
             return Ok((status, out));
         }
     }

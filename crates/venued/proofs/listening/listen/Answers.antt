@@ -1,6 +1,5 @@
 -- What was opened was served from there on, by the journaller's run and the members' turns.
 use Rattle.std.proofs.Common.{◌∙◌, inr, arith, ap, subst, sym}
-use Rattle.journal.specs.Journals.{IsJournalFrom}
 use Rattle.journal.specs.MomentLaws.{weaker}
 use Rattle.stages.specs.Stations.{OneCrew, disk_of}
 use Rattle.venued.specs.Faults.{status_of_end}
