@@ -14,7 +14,7 @@ const FIRST_NAP: u64 = 50;
 
 /// Each further sleep is a microsecond longer, up to this, so that a venue in which nothing happens leaves the
 /// processor to others.
-const LONGEST_NAP: u64 = 500;
+const LONGEST_NAP: u64 = 2_000;
 
 /// How long a worker has found nothing to do.
 #[derive(Drop)]

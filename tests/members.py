@@ -1,0 +1,380 @@
+#!/usr/bin/env python3
+"""Tests of the venue that listens: the built programs, with members over TCP.
+
+    tests/members.py [NAME...]      the tests whose names have one of these words in them; without one all
+
+Each test has a folder and free ports of its own. One that fails has a line that says what came; the last line is
+`N passed, M failed`, and the status is 1 where one failed. All take about ten seconds. Build both programs first, by
+scripts/build; others are taken by the environment's VENUED and VENUE_REPLAY.
+"""
+import os
+import re
+import socket
+import struct
+import subprocess
+import sys
+import tempfile
+import time
+
+ROOT = os.path.dirname(os.path.dirname(os.path.abspath(__file__)))
+sys.path.insert(0, os.path.join(ROOT, "scripts"))
+
+from venues import HOST, PATIENCE, VENUED, Client, Trouble, Venue, framed, free_port, kill_all, message, need_programs
+from venues import order, replay, started, value
+
+JOURNAL = "venue.journal"
+USAGE = "usage: venued PORT JOURNAL GATEWAYS SYMBOL..."
+LOGON = "8=FIX.4.4|9=63|35=A|49=C1|56=VENUE|34=1|52=20250102-09:30:00|98=0|108=0|141=Y|10=026|"
+ORDER = ("8=FIX.4.4|9=102|35=D|49=C1|56=VENUE|34=2|52=20250102-09:30:00|11=1|55=ABC|54=1|60=20250102-09:30:00|38=100|"
+         "40=2|44=50|10=098|")
+WELCOME = "8=FIX.4.4|9=63|35=A|49=VENUE|56=C1|34=1|52=20250102-09:30:00|98=0|108=0|141=Y|10=026|"
+ACCEPTED = ("8=FIX.4.4|9=114|35=8|49=VENUE|56=C1|34=2|52=20250102-09:30:00|37=1|17=1|150=0|39=0|11=1|55=ABC|54=1|38=100|"
+            "44=50|151=100|14=0|6=0|10=243|")
+BAD_LOGON = "8=FIX.4.4|9=59|35=5|49=VENUE|56=C1|34=1|52=20250102-09:30:00|58=bad logon|10=017|"
+
+
+def expect(came, wanted):
+    """Fails the test where something else came."""
+    if came != wanted:
+        raise Trouble(f"expected {wanted!r} came {came!r}")
+
+
+def coded(text):
+    """The bytes of a message that is written with bars."""
+    return text.replace("|", "\x01").encode()
+
+
+def hears(client, *wanted):
+    """The next messages are these."""
+    for text in wanted:
+        expect(client.next(), text)
+
+
+def hears_reports(client, *wanted):
+    """The next messages are reports to this member with these fields, each written as `17=2|150=0|`."""
+    for fields in wanted:
+        report = client.next() or "nothing"
+        for field in fields.strip("|").split("|"):
+            tag, _, text = field.partition("=")
+            if value(report, tag) != text:
+                raise Trouble(f"expected {fields} came {report}")
+
+
+def ran(*words):
+    """Runs venued with these words to its end: its status, and what it printed."""
+    try:
+        it = subprocess.run([VENUED, *words], capture_output=True, text=True, timeout=PATIENCE)
+    except subprocess.TimeoutExpired:
+        raise Trouble(f"venued {' '.join(words)} hasn't ended within {PATIENCE} seconds") from None
+    return it.returncode, it.stdout, it.stderr
+
+
+def contents(name):
+    with open(name, "rb") as file:
+        return file.read()
+
+
+def trades_once(venue, member, name):
+    """A member logs on, sells, is answered, and stays."""
+    client = Client(venue.port, member).log_on()
+    client.send("D", order(name, 2, 10, 50))
+    hears_reports(client, f"150=0|11={name}|")
+    return client
+
+
+def the_worked_example():
+    """One member trades and logs out, another one comes and trades with its order, and the venue stops."""
+    venue = started(JOURNAL, 2)
+    first = Client(venue.port, 1)
+    first.send_bytes(coded(LOGON + ORDER))
+    hears(first, WELCOME, ACCEPTED)
+    first.send_bytes(coded("8=FIX.4.4|9=46|35=5|49=C1|56=VENUE|34=3|52=20250102-09:30:00|10=254|"))
+    hears(first, "8=FIX.4.4|9=46|35=5|49=VENUE|56=C1|34=3|52=20250102-09:30:00|10=254|", None)
+    second = Client(venue.port, 2).log_on()
+    second.send("D", order(1, 2, 30, 50))
+    hears_reports(second, "34=2|37=2|17=2|150=0|39=0|11=1|151=30|", "34=3|37=2|17=4|150=F|39=2|32=30|31=50|151=0|14=30|")
+    expect(second.is_quiet(0.1), True)
+    expect(venue.stop(), (2, 4))
+    lines, counts = replay(JOURNAL, "C1")
+    expect([value(line, "17") for line in lines], ["1", "3"])
+    expect(counts, (2, 4))
+    expect(replay(JOURNAL, "book"), (["ABC 1 50 70 1 C1 1"], (2, 4)))
+
+
+def trades_of_eight():
+    """Eight members trade with one another, and each hears its own reports alone, numbered without a gap."""
+    venue = started(JOURNAL, 8)
+    clients = [Client(venue.port, member).log_on() for member in range(1, 9)]
+    for client in clients:
+        client.send("D", order(1, 1 + client.member % 2, 10, 50))
+        hears_reports(client, "34=2|150=0|11=1|")
+        if client.member % 2 == 0:
+            hears_reports(client, "34=3|150=F|39=2|")
+            hears_reports(clients[client.member - 2], "34=3|150=F|39=2|")
+    for client in clients:
+        expect(client.is_quiet(0), True)
+        expect(len(replay(JOURNAL, f"C{client.member}")[0]), 2)
+    expect(venue.stop(), (8, 16))
+
+
+def a_report_without_a_session():
+    """What is reported to a member while it has no session isn't sent later."""
+    venue = started(JOURNAL, 2)
+    first = trades_once(venue, 1, 1)
+    first.send("5")
+    hears_reports(first, "35=5|34=3|")
+    first.close()
+    second = Client(venue.port, 2).log_on()
+    second.send("D", order(1, 1, 4, 50))
+    hears_reports(second, "17=2|150=0|", "17=4|150=F|")
+    time.sleep(0.5)  # The gateway of the first passes its report over.
+    again = Client(venue.port, 1).log_on()
+    second.send("D", order(2, 1, 4, 50))
+    hears_reports(again, "34=2|17=6|150=F|151=2|")
+    expect(venue.stop(), (3, 7))
+
+
+def one_at_a_time():
+    """A second connection to a port isn't served beside the first, and is served after it."""
+    venue = started(JOURNAL, 1)
+    first = trades_once(venue, 1, 1)
+    second = Client(venue.port, 1)
+    second.send("A", "98=0|108=0|141=Y|")
+    second.send("D", order(2, 2, 10, 50))
+    expect(second.is_quiet(0.3), True)
+    first.send("D", order(3, 2, 10, 50))
+    hears_reports(first, "34=3|17=2|11=3|")
+    expect(second.is_quiet(0), True)
+    first.close()
+    hears_reports(second, "35=A|34=1|", "34=2|17=3|150=8|103=6|")
+    expect(venue.stop(), (3, 3))
+
+
+def no_other_member():
+    """A member is no other one: its port takes its own CompID alone."""
+    venue = started(JOURNAL, 2)
+    client = Client(venue.port, 2)
+    client.send_bytes(coded(LOGON))
+    hears_reports(client, "35=5|34=1|58=wrong party|")
+    hears(client, None)
+    expect(venue.stop(), (0, 0))
+
+
+def reset(client):
+    """The client vanishes, and its side answers nothing more."""
+    client.socket.setsockopt(socket.SOL_SOCKET, socket.SO_LINGER, struct.pack("ii", 1, 0))
+    client.close()
+
+
+def half_closed(client):
+    """The client sends no more, and still reads: nothing is due, and the venue ends the session."""
+    client.socket.shutdown(socket.SHUT_WR)
+    hears(client, None)
+    client.close()
+
+
+def reset_in_a_message(client):
+    client.send_bytes(message(client.member, client.number + 1, "D", order(9, 2, 10, 50))[:40])
+    time.sleep(0.02)
+    reset(client)
+
+
+def reset_with_reports_due(client):
+    """It vanishes while its orders are under way."""
+    for name in range(2, 42):
+        client.send("D", order(name, 2, 10, 50))
+    reset(client)
+
+
+def vanishing_clients():
+    """A client that vanishes, in whatever way, leaves the gateway to the next one."""
+    for vanish in (reset, half_closed, Client.close, reset_in_a_message, reset_with_reports_due):
+        journal = f"{vanish.__name__}.journal"
+        venue = started(journal, 2)
+        vanish(trades_once(venue, 1, 1))
+        again = Client(venue.port, 1).log_on()
+        again.send("D", order(100, 2, 10, 50))
+        while value(again.next() or "nothing", "11") != "100":
+            pass  # A report of the session before, whose order the venue had only now worked on.
+        trades_once(venue, 2, 1)
+        expect(venue.stop(), replay(journal, "book")[1])
+
+
+def half_closed_behind_an_order():
+    """The order of a client that closes its side behind it counts. Its report may come, or the session's end before."""
+    venue = started(JOURNAL, 1)
+    client = Client(venue.port, 1)
+    client.send_bytes(coded(LOGON + ORDER))
+    client.socket.shutdown(socket.SHUT_WR)
+    hears(client, WELCOME)
+    if last := client.next():
+        expect(last, ACCEPTED)
+        hears(client, None)
+    client.close()
+    again = Client(venue.port, 1).log_on()
+    again.send("D", order(2, 2, 10, 50))
+    while value(again.next() or "nothing", "17") != "4":
+        pass  # Its own acknowledgement, both fills, and maybe the first report.
+    expect(venue.stop(), (2, 4))
+
+
+def in_single_bytes():
+    """It doesn't matter how the bytes come."""
+    venue = started(JOURNAL, 1)
+    client = Client(venue.port, 1)
+    for byte in coded(LOGON + ORDER):
+        client.send_bytes(bytes([byte]))
+    hears(client, WELCOME, ACCEPTED)
+    expect(venue.stop(), (1, 1))
+
+
+def a_wrong_logon():
+    """A wrong Logon is answered, and the Logout reaches the client though it sent much more behind it."""
+    venue = started(JOURNAL, 1)
+    for more in (b"", b"x" * 50_000):
+        client = Client(venue.port, 1)
+        client.send_bytes(framed("35=A|49=C1|56=VENUE|34=1|52=20250102-09:30:00|98=0|108=30|141=Y|") + more)
+        time.sleep(0.05)
+        hears(client, BAD_LOGON, None)
+        client.close()
+    trades_once(venue, 1, 1)
+    expect(venue.stop(), (1, 1))
+
+
+def a_client_that_stays():
+    """A client that keeps its connection behind the Logout is let go after some seconds, and the next one is served."""
+    venue = started(JOURNAL, 1)
+    client = Client(venue.port, 1).log_on()
+    client.send("5")
+    hears_reports(client, "35=5|34=2|")
+    hears(client, None)
+    trades_once(venue, 1, 1)
+    expect(venue.stop(), (1, 1))
+
+
+def a_taken_port():
+    """Where a port is taken the venue says so, and the journal stays as it is."""
+    with open(JOURNAL, "wb") as file:
+        file.write(b"VNJL\0\0\0\1\0")
+    port = free_port(3)
+    for taken in range(3):
+        with socket.socket() as other:
+            other.bind((HOST, port + taken))
+            other.listen()
+            expect(ran(str(port), JOURNAL, "3", "ABC"), (1, "", f"venued: cannot listen on {port + taken}\n"))
+        expect(contents(JOURNAL), b"VNJL\0\0\0\1\0")
+    venue = Venue(port, JOURNAL, 3)
+    expect(venue.ready(), (0, 0))
+    expect(venue.stop(), (0, 0))
+
+
+def the_ports_of_another_venue():
+    """A second venue on another journal doesn't get the ports of the first, which serves on."""
+    venue = started(JOURNAL, 2)
+    client = trades_once(venue, 2, 1)
+    port = venue.port + 1
+    expect(ran(str(port), "other.journal", "1", "ABC"), (1, "", f"venued: cannot listen on {port}\n"))
+    client.send("D", order(2, 2, 10, 50))
+    hears_reports(client, "17=2|150=0|")
+    expect(venue.stop(), (2, 2))
+
+
+def one_venue_a_journal():
+    """A second venue on the same journal ends at once, and harms nothing."""
+    venue = started(JOURNAL, 1)
+    client = trades_once(venue, 1, 1)
+    before = contents(JOURNAL)
+    expect(ran(str(free_port(1)), JOURNAL, "1", "ABC"), (1, "", "venued: journal fault 41\n"))
+    expect(contents(JOURNAL), before)
+    client.send("D", order(2, 2, 10, 50))
+    hears_reports(client, "17=2|150=0|")
+    expect(venue.stop(), (2, 2))
+
+
+def a_stop_file_of_before():
+    """A stop file that lies there at the start is removed, and stops nothing."""
+    with open(f"{JOURNAL}.stop", "w", encoding="ascii"):
+        pass
+    venue = started(JOURNAL, 1)
+    expect(os.path.exists(f"{JOURNAL}.stop"), False)
+    trades_once(venue, 1, 1)
+    expect(venue.stop(), (1, 1))
+
+
+def start_after_stop():
+    """After a stop, and after a kill, the venue goes on at the same ports with the counts of its journal."""
+    venue = started(JOURNAL, 2)
+    trades_once(venue, 1, 1)
+    expect(venue.stop(), (1, 1))
+    venue = Venue(venue.port, JOURNAL, 2)
+    expect(venue.ready(), (1, 1))
+    expect(os.path.exists(f"{JOURNAL}.stop"), False)
+    client = Client(venue.port, 2).log_on()
+    client.send("D", order(1, 1, 4, 50))
+    hears_reports(client, "34=2|37=2|17=2|150=0|", "34=3|37=2|17=4|150=F|")
+    venue.kill()
+    venue = Venue(venue.port, JOURNAL, 1)
+    expect(venue.ready(), (2, 4))
+    client = Client(venue.port, 1).log_on()
+    client.send("D", order(1, 2, 10, 50))
+    hears_reports(client, "34=2|37=3|17=5|150=8|103=6|")
+    expect(venue.stop(), (3, 5))
+
+
+def a_stop_with_members():
+    """The members' connections end with the venue, without a Logout."""
+    venue = started(JOURNAL, 2)
+    clients = [trades_once(venue, member, 1) for member in (1, 2)]
+    expect(venue.stop(), (2, 2))
+    for client in clients:
+        hears(client, None)
+
+
+def wrong_words():
+    """Wrong words are answered by the usage line, and make no journal."""
+    free = str(free_port(1))
+    wrong = [(port, JOURNAL, "1", "ABC") for port in ("0", "65529", "65536", "+9001", "09001", "-1", "", "x", "9001 ")]
+    wrong += [(free, JOURNAL, gateways, "ABC") for gateways in ("0", "9", "01", "+1", "", "-", "257")]
+    wrong += [("-", JOURNAL, "2", "ABC"), (free, "", "1", "ABC"), (free, JOURNAL, "1"), (free, JOURNAL, "1", "abc"), ()]
+    for words in wrong:
+        expect((words, *ran(*words)), (words, 1, "", f"{USAGE}\n"))
+    expect(os.listdir(), [])
+
+
+TESTS = [the_worked_example, trades_of_eight, a_report_without_a_session, one_at_a_time, no_other_member,
+         vanishing_clients, half_closed_behind_an_order, in_single_bytes, a_wrong_logon, a_client_that_stays,
+         a_taken_port, the_ports_of_another_venue, one_venue_a_journal, a_stop_file_of_before, start_after_stop,
+         a_stop_with_members, wrong_words]
+
+
+def passes(test):
+    """Runs a test in a folder of its own, and says whether it passed."""
+    with tempfile.TemporaryDirectory() as folder:
+        os.chdir(folder)
+        try:
+            test()
+        except (Trouble, OSError) as why:
+            print(f"{test.__name__}: {why}")
+            return False
+        finally:
+            kill_all()
+            os.chdir(ROOT)
+    return True
+
+
+def main():
+    if set(sys.argv[1:]) & {"-h", "--help"}:
+        print(__doc__.strip())
+        return
+    chosen = [it for it in TESTS if not sys.argv[1:] or any(word in it.__name__ for word in sys.argv[1:])]
+    try:
+        need_programs()
+    except Trouble as why:
+        sys.exit(f"members: {why}")
+    failed = sum(not passes(test) for test in chosen)
+    print(f"{len(chosen) - failed} passed, {failed} failed")
+    sys.exit(1 if failed else 0)
+
+
+if __name__ == "__main__":
+    main()
