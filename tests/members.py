@@ -22,6 +22,9 @@ sys.path.insert(0, os.path.join(ROOT, "scripts"))
 from venues import HOST, PATIENCE, VENUED, Client, Trouble, Venue, framed, free_port, kill_all, message, need_programs
 from venues import order, replay, started, value
 
+UNPRINTED = re.compile(r"\|(?:8|9|34|49|56|10)=[^|]*(?=\|)")
+DAYS = ["first_trade", "time_priority", "sweep_two_levels", "fill_or_kill", "replace_and_place_in_queue",
+        "replace_crosses", "replace_below_filled"]
 JOURNAL = "venue.journal"
 USAGE = "usage: venued PORT JOURNAL GATEWAYS SYMBOL..."
 LOGON = "8=FIX.4.4|9=63|35=A|49=C1|56=VENUE|34=1|52=20250102-09:30:00|98=0|108=0|141=Y|10=026|"
@@ -115,6 +118,68 @@ def trades_of_eight():
         expect(client.is_quiet(0), True)
         expect(len(replay(JOURNAL, f"C{client.member}")[0]), 2)
     expect(venue.stop(), (8, 16))
+
+
+def played(name):
+    """The days of a played file by their journals: who sends what in which order, and what is told of it by venue-replay."""
+    days, told = {}, []
+    with open(os.path.join(ROOT, "tests", f"{name}.play"), encoding="utf-8") as file:
+        for line in filter(None, map(str.strip, file)):
+            match line.split(" ", 4):
+                case "#", *_:
+                    continue
+                case "entry", journal, member, kind, body:
+                    days.setdefault(journal, ([], {}))[0].append((int(member), kind, body))
+                case "run", "venue-replay", journal, what, _:
+                    told = days[journal][1].setdefault(what, [])
+                case "prints", *_:
+                    told.append(line.removeprefix("prints "))
+                case _:
+                    raise Trouble(f"{name} has a line of another kind: {line}")
+    return days
+
+
+def worked_days():
+    """The worked days of several members: over TCP each one is told what the played files say of it, and no more."""
+    for name in DAYS:
+        for journal, (sent, told) in played(name).items():
+            journal = f"{name}.{journal}"
+            venue = started(journal, 3)
+            clients = {it: Client(venue.port, it).log_on() for it in (1, 2, 3)}
+            heard = {it: [] for it in clients}
+            for member, kind, body in sent:
+                clients[member].send(kind, body)
+                while not heard[member] or value(heard[member][-1], "11") != value(body, "11"):
+                    heard[member].append(clients[member].next() or "nothing")
+            counts = told["C1"][-1]
+            for member, client in clients.items():
+                reports = told.get(f"C{member}", [counts])[:-1]
+                while len(heard[member]) < len(reports):
+                    heard[member].append(client.next() or "nothing")
+                expect([UNPRINTED.sub("", f"|{it}")[1:] for it in heard[member]], reports)
+                expect([value(it, "34") for it in heard[member]], [str(2 + at) for at in range(len(reports))])
+            expect("commands {} outputs {}".format(*venue.stop()), counts)
+            for client in clients.values():
+                hears(client, None)
+            for what, lines in told.items():
+                expect(replay(journal, what)[0], lines[:-1])
+
+
+def a_full_book():
+    """4,096 orders of one member rest; the next is refused, and another member's trade makes room."""
+    venue = started(JOURNAL, 2)
+    first, second = (Client(venue.port, member).log_on() for member in (1, 2))
+    for name in range(1, 4098):
+        first.send("D", order(name, 1, 1, 1))
+        if name % 64 == 0:
+            hears_reports(first, *(f"37={it}|17={it}|150=0|" for it in range(name - 63, name + 1)))
+    hears_reports(first, "34=4098|37=4097|17=4097|150=8|39=8|151=0|103=0|58=book full|")
+    second.send("D", order(1, 2, 1, 1, more="59=3|"))
+    hears_reports(second, "34=2|37=4098|17=4098|150=0|", "34=3|37=4098|17=4100|150=F|39=2|32=1|31=1|")
+    hears_reports(first, "34=4099|37=1|17=4099|150=F|39=2|11=1|")
+    first.send("D", order(4098, 1, 1, 1))
+    hears_reports(first, "34=4100|37=4099|17=4101|150=0|")
+    expect(venue.stop(), (4099, 4101))
 
 
 def a_report_without_a_session():
@@ -341,10 +406,10 @@ def wrong_words():
     expect(os.listdir(), [])
 
 
-TESTS = [the_worked_example, trades_of_eight, a_report_without_a_session, one_at_a_time, no_other_member,
-         vanishing_clients, half_closed_behind_an_order, in_single_bytes, a_wrong_logon, a_client_that_stays,
-         a_taken_port, the_ports_of_another_venue, one_venue_a_journal, a_stop_file_of_before, start_after_stop,
-         a_stop_with_members, wrong_words]
+TESTS = [the_worked_example, worked_days, a_full_book, trades_of_eight, a_report_without_a_session, one_at_a_time,
+         no_other_member, vanishing_clients, half_closed_behind_an_order, in_single_bytes, a_wrong_logon,
+         a_client_that_stays, a_taken_port, the_ports_of_another_venue, one_venue_a_journal, a_stop_file_of_before,
+         start_after_stop, a_stop_with_members, wrong_words]
 
 
 def passes(test):

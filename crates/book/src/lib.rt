@@ -13,8 +13,6 @@ mod orders;
 mod refusals;
 mod reports;
 mod requests;
-#[cfg(test)]
-mod tests;
 
 pub use book::{Book, MOST_RESTING};
 pub use laws::{

@@ -49,3 +49,7 @@ module _ {L : Type 0} (rings : Opened L) (all front : List (At L)) (s : At L) (i
 -- what `close` asks of the gateways' seats
 pub are_gateways : {L : Type 0} (rings : Opened L) (seats : List (At L)) → AreSpent rings seats → AreGateways rings seats
 are_gateways rings seats spent i s there = ((spent i s there).at, (spent i s there).role)
+
+-- new seats have no claim
+pub new_spent : {L : Type 0} (rings : Opened L) (seats : List (At L)) → AreNewGateways rings seats → AreSpent rings seats
+new_spent rings seats new i s there = subst (λ (t : At _). IsSpent rings (i + 1) t) (sym (new i s there)) (record { at = refl; role = refl; claims = refl })

@@ -6,7 +6,6 @@ mod gateways_meet;
 mod member;
 mod messages;
 mod one_gateway_ring;
-mod openings;
 mod orders;
 mod output_ring_of_two;
 mod ring_of_two;

@@ -1,5 +1,1 @@
-pub mod OpenedLemmas
-pub mod JournallerLemmas
-pub mod MemberLemmas
-pub mod ServingLemmas
 pub mod RunningLemmas

@@ -5,8 +5,8 @@ use Rattle.journal.specs.Disk.{Told}
 use Rattle.journal.specs.Format.{IsJournal}
 use Rattle.journal.specs.Places.{Place, IsLeft, Opens}
 use Rattle.venued.specs.Running.{StandsFrom, Runs}
-use Rattle.venued.specs.Serving.{LeavesFrom}
-use Rattle.venued.specs.Venues.{IsJournalBehind}
+use Rattle.venue.specs.Serving.{LeavesFrom}
+use Rattle.venue.specs.Venues.{IsJournalBehind}
 
 module _ (old new : Place) (honest : Type 0) (file : Told) (opens : Opens old new honest file) where
   -- what might have been left of the file that was opened, or a journal behind its history

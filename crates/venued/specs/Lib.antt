@@ -1,13 +1,3 @@
 pub mod Words
 pub mod Faults
-pub mod VenueRings
-pub mod Opened
-pub mod Venues
-pub mod Crashes
-pub mod Rounds
-pub mod Serving
 pub mod Running
-pub mod Trading
-pub mod TradingLaws
-pub mod Members
-pub mod Listening

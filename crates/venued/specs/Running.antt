@@ -4,7 +4,7 @@ use Rattle.venue_model.specs.History.{History}
 use Rattle.journal.specs.Disk.{Told}
 use Rattle.journal.specs.Format.{IsJournal}
 use Rattle.journal.specs.Places.{Place, IsLeft}
-use Rattle.venued.specs.Venues.{IsJournalBehind}
+use Rattle.venue.specs.Venues.{IsJournalBehind}
 
 -- What may stand in the file of a journal behind a run that began in this place: where there was a file, what a crash
 -- might have left of it, or the journal of a history that begins with that of the file; where there was none, a

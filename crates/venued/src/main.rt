@@ -5,28 +5,16 @@ ghost use Rattle.std.specs.Prelude.{◌≡◌, ◌↔◌, IfOk};
 ghost use Rattle.venued.specs.Words.{IsInRange};
 ghost use Rattle.std.specs.IoError.{error_kind};
 
-mod fault;
-mod leaving;
-mod listening;
-mod member;
-mod members;
-mod opening;
-mod rings;
 mod running;
-mod serve;
-mod stop;
 #[cfg(test)]
 mod tests;
-mod watch;
 mod words;
 
-use crate::fault::ServeFault;
 use crate::running::{run, run_for};
-use crate::serve::refuse;
-use crate::stop::StopFile;
-use crate::words::{Mode, Words, WordsFault};
+use crate::words::{Mode, Words, WordsFault, refuse};
 use gateway::{StdWire, Wire};
 use journal::{StandardStreams, SystemFolder};
+use listening::StopFile;
 use std::fs::{File, Files};
 use std::io::{ErrorKind, Write};
 use std::net::{Net, TcpListener, TcpStream};
@@ -34,6 +22,7 @@ use std::process::ExitCode;
 use std::rt::{Clock, Env};
 use std::thread::Threads;
 use std::{env, io};
+use venue::ServeFault;
 
 /// The words of the command line, without the program's name.
 fn read_words<R: Env + AllocGlobal>(rt: &R) -> Result<Words, WordsFault>

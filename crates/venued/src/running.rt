@@ -4,20 +4,18 @@ ghost use Rattle.std.specs.Prelude.{◌≡◌, ◌≤◌, ◌+◌, true, IfNone,
 ghost use Rattle.venue_model.specs.Counts.{Rose};
 ghost use Rattle.journal.specs.Places.{LeavesUnder, LeftOrNew};
 ghost use Rattle.venued.specs.Running.{Runs};
-ghost use Rattle.venued.specs.Serving.{IsStatus};
+ghost use Rattle.venue.specs.Serving.{IsStatus};
 
-use crate::fault::ServeFault;
-use crate::listening::listen;
-use crate::serve::serve;
-use crate::stop::StopSign;
 use crate::words::Words;
 use gateway::Wire;
 use journal::{FileDisk, Folder, JournalDisk, RawFile, open_journal};
+use listening::{StopSign, listen};
 use std::alloc::Global;
 use std::io::Write;
 use std::net::{Net, TcpListener, TcpStream};
 use std::rt::Clock;
 use std::thread::Threads;
+use venue::{ServeFault, serve};
 use workers::{Gate, NoGate};
 
 /// Opens the file of the journal, or makes it, and serves over it: the program's status, and the disk if the file could
@@ -43,7 +41,7 @@ pub fn run<P: Folder, W: Wire, E: Write>(
 {
     match open_journal(folder) {
         Ok(disk) => {
-            let (status, disk) = serve(alloc, words, disk, wire, err);
+            let (status, disk) = serve(alloc, &words.limits, disk, wire, err);
             (status, Some(disk))
         }
         Err(fault) => (ServeFault::from(fault).say(err), None),

@@ -1,8 +1,7 @@
 //! A venue of two members: each of its six workers has a thread of its own, so that all of them are at their first turns together.
 
-use crate::listening::listen;
-use crate::stop::StopSign;
 use journal::{MemDisk, format};
+use listening::{StopSign, listen};
 use std::alloc::Global;
 use std::net::{Net, TcpListener, TcpStream};
 use std::rt::Clock;

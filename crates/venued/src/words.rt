@@ -4,6 +4,7 @@ ghost use Rattle.venued.specs.declared.words.Mode.{Mode};
 ghost use Rattle.venued.specs.Words.{AreWords, IsMode, IsNumberTo, IsInRange};
 
 use std::alloc::{AllocError, Global};
+use std::io::Write;
 use thiserror::Error;
 use venue_model::{Limits, LimitsFault};
 
@@ -125,4 +126,12 @@ fn number_to(most: u16, word: &str) -> Option<u16>
         Ok(number) if number <= most => Some(number),
         _ => None,
     }
+}
+
+/// Prints the line for wrong words, and gives the status for it. A line that can't be printed is let go.
+pub fn refuse<E: Write>(fault: WordsFault, err: &mut E) -> u8
+    ensures { result ≡ 1 }
+{
+    let _ = writeln!(err, "{fault}");
+    1
 }

@@ -1,13 +1,13 @@
 //! The stages of a venue in small rings.
-ghost use Rattle.std.specs.Prelude.{◌≡◌, false, [], IfOk};
+ghost use Rattle.std.specs.Prelude.{◌≡◌, ◌≤◌, false, [], vec_len, IfOk};
 ghost use Rattle.ring_words.specs.Crew.{AreNew};
 ghost use Rattle.stages.specs.Crews.{AreAt};
 ghost use Rattle.ring_tests.specs.Seats.{AreSpent};
 
-use super::venue::TestRings;
+use super::venue::{TestRings, abc, open};
 use book::{Book, BookLogic};
 use journal::{Journal, NullDisk};
-use ring_words::{GatewaySeat, Seats};
+use ring_words::{GatewaySeat, Seats, Summary};
 use stages::{Crew, Turn, Turns};
 use std::alloc::Global;
 use std::test::Fail;
@@ -15,6 +15,28 @@ use venue_model::Limits;
 
 /// The stages over a journal that keeps nothing.
 pub type Stages = Crew<NullDisk>;
+
+/// Rings, the stages at them, and the gateways' seats.
+pub type Venue<const N: usize, const M: usize, const G: usize> = (
+    TestRings<N, M, G>,
+    Stages,
+    Vec<GatewaySeat<BookLogic>>,
+);
+
+/// A venue of the symbol ABC behind an empty history.
+pub fn open_venue<const N: usize, const M: usize, const G: usize>(
+    alloc: Global,
+) -> Result<Venue<N, M, G>, Fail>
+    requires { (1 ≤ G) × (G ≤ 8) }
+    ensures stages { IfOk result (λ r. AreAt r.0 r.1) }
+    ensures seats { IfOk result (λ r. AreSpent r.0 r.2.items) }
+    ensures count { IfOk result (λ r. vec_len r.2 ≡ G) }
+{
+    let limits = abc(alloc).ok_or("no memory")?;
+    let (rings, seats) = open::<N, M, G>(alloc, &limits)?;
+    let (stages, gateways) = stages_of(alloc, &rings, seats, &limits)?;
+    Ok((rings, stages, gateways))
+}
 
 /// The stages of these symbols at the seats of rings that were opened behind an empty history, and the gateways' seats.
 pub fn stages_of<const N: usize, const M: usize, const G: usize>(
@@ -36,6 +58,31 @@ pub fn stages_of<const N: usize, const M: usize, const G: usize>(
         Ok(made) => Ok(made),
         Err(_) => Err("no memory")?,
     }
+}
+
+/// Lets each stage poll once.
+pub fn poll<const N: usize, const M: usize, const G: usize>(
+    rings: &TestRings<N, M, G>,
+    stages: &mut Stages,
+) -> Turns
+    requires { AreAt rings.now stages.old }
+    ensures { AreAt rings.now stages.new }
+{
+    stages.poll(rings)
+}
+
+/// Closes the rings, to which all gateways' seats have come back, and answers what had been done.
+pub fn close<const N: usize, const M: usize, const G: usize>(
+    rings: TestRings<N, M, G>,
+    stages: Stages,
+    gateways: Vec<GatewaySeat<BookLogic>>,
+) -> Summary
+    requires stages { AreAt rings stages }
+    requires seats { AreSpent rings gateways.items }
+    requires count { vec_len gateways ≡ G }
+{
+    let (summary, _) = stages.close(rings, gateways);
+    summary
 }
 
 /// The next sequence of the processor.

@@ -4,23 +4,20 @@ ghost use Rattle.ring_words.specs.At.{IsAt};
 ghost use Rattle.stages.specs.Crews.{AreAt};
 ghost use Rattle.std.specs.Thread.{IsSync};
 
-use super::crew::{Stages, stages_of};
+use super::crew::open_venue;
 use super::gateways_meet::{Crew, Day, run, trade_both};
-use super::member::{Member, next_member};
-use super::venue::{TestRings, abc, open};
+use super::member::next_two;
+use super::venue::TestRings;
 use book::BookLogic;
 use ring_words::GatewaySeat;
 use std::alloc::Global;
 use std::test::Fail;
 use std::thread::{Threads, join};
-use venue_model::Limits;
-
-type FourRings = TestRings<4, 16, 4>;
 
 /// Lets two gateways more trade beside the others and the stages, and says whether all went well.
-fn run_four<R: Threads + Sync>(
+fn run_four<R: Threads + Sync, const N: usize, const M: usize, const G: usize>(
     rt: &R,
-    rings: &FourRings,
+    rings: &TestRings<N, M, G>,
     third: GatewaySeat<BookLogic>,
     fourth: GatewaySeat<BookLogic>,
     crew: Crew,
@@ -45,32 +42,30 @@ fn run_four<R: Threads + Sync>(
     third.is_some() && fourth.is_some() && crew.is_some()
 }
 
-/// Lets four gateways trade at rings of these symbols, and says whether all went well.
-fn trade_all<R: Threads + Sync>(rt: &R, alloc: Global, limits: &Limits) -> Result<bool, Fail> {
-    let (rings, seats) = open::<4, 16, 4>(alloc, limits)?;
-    let (stages, mut gateways) = stages_of(alloc, &rings, seats, limits)?;
-    let Some(Member { seat: fourth, .. }) = next_member(&rings, &mut gateways) else {
+/// Lets four gateways trade at new rings, and says whether all went well.
+fn trade_all<R: Threads + Sync, const N: usize, const M: usize, const G: usize>(
+    rt: &R,
+    alloc: Global,
+) -> Result<bool, Fail>
+    requires { (1 ≤ G) × (G ≤ 8) }
+{
+    let (rings, stages, mut gateways) = open_venue::<N, M, G>(alloc)?;
+    let Some((third, fourth)) = next_two(&rings, &mut gateways) else {
         return Ok(false);
     };
-    let Some(Member { seat: third, .. }) = next_member(&rings, &mut gateways) else {
-        return Ok(false);
-    };
-    let Some(Member { seat: second, .. }) = next_member(&rings, &mut gateways) else {
-        return Ok(false);
-    };
-    let Some(Member { seat: first, .. }) = next_member(&rings, &mut gateways) else {
+    let Some((first, second)) = next_two(&rings, &mut gateways) else {
         return Ok(false);
     };
     let day = Day {
         each: *b"250",
         outputs: 1_000,
     };
-    Ok(run_four(rt, &rings, third, fourth, (first, second, stages), day))
+    let crew = (first.seat, second.seat, stages);
+    Ok(run_four(rt, &rings, third.seat, fourth.seat, crew, day))
 }
 
 #[test]
 fn each_order_acknowledged(rt: HostRuntime) -> Result<(), Fail> {
-    let limits = abc(rt.alloc()).ok_or("no memory")?;
-    assert!(rt; trade_all(&rt, rt.alloc(), &limits)?);
+    assert!(rt; trade_all::<HostRuntime, 4, 16, 4>(&rt, rt.alloc())?);
     Ok(())
 }

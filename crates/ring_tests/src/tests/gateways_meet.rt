@@ -7,10 +7,10 @@ ghost use Rattle.stages.specs.Crews.{AreAt};
 ghost use Rattle.std.specs.Thread.{IsSync};
 ghost use Rattle.ring_tests.specs.Seats.{StaysSpent};
 
-use super::crew::{Stages, marshalled, stages_of};
-use super::member::{Member, next_member};
+use super::crew::{Stages, close, marshalled, open_venue, poll};
+use super::member::{Member, next_two};
 use super::orders::{Count, acknowledgement_of, next, order_of};
-use super::venue::{TestRings, abc, open};
+use super::venue::TestRings;
 use book::BookLogic;
 use ring_words::{GatewaySeat, Summary};
 use sequencer::Take;
@@ -18,7 +18,6 @@ use std::alloc::Global;
 use std::test::Fail;
 use std::thread;
 use std::thread::{Threads, join};
-use venue_model::Limits;
 
 /// How often in a row a thread tries before it gives up: long enough for any machine, and no hang.
 const TRIES: u64 = 100_000_000;
@@ -127,7 +126,7 @@ fn process<const N: usize, const M: usize, const G: usize>(
         if marshalled(&stages) == outputs {
             return Some(stages);
         }
-        stages.poll(rings);
+        poll(rings, &mut stages);
     }
     None
 }
@@ -169,18 +168,15 @@ pub fn run<R: Threads + Sync, const N: usize, const M: usize, const G: usize>(
     Some((one?, other?, stages?))
 }
 
-/// Lets two gateways at rings of these symbols trade. Then they meet, and the rings are closed. Answers what had been done, where that was soon.
-fn close_behind<R: Threads + Sync>(
+/// Lets two gateways at new rings trade. Then they meet, and the rings are closed. Answers what had been done, where that was soon.
+fn close_behind<R: Threads + Sync, const N: usize, const M: usize, const G: usize>(
     rt: &R,
     alloc: Global,
-    limits: &Limits,
-) -> Result<Option<Summary>, Fail> {
-    let (rings, seats) = open::<4, 2, 2>(alloc, limits)?;
-    let (stages, mut gateways) = stages_of(alloc, &rings, seats, limits)?;
-    let Some(other) = next_member(&rings, &mut gateways) else {
-        return Ok(None);
-    };
-    let Some(one) = next_member(&rings, &mut gateways) else {
+) -> Result<Option<Summary>, Fail>
+    requires { (1 ≤ G) × (G ≤ 8) }
+{
+    let (rings, stages, mut gateways) = open_venue::<N, M, G>(alloc)?;
+    let Some((one, other)) = next_two(&rings, &mut gateways) else {
         return Ok(None);
     };
     let Member { seat: one, .. } = one;
@@ -196,14 +192,13 @@ fn close_behind<R: Threads + Sync>(
     rings.meet(&mut one, &mut other);
     gateways.push(one)?;
     gateways.push(other)?;
-    Ok(Some(stages.close(rings, gateways).0))
+    Ok(Some(close(rings, stages, gateways)))
 }
 
 #[test]
 fn gateways_meet(rt: HostRuntime) -> Result<(), Fail> {
-    let limits = abc(rt.alloc()).ok_or("no memory")?;
     assert_eq!(rt;
-        close_behind(&rt, rt.alloc(), &limits)?,
+        close_behind::<HostRuntime, 4, 2, 2>(&rt, rt.alloc())?,
         Some(Summary {
             commands: 40,
             outputs: 40

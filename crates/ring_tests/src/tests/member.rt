@@ -34,6 +34,22 @@ impl<'a, const N: usize, const M: usize, const G: usize> Member<'a, N, M, G> {
     }
 }
 
+/// The next two gateways, from the last one on.
+pub fn next_two<'a, const N: usize, const M: usize, const G: usize>(
+    rings: &'a TestRings<N, M, G>,
+    gateways: &mut Vec<GatewaySeat<BookLogic>>,
+) -> Option<(Member<'a, N, M, G>, Member<'a, N, M, G>)>
+    requires { AreSpent rings.now gateways.old.items }
+    ensures left { AreSpent rings.now gateways.new.items }
+    ensures count { IfSome result (λ both. vec_len gateways.old ≡ vec_len gateways.new + 2) }
+    ensures last { IfSome result (λ both. IsSpent rings.now (vec_len gateways.old) both.1.seat) }
+    ensures first { IfSome result (λ both. IsSpent rings.now (vec_len gateways.new + 1) both.0.seat) }
+{
+    let last = next_member(rings, gateways)?;
+    let first = next_member(rings, gateways)?;
+    Some((first, last))
+}
+
 /// The next gateway, from the last one on.
 pub fn next_member<'a, const N: usize, const M: usize, const G: usize>(
     rings: &'a TestRings<N, M, G>,

@@ -1,41 +1,53 @@
-//! What clients send, and what they are sent: literal bytes, with lengths and sums computed outside.
+//! What clients send, and what they are sent: texts, with lengths and sums computed outside, where `|` stands for the byte 01.
+ghost use Rattle.std.specs.Prelude.{◌≤◌, vec_len, IfOk};
+
+use std::alloc::{AllocError, Global};
+use std::test::Fail;
 
 /// C1 buys 100 at 50.
-pub const FIRST_BUY: &[u8] =
-    b"8=FIX.4.4\x019=102\x0135=D\x0149=C1\x0156=VENUE\x0134=2\x0152=20250102-09:30:00\x0111=1\x01\
-    55=ABC\x0154=1\x0160=20250102-09:30:00\x0138=100\x0140=2\x0144=50\x0110=098\x01";
-
-/// C2 buys 100 at 50.
-pub const SECOND_BUY: &[u8] =
-    b"8=FIX.4.4\x019=102\x0135=D\x0149=C2\x0156=VENUE\x0134=2\x0152=20250102-09:30:00\x0111=1\x01\
-    55=ABC\x0154=1\x0160=20250102-09:30:00\x0138=100\x0140=2\x0144=50\x0110=099\x01";
+pub const FIRST_BUY: &str = "8=FIX.4.4|9=102|35=D|49=C1|56=VENUE|34=2|52=20250102-09:30:00|11=1|\
+    55=ABC|54=1|60=20250102-09:30:00|38=100|40=2|44=50|10=098|";
 
 /// C1 sells 1 at 50.
-pub const SELL_ONE: &[u8] =
-    b"8=FIX.4.4\x019=100\x0135=D\x0149=C1\x0156=VENUE\x0134=2\x0152=20250102-09:30:00\x0111=1\x01\
-    55=ABC\x0154=2\x0160=20250102-09:30:00\x0138=1\x0140=2\x0144=50\x0110=001\x01";
+pub const SELL_ONE: &str = "8=FIX.4.4|9=100|35=D|49=C1|56=VENUE|34=2|52=20250102-09:30:00|11=1|\
+    55=ABC|54=2|60=20250102-09:30:00|38=1|40=2|44=50|10=001|";
 
 /// C1 sells 1 at 50 again.
-pub const SELL_TWO: &[u8] =
-    b"8=FIX.4.4\x019=100\x0135=D\x0149=C1\x0156=VENUE\x0134=3\x0152=20250102-09:30:00\x0111=2\x01\
-    55=ABC\x0154=2\x0160=20250102-09:30:00\x0138=1\x0140=2\x0144=50\x0110=003\x01";
+pub const SELL_TWO: &str = "8=FIX.4.4|9=100|35=D|49=C1|56=VENUE|34=3|52=20250102-09:30:00|11=2|\
+    55=ABC|54=2|60=20250102-09:30:00|38=1|40=2|44=50|10=003|";
 
 /// C1 sells 1 at 50 a third time.
-pub const SELL_THREE: &[u8] =
-    b"8=FIX.4.4\x019=100\x0135=D\x0149=C1\x0156=VENUE\x0134=4\x0152=20250102-09:30:00\x0111=3\x01\
-    55=ABC\x0154=2\x0160=20250102-09:30:00\x0138=1\x0140=2\x0144=50\x0110=005\x01";
+pub const SELL_THREE: &str = "8=FIX.4.4|9=100|35=D|49=C1|56=VENUE|34=4|52=20250102-09:30:00|11=3|\
+    55=ABC|54=2|60=20250102-09:30:00|38=1|40=2|44=50|10=005|";
 
 /// C2 buys 3 at 50.
-pub const BUY_THREE: &[u8] =
-    b"8=FIX.4.4\x019=100\x0135=D\x0149=C2\x0156=VENUE\x0134=2\x0152=20250102-09:30:00\x0111=1\x01\
-    55=ABC\x0154=1\x0160=20250102-09:30:00\x0138=3\x0140=2\x0144=50\x0110=003\x01";
+pub const BUY_THREE: &str = "8=FIX.4.4|9=100|35=D|49=C2|56=VENUE|34=2|52=20250102-09:30:00|11=1|\
+    55=ABC|54=1|60=20250102-09:30:00|38=3|40=2|44=50|10=003|";
 
 /// That the first buy is accepted, as the first command.
-pub const FIRST_ACKNOWLEDGED: &[u8] =
-    b"37=1\x0117=1\x01150=0\x0139=0\x0111=1\x0155=ABC\x0154=1\x0138=100\x0144=50\x01151=100\x01\
-    14=0\x016=0\x01";
+pub const FIRST_ACKNOWLEDGED: &str = "37=1|17=1|150=0|39=0|11=1|55=ABC|54=1|38=100|44=50|151=100|\
+    14=0|6=0|";
 
 /// The same, as the third command.
-pub const THIRD_ACKNOWLEDGED: &[u8] =
-    b"37=3\x0117=1\x01150=0\x0139=0\x0111=1\x0155=ABC\x0154=1\x0138=100\x0144=50\x01151=100\x01\
-    14=0\x016=0\x01";
+pub const THIRD_ACKNOWLEDGED: &str = "37=3|17=1|150=0|39=0|11=1|55=ABC|54=1|38=100|44=50|151=100|\
+    14=0|6=0|";
+
+/// The bytes of a text.
+pub fn bytes_of(alloc: Global, text: &str) -> Result<Vec<u8>, AllocError> {
+    let mut bytes = Vec::new(alloc);
+    for &byte in text.as_bytes() {
+        bytes.push(if byte == b'|' { 1 } else { byte })?;
+    }
+    Ok(bytes)
+}
+
+/// The message of a text that is one: of 1 to 320 bytes.
+pub fn message(alloc: Global, text: &str) -> Result<Vec<u8>, Fail>
+    ensures { IfOk result (λ message. (1 ≤ vec_len message) × (vec_len message ≤ 320)) }
+{
+    let message = bytes_of(alloc, text)?;
+    if message.is_empty() || 320 < message.len() {
+        Err("no message")?;
+    }
+    Ok(message)
+}

@@ -1,46 +1,74 @@
 //! One gateway publishes one order, each stage polls once, the gateway takes what came of it and finds no more, and the rings are closed behind
 //! them.
-use super::crew::{stages_of, turns_of};
+ghost use Rattle.std.specs.Prelude.{◌≤◌, length};
+ghost use Rattle.stages.specs.Crews.{AreAt};
+ghost use Rattle.ring_tests.specs.Seats.{StaysSpent};
+
+use super::crew::{Stages, close, open_venue, poll, turns_of};
 use super::member::{Member, next_member};
-use super::messages::{FIRST_ACKNOWLEDGED, FIRST_BUY};
-use super::venue::{abc, open};
+use super::messages::{FIRST_ACKNOWLEDGED, FIRST_BUY, bytes_of, message};
+use super::venue::TestRings;
 use ring_words::Summary;
 use sequencer::Take;
 use stages::Turn::Did;
 use std::alloc::Global;
 use std::test::Fail;
-use venue_model::Limits;
 
-/// Puts the order through rings of these symbols, and closes them. Answers what had been done, where each step succeeded.
-fn close_behind(alloc: Global, limits: &Limits) -> Result<Option<Summary>, Fail> {
-    let (rings, seats) = open::<4, 2, 1>(alloc, limits)?;
-    let (mut stages, mut gateways) = stages_of(alloc, &rings, seats, limits)?;
-    let Some(mut gateway) = next_member(&rings, &mut gateways) else {
-        return Ok(None);
-    };
-    let published = gateway.publish(FIRST_BUY).is_ok();
-    let turns = stages.poll(&rings);
+/// Publishes the order, lets the stages poll, and says whether its acknowledgement comes, and nothing more.
+fn is_acknowledged<const N: usize, const M: usize, const G: usize>(
+    rings: &TestRings<N, M, G>,
+    gateway: &mut Member<'_, N, M, G>,
+    stages: &mut Stages,
+    order: &[u8],
+    acknowledged: &[u8],
+) -> bool
+    requires stages { AreAt rings.now stages.old }
+    requires order { (1 ≤ length order.now) × (length order.now ≤ 320) }
+    ensures stages { AreAt rings.now stages.new }
+    ensures spent { StaysSpent gateway.old.seat gateway.new.seat }
+{
+    let published = gateway.publish(order).is_ok();
+    let turns = poll(rings, stages);
     let mut body = [0; 320];
     let taken = gateway.take(&mut body);
     let next = gateway.take(&mut [0; 320]);
-    if !published
-        || turns != turns_of([Did(1); 4])
-        || !matches!(taken, Take::Mine(_))
-        || !matches!(next, Take::Nothing)
-        || !body.starts_with(FIRST_ACKNOWLEDGED)
-    {
+    let seen = (
+        published,
+        turns,
+        matches!(taken, Take::Mine(_)),
+        body.starts_with(acknowledged),
+        matches!(next, Take::Nothing),
+    );
+    seen == (true, turns_of([Did(1); 4]), true, true, true)
+}
+
+/// Puts the order through new rings, and closes them. Answers what had been done, where each step succeeded.
+fn close_behind<const N: usize, const M: usize, const G: usize>(
+    alloc: Global,
+    order: &[u8],
+    acknowledged: &[u8],
+) -> Result<Option<Summary>, Fail>
+    requires gateways { (1 ≤ G) × (G ≤ 8) }
+    requires order { (1 ≤ length order.now) × (length order.now ≤ 320) }
+{
+    let (rings, mut stages, mut gateways) = open_venue::<N, M, G>(alloc)?;
+    let Some(mut gateway) = next_member(&rings, &mut gateways) else {
+        return Ok(None);
+    };
+    if !is_acknowledged(&rings, &mut gateway, &mut stages, order, acknowledged) {
         return Ok(None);
     }
     let Member { seat, .. } = gateway;
     gateways.push(seat)?;
-    Ok(Some(stages.close(rings, gateways).0))
+    Ok(Some(close(rings, stages, gateways)))
 }
 
 #[test]
 fn one_gateway_ring(rt: HostRuntime) -> Result<(), Fail> {
-    let limits = abc(rt.alloc()).ok_or("no memory")?;
+    let order = message(rt.alloc(), FIRST_BUY)?;
+    let acknowledged = bytes_of(rt.alloc(), FIRST_ACKNOWLEDGED)?;
     assert_eq!(rt;
-        close_behind(rt.alloc(), &limits)?,
+        close_behind::<4, 2, 1>(rt.alloc(), &order, &acknowledged)?,
         Some(Summary {
             commands: 1,
             outputs: 1

@@ -1,23 +1,22 @@
 //! Seven outputs go through an output ring of two rows: the processor puts more only as both gateways take them or pass them over.
-ghost use Rattle.std.specs.Prelude.{◌≡◌, ◌≤◌, length};
+ghost use Rattle.std.specs.Prelude.{◌≤◌};
 ghost use Rattle.stages.specs.Crews.{AreAt};
 
-use super::crew::{Stages, processed, stages_of};
-use super::member::{Member, next_member};
-use super::messages::{BUY_THREE, SELL_ONE, SELL_THREE, SELL_TWO};
-use super::venue::{TestRings, abc, open};
+use super::crew::{Stages, open_venue, poll, processed};
+use super::member::{Member, next_two};
+use super::messages::{BUY_THREE, SELL_ONE, SELL_THREE, SELL_TWO, message};
+use super::venue::TestRings;
 use sequencer::Take;
 use stages::Turn;
 use stages::Turn::{Did, OutFull};
+use std::alloc::Global;
 use std::process::Abort;
 use std::test::Fail;
 
-type PairRings = TestRings<4, 2, 2>;
-
-type Pair<'a> = Member<'a, 4, 2, 2>;
-
 /// How many outputs the gateway takes, and how many it passes over, until there is none.
-fn taken(gateway: &mut Pair<'_>) -> (u8, u8) {
+fn taken<const N: usize, const M: usize, const G: usize>(
+    gateway: &mut Member<'_, N, M, G>,
+) -> (u8, u8) {
     let (mut own, mut passed) = (0_u8, 0_u8);
     for _ in 0..3 {
         match gateway.take(&mut [0; 320]) {
@@ -30,39 +29,44 @@ fn taken(gateway: &mut Pair<'_>) -> (u8, u8) {
 }
 
 /// Lets the stages poll twice, so that two outputs are marshalled, and answers what the processor did first.
-fn process(rings: &PairRings, stages: &mut Stages) -> Turn
+fn process<const N: usize, const M: usize, const G: usize>(
+    rings: &TestRings<N, M, G>,
+    stages: &mut Stages,
+) -> Turn
     requires stages { AreAt rings.now stages.old }
     ensures stages { AreAt rings.now stages.new }
 {
-    let turns = stages.poll(rings);
-    stages.poll(rings);
+    let turns = poll(rings, stages);
+    poll(rings, stages);
     turns.processor
 }
 
 /// The first gateway sells, and takes the acknowledgement.
-fn sell<A: Abort>(
+fn sell<A: Abort, const N: usize, const M: usize, const G: usize>(
     rt: &A,
-    rings: &PairRings,
-    one: &mut Pair<'_>,
-    other: &mut Pair<'_>,
+    alloc: Global,
+    rings: &TestRings<N, M, G>,
+    one: &mut Member<'_, N, M, G>,
+    other: &mut Member<'_, N, M, G>,
     stages: &mut Stages,
-    order: &[u8],
-)
+    order: &str,
+) -> Result<(), Fail>
     requires stages { AreAt rings.now stages.old }
-    requires order { (1 ≤ length order.now) × (length order.now ≤ 320) }
     ensures stages { AreAt rings.now stages.new }
 {
-    assert!(rt; one.publish(order).is_ok());
+    let order = message(alloc, order)?;
+    assert!(rt; one.publish(&order).is_ok());
     assert_eq!(rt; process(rings, stages), Did(1));
     assert_eq!(rt; (taken(one), taken(other)), ((1, 0), (0, 1)));
+    Ok(())
 }
 
 /// Two outputs more of the last command are put and taken.
-fn put_two<A: Abort>(
+fn put_two<A: Abort, const N: usize, const M: usize, const G: usize>(
     rt: &A,
-    rings: &PairRings,
-    one: &mut Pair<'_>,
-    other: &mut Pair<'_>,
+    rings: &TestRings<N, M, G>,
+    one: &mut Member<'_, N, M, G>,
+    other: &mut Member<'_, N, M, G>,
     stages: &mut Stages,
 )
     requires stages { AreAt rings.now stages.old }
@@ -74,34 +78,43 @@ fn put_two<A: Abort>(
 }
 
 /// The first gateway sells 1 three times, and the second one buys 3.
-fn trade<A: Abort>(
+fn trade<A: Abort, const N: usize, const M: usize, const G: usize>(
     rt: &A,
-    rings: &PairRings,
-    one: &mut Pair<'_>,
-    other: &mut Pair<'_>,
+    alloc: Global,
+    rings: &TestRings<N, M, G>,
+    one: &mut Member<'_, N, M, G>,
+    other: &mut Member<'_, N, M, G>,
     stages: &mut Stages,
-)
+) -> Result<(), Fail>
     requires stages { AreAt rings.now stages.old }
 {
-    sell(rt, rings, one, other, stages, SELL_ONE);
-    sell(rt, rings, one, other, stages, SELL_TWO);
-    sell(rt, rings, one, other, stages, SELL_THREE);
-    assert_eq!(rt; other.publish(BUY_THREE), Ok(3));
+    sell(rt, alloc, rings, one, other, stages, SELL_ONE)?;
+    sell(rt, alloc, rings, one, other, stages, SELL_TWO)?;
+    sell(rt, alloc, rings, one, other, stages, SELL_THREE)?;
+    let order = message(alloc, BUY_THREE)?;
+    assert_eq!(rt; other.publish(&order), Ok(3));
     put_two(rt, rings, one, other, stages);
     put_two(rt, rings, one, other, stages);
     put_two(rt, rings, one, other, stages);
     assert_eq!(rt; process(rings, stages), Did(1));
     assert_eq!(rt; processed(stages), 4);
     assert_eq!(rt; (taken(one), taken(other)), ((0, 1), (1, 0)));
+    Ok(())
+}
+
+/// Opens the rings, and lets both trade.
+fn open_and_trade<A: Abort, const N: usize, const M: usize, const G: usize>(
+    rt: &A,
+    alloc: Global,
+) -> Result<(), Fail>
+    requires { (1 ≤ G) × (G ≤ 8) }
+{
+    let (rings, mut stages, mut gateways) = open_venue::<N, M, G>(alloc)?;
+    let (mut first, mut second) = next_two(&rings, &mut gateways).ok_or("no gateways")?;
+    trade(rt, alloc, &rings, &mut first, &mut second, &mut stages)
 }
 
 #[test]
 fn output_ring_of_two(rt: HostRuntime) -> Result<(), Fail> {
-    let limits = abc(rt.alloc()).ok_or("no memory")?;
-    let (rings, seats) = open::<4, 2, 2>(rt.alloc(), &limits)?;
-    let (mut stages, mut gateways) = stages_of(rt.alloc(), &rings, seats, &limits)?;
-    let mut second = next_member(&rings, &mut gateways).ok_or("no gateway 2")?;
-    let mut first = next_member(&rings, &mut gateways).ok_or("no gateway 1")?;
-    trade(&rt, &rings, &mut first, &mut second, &mut stages);
-    Ok(())
+    open_and_trade::<HostRuntime, 4, 2, 2>(&rt, rt.alloc())
 }

@@ -1,25 +1,22 @@
 //! Two gateways fill a ring of two rows; once the stages have done its first message, the row is claimed again.
-ghost use Rattle.std.specs.Prelude.{◌≡◌};
+ghost use Rattle.std.specs.Prelude.{◌≤◌};
 ghost use Rattle.stages.specs.Crews.{AreAt};
 
-use super::crew::{Stages, stages_of, turns_of};
-use super::member::{Member, next_member};
-use super::messages::{FIRST_BUY, THIRD_ACKNOWLEDGED};
-use super::venue::{TestRings, abc, open};
+use super::crew::{Stages, open_venue, poll, turns_of};
+use super::member::{Member, next_two};
+use super::messages::{FIRST_BUY, THIRD_ACKNOWLEDGED, bytes_of, message};
+use super::venue::TestRings;
 use sequencer::{ClaimRefusal, Take, try_claim};
 use stages::Turn::{Did, Idle};
+use std::alloc::Global;
 use std::process::Abort;
 use std::test::Fail;
 
-type PairRings = TestRings<2, 2, 2>;
-
-type Pair<'a> = Member<'a, 2, 2, 2>;
-
 /// Both claim, one after the other, and both publish AB, the other one first: until then the stages find nothing. Answers the sequences.
-fn publish_both(
-    rings: &PairRings,
-    one: &mut Pair<'_>,
-    other: &mut Pair<'_>,
+fn publish_both<const N: usize, const M: usize, const G: usize>(
+    rings: &TestRings<N, M, G>,
+    one: &mut Member<'_, N, M, G>,
+    other: &mut Member<'_, N, M, G>,
     stages: &mut Stages,
 ) -> Result<Option<(u64, u64)>, ClaimRefusal>
     requires stages { AreAt rings.now stages.old }
@@ -34,7 +31,7 @@ fn publish_both(
         }
     };
     let at = second.publish(other.rings, &mut other.seat, b"AB");
-    let turns = stages.poll(rings);
+    let turns = poll(rings, stages);
     let before = first.publish(one.rings, &mut one.seat, b"AB");
     if turns != turns_of([Idle; 4]) {
         return Ok(None);
@@ -43,42 +40,52 @@ fn publish_both(
 }
 
 /// Fills the ring, publishes an order in its first row again, and takes what came of it.
-fn fill<A: Abort>(
+fn fill<A: Abort, const N: usize, const M: usize, const G: usize>(
     rt: &A,
-    rings: &PairRings,
-    one: &mut Pair<'_>,
-    other: &mut Pair<'_>,
+    alloc: Global,
+    rings: &TestRings<N, M, G>,
+    one: &mut Member<'_, N, M, G>,
+    other: &mut Member<'_, N, M, G>,
     stages: &mut Stages,
-)
+) -> Result<(), Fail>
     requires stages { AreAt rings.now stages.old }
 {
+    let order = message(alloc, FIRST_BUY)?;
+    let acknowledged = bytes_of(alloc, THIRD_ACKNOWLEDGED)?;
     assert_eq!(rt; publish_both(rings, one, other, stages), Ok(Some((0, 1))));
-    assert_eq!(rt; one.publish(FIRST_BUY), Err(ClaimRefusal::Full));
+    assert_eq!(rt; one.publish(&order), Err(ClaimRefusal::Full));
     assert_eq!(rt;
-        stages.poll(rings),
+        poll(rings, stages),
         turns_of([Did(1), Did(1), Did(1), Idle])
     );
-    assert_eq!(rt; one.publish(FIRST_BUY), Ok(2));
+    assert_eq!(rt; one.publish(&order), Ok(2));
     assert_eq!(rt;
-        stages.poll(rings),
+        poll(rings, stages),
         turns_of([Did(1), Did(1), Did(1), Idle])
     );
-    assert_eq!(rt; stages.poll(rings), turns_of([Did(1); 4]));
-    assert_eq!(rt; stages.poll(rings), turns_of([Idle; 4]));
+    assert_eq!(rt; poll(rings, stages), turns_of([Did(1); 4]));
+    assert_eq!(rt; poll(rings, stages), turns_of([Idle; 4]));
     let mut body = [0; 320];
     assert!(rt; matches!(one.take(&mut body), Take::Mine(_)));
-    assert!(rt; body.starts_with(THIRD_ACKNOWLEDGED));
+    assert!(rt; body.starts_with(&acknowledged));
     assert_eq!(rt; one.take(&mut body), Take::Nothing);
     assert_eq!(rt; other.take(&mut body), Take::Passed);
+    Ok(())
+}
+
+/// Opens the rings, and fills them.
+fn open_and_fill<A: Abort, const N: usize, const M: usize, const G: usize>(
+    rt: &A,
+    alloc: Global,
+) -> Result<(), Fail>
+    requires { (1 ≤ G) × (G ≤ 8) }
+{
+    let (rings, mut stages, mut gateways) = open_venue::<N, M, G>(alloc)?;
+    let (mut first, mut second) = next_two(&rings, &mut gateways).ok_or("no gateways")?;
+    fill(rt, alloc, &rings, &mut first, &mut second, &mut stages)
 }
 
 #[test]
 fn ring_of_two(rt: HostRuntime) -> Result<(), Fail> {
-    let limits = abc(rt.alloc()).ok_or("no memory")?;
-    let (rings, seats) = open::<2, 2, 2>(rt.alloc(), &limits)?;
-    let (mut stages, mut gateways) = stages_of(rt.alloc(), &rings, seats, &limits)?;
-    let mut second = next_member(&rings, &mut gateways).ok_or("no gateway 2")?;
-    let mut first = next_member(&rings, &mut gateways).ok_or("no gateway 1")?;
-    fill(&rt, &rings, &mut first, &mut second, &mut stages);
-    Ok(())
+    open_and_fill::<HostRuntime, 2, 2, 2>(&rt, rt.alloc())
 }

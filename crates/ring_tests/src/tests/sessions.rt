@@ -1,66 +1,65 @@
 //! Two clients' sessions, one behind the other: the first orders and leaves, and what the second's order brings it is passed over by its gateway,
 //! and counted.
-ghost use Rattle.std.specs.Prelude.{None, ◌≡◌, true, false, [], IfOk, IsSome};
+ghost use Rattle.std.specs.Prelude.{None, ◌≡◌, ◌≤◌, true, false, [], IfOk, IsSome};
 ghost use Rattle.ring_words.specs.declared.view.Role.TheVariants as role;
 ghost use Rattle.ring_words.specs.Rule.{newcomer};
 ghost use Rattle.ring_words.specs.At.{at, IsAt, number};
+ghost use Rattle.ring_words.specs.Crew.{AreNewGateways};
 ghost use Rattle.stages.specs.Crews.{AreAt};
 
-use super::crew::{Stages, stages_of};
+use super::crew::{Stages, poll, stages_of};
+use super::messages::bytes_of;
 use super::venue::{TestRings, abc, open};
 use book::BookLogic;
 use gateway::{Gateway, MemWire, Reason, Turned};
 use ring_words::GatewaySeat;
-use std::alloc::Global;
+use std::alloc::{AllocError, Global};
 use std::test::Fail;
 use venue_model::Limits;
 
-/// Rings of four rows each, for two gateways.
-type PairRings = TestRings<4, 4, 2>;
-
 /// The first client's Logon and order to buy 100 at 50.
-const BUYER: &[u8] = b"8=FIX.4.4\x019=63\x0135=A\x0149=C1\x0156=VENUE\x0134=1\x01\
-    52=20250102-09:30:00\x0198=0\x01108=0\x01141=Y\x0110=026\x018=FIX.4.4\x01\
-    9=102\x0135=D\x0149=C1\x0156=VENUE\x0134=2\x0152=20250102-09:30:00\x0111=1\x01\
-    55=ABC\x0154=1\x0160=20250102-09:30:00\x0138=100\x0140=2\x0144=50\x01\
-    10=098\x01";
+const BUYER: &str = "8=FIX.4.4|9=63|35=A|49=C1|56=VENUE|34=1|\
+    52=20250102-09:30:00|98=0|108=0|141=Y|10=026|8=FIX.4.4|\
+    9=102|35=D|49=C1|56=VENUE|34=2|52=20250102-09:30:00|11=1|\
+    55=ABC|54=1|60=20250102-09:30:00|38=100|40=2|44=50|\
+    10=098|";
 
 /// Its Logout, once it has the acknowledgement.
-const BUYER_LEAVES: &[u8] = b"8=FIX.4.4\x019=46\x0135=5\x0149=C1\x0156=VENUE\x0134=3\x01\
-    52=20250102-09:30:00\x0110=254\x01";
+const BUYER_LEAVES: &str = "8=FIX.4.4|9=46|35=5|49=C1|56=VENUE|34=3|\
+    52=20250102-09:30:00|10=254|";
 
 /// The Logon's answer and the order's acknowledgement.
-const BUYER_IS_TOLD: &[u8] = b"8=FIX.4.4\x019=63\x0135=A\x0149=VENUE\x0156=C1\x0134=1\x01\
-    52=20250102-09:30:00\x0198=0\x01108=0\x01141=Y\x0110=026\x018=FIX.4.4\x01\
-    9=114\x0135=8\x0149=VENUE\x0156=C1\x0134=2\x0152=20250102-09:30:00\x0137=1\x01\
-    17=1\x01150=0\x0139=0\x0111=1\x0155=ABC\x0154=1\x0138=100\x0144=50\x01\
-    151=100\x0114=0\x016=0\x0110=243\x01";
+const BUYER_IS_TOLD: &str = "8=FIX.4.4|9=63|35=A|49=VENUE|56=C1|34=1|\
+    52=20250102-09:30:00|98=0|108=0|141=Y|10=026|8=FIX.4.4|\
+    9=114|35=8|49=VENUE|56=C1|34=2|52=20250102-09:30:00|37=1|\
+    17=1|150=0|39=0|11=1|55=ABC|54=1|38=100|44=50|\
+    151=100|14=0|6=0|10=243|";
 
 /// The Logout's answer.
-const BUYER_LEFT: &[u8] = b"8=FIX.4.4\x019=46\x0135=5\x0149=VENUE\x0156=C1\x0134=3\x01\
-    52=20250102-09:30:00\x0110=254\x01";
+const BUYER_LEFT: &str = "8=FIX.4.4|9=46|35=5|49=VENUE|56=C1|34=3|\
+    52=20250102-09:30:00|10=254|";
 
 /// The second client's Logon and order to sell 30 at 50.
-const SELLER: &[u8] = b"8=FIX.4.4\x019=63\x0135=A\x0149=C2\x0156=VENUE\x0134=1\x01\
-    52=20250102-09:30:00\x0198=0\x01108=0\x01141=Y\x0110=027\x018=FIX.4.4\x01\
-    9=101\x0135=D\x0149=C2\x0156=VENUE\x0134=2\x0152=20250102-09:30:00\x0111=1\x01\
-    55=ABC\x0154=2\x0160=20250102-09:30:00\x0138=30\x0140=2\x0144=50\x01\
-    10=053\x01";
+const SELLER: &str = "8=FIX.4.4|9=63|35=A|49=C2|56=VENUE|34=1|\
+    52=20250102-09:30:00|98=0|108=0|141=Y|10=027|8=FIX.4.4|\
+    9=101|35=D|49=C2|56=VENUE|34=2|52=20250102-09:30:00|11=1|\
+    55=ABC|54=2|60=20250102-09:30:00|38=30|40=2|44=50|\
+    10=053|";
 
 /// The Logon's answer, the order's acknowledgement, and its fill: the outputs 2 and 4 of all.
-const SELLER_IS_TOLD: &[u8] = b"8=FIX.4.4\x019=63\x0135=A\x0149=VENUE\x0156=C2\x0134=1\x01\
-    52=20250102-09:30:00\x0198=0\x01108=0\x01141=Y\x0110=027\x018=FIX.4.4\x01\
-    9=112\x0135=8\x0149=VENUE\x0156=C2\x0134=2\x0152=20250102-09:30:00\x0137=2\x01\
-    17=2\x01150=0\x0139=0\x0111=1\x0155=ABC\x0154=2\x0138=30\x0144=50\x01\
-    151=30\x0114=0\x016=0\x0110=153\x018=FIX.4.4\x019=125\x0135=8\x0149=VENUE\x01\
-    56=C2\x0134=3\x0152=20250102-09:30:00\x0137=2\x0117=4\x01150=F\x0139=2\x01\
-    11=1\x0155=ABC\x0154=2\x0138=30\x0144=50\x0132=30\x0131=50\x01151=0\x01\
-    14=30\x016=50\x0110=250\x01";
+const SELLER_IS_TOLD: &str = "8=FIX.4.4|9=63|35=A|49=VENUE|56=C2|34=1|\
+    52=20250102-09:30:00|98=0|108=0|141=Y|10=027|8=FIX.4.4|\
+    9=112|35=8|49=VENUE|56=C2|34=2|52=20250102-09:30:00|37=2|\
+    17=2|150=0|39=0|11=1|55=ABC|54=2|38=30|44=50|\
+    151=30|14=0|6=0|10=153|8=FIX.4.4|9=125|35=8|49=VENUE|\
+    56=C2|34=3|52=20250102-09:30:00|37=2|17=4|150=F|39=2|\
+    11=1|55=ABC|54=2|38=30|44=50|32=30|31=50|151=0|\
+    14=30|6=50|10=250|";
 
 /// The gateway of a new seat.
-fn gateway_at(
+fn gateway_at<const N: usize, const M: usize, const G: usize>(
     alloc: Global,
-    rings: &PairRings,
+    rings: &TestRings<N, M, G>,
     limits: &Limits,
     seat: GatewaySeat<BookLogic>,
 ) -> Result<Gateway, Fail>
@@ -75,7 +74,11 @@ fn gateway_at(
 }
 
 /// Takes one turn of a session, and says why it ended, where it did.
-fn turn(rings: &PairRings, gateway: &mut Gateway, wire: &mut MemWire) -> Option<Reason>
+fn turn<const N: usize, const M: usize, const G: usize>(
+    rings: &TestRings<N, M, G>,
+    gateway: &mut Gateway,
+    wire: &mut MemWire,
+) -> Option<Reason>
     requires live { gateway.old.front.live ≡ true }
     requires at { IsAt rings.now gateway.old.seat }
     ensures table { IsAt rings.now gateway.new.seat }
@@ -89,8 +92,8 @@ fn turn(rings: &PairRings, gateway: &mut Gateway, wire: &mut MemWire) -> Option<
 }
 
 /// Serves a session for so many turns at most, with a poll of each stage behind each turn. Says why it ended, where it did.
-fn serve(
-    rings: &PairRings,
+fn serve<const N: usize, const M: usize, const G: usize>(
+    rings: &TestRings<N, M, G>,
     stages: &mut Stages,
     gateway: &mut Gateway,
     wire: &mut MemWire,
@@ -108,19 +111,27 @@ fn serve(
         if let Some(reason) = turn(rings, gateway, wire) {
             return Some(reason);
         }
-        stages.poll(rings);
+        poll(rings, stages);
     }
     None
 }
 
 /// Lets a gateway without a session look three times.
-fn idle(rings: &PairRings, gateway: &mut Gateway)
+fn idle<const N: usize, const M: usize, const G: usize>(
+    rings: &TestRings<N, M, G>,
+    gateway: &mut Gateway,
+)
     requires off { gateway.old.front.live ≡ false }
     requires at { IsAt rings.now gateway.old.seat }
 {
     gateway.idle(rings);
     gateway.idle(rings);
     gateway.idle(rings);
+}
+
+/// A client that sends this text.
+fn wire_of(alloc: Global, text: &str) -> Result<MemWire, AllocError> {
+    MemWire::new(alloc, &bytes_of(alloc, text)?)
 }
 
 /// What the clients send and are sent.
@@ -131,47 +142,85 @@ struct Wires {
     selling: MemWire,
 }
 
-/// Serves the first client and then the second, and lets the first gateway be idle behind them. Answers how many outputs it passed over, where
-/// each session ended as it is to end.
-fn trade(alloc: Global, limits: &Limits, wires: &mut Wires) -> Result<Option<u64>, Fail> {
-    let (rings, seats) = open::<4, 4, 2>(alloc, limits)?;
-    let (mut stages, mut gateways) = stages_of(alloc, &rings, seats, limits)?;
-    let Some(seat) = gateways.pop() else {
-        return Ok(None);
+/// The gateways of two seats, the second one first.
+fn pair<const N: usize, const M: usize, const G: usize>(
+    alloc: Global,
+    rings: &TestRings<N, M, G>,
+    limits: &Limits,
+    mut gateways: Vec<GatewaySeat<BookLogic>>,
+) -> Result<(Gateway, Gateway), Fail>
+    requires opened { (rings.now.logic ≡ limits.now) × (rings.now.base ≡ []) × (rings.now.given ≡ 0) }
+    requires new { AreNewGateways rings.now gateways.items }
+    ensures { IfOk result (λ pair. IsAt rings.now pair.0.seat × IsAt rings.now pair.1.seat) }
+{
+    let Some(second) = gateways.pop() else {
+        return Err(Fail::from("no gateway"));
     };
-    let mut seller = gateway_at(alloc, &rings, limits, seat)?;
-    let Some(seat) = gateways.pop() else {
-        return Ok(None);
+    let Some(first) = gateways.pop() else {
+        return Err(Fail::from("no other gateway"));
     };
-    let mut buyer = gateway_at(alloc, &rings, limits, seat)?;
+    let second = gateway_at(alloc, rings, limits, second)?;
+    let first = gateway_at(alloc, rings, limits, first)?;
+    Ok((second, first))
+}
+
+/// Serves the first client and then the second, and lets the first gateway be idle behind them. Says whether each session ended as it is to end.
+fn serve_both<const N: usize, const M: usize, const G: usize>(
+    rings: &TestRings<N, M, G>,
+    stages: &mut Stages,
+    buyer: &mut Gateway,
+    seller: &mut Gateway,
+    wires: &mut Wires,
+) -> bool
+    requires stages { AreAt rings.now stages.old }
+    requires buyer { IsAt rings.now buyer.old.seat }
+    requires seller { IsAt rings.now seller.old.seat }
+{
     buyer.begin();
-    let None = serve(&rings, &mut stages, &mut buyer, &mut wires.buying, 16) else {
-        return Ok(None);
+    let None = serve(rings, stages, buyer, &mut wires.buying, 16) else {
+        return false;
     };
-    let Some(Reason::LoggedOut) = serve(&rings, &mut stages, &mut buyer, &mut wires.leaving, 16)
-    else {
-        return Ok(None);
+    let Some(Reason::LoggedOut) = serve(rings, stages, buyer, &mut wires.leaving, 16) else {
+        return false;
     };
     seller.begin();
-    let Some(Reason::Closed) = serve(&rings, &mut stages, &mut seller, &mut wires.selling, 4_000)
-    else {
-        return Ok(None);
+    let Some(Reason::Closed) = serve(rings, stages, seller, &mut wires.selling, 4_000) else {
+        return false;
     };
-    idle(&rings, &mut buyer);
-    Ok(Some(buyer.passed()))
+    idle(rings, buyer);
+    true
+}
+
+/// Serves two clients so at new rings. Answers how many outputs the first one's gateway passed over, where each session ended as it is to end.
+fn trade<const N: usize, const M: usize, const G: usize>(
+    alloc: Global,
+    limits: &Limits,
+    wires: &mut Wires,
+) -> Result<Option<u64>, Fail>
+    requires { (1 ≤ G) × (G ≤ 8) }
+{
+    let (rings, seats) = open::<N, M, G>(alloc, limits)?;
+    let (mut stages, gateways) = stages_of(alloc, &rings, seats, limits)?;
+    let (mut seller, mut buyer) = pair(alloc, &rings, limits, gateways)?;
+    let served = serve_both(&rings, &mut stages, &mut buyer, &mut seller, wires);
+    Ok(served.then_some(buyer.passed()))
 }
 
 #[test]
 fn reports_without_session_are_passed_over(rt: HostRuntime) -> Result<(), Fail> {
     let limits = abc(rt.alloc()).ok_or("no memory")?;
     let mut wires = Wires {
-        buying: MemWire::new(rt.alloc(), BUYER)?.staying_open(),
-        leaving: MemWire::new(rt.alloc(), BUYER_LEAVES)?,
-        selling: MemWire::new(rt.alloc(), SELLER)?,
+        buying: wire_of(rt.alloc(), BUYER)?.staying_open(),
+        leaving: wire_of(rt.alloc(), BUYER_LEAVES)?,
+        selling: wire_of(rt.alloc(), SELLER)?,
     };
-    assert_eq!(rt; trade(rt.alloc(), &limits, &mut wires)?, Some(1));
-    assert_eq!(rt; wires.buying.taken(), BUYER_IS_TOLD);
-    assert_eq!(rt; wires.leaving.taken(), BUYER_LEFT);
-    assert_eq!(rt; wires.selling.taken(), SELLER_IS_TOLD);
+    assert_eq!(rt; trade::<4, 4, 2>(rt.alloc(), &limits, &mut wires)?, Some(1));
+    for (wire, told) in [
+        (&wires.buying, BUYER_IS_TOLD),
+        (&wires.leaving, BUYER_LEFT),
+        (&wires.selling, SELLER_IS_TOLD),
+    ] {
+        assert_eq!(rt; wire.taken(), bytes_of(rt.alloc(), told)?.as_slice());
+    }
     Ok(())
 }

@@ -5,7 +5,7 @@ use Rattle.stages.specs.Crews.{AreAt}
 use Rattle.ring_tests.proofs.tests.sessions.serve.Given as goal
 
 abbrev pub invariant-loop : goal.invariant-loop
-invariant-loop l = record {
+invariant-loop g l = record {
   live : l.gateway.front.live ≡ true;
   table : IsAt l.fn.rings l.gateway.seat;
   stages : AreAt l.fn.rings l.stages;

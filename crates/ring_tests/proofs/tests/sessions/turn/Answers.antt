@@ -4,14 +4,14 @@ use Rattle.ring_tests.proofs.Turns.{lives}
 use Rattle.ring_tests.proofs.tests.sessions.turn.Goals as goal
 
 pub returns-in-Ended : goal.returns-in-Ended
-returns-in-Ended c = record {
+returns-in-Ended g c = record {
   table = still_at c.args.rings.now _ _ _ c.requires.at c.turn.ensures.uses.stays.rings;
   over = λ ended. c.in-Ended.ensures.turn.turn.means.1;
   alive = λ same. cc;
 }
 
 pub returns-in-Worked : goal.returns-in-Worked
-returns-in-Worked c = record {
+returns-in-Worked g c = record {
   table = still_at c.args.rings.now _ _ _ c.requires.at c.turn.ensures.uses.stays.rings;
   over = λ ended. cc;
   alive = λ same. lives _ _ _ c.turn.result c.turn.ensures.turn.turn.means c.in-Worked.is;

@@ -1,0 +1,4 @@
+pub mod Trading
+pub mod TradingLaws
+pub mod Members
+pub mod Listening

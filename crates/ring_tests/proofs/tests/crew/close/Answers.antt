@@ -1,0 +1,10 @@
+-- The gateways' seats are at the rings, each with its number, and without claims.
+use Rattle.std.proofs.Common.{arith}
+use Rattle.ring_tests.proofs.Seats.{are_gateways}
+use Rattle.ring_tests.proofs.tests.crew.close.Goals as goal
+
+pub close-requires : goal.close-requires
+close-requires g c = (
+  omega arith,
+  (c.requires.stages, (are_gateways c.args.rings c.args.gateways.items c.requires.seats, (c.requires.count, λ i s there. (c.requires.seats i s there).claims))),
+)

@@ -1,0 +1,58 @@
+-- The seat is that of gateway 1, as the rings were opened with it; and what was opened was served from there on.
+use Rattle.std.proofs.Common.{[], ◌∷◌, inr, refl, subst, sym}
+use Rattle.gateway.specs.Delivers.{nothing_yet, starts}
+use Rattle.ring_words.specs.At.{At}
+use Rattle.venue_model.specs.Requests.{Symbols}
+use Rattle.stages.specs.Stations.{disk_of}
+use Rattle.stages.specs.Finishing.{Finished}
+use Rattle.venue.specs.Serving.{LeavesFrom}
+use Rattle.venue.specs.VenueRings.{IsFirst}
+use Rattle.venue.specs.Venues.{Venue}
+use Rattle.venue.specs.CrashLaws.{serve_leaves}
+use Rattle.venue.specs.OpenedLaws.{new_seen}
+use Rattle.venue.proofs.ServingLemmas.{began}
+use Rattle.venue.proofs.serving.serve.Goals as goal
+
+pub new-requires : goal.new-requires
+new-requires g c = new_seen _ _ _ 1 _ c.in-Ok.ensures.opened.0 c.first_seat-seat.ensures.seat c.in-Ok.ensures.disk.few
+
+pub returns-clause-served : goal.returns-clause-served
+returns-clause-served g c =
+    let tells = g.W.Wire.tells in let opened = c.in-Ok.ensures in
+    let rings = c.in-Ok.opened.0 in let seat = c.first_seat-seat.result in
+    let start : Venue g.row.D.Denot = record { rings = rings; gateway = c.begin.new.self; crew = c.in-Ok.opened.1; wire = tells c.args.wire.now } in
+    let end : Venue g.row.D.Denot = record { rings = rings; gateway = c.take_turns.new.gateway; crew = c.take_turns.new.crew; wire = tells c.take_turns.new.wire } in
+    let first = began rings c.in-Ok-new.gateway c.begin.new.self seat c.in-Ok-new.ensures.made c.begin.ensures.new c.first_seat-seat.ensures.seat in
+    let course = c.take_turns.ensures.delivers (starts 1024 start.gateway start.wire) nothing_yet (c.begin.ensures.begins 1024 start.wire) in
+    let device = c.finish-disk-2.result.1 in
+    inr (
+      c.take_turns.result,
+      c.status_of-status.ensures,
+      record {
+        start = start;
+        end = end;
+        opens = record {
+          crew = opened.opened.1;
+          behind = opened.opened.0;
+          seat = subst (λ (s : At Symbols). IsFirst rings s) (sym first.1) c.first_seat-seat.ensures.seat;
+          session = first.0;
+          wire = refl;
+          disk_is = opened.disk;
+        };
+        serves = c.take_turns.ensures.served;
+        course = course.0;
+        delivers = course.1;
+        summary = c.finish-disk-2.result.0;
+        finished = subst (λ (s : At Symbols). Finished rings (s ∷ []) end.crew (g.D.JournalDisk.honest device) (g.D.JournalDisk.tells device) c.finish-disk-2.result.0)
+            c.end.ensures.seat c.finish-disk-2.ensures.finished;
+        wire = refl;
+        disk_is = c.finish-disk-2.ensures.disk;
+      },
+    )
+
+pub returns-clause-any_moment : goal.returns-clause-any_moment
+returns-clause-any_moment g c = λ honest.
+    let tells = g.D.JournalDisk.tells in let opened = c.in-Ok.ensures.disk in let crew = c.in-Ok.opened.1 in
+    subst (λ (d : g.row.D.Denot). LeavesFrom (tells c.args.disk) (tells d)) (sym c.finish-disk-2.ensures.disk)
+    (serve_leaves (tells c.args.disk) (tells (disk_of crew)) (tells (disk_of c.take_turns.new.crew)) c.in-Ok.opened.0.base (opened.read.any_moment.leaves honest)
+    (opened.read.file honest) (opened.durable honest) (opened.history honest) (c.take_turns.ensures.any_moment (opened.read.any_moment.honest.0 honest)))

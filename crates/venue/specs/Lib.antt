@@ -1,0 +1,9 @@
+pub mod Faults
+pub mod VenueRings
+pub mod Opened
+pub mod OpenedLaws
+pub mod Venues
+pub mod Crashes
+pub mod Rounds
+pub mod Serving
+pub mod CrashLaws

@@ -1,0 +1,66 @@
+-- What a run of the mode `-` comes to.
+use Rattle.std.specs.Prelude.{◌≡◌, ◌⊎◌, ℕ, [], ◌∷◌, Result}
+use Rattle.venue_model.specs.Counts.{Rose}
+use Rattle.venue_model.specs.History.{History}
+use Rattle.venue_model.specs.Requests.{Symbols}
+use Rattle.gateway.specs.Delivers.{Course, Delivers, starts}
+use Rattle.gateway.specs.Gateways.{begun}
+use Rattle.gateway.specs.Seats.{ledger_of}
+use Rattle.gateway.specs.Wires as wires
+use Rattle.journal.specs.Disk.{Told, LeavesOnly, OnlyRead}
+use Rattle.journal.specs.Format.{IsJournal}
+use Rattle.journal.specs.Journals.{IsOpened}
+use Rattle.ring_words.specs.declared.close.Summary.{Summary}
+use Rattle.venue.specs.Faults.{status_of_end}
+use Rattle.stages.specs.Stations.{disk_of}
+use Rattle.stages.specs.Finishing.{Finished}
+use Rattle.venue.specs.Opened.{AreBehind, IsNewCrew}
+use Rattle.venue.specs.Rounds.{Served}
+use Rattle.venue.specs.VenueRings.{IsFirst}
+use Rattle.venue.specs.Venues.{Venue, Device, IsJournalBehind}
+use Rattle.venue.specs.declared.fault.ServeFault.{ServeFault}
+
+-- A crash at any moment since old leaves a file that it might have left then, or the journal of a history that begins with that of the
+-- file then.
+abbrev pub LeavesFrom : Told → Told → Type 0
+LeavesFrom old new = LeavesOnly old new (λ file. old.may_leave file ⊎ ((base : History) × IsJournal old.file base × IsJournalBehind base file))
+
+-- of the wire before and after, and of how many calls of the disk had failed: at 0 none failed; at 1 no byte moved; at 2 one failed
+abbrev pub IsStatus : wires.Told → wires.Told → ℕ → ℕ → ℕ → Type 0
+IsStatus wire wire_after failed failed_after status =
+    ((status ≡ 0) × (failed_after ≡ failed)) ⊎ (((status ≡ 1) × (wire_after ≡ wire)) ⊎ ((status ≡ 2) × Rose failed failed_after))
+
+-- what a run is handed and gives back: its disk, and what its wire tells
+pub record Outside (D : Type 0) : Type 0 where
+  pub disk : D
+  pub wire : wires.Told
+
+module _ {D : Type 0} where
+  -- Gateway 1 has begun a session, and nothing was done: the venue stands behind the journal's history, and so does the gateway's seat.
+  pub record Opens (symbols : Symbols) (device : Device D) (old : Outside D) (s : Venue D) : Type 0 where
+    pub crew : IsNewCrew s.rings s.crew
+    pub behind : AreBehind symbols s.rings.base s.rings
+    pub seat : IsFirst s.rings s.gateway.seat
+    pub session : s.gateway.front ≡ begun 1 0
+    pub wire : s.wire ≡ old.wire
+    pub disk_is : IsOpened (device.honest old.disk) (device.honest (disk_of s.crew)) (device.tells old.disk) (device.tells (disk_of s.crew)) s.rings.base
+
+  -- The session was served. It ended by itself (or 2 ^ 64 - 1 rounds were taken), or the journal failed. What the client sent, was given and was written
+  -- is the course of the session; and one log tells of all.
+  pub record Serves (symbols : Symbols) (device : Device D) (old new : Outside D) (result : Result (Unit {0}) ServeFault) : Type 0 where
+    pub start : Venue D
+    pub end : Venue D
+    pub opens : Opens symbols device old start
+    pub serves : Served device start end result
+    pub course : Course
+    pub delivers : Delivers (starts 1024 start.gateway start.wire) end.gateway.front end.wire (ledger_of 1024 end.gateway.seat) course
+    pub summary : Summary
+    pub finished : Finished end.rings (end.gateway.seat ∷ []) end.crew (device.honest new.disk) (device.tells new.disk) summary
+    pub wire : new.wire ≡ end.wire
+    pub disk_is : new.disk ≡ disk_of end.crew
+
+  -- what the program's status says: 1 where the session didn't begin, and the disk was only read; and else how it ended
+  abbrev pub EndsWith : Symbols → Device D → Outside D → Outside D → ℕ → Type 0
+  EndsWith symbols device old new status =
+      ((status ≡ 1) × OnlyRead (device.honest old.disk) (device.honest new.disk) (device.tells old.disk) (device.tells new.disk))
+      ⊎ ((result : Result (Unit {0}) ServeFault) × (status ≡ status_of_end result) × Serves symbols device old new result)
