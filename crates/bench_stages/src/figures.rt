@@ -18,7 +18,7 @@ impl fmt::Display for Rate {
     fn fmt<W: fmt::Write>(&self, f: &mut fmt::Formatter<W>) -> fmt::Result {
         let whole = self.0 / 100;
         let hundredths = self.0 % 100;
-        write!(f, "{whole}.{hundredths:02} Mcmd/s")
+        write!(f, "{whole}.{hundredths:02} Mmsg/s")
     }
 }
 
@@ -35,6 +35,6 @@ impl Cost {
 
 impl fmt::Display for Cost {
     fn fmt<W: fmt::Write>(&self, f: &mut fmt::Formatter<W>) -> fmt::Result {
-        write!(f, "{} ns/cmd", self.0)
+        write!(f, "{} ns/message", self.0)
     }
 }
