@@ -11,6 +11,6 @@ mod running;
 
 pub use fault::{ReplayFault, refuse};
 pub use job::{Job, Subject};
-pub use replayed::{Replayed, replay, replay_entries};
+pub use replayed::{Rebuilt, Replayed, rebuild, replay};
 pub use reporting::report;
 pub use running::run;
