@@ -174,3 +174,20 @@ decimal_three n low high =
     (omega arith) ∙ ap (λ ds. ds ++ (48 + n / 10 % 10) ∷ []) (decimal_digit (n / 10 / 10) (omega arith) ∙
     ap (λ d. (48 + d) ∷ []) same) in
     decimal_step n (omega arith) (omega arith) ∙ ap (λ ds. ds ++ (48 + n % 10) ∷ []) front
+
+-- two digits and an equals sign in front
+pub two_digits : (bytes : List ℕ) (tens ones : ℕ) → 3 ≤ length bytes → get_or bytes 0 0 ≡ 48 + tens
+    → get_or bytes 1 0 ≡ 48 + ones → get_or bytes 2 0 ≡ 61 → 1 ≤ tens → tens < 10 → ones < 10
+    → bytes ≡ decimal (tens * 10 + ones) ++ 61 ∷ drop 3 bytes
+two_digits (a ∷ b ∷ s ∷ bytes) tens ones long first second sign some small few =
+    let q : (tens * 10 + ones) / 10 ≡ tens = omega arith in
+    let r : (tens * 10 + ones) % 10 ≡ ones = omega arith in
+    let digits : decimal (tens * 10 + ones) ≡ (48 + tens) ∷ (48 + ones) ∷ [] =
+    decimal_step (tens * 10 + ones) (omega arith) (omega arith)
+    ∙ ap (λ k. decimal k ++ (48 + (tens * 10 + ones) % 10) ∷ []) q
+    ∙ ap (λ k. decimal tens ++ (48 + k) ∷ []) r
+    ∙ ap (λ ds. ds ++ (48 + ones) ∷ []) (decimal_digit tens small) in
+    rw digits (cc (first, second, sign))
+two_digits [] tens ones long first second sign some small few = absurd (omega arith)
+two_digits (a ∷ []) tens ones long first second sign some small few = absurd (omega arith)
+two_digits (a ∷ b ∷ []) tens ones long first second sign some small few = absurd (omega arith)

@@ -7,9 +7,24 @@ ghost use Rattle.fix_frame.specs.Cuts.{IsTag, EndsInSoh, BeginsNoTag};
 /// The greatest tag that has room for another digit.
 const MOST_FRONT: u32 = 9_999;
 
-/// The tag at the front, 1 to 99,999 and no zero in front, and what stands behind its equals sign. The SOH at the end
-/// is where the search for that sign ends.
+/// The tag at the front, 1 to 99,999 and no zero in front, and what stands behind its equals sign. Almost all tags
+/// have two digits, which are read without a loop.
 pub(crate) fn read_tag(bytes: &[u8]) -> Option<(u32, &[u8])>
+    requires { EndsInSoh bytes.now }
+    ensures { MatchOption result (BeginsNoTag bytes.now)
+        (λ p. IsTag p.0 × (bytes.now ≡ decimal p.0 ++ equals_sign ∷ p.1.now)) }
+{
+    match bytes {
+        [tens @ b'1'..=b'9', ones @ b'0'..=b'9', b'=', behind @ ..] => {
+            let tag = u32::from(*tens - b'0') * 10 + u32::from(*ones - b'0');
+            Some((tag, behind))
+        }
+        _ => read_any_tag(bytes),
+    }
+}
+
+/// The same, however many digits there are. The SOH at the end is where the search for the sign ends.
+fn read_any_tag(bytes: &[u8]) -> Option<(u32, &[u8])>
     requires { EndsInSoh bytes.now }
     ensures { MatchOption result (BeginsNoTag bytes.now)
         (λ p. IsTag p.0 × (bytes.now ≡ decimal p.0 ++ equals_sign ∷ p.1.now)) }
