@@ -239,3 +239,6 @@ pub counted : (result found : Option ℕ) (b wrong : Bool) (n tag : ℕ) → res
     → result ≡ lesser_if wrong tag found
 counted result found b wrong n tag is b_is n_is = is ∙ ap (λ r. lesser_if r n found) b_is
     ∙ ap (λ m. lesser_if wrong m found) n_is
+
+pub uncounted : (found : Option ℕ) (wrong : Bool) (tag : ℕ) → wrong ≡ false → found ≡ lesser_if wrong tag found
+uncounted found wrong tag not_wrong = ap (λ r. lesser_if r tag found) (sym not_wrong)

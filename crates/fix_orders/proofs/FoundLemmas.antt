@@ -10,7 +10,8 @@ use Rattle.venue_model.specs.declared.commands.RefMsgType.{RefMsgType}
 use Rattle.venue_model.specs.declared.commands.RefMsgType.TheVariants.{NewOrderSingle, OrderCancelRequest, OrderCancelReplaceRequest}
 use Rattle.venue_model.specs.declared.commands.SessionRejectReason.TheVariants.{TagNotDefined, ValueIncorrect, IncorrectFormat}
 use Rattle.fix_orders.specs.declared.fields.OrderFields.{OrderFields}
-use Rattle.fix_orders.specs.declared.formats.Judged.TheVariants.{WrongFormat, OutOfRange}
+use Rattle.fix_orders.specs.declared.formats.Judged.{Judged}
+use Rattle.fix_orders.specs.declared.formats.Judged.TheVariants.{Right, WrongFormat, OutOfRange}
 use Rattle.fix_orders.specs.declared.tags.Need.TheVariants.{Undefined}
 use Rattle.fix_orders.specs.declared.values.Values.{Values}
 use Rattle.fix_orders.specs.declared.tags.OrderTag.{OrderTag}
@@ -229,3 +230,10 @@ missing_is type fields found some finds all =
     (λ t. ap (λ b. is_among (required type) (number_of t) && b)
     (ap is_nothing (finds.values t) ∙ valued (number_of t) fields finds.each)) some
     ∙ ap (filter (lacks type fields)) all ∙ lacking type fields
+
+-- what is right is neither of another format nor out of range
+pub right_alone : (j : Judged) → sameb judged_type j Right ≡ true
+    → (sameb judged_type j WrongFormat ≡ false) × (sameb judged_type j OutOfRange ≡ false)
+right_alone Right is = (refl, refl)
+right_alone WrongFormat is = cc
+right_alone OutOfRange is = cc

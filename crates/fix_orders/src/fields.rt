@@ -82,13 +82,18 @@ impl<'a> OrderFields<'a> {
         ensures { (fields : List FixField) → IsFound kind fields self.old →
             IsFound kind (fields ++ field (number_of tag) value.now ∷ []) self.new }
     {
-        let number = tag.number();
         let judged = judge(format_of(tag), value);
-        self.repeated = lesser_if(self.values.has(tag), number, self.repeated);
-        self.undefined = lesser_if(tag.need(kind) == Need::Undefined, number, self.undefined);
+        let is_repeated = self.values.has(tag);
+        let is_undefined = tag.need(kind) == Need::Undefined;
+        self.values.keep(tag, value);
+        if judged == Judged::Right && !is_repeated && !is_undefined {
+            return;
+        }
+        let number = tag.number();
+        self.repeated = lesser_if(is_repeated, number, self.repeated);
+        self.undefined = lesser_if(is_undefined, number, self.undefined);
         self.ill_formed = lesser_if(judged == Judged::WrongFormat, number, self.ill_formed);
         self.out_of_range = lesser_if(judged == Judged::OutOfRange, number, self.out_of_range);
-        self.values.keep(tag, value);
     }
 
     /// The same of a tag that the message has outside of these fields.
