@@ -2,7 +2,7 @@
 use Rattle.std.proofs.Common.{◌≡◌, ◌≢◌, ℕ, ◌+◌, ◌-◌, ◌*◌, ◌≤◌, ◌<◌, ◌^◌, ◌⊎◌, inl, inr, List, [], ◌∷◌, ◌++◌, length, take, get_or, refl, ap, sym, ◌∙◌, subst, arith, true, false}
 use Rattle.std.specs.Fmt.{decimal}
 use Rattle.std.proofs.lemmas.Fmt.{decimal_digit, decimal_nonempty, first_decimal, decimal_injective}
-use Rattle.std.proofs.lemmas.List.{append_assoc, append-nil, append_cancel_left, length-append, length_push, take_more, take_all, get_or_push, get_or_append_left, get_or-take}
+use Rattle.std.proofs.lemmas.List.{append_assoc, append-nil, append_cancel_left, length-append, length_push, take_more, take_all, length-take, get_or_push, get_or_append_left, get_or-take}
 use Rattle.std.proofs.lemmas.Bool.{cases_lt}
 use Rattle.std.proofs.lemmas.Bool.Decides.{nat_tests}
 use Rattle.fix_frame.specs.Grammar.{head}
@@ -11,7 +11,7 @@ use Rattle.fix_frame.specs.Ascii.{is_digit}
 use Rattle.fix_frame.specs.declared.fault.FrameFault.TheVariants.{BadBegin, BadLength, TooLong}
 use Rattle.fix_frame.specs.Stages.{opening, IsHeading, IsResting}
 use Rattle.fix_frame.specs.Cuts.{Lacks, all_but_last}
-use Rattle.fix_frame.proofs.CutLemmas.{one_cut, lacking_front, lacks_append}
+use Rattle.fix_frame.proofs.CutLemmas.{one_cut, lacking_front, lacks_append, all_but_last-take}
 use Rattle.fix_frame.proofs.NumberLemmas.{decimal_lacks, decimal_more, decimal_short, decimal_front, decimal_at}
 use Rattle.fix_frame.proofs.HeadLemmas.{head-opening, NoHead, no_head_wrong, length_fits}
 
@@ -281,3 +281,16 @@ module _ (bytes : List ℕ) (v : ℕ) (some : 0 < length bytes) (early : length 
     pub length_wrong : 10 < length bytes → IsWrong bytes BadLength
     length_wrong more = subst (IsWrong bytes) (early_fault bytes before final v split h more (omega arith))
         (no_head_wrong bytes none)
+
+-- a digit more behind the opening, in front of more bytes
+pub heading_digit : (bytes : List ℕ) (at v : ℕ) → 12 ≤ at → at < length bytes → IsHeading (take at bytes) v
+    → 48 ≤ get_or bytes at 0 → get_or bytes at 0 ≤ 57 → 1 ≤ v * 10 + (get_or bytes at 0 - 48)
+    → v * 10 + (get_or bytes at 0 - 48) ≤ 297
+    → IsHeading (take (at + 1) bytes) (v * 10 + (get_or bytes at 0 - 48))
+heading_digit bytes at v late within h low high some few =
+    let long : length (take (at + 1) bytes) ≡ at + 1 = omega (arith, length-take (at + 1) bytes) in
+    let place : length (take (at + 1) bytes) - 1 ≡ at = omega arith in
+    let last : get_or bytes at 0 ≡ get_or (take (at + 1) bytes) (length (take (at + 1) bytes) - 1) 0 =
+    sym (ap (λ k. get_or (take (at + 1) bytes) k 0) place ∙ get_or-take (at + 1) bytes at 0 (omega arith)) in
+    digit_more (take (at + 1) bytes) (get_or bytes at 0) v (omega arith) last (subst (λ k. IsHeading k v)
+    (sym (all_but_last-take bytes at within)) h) low high some few

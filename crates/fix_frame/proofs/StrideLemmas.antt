@@ -1,10 +1,10 @@
 -- Several bytes at once: what stands before the last of them.
-use Rattle.std.proofs.Common.{◌≡◌, ℕ, ◌+◌, ◌-◌, ◌≤◌, ◌<◌, List, [], ◌∷◌, ◌++◌, length, take, get_or, refl, ap, sym, ◌∙◌, subst, arith}
+use Rattle.std.proofs.Common.{◌≡◌, ℕ, ◌+◌, ◌-◌, ◌≤◌, ◌<◌, List, [], ◌∷◌, ◌++◌, length, take, get_or, ap, sym, ◌∙◌, subst, arith}
 use Rattle.std.proofs.lemmas.List.{length-append, length-take, take-append-le, take_more, take-take, take_at}
 use Rattle.fix_frame.specs.Cuts.{all_but_last}
-use Rattle.fix_frame.specs.Stages.{opening, IsHeading, IsResting, IsUnderWay}
+use Rattle.fix_frame.specs.Stages.{IsHeading, IsResting, IsUnderWay}
 use Rattle.fix_frame.specs.declared.stage.Stage.{Stage}
-use Rattle.fix_frame.specs.declared.stage.Stage.TheVariants.{Head, Rest, Whole, Given, Faulty}
+use Rattle.fix_frame.proofs.CutLemmas.{all_but_last-take}
 use Rattle.fix_frame.proofs.RestSteps.{resting_long}
 
 -- before the last of a byte more stand those that are held
@@ -34,21 +34,9 @@ under_way_rest held more body n k some within upto h =
       short = omega (arith, long, chunk, length-take (length (held ++ take k more) - 1) (held ++ take k more));
     }
 
--- before the end of the opening stands what it begins with
-opening_head : (v : ℕ) (front : List ℕ) → IsHeading [] v → front ≡ opening → IsHeading (all_but_last front) v
-opening_head v front h opens =
-    let zero : v ≡ 0 = (h.opens (omega arith)).1 in
-    subst (λ k. IsHeading (all_but_last k) v) (sym opens) (record {
-      opens = λ _. (refl, zero);
-      counts = λ late. absurd (omega (arith, late));
-    })
-
-pub under_way_opening : (stage : Stage) (held more : List ℕ) → held ≡ [] → take 12 more ≡ opening →
-    ((body n : ℕ) → stage ≡ Rest body n → ⊥) → IsUnderWay stage held
-    → IsUnderWay stage (all_but_last (held ++ take 12 more))
-under_way_opening (Head v) held more none opens other h =
-    opening_head v (held ++ take 12 more) (subst (λ k. IsHeading k v) none h) (ap (λ k. k ++ take 12 more) none ∙ opens)
-under_way_opening (Rest body n) held more none opens other h = absurd (other body n refl)
-under_way_opening (Whole body) held more none opens other h = absurd h
-under_way_opening Given held more none opens other h = absurd h
-under_way_opening (Faulty f) held more none opens other h = absurd h
+-- before the last byte of what is taken stands the head so far
+pub under_way_head : (held more : List ℕ) (v at : ℕ) → held ≡ [] → at < length more → IsHeading (take at more) v
+    → IsHeading (all_but_last (held ++ take (at + 1) more)) v
+under_way_head held more v at none within h =
+    subst (λ k. IsHeading (all_but_last (k ++ take (at + 1) more)) v) (sym none)
+    (subst (λ k. IsHeading k v) (sym (all_but_last-take more at within)) h)

@@ -121,8 +121,8 @@ impl Framer {
         ensures err { IfErr result (λ f. self.new ≡ failed f) }
         ensures wrong { IfErr result (FaultsFront self.old.held more.now) }
     {
-        let stage = started(self.stage, &mut self.bytes);
-        let count = stride(stage, self.bytes.as_slice(), more);
+        let begun = started(self.stage, &mut self.bytes);
+        let (stage, count) = stride(begun, self.bytes.as_slice(), more);
         self.bytes.extend_from_slice(&more[..count]).unwrap();
         match step(stage, self.bytes.as_slice()) {
             Ok(next) => {

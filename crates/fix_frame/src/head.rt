@@ -1,8 +1,8 @@
 //! The head of a frame, BeginString and BodyLength, judged byte by byte as it comes in.
-ghost use Rattle.std.specs.Prelude.{◌≡◌, ◌-◌, ◌<◌, length, slice_index, MatchResult};
+ghost use Rattle.std.specs.Prelude.{◌≡◌, ◌-◌, ◌<◌, length, take, slice_index, MatchResult};
 ghost use Rattle.fix_frame.specs.Stream.{IsWrong};
 ghost use Rattle.fix_frame.specs.Cuts.{all_but_last};
-ghost use Rattle.fix_frame.specs.Stages.{IsHeading, IsLive};
+ghost use Rattle.fix_frame.specs.Stages.{opening, IsHeading, IsLive};
 
 use crate::fault::FrameFault;
 use crate::field::SOH;
@@ -21,6 +21,27 @@ const LEAST_DIGIT: u16 = 1;
 const LEAST_BODY: u16 = 5;
 
 const MOST_BODY: u16 = 297;
+
+/// The length that digits behind the opening spell, and how many bytes stand before the first that isn't one of them,
+/// or before the last.
+pub(crate) fn length_in_front(bytes: &[u8]) -> (u16, usize)
+    requires more { 12 < length bytes.now }
+    requires opens { take 12 bytes.now ≡ opening }
+    ensures heading { IsHeading (take result.1 bytes.now) result.0 }
+    ensures within { result.1 < length bytes.now }
+{
+    let mut so_far = 0;
+    let mut at = OPENING.len();
+    while at + 1 < bytes.len() && bytes[at].is_ascii_digit() {
+        let length = so_far * 10 + u16::from(bytes[at] - b'0');
+        if length < LEAST_DIGIT || length > MOST_BODY {
+            return (so_far, at);
+        }
+        so_far = length;
+        at += 1;
+    }
+    (so_far, at)
+}
 
 /// The stage after the last of these bytes, where the others begin a head whose digits spell `so_far`.
 pub(crate) fn head_step(so_far: u16, bytes: &[u8]) -> Result<Stage, FrameFault>

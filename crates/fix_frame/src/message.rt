@@ -18,8 +18,9 @@ pub fn whole(bytes: &[u8]) -> Option<Frame<'_>>
             return None;
         }
         let (held, more) = bytes.split_at(at);
-        at += stride(stage, held, more);
-        let Ok(next) = step(stage, &bytes[..at]) else {
+        let (found, count) = stride(stage, held, more);
+        at += count;
+        let Ok(next) = step(found, &bytes[..at]) else {
             return None;
         };
         stage = next;

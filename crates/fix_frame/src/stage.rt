@@ -5,7 +5,7 @@ ghost use Rattle.fix_frame.specs.Cuts.{all_but_last};
 ghost use Rattle.fix_frame.specs.Stages.{IsResting, IsUnderWay, IsLive};
 
 use crate::fault::FrameFault;
-use crate::head::{OPENING, head_step};
+use crate::head::{OPENING, head_step, length_in_front};
 use crate::trailer::{TRAILER, judge};
 
 /// How far a message has come.
@@ -23,25 +23,25 @@ pub(crate) enum Stage {
     Faulty(FrameFault),
 }
 
-/// How many of these bytes the next step takes, behind those that are held: the opening whole or a byte of the head,
-/// and behind the head all up to the message's end.
-pub(crate) fn stride(stage: Stage, held: &[u8], more: &[u8]) -> usize
+/// How many of these bytes the next step takes, behind those that are held, and the stage at which it finds the last of
+/// them: all of a head or a byte of it, and behind the head all up to the message's end.
+pub(crate) fn stride(stage: Stage, held: &[u8], more: &[u8]) -> (Stage, usize)
     requires some { 0 < length more.now }
     requires under_way { IsUnderWay stage held.now }
-    ensures some { 0 < result }
-    ensures within { result ≤ length more.now }
-    ensures room { length held.now + result ≤ 320 }
-    ensures under_way { IsUnderWay stage (all_but_last (held.now ++ take result more.now)) }
+    ensures some { 0 < result.1 }
+    ensures within { result.1 ≤ length more.now }
+    ensures room { length held.now + result.1 ≤ 320 }
+    ensures under_way { IsUnderWay result.0 (all_but_last (held.now ++ take result.1 more.now)) }
 {
     if let Stage::Rest(body, count) = stage {
-        return more
-            .len()
-            .min(body + usize::from(count) + TRAILER - held.len());
+        let end = body + usize::from(count) + TRAILER;
+        return (stage, more.len().min(end - held.len()));
     }
-    if held.is_empty() && more.starts_with(OPENING) {
-        return OPENING.len();
+    if held.is_empty() && more.len() > OPENING.len() && more.starts_with(OPENING) {
+        let (length, at) = length_in_front(more);
+        return (Stage::Head(length), at + 1);
     }
-    1
+    (stage, 1)
 }
 
 /// The stage after the last of these bytes.

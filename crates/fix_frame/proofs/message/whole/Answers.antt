@@ -1,6 +1,20 @@
 -- Each exit says why the bytes are no frame.
+use Rattle.std.proofs.Common.{◌+◌, arith}
+use Rattle.std.proofs.Math.Seq.{take-add}
+use Rattle.std.proofs.lemmas.List.{length-take}
 use Rattle.fix_frame.proofs.MessageLemmas.{frame_before, wrong_before, not_partial}
 use Rattle.fix_frame.proofs.message.whole.Goals as goal
+
+pub step-requires : goal.step-requires
+step-requires c =
+    let bytes = c.args.bytes.now in
+    let at = c.loop-at.at in
+    let count = c.stride-found.result.1 in
+    let due = rw (c.split_at.ensures.front, c.split_at.ensures.back) at c.stride-found.ensures.under_way in
+    record {
+      some = omega (arith, c.stride-found.ensures.some, length-take (at + count) bytes);
+      under_way = rw (take-add at count bytes) due;
+    }
 
 pub returns-in-Whole : goal.returns-in-Whole
 returns-in-Whole c = λ fields is.

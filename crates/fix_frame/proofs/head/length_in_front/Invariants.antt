@@ -1,0 +1,14 @@
+-- So far the digits begin a head.
+use Rattle.std.proofs.Common.{◌<◌, ◌≤◌, ◌-◌, length, take}
+use Rattle.fix_frame.specs.Stages.{IsHeading}
+use Rattle.fix_frame.proofs.head.length_in_front.Given as goal
+
+abbrev pub invariant-loop-at : goal.invariant-loop-at
+invariant-loop-at l = record {
+  late : 12 ≤ l.at;
+  within : l.at < length l.bytes;
+  heading : IsHeading (take l.at l.bytes) l.so_far;
+}
+
+abbrev pub decreases-loop-at : goal.decreases-loop-at
+decreases-loop-at l = length l.bytes - l.at
