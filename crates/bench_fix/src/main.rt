@@ -9,7 +9,7 @@ mod writing;
 
 use crate::fault::Fault;
 use crate::rate::Rate;
-use crate::reading::{QUANTITY, read_orders};
+use crate::reading::{SUM, read_orders};
 use crate::words::read_messages;
 use crate::writing::{ACKNOWLEDGEMENT, acknowledgement, write_reports};
 use fix_frame::Framer;
@@ -26,7 +26,7 @@ fn measure<R: Env + Clock + Print + Eprint + AllocGlobal>(rt: &R) -> Result<(), 
 
     let mut framer = Framer::new(rt.alloc())?;
     let begun = Instant::now(rt)?;
-    let quantities = read_orders(&mut framer, messages);
+    let sum = read_orders(&mut framer, messages);
     let parse = Rate::of(messages, begun.elapsed(rt)?);
 
     let output = acknowledgement();
@@ -36,7 +36,7 @@ fn measure<R: Env + Clock + Print + Eprint + AllocGlobal>(rt: &R) -> Result<(), 
     let report = Rate::of(messages, begun.elapsed(rt)?);
 
     let all = u64::from(messages);
-    if quantities != all * QUANTITY
+    if sum != all.wrapping_mul(SUM)
         || bytes != all * ACKNOWLEDGEMENT.len() as u64
         || !out.starts_with(ACKNOWLEDGEMENT)
     {
@@ -44,7 +44,7 @@ fn measure<R: Env + Clock + Print + Eprint + AllocGlobal>(rt: &R) -> Result<(), 
     }
     println!(rt; "fix.parse.project: {parse}")?;
     println!(rt; "fix.report.project: {report}")?;
-    eprintln!(rt; "quantities {quantities}, bytes {bytes}")?;
+    eprintln!(rt; "sum {sum}, bytes {bytes}")?;
     Ok(())
 }
 

@@ -1,22 +1,22 @@
 //! An order, framed and decoded again and again.
 use fix_frame::Framer;
 use fix_orders::command_of;
-use venue_model::Command;
+use venue_model::{Command, Side, TimeInForce};
 
 /// The order, to buy 100 ABC at 50, as it comes in.
 const ORDER: &[u8; 125] =
     b"8=FIX.4.4\x019=102\x0135=D\x0149=C1\x0156=VENUE\x0134=2\x0152=20250102-09:30:00\x0111=1\x0155=ABC\x0154=1\x0160=20250102-09:30:00\x0138=100\x0140=2\x0144=50\x0110=098\x01";
 
-/// OrderQty (38) of the order.
-pub const QUANTITY: u64 = 100;
+/// The sum of what is read of the order: SendingTime, ClOrdID, Price, OrderQty, and how long Symbol is.
+pub const SUM: u64 = 20_250_102_093_000 + 1 + 50 + 100 + 3;
 
-/// Frames and decodes the order so many times, and answers the sum of the quantities that were read.
+/// Frames and decodes the order so many times, and answers the sum of all that was read.
 pub fn read_orders(framer: &mut Framer, copies: u32) -> u64 {
-    let mut quantities = 0u64;
+    let mut sum = 0u64;
     for _ in 0..copies {
-        quantities = quantities.wrapping_add(quantity_of(&read_order(framer)));
+        sum = sum.wrapping_add(sum_of(&read_order(framer)));
     }
-    quantities
+    sum
 }
 
 /// Frames and decodes the order once.
@@ -30,10 +30,17 @@ fn read_order(framer: &mut Framer) -> Command {
     }
 }
 
-/// OrderQty (38) of a new order; of anything else nothing.
-fn quantity_of(command: &Command) -> u64 {
+/// The sum of what a new order to buy has, so that all of it is read; of anything else nothing.
+fn sum_of(command: &Command) -> u64 {
     match command {
-        Command::New { order, .. } => order.quantity,
+        Command::New {
+            sending_time,
+            order,
+        } if order.side == Side::Buy && order.time_in_force == TimeInForce::Day => sending_time
+            .wrapping_add(order.cl_ord_id)
+            .wrapping_add(order.price)
+            .wrapping_add(order.quantity)
+            .wrapping_add(order.symbol.as_bytes().len() as u64),
         _ => 0,
     }
 }
