@@ -1,5 +1,5 @@
 -- A time is the text of its number.
-use Rattle.std.proofs.Common.{◌≡◌, ℕ, zero, suc, ◌+◌, ◌*◌, ◌/◌, ◌%◌, true, false, IsTrue, List, [], ◌∷◌, ◌++◌, length, take, get_or, codes, sym, ap, ◌∙◌, refl, arith}
+use Rattle.std.proofs.Common.{◌≡◌, ℕ, zero, suc, ◌+◌, ◌-◌, ◌*◌, ◌/◌, ◌%◌, ◌≤◌, ◌<◌, Bool, true, false, IsTrue, List, [], ◌∷◌, ◌++◌, length, take, get_or, codes, sym, ap, ◌∙◌, refl, arith, ◌==◌}
 use Rattle.std.specs.List.{list_all, filter, zip}
 use Rattle.std.specs.Char.{digit_value}
 use Rattle.std.proofs.lemmas.Bool.{and_parts}
@@ -7,7 +7,9 @@ use Rattle.std.proofs.lemmas.Bool.Decides.{nat_tests}
 use Rattle.std.proofs.lemmas.Int.Digits.{digits_value_push}
 use Rattle.std.proofs.lemmas.List.{append_assoc, take_all, take_more, length-take-le, nil_from_length}
 use Rattle.std.proofs.lemmas.List.Elements.{filter-append}
-use Rattle.std.proofs.lemmas.List.Folds.{list_all-append}
+use Rattle.std.proofs.lemmas.List.Folds.{list_all-append, list_all_at}
+use Rattle.std.proofs.lemmas.Slice.Zip.{get_or-zip, length-zip}
+use Rattle.std.proofs.lemmas.Str.{digit_value_digit}
 use Rattle.fix_frame.specs.Ascii.{is_digit}
 use Rattle.fix_orders.specs.Formats.{value_of, fits, time_shape, is_time, number_of_time, last_digits, time_text}
 use Rattle.fix_orders.proofs.NumberLemmas.{digit_is, digit_range, filter_digits}
@@ -95,6 +97,79 @@ clock_law d h i m n s t long all is_h is_i is_m is_n is_s is_t =
     ∙ ap (λ l. joined d (h ∷ i ∷ []) (m ∷ n ∷ []) l) seconds_are.1
     ∙ simp append_assoc
 
+-- the digits of a time, in front of one another
+time_digits : (a b c d e f g h x i j u k l w m n : ℕ)
+    → IsTrue (is_time (a ∷ b ∷ c ∷ d ∷ e ∷ f ∷ g ∷ h ∷ x ∷ i ∷ j ∷ u ∷ k ∷ l ∷ w ∷ m ∷ n ∷ []))
+    → filter is_digit (a ∷ b ∷ c ∷ d ∷ e ∷ f ∷ g ∷ h ∷ x ∷ i ∷ j ∷ u ∷ k ∷ l ∷ w ∷ m ∷ n ∷ [])
+    ≡ a ∷ b ∷ c ∷ d ∷ e ∷ f ∷ g ∷ h ∷ i ∷ j ∷ k ∷ l ∷ m ∷ n ∷ []
+time_digits a b c d e f g h x i j u k l w m n is =
+    let date = a ∷ b ∷ c ∷ d ∷ e ∷ f ∷ g ∷ h ∷ [] in
+    let clock = x ∷ i ∷ j ∷ u ∷ k ∷ l ∷ w ∷ m ∷ n ∷ [] in
+    let shaped : list_all fits (zip time_shape (date ++ clock)) ≡ true = is in
+    let parts = and_parts (list_all is_digit date) (list_all fits (zip (codes "-00:00:00") clock))
+    (sym (list_all-append fits (zip (codes "00000000") date) (zip (codes "-00:00:00") clock)) ∙ shaped) in
+    let each = fitted (codes "-00:00:00") clock parts.1 in
+    let x_is : x ≡ 45 = grind (arith, nat_tests, each.0) in
+    let u_is : u ≡ 58 = grind (arith, nat_tests, each.1.1.1.0) in
+    let w_is : w ≡ 58 = grind (arith, nat_tests, each.1.1.1.1.1.1.0) in
+    filter-append is_digit date clock ∙ ap (λ front. front ++ filter is_digit clock) (filter_digits date parts.0)
+    ∙ ap (λ back. date ++ back) (clock_digits x i j u k l w m n (ap is_digit x_is) each.1.0 each.1.1.0 (ap is_digit u_is) each.1.1.1.1.0 each.1.1.1.1.1.0
+    (ap is_digit w_is) each.1.1.1.1.1.1.1.0 each.1.1.1.1.1.1.1.1.0)
+
+-- where a time has a digit
+right_or_not : (b : Bool) → (b ≡ false → ⊥) → b ≡ true
+right_or_not true isnt = refl
+right_or_not false isnt = absurd (isnt refl)
+
+pub time_digit : (time : List ℕ) (at : ℕ) → IsTrue (is_time time) → at < 17 → get_or time_shape at 0 ≡ 48
+    → (48 ≤ get_or time at 0) × (get_or time at 0 ≤ 57)
+time_digit time at is within shape =
+    let long = length_time time is in
+    let pairs = zip time_shape time in
+    let shape_long : length time_shape ≡ 17 = refl in
+    let many : length pairs ≡ 17 = omega (arith, length-zip time_shape time, long, shape_long) in
+    let parts = and_parts (length time == 17) (list_all fits pairs) is in
+    let here : get_or pairs at (0, 0) ≡ (48, get_or time at 0) =
+    get_or-zip time_shape time at (0, 0) within (omega (arith, long)) ∙ ap (λ s. (s, get_or time at 0)) shape in
+    let fit : fits (get_or pairs at (0, 0)) ≡ true = right_or_not _ (λ wrong. let none = list_all_at fits pairs at (0, 0) (omega (arith, many)) wrong in cc (none, parts.1)) in
+    digit_range (get_or time at 0) (sym (ap fits here) ∙ fit)
+
+-- two digits more
+pair_more : (p : List ℕ) (a b : ℕ) → (48 ≤ a) × (a ≤ 57) → (48 ≤ b) × (b ≤ 57)
+    → value_of (p ++ a ∷ b ∷ []) ≡ value_of p * 100 + ((a - 48) * 10 + (b - 48))
+pair_more p a b is_a is_b =
+    let whole : p ++ a ∷ b ∷ [] ≡ (p ++ a ∷ []) ++ b ∷ [] = sym (append_assoc p (a ∷ []) (b ∷ [])) in
+    let last = digits_value_push 10 (p ++ a ∷ []) b in
+    let first = digits_value_push 10 p a in
+    ap value_of whole ∙ omega (arith, last, first, digit_value_digit a is_a, digit_value_digit b is_b)
+
+first_pair : (a b : ℕ) → (48 ≤ a) × (a ≤ 57) → (48 ≤ b) × (b ≤ 57) → value_of (a ∷ b ∷ []) ≡ (a - 48) * 10 + (b - 48)
+first_pair a b is_a is_b = let none : value_of [] ≡ 0 = refl in pair_more [] a b is_a is_b ∙ omega (arith, none)
+
+-- the number of two digits of a time
+abbrev pub two_of : List ℕ → ℕ → ℕ
+two_of time at = (get_or time at 0 - 48) * 10 + (get_or time (at + 1) 0 - 48)
+
+-- the number of a time, two digits after two digits
+pub time_number : (time : List ℕ) → IsTrue (is_time time)
+    → number_of_time time ≡ (((((two_of time 0 * 100 + two_of time 2) * 100 + two_of time 4) * 100 + two_of time 6) * 100
+    + two_of time 9) * 100 + two_of time 12) * 100 + two_of time 15
+time_number (a ∷ b ∷ c ∷ d ∷ e ∷ f ∷ g ∷ h ∷ x ∷ i ∷ j ∷ u ∷ k ∷ l ∷ w ∷ m ∷ n ∷ []) is =
+    let time = a ∷ b ∷ c ∷ d ∷ e ∷ f ∷ g ∷ h ∷ x ∷ i ∷ j ∷ u ∷ k ∷ l ∷ w ∷ m ∷ n ∷ [] in
+    let at = λ (p : ℕ) (h : p < 17) (s : get_or time_shape p 0 ≡ 48). time_digit time p is h s in
+    let v1 = first_pair a b (at 0 (omega arith) refl) (at 1 (omega arith) refl) in
+    let v2 = pair_more (a ∷ b ∷ []) c d (at 2 (omega arith) refl) (at 3 (omega arith) refl) in
+    let v3 = pair_more (a ∷ b ∷ c ∷ d ∷ []) e f (at 4 (omega arith) refl) (at 5 (omega arith) refl) in
+    let v4 = pair_more (a ∷ b ∷ c ∷ d ∷ e ∷ f ∷ []) g h (at 6 (omega arith) refl) (at 7 (omega arith) refl) in
+    let v5 = pair_more (a ∷ b ∷ c ∷ d ∷ e ∷ f ∷ g ∷ h ∷ []) i j (at 9 (omega arith) refl) (at 10 (omega arith) refl) in
+    let v6 = pair_more (a ∷ b ∷ c ∷ d ∷ e ∷ f ∷ g ∷ h ∷ i ∷ j ∷ []) k l (at 12 (omega arith) refl) (at 13 (omega arith) refl) in
+    let v7 = pair_more (a ∷ b ∷ c ∷ d ∷ e ∷ f ∷ g ∷ h ∷ i ∷ j ∷ k ∷ l ∷ []) m n (at 15 (omega arith) refl) (at 16 (omega arith) refl) in
+    ap value_of (time_digits a b c d e f g h x i j u k l w m n is) ∙ v7
+    ∙ ap (λ v. v * 100 + two_of time 15) (v6 ∙ ap (λ v. v * 100 + two_of time 12) (v5
+    ∙ ap (λ v. v * 100 + two_of time 9) (v4 ∙ ap (λ v. v * 100 + two_of time 6) (v3
+    ∙ ap (λ v. v * 100 + two_of time 4) (v2 ∙ ap (λ v. v * 100 + two_of time 2) v1)))))
+time_number time is = absurd (omega (arith, length_time time is))
+
 -- a time is the text of its number
 pub time_law : (time : List ℕ) → IsTrue (is_time time) → time_text (number_of_time time) ≡ time
 time_law (a ∷ b ∷ c ∷ d ∷ e ∷ f ∷ g ∷ h ∷ x ∷ i ∷ j ∷ u ∷ k ∷ l ∷ w ∷ m ∷ n ∷ []) is =
@@ -107,10 +182,7 @@ time_law (a ∷ b ∷ c ∷ d ∷ e ∷ f ∷ g ∷ h ∷ x ∷ i ∷ j ∷ u �
     let x_is : x ≡ 45 = grind (arith, nat_tests, each.0) in
     let u_is : u ≡ 58 = grind (arith, nat_tests, each.1.1.1.0) in
     let w_is : w ≡ 58 = grind (arith, nat_tests, each.1.1.1.1.1.1.0) in
-    let digits : filter is_digit (date ++ clock) ≡ date ++ i ∷ j ∷ k ∷ l ∷ m ∷ n ∷ [] =
-    filter-append is_digit date clock ∙ ap (λ front. front ++ filter is_digit clock) (filter_digits date parts.0)
-    ∙ ap (λ back. date ++ back) (clock_digits x i j u k l w m n (ap is_digit x_is) each.1.0 each.1.1.0 (ap is_digit u_is) each.1.1.1.1.0 each.1.1.1.1.1.0
-    (ap is_digit w_is) each.1.1.1.1.1.1.1.0 each.1.1.1.1.1.1.1.1.0) in
+    let digits = time_digits a b c d e f g h x i j u k l w m n is in
     ap (λ ds. time_text (value_of ds)) digits
     ∙ clock_law date i j k l m n refl parts.0 each.1.0 each.1.1.0 each.1.1.1.1.0 each.1.1.1.1.1.0 each.1.1.1.1.1.1.1.0 each.1.1.1.1.1.1.1.1.0
     ∙ ap (λ y. date ++ y ∷ i ∷ j ∷ 58 ∷ k ∷ l ∷ 58 ∷ m ∷ n ∷ []) (sym x_is)

@@ -1,5 +1,5 @@
 //! Times: SendingTime (52) and TransactTime (60) as 17 bytes, and as a number of 14 digits.
-ghost use Rattle.std.specs.Prelude.{◌≡◌, ◌+◌, ◌≤◌, IsTrue, length};
+ghost use Rattle.std.specs.Prelude.{◌≡◌, ◌+◌, ◌-◌, ◌*◌, ◌<◌, ◌≤◌, IsTrue, length, slice_index};
 ghost use Rattle.std.specs.List.{list_all, zip};
 ghost use Rattle.fix_orders.specs.Formats.{time_shape, is_time, number_of_time, time_text, last_digits, fits};
 ghost use Rattle.fix_orders.specs.Writing.{Puts};
@@ -44,13 +44,22 @@ pub fn number_of_time(time: &[u8]) -> u64
     ensures value { result ≡ number_of_time time.now }
     ensures back { time_text result ≡ time.now }
 {
-    let mut number = 0;
-    for byte in time {
-        if is_digit(*byte) {
-            number = number * 10 + (*byte - b'0') as u64;
-        }
-    }
-    number
+    let year = two_at(time, 0) * 100 + two_at(time, 2);
+    let date = (year * 100 + two_at(time, 4)) * 100 + two_at(time, 6);
+    let minutes = two_at(time, 9) * 100 + two_at(time, 12);
+    (date * 10_000 + minutes) * 100 + two_at(time, 15)
+}
+
+/// The number of the two digits of a time at this place.
+fn two_at(time: &[u8], at: usize) -> u64
+    requires time { IsTrue (is_time time.now) }
+    requires within { at + 1 < 17 }
+    requires tens { slice_index time_shape at ≡ 48 }
+    requires ones { slice_index time_shape (at + 1) ≡ 48 }
+    ensures value { result ≡ (slice_index time.now at - 48) * 10 + (slice_index time.now (at + 1) - 48) }
+    ensures small { result < 100 }
+{
+    (time[at] - b'0') as u64 * 10 + (time[at + 1] - b'0') as u64
 }
 
 /// The time of a number of 14 digits.
