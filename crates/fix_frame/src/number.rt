@@ -7,6 +7,9 @@ ghost use Rattle.fix_frame.specs.Cuts.{IsTag, EndsInSoh, BeginsNoTag};
 /// The greatest tag that has room for another digit.
 const MOST_FRONT: u32 = 9_999;
 
+/// What the bytes of two digits add up to above their number.
+const TWO_ZEROS: u32 = 528;
+
 /// The tag at the front, 1 to 99,999 and no zero in front, and what stands behind its equals sign. Almost all tags
 /// have two digits, which are read without a loop.
 pub(crate) fn read_tag(bytes: &[u8]) -> Option<(u32, &[u8])>
@@ -16,7 +19,7 @@ pub(crate) fn read_tag(bytes: &[u8]) -> Option<(u32, &[u8])>
 {
     match bytes {
         [tens @ b'1'..=b'9', ones @ b'0'..=b'9', b'=', behind @ ..] => {
-            let tag = u32::from(*tens - b'0') * 10 + u32::from(*ones - b'0');
+            let tag = u32::from(*tens) * 10 + u32::from(*ones) - TWO_ZEROS;
             Some((tag, behind))
         }
         _ => read_any_tag(bytes),
