@@ -49,7 +49,8 @@ impl<'a> Iterator for Fields<'a> {
     }
 }
 
-/// How many bytes stand before the first SOH.
+/// How many bytes stand before the first SOH. Two are looked at a turn: values are short, and this is where a message's
+/// bytes are read one by one.
 fn find_soh(bytes: &[u8]) -> usize
     requires { EndsInSoh bytes.now }
     ensures within { result < length bytes.now }
@@ -58,7 +59,10 @@ fn find_soh(bytes: &[u8]) -> usize
 {
     let mut at = 0;
     while bytes[at] != SOH {
-        at += 1;
+        if bytes[at + 1] == SOH {
+            return at + 1;
+        }
+        at += 2;
     }
     at
 }
