@@ -8,7 +8,7 @@ use Rattle.std.proofs.lemmas.Bool.Decides.{nat_tests}
 use Rattle.std.proofs.lemmas.Int.Digits.{digits_value_push, digits_value-lt}
 use Rattle.std.proofs.lemmas.List.{take_more, length-take}
 use Rattle.std.proofs.lemmas.List.Elements.{filter_more}
-use Rattle.std.proofs.lemmas.List.Folds.{list_all_more}
+use Rattle.std.proofs.lemmas.List.Folds.{list_all_more, list_all_at}
 use Rattle.std.proofs.lemmas.Str.{digit_value_digit}
 use Rattle.std.proofs.Math.Nat.{pow-le-pow_right}
 use Rattle.fix_frame.specs.Ascii.{is_digit}
@@ -89,3 +89,13 @@ value_fits bytes i few = value_small (take i bytes) 17 (omega (arith, length-tak
 -- one more byte of some, of which the digits count
 pub value_step : (n v b d : ℕ) → n ≡ v → d + 48 ≡ b → n * 10 + (b - 48) ≡ v * 10 + d
 value_step n v b d is digit = omega arith
+
+-- each of digits is one
+right_or_not : (b : Bool) → (b ≡ false → ⊥) → b ≡ true
+right_or_not true isnt = refl
+right_or_not false isnt = absurd (isnt refl)
+
+pub digit_among : (digits : List ℕ) (i : ℕ) → list_all is_digit digits ≡ true → i < length digits
+    → is_digit (get_or digits i 0) ≡ true
+digit_among digits i all within =
+    right_or_not _ (λ isnt. let none = list_all_at is_digit digits i 0 within isnt in cc (none, all))

@@ -13,7 +13,7 @@ ghost use Rattle.fix_orders.specs.Asking.{AreRight, asked_in, new_in, cancel_in,
 use crate::faults::first_fault;
 use crate::fields::OrderFields;
 use crate::header::read_header;
-use crate::number::read_number;
+use crate::number::read_digits;
 use crate::tags::OrderTag;
 use crate::time::number_of_time;
 use crate::values::Values;
@@ -151,10 +151,7 @@ fn number_at(kind: RefMsgType, values: &Values, tag: OrderTag) -> u64
     requires number { IsTrue (is_short (format_of (number_of tag))) }
     ensures { result ≡ value_of (value_in values.now tag) }
 {
-    match read_number(values.get(tag)) {
-        Some(number) => number,
-        None => unreachable!(),
-    }
+    read_digits(values.get(tag))
 }
 
 /// Symbol (55).

@@ -1,5 +1,6 @@
 //! Numbers as FIX spells them: digits, the first not 0 unless it stands alone.
-ghost use Rattle.std.specs.Prelude.{◌≡◌, min, IsTrue, IsFalse, MatchOption};
+ghost use Rattle.std.specs.Prelude.{◌≡◌, ◌<◌, min, true, IsTrue, IsFalse, MatchOption};
+ghost use Rattle.std.specs.List.{list_all};
 ghost use Rattle.fix_frame.specs.Ascii.{is_digit};
 ghost use Rattle.fix_orders.specs.Formats.{is_number, value_of};
 
@@ -29,4 +30,17 @@ pub fn read_number(value: &[u8]) -> Option<u64>
         number = (number * 10 + (*byte - b'0') as u64).min(MOST);
     }
     Some(number)
+}
+
+/// The number that these digits are.
+pub fn read_digits(digits: &[u8]) -> u64
+    requires each { list_all is_digit digits.now ≡ true }
+    requires fits { value_of digits.now < MOST }
+    ensures { result ≡ value_of digits.now }
+{
+    let mut number = 0;
+    for byte in digits {
+        number = number * 10 + (*byte - b'0') as u64;
+    }
+    number
 }
