@@ -55,12 +55,12 @@ module _ (old new : Front) (desk desk' : Ledger) (is_open : old.session.closing 
   abbrev Below : List Load → Type 0
   Below ls = (value : ℕ) × (more : List Load) × (ls ≡ load_of claim value ∷ more) × (value ≡ 2 ^ 48 → new.session.closing ≡ Some reason.Exhausted)
 
-  claimed_below : (ls : List Load) → IsClaimed desk.rows ls → Below ls
-  claimed_below ls (s, p, is, room, few) = (s, load_of processed p ∷ load_of claim s ∷ [], is, λ most. absurd (omega (arith, most, few)))
+  claimed_below : (ls : List Load) → IsClaimed desk.rows desk.loads ls → Below ls
+  claimed_below ls (s, p, (more, sees, is, room, few)) = (s, more ++ load_of claim s ∷ [], is, λ most. absurd (omega (arith, most, few)))
 
-  refused_below : (ls : List Load) → IsRefused desk.rows ls → Below ls
+  refused_below : (ls : List Load) → IsRefused desk.rows desk.loads ls → Below ls
   refused_below ls (inl (s, p, is, full, few)) = (s, load_of processed p ∷ [], is, λ most. absurd (omega (arith, most, few)))
-  refused_below ls (inr (s, p, t, is, room, few, late)) = (s, load_of processed p ∷ load_of claim t ∷ [], is, λ most. absurd (omega (arith, most, few)))
+  refused_below ls (inr (s, p, t, (more, sees, is, room, few, late))) = (s, more ++ load_of claim t ∷ [], is, λ most. absurd (omega (arith, most, few)))
 
   -- it was tried to publish the message held
   pub publish-hears : (answer : TryPublish) → Tries old.session new.session desk desk' answer →

@@ -21,4 +21,5 @@ pub mod OutputSymbols
 pub mod Carried
 pub mod TakenLemmas
 pub mod SeatLemmas
+pub mod PublishLemmas
 pub mod DeliversLemmas

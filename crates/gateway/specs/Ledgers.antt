@@ -9,6 +9,7 @@ use Rattle.venue_model.specs.declared.outputs.OutputType.TheVariants.{ExecutionR
 use Rattle.ring_words.specs.declared.view.Load.{Load}
 use Rattle.ring_words.specs.Places.{claim, processed, marshalled}
 use Rattle.ring_words.specs.Seats.{load_of}
+use Rattle.sequencer.specs.Claims.{last_processed, SeesRoom}
 use Rattle.sequencer.specs.declared.take.Head.{Head}
 use Rattle.sequencer.specs.declared.take.Take.{Take}
 use Rattle.sequencer.specs.declared.take.Take.TheVariants.{Mine, Passed, Nothing}
@@ -29,14 +30,18 @@ abbrev pub loading : Ledger → List Load → Ledger
 loading l ls = record l { loads = l.loads ++ ls }
 
 -- A claim in a ring of n rows came too early: the claim word was s, then the processed word was p, and all rows from p on were claimed. Or too late: there
--- was room for s, but then the claim word was t, above s. Sequences are left
-abbrev pub IsRefused : ℕ → List Load → Type 0
-IsRefused n ls = ((s p : ℕ) × (ls ≡ load_of claim s ∷ load_of processed p ∷ []) × (s ≡ p + n) × (s < 2 ^ 48))
-    ⊎ ((s p t : ℕ) × (ls ≡ load_of claim s ∷ load_of processed p ∷ load_of claim t ∷ []) × (s < p + n) × (s < 2 ^ 48) × (s < t))
+-- was room for s, by the processed value that the earlier loads had found last or by one loaded for it, but then the claim word was t, above s.
+-- Sequences are left
+abbrev pub IsRefused : ℕ → List Load → List Load → Type 0
+IsRefused n earlier ls = ((s p : ℕ) × (ls ≡ load_of claim s ∷ load_of processed p ∷ []) × (s ≡ p + n) × (s < 2 ^ 48))
+    ⊎ ((s p t : ℕ) × ((more : List Load) × SeesRoom n (last_processed earlier) s p more × (ls ≡ load_of claim s ∷ more ++ load_of claim t ∷ [])
+    × (s < p + n) × (s < 2 ^ 48) × (s < t)))
 
--- a sequence was claimed: the claim word was s, below 2 ^ 48, then the processed word was some p that left room, and then the claim word still was s
-abbrev pub IsClaimed : ℕ → List Load → Type 0
-IsClaimed n ls = (s p : ℕ) × (ls ≡ load_of claim s ∷ load_of processed p ∷ load_of claim s ∷ []) × (s < p + n) × (s < 2 ^ 48)
+-- a sequence was claimed: the claim word was s, below 2 ^ 48; the processed value that the earlier loads had found last, or one loaded for it, was
+-- some p that left room; and then the claim word still was s
+abbrev pub IsClaimed : ℕ → List Load → List Load → Type 0
+IsClaimed n earlier ls = (s p : ℕ) × ((more : List Load) × SeesRoom n (last_processed earlier) s p more
+    × (ls ≡ load_of claim s ∷ more ++ load_of claim s ∷ []) × (s < p + n) × (s < 2 ^ 48))
 
 -- no sequence was left to claim
 abbrev pub IsExhausted : List Load → Type 0
@@ -44,8 +49,8 @@ IsExhausted ls = ls ≡ load_of claim (2 ^ 48) ∷ []
 
 -- what a try to publish with this answer tells
 abbrev pub PublishTells : Ledger → Ledger → List ℕ → TryPublish → Type 0
-PublishTells old new message Done = (ls : List Load) × IsClaimed old.rows ls × (new ≡ record (loading old ls) { published = old.published ++ message ∷ [] })
-PublishTells old new message Refused = (ls : List Load) × IsRefused old.rows ls × (new ≡ loading old ls)
+PublishTells old new message Done = (ls : List Load) × IsClaimed old.rows old.loads ls × (new ≡ record (loading old ls) { published = old.published ++ message ∷ [] })
+PublishTells old new message Refused = (ls : List Load) × IsRefused old.rows old.loads ls × (new ≡ loading old ls)
 PublishTells old new message Exhausted = (ls : List Load) × IsExhausted ls × (new ≡ loading old ls)
 
 -- MsgType (35)

@@ -86,7 +86,7 @@ pub record Takes (on : Bool) (old new : Front) (desk desk_after : Ledger) (hande
 -- the first words loaded since then show that a claim was refused, or that no sequence was left
 abbrev pub WasRefused : Ledger → Ledger → Type 0
 WasRefused desk desk_after =
-    (ls : List Load) × (IsRefused desk.rows ls ⊎ IsExhausted ls) × (rest : List Load) × (desk_after.loads ≡ desk.loads ++ (ls ++ rest))
+    (ls : List Load) × (IsRefused desk.rows desk.loads ls ⊎ IsExhausted ls) × (rest : List Load) × (desk_after.loads ≡ desk.loads ++ (ls ++ rest))
 
 -- the first word loaded since then is the claim word, and no sequence was left
 abbrev pub WasExhausted : Ledger → Ledger → Type 0

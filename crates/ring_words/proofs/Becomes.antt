@@ -1,11 +1,14 @@
 -- A seat whose one person changed is in use as before.
-use Rattle.std.proofs.Common.{◌≡◌, ℕ, List, [], ◌∷◌, refl, ap, sym, subst, ◌∙◌}
+use Rattle.std.proofs.Common.{◌≡◌, ◌≢◌, ℕ, List, [], ◌∷◌, Option, None, Some, refl, ap, sym, subst, ◌∙◌}
 use Rattle.ring_words.specs.declared.view.Role.{Role}
+use Rattle.ring_words.specs.declared.view.Role.TheVariants.{Gateway}
 use Rattle.ring_words.specs.declared.view.Person.{Person}
 use Rattle.atomic_table.specs.Seated.{TableId}
 use Rattle.ring_words.specs.declared.view.View.{View}
-use Rattle.ring_words.specs.Seats.{person, IsAlone, together}
+use Rattle.ring_words.specs.Places.{processed}
+use Rattle.ring_words.specs.Seats.{person, IsAlone, together, looked, last_of}
 use Rattle.ring_words.specs.At.{Opened, At, IsAt, Steps, seat_of}
+use Rattle.ring_words.specs.SeatLaws.{last_stays}
 use Rattle.ring_words.specs.Meeting.{first_alone, second_alone}
 use Rattle.ring_words.specs.Steps.{Seated, Became}
 
@@ -22,6 +25,17 @@ module _ {S L : Type 0} (me me' : Seated S L) (q : Person) where
   -- and with the rest of what a seat keeps
   pub still_sits : {Rest : Type 0} → Became me q me' → me.1 ≡ [] → (role : Role) → q.role ≡ role → Rest → IsAlone me'.0 × ((me'.1 ≡ []) × (((person me'.0).role ≡ role) × Rest))
   still_sits is bare role same more = (still_alone is, (still_bare is bare, (still_role is role same, more)))
+
+-- a gateway's seat whose one person became q keeps what it keeps: its number, its count, and the processed value that was loaded last
+pub gateway_sits : {S L Numbered : Type 0} (me me' : Seated S L) (q : Person) → Became me q me' → me.1 ≡ [] → (number : ℕ) → q.role ≡ Gateway number → Numbered → (count : ℕ) → count ≡ q.own
+    → (kept : Option ℕ) → kept ≡ last_of processed None q.loads
+    → IsAlone me'.0 × ((me'.1 ≡ []) × (((person me'.0).role ≡ Gateway number) × (Numbered × ((count ≡ (person me'.0).own) × ((kept ≡ last_of processed None (person me'.0).loads) × Unit {0})))))
+gateway_sits {S} {L} me me' q is bare number role numbered count own kept last =
+    still_sits me me' q is bare (Gateway number) role (numbered, (own ∙ sym (ap (λ (z : Seated S L). (person z.0).own) is), (last ∙ sym (ap (λ (z : Seated S L). last_of processed None (person z.0).loads) is), tt)))
+
+-- that value stays where another word is loaded
+pub kept_behind : (p : Person) (j x : ℕ) (kept : Option ℕ) → j ≢ processed → kept ≡ last_of processed None p.loads → kept ≡ last_of processed None (looked p j x).loads
+kept_behind p j x kept ne last = last ∙ sym (last_stays processed j None x p.loads ne)
 
 -- Two seats came together, their persons became p and q, and the seat was split again: the first has p, the second q, each beside what the first had.
 module _ {S L : Type 0} (v w : View L) (came both cut : Seated S L) (p q : Person) (a : came ≡ (together v w, [])) (b : both ≡ (record came.0 { people = p ∷ q ∷ [] }, came.1)) where

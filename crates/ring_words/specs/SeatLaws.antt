@@ -1,19 +1,52 @@
 -- Laws on a seat behind a step: what its person loaded and knows, and whose seat it is.
-use Rattle.std.proofs.Common.{◌≡◌, ◌≢◌, ◌∙◌, List, inl, inr, ap, ◌++◌, cond, ℕ, ◌+◌, ◌<◌, ◌≤◌, [], ◌∷◌, eqb, length, refl, sym, arith}
+use Rattle.std.proofs.Common.{◌≡◌, ◌≢◌, ◌⊎◌, ◌∙◌, List, Option, None, Some, inl, inr, ap, ◌++◌, cond, ℕ, suc, ◌+◌, ◌<◌, ◌≤◌, [], ◌∷◌, eqb, length, refl, sym, subst, arith}
 use Rattle.std.proofs.lemmas.List.{append-nil}
 use Rattle.std.proofs.lemmas.Bool.{eq-eqb, ne_eqb, cond-true, cond-false}
+use Rattle.std.proofs.lemmas.Option.{same_Some}
+use mathlib.Core.Option.{some}
+use native.Mathlib.Decide.{ℕ_discrete}
+use lib.ListN.{get_elem?}
 use Rattle.venue_model.specs.History.{Message}
 use Rattle.venue_model.specs.ListLaws.{at_longer, at_behind}
 use Rattle.ring_words.specs.declared.view.Load.{Load}
 use Rattle.ring_words.specs.declared.view.Person.{Person}
 use Rattle.ring_words.specs.Places.{claim, processed}
-use Rattle.ring_words.specs.Seats.{load_of, looked, last_from}
+use Rattle.ring_words.specs.Seats.{load_of, looked, last_from, last_of}
 use Rattle.ring_words.specs.At.{Opened, At, at, seated, IsAt, Steps}
 use Rattle.ring_words.specs.Steps.{ClaimsUpTo, HasRoom, Reaches}
 
--- a processed value that was just loaded leaves room
-pub room_just_loaded : (n : ℕ) (p : Person) (x s : ℕ) → s < x + n → HasRoom n (looked p processed x) s
-room_just_loaded n p x s room = (length p.loads, (load_of processed x, at_behind p.loads (load_of processed x ∷ []) 0 (length p.loads) _ (omega arith) refl, refl, room))
+-- the value that was just loaded is the last one of its word
+pub last_now : (k : ℕ) (d : Option ℕ) (x : ℕ) (ls : List Load) → last_of k d (ls ++ load_of k x ∷ []) ≡ Some x
+last_now k d x [] = cond-true (eqb k k) (Some x) d (eq-eqb k k refl)
+last_now k d x (l ∷ ls) = last_now k (cond (eqb l.place k) (Some l.value) d) x ls
+
+-- a load of another word leaves the last one of this word
+pub last_stays : (k j : ℕ) (d : Option ℕ) (x : ℕ) (ls : List Load) → j ≢ k → last_of k d (ls ++ load_of j x ∷ []) ≡ last_of k d ls
+last_stays k j d x [] ne = cond-false (eqb j k) (Some x) d (ne_eqb j k ne)
+last_stays k j d x (l ∷ ls) ne = last_stays k j (cond (eqb l.place k) (Some l.value) d) x ls ne
+
+-- some load of the word found x
+abbrev Found : ℕ → ℕ → List Load → Type 0
+Found k x ls = (i : ℕ) × ((l : Load) × (get_elem? ls i ≡ some l) × (l.place ≡ k) × (l.value ≡ x))
+
+-- the last value of a word was found by a load, where it isn't the one that stood for none
+last_found : (k : ℕ) (d : Option ℕ) (x : ℕ) (ls : List Load) → last_of k d ls ≡ Some x → (d ≡ Some x) ⊎ Found k x ls
+last_found k d x [] is = inl is
+last_found k d x (l ∷ ls) is = by_last (last_found k (cond (eqb l.place k) (Some l.value) d) x ls is) where
+  by_place : Dec (l.place ≡ k) → cond (eqb l.place k) (Some l.value) d ≡ Some x → (d ≡ Some x) ⊎ Found k x (l ∷ ls)
+  by_place (yes e) first = inr (0, (l, refl, e, same_Some l.value x (sym (cond-true (eqb l.place k) (Some l.value) d (eq-eqb l.place k e)) ∙ first)))
+  by_place (no ne) first = inl (sym (cond-false (eqb l.place k) (Some l.value) d (ne_eqb l.place k ne)) ∙ first)
+
+  by_last : (cond (eqb l.place k) (Some l.value) d ≡ Some x) ⊎ Found k x ls → (d ≡ Some x) ⊎ Found k x (l ∷ ls)
+  by_last (inl first) = by_place (ℕ_discrete l.place k) first
+  by_last (inr (i, (m, there, place, value))) = inr (suc i, (m, there, place, value))
+
+-- the processed value that was loaded last leaves room
+pub room_last_loaded : (n : ℕ) (p : Person) (x s : ℕ) → last_of processed None p.loads ≡ Some x → s < x + n → HasRoom n p s
+room_last_loaded n p x s is room = by_load (last_found processed None x p.loads is) where
+  by_load : (None ≡ Some x) ⊎ Found processed x p.loads → HasRoom n p s
+  by_load (inl none) = absurd (let none_is = none in cc)
+  by_load (inr (i, (l, there, place, value))) = (i, (l, there, place, subst (λ (y : ℕ). s < y + n) (sym value) room))
 
 -- a bound on the claim values loaded is one on those loaded before the last load
 pub claims_before : (p : Person) (k y x : ℕ) → ClaimsUpTo (looked p k y) x → ClaimsUpTo p x

@@ -1,5 +1,5 @@
 -- The person of a seat in use, and what its own steps make of it.
-use Rattle.std.specs.Prelude.{None, ◌≡◌, ◌⊎◌, ℕ, List, [], ◌∷◌, ◌++◌, ◌==◌, cond, take, drop}
+use Rattle.std.specs.Prelude.{Option, None, Some, ◌≡◌, ◌⊎◌, ℕ, List, [], ◌∷◌, ◌++◌, ◌==◌, cond, take, drop}
 use Rattle.venue_model.specs.History.{Message}
 use Rattle.ring_words.specs.declared.view.Role.{Role}
 use Rattle.ring_words.specs.declared.view.Role.TheVariants.{Process, Unmarshal, Journal}
@@ -53,6 +53,11 @@ knowing p rest = record p { seen = p.seen ++ rest }
 abbrev pub last_from : ℕ → ℕ → List Load → ℕ
 last_from k d [] = d
 last_from k d (l ∷ ls) = last_from k (cond (l.place == k) l.value d) ls
+
+-- the same, where there may be none
+abbrev pub last_of : ℕ → Option ℕ → List Load → Option ℕ
+last_of k d [] = d
+last_of k d (l ∷ ls) = last_of k (cond (l.place == k) (Some l.value) d) ls
 
 -- a stage that reads what gateways published
 abbrev pub IsReader : Role → Type 0

@@ -37,8 +37,10 @@ impl<L: Logic, const N: usize, const M: usize, const G: usize> Rings<L, N, M, G>
             × Steps one.old (met one.old.who r history) one.new × Steps other.old (met other.old.who r history) other.new }
     {
         self.bring_together(&mut one.seat, &mut other.seat);
-        self.table.shared.load::<Meet>(&mut one.seat, PROCESSED);
+        let found = self.table.shared.load::<Meet>(&mut one.seat, PROCESSED);
         other.seat = self.table.shared.split_seat::<Parted>(&mut one.seat);
+        one.processed = Some(found);
+        other.processed = Some(found);
     }
 
     /// A gateway meets the journaller: what it had seen begins what the journaller has released, and afterwards it has seen all of that,
@@ -51,9 +53,11 @@ impl<L: Logic, const N: usize, const M: usize, const G: usize> Rings<L, N, M, G>
             × Steps gateway.old (met gateway.old.who r (take old.own old.seen)) gateway.new × Steps journal.old (met old r old.seen) journal.new }
     {
         self.bring_together(&mut gateway.seat, &mut journal.seat);
-        self.table
+        let found = self
+            .table
             .shared
             .load::<MeetJournal>(&mut gateway.seat, PROCESSED);
         journal.seat = self.table.shared.split_seat::<Parted>(&mut gateway.seat);
+        gateway.processed = Some(found);
     }
 }

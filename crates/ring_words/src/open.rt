@@ -159,6 +159,7 @@ impl<L: Logic, const N: usize, const M: usize, const G: usize> Rings<L, N, M, G>
             seat: self.split(first),
             number,
             taken: given,
+            processed: None,
         }
     }
 

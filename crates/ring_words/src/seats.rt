@@ -1,7 +1,8 @@
 //! The seats: one for each gateway and one for each stage. Only `Rings::open` makes them, and each is used by one thread.
-ghost use Rattle.std.specs.Prelude.{◌≡◌, ◌≤◌, []};
+ghost use Rattle.std.specs.Prelude.{None, ◌≡◌, ◌≤◌, []};
 ghost use Rattle.ring_words.specs.declared.view.Role.TheVariants.{Gateway};
-ghost use Rattle.ring_words.specs.Seats.{person, IsAlone};
+ghost use Rattle.ring_words.specs.Places.{processed as processed_word};
+ghost use Rattle.ring_words.specs.Seats.{person, IsAlone, last_of};
 
 use crate::marshal_seat::MarshalSeat;
 use crate::process_seat::ProcessSeat;
@@ -10,17 +11,20 @@ use crate::view::View;
 use atomic_table::Seat;
 use std::marker::Model;
 
-/// A gateway's place at the table.
+/// A gateway's place at the table. It holds the gateway's number, how many outputs it took, and the processed value that it loaded last, if any: the
+/// processed word only rises, so a claim that this value leaves room for needs no look at the word.
 #[derive(Drop)]
 pub struct GatewaySeat<L> {
     pub(crate) seat: Seat<(), View<L>>,
     pub(crate) number: u64,
     pub(crate) taken: u64,
+    pub(crate) processed: Option<u64>,
     ghost alone: { IsAlone seat.me.0 },
     ghost bare: { seat.me.1 ≡ [] },
     ghost role: { (person seat.me.0).role ≡ Gateway number },
     ghost numbered: { (1 ≤ number) × (number ≤ 8) },
     ghost counts: { taken ≡ (person seat.me.0).own },
+    ghost kept: { processed ≡ last_of processed_word None (person seat.me.0).loads },
 }
 
 impl<L> Model for GatewaySeat<L> {
@@ -32,7 +36,7 @@ impl<L> Model for GatewaySeat<L> {
 }
 
 impl<L> GatewaySeat<L> {
-    ghost use Rattle.std.specs.Prelude.{◌≡◌, ◌≤◌};
+    ghost use Rattle.std.specs.Prelude.{None, ◌≡◌, ◌≤◌};
     ghost use Rattle.ring_words.specs.declared.view.Role.TheVariants.{Gateway};
     ghost use Rattle.ring_words.specs.At.{number};
 
@@ -43,6 +47,13 @@ impl<L> GatewaySeat<L> {
         ensures range { (1 ≤ result) × (result ≤ 8) }
     {
         self.number
+    }
+
+    /// The processed value that the gateway loaded last: so many sequences were processed by then, and by now maybe more. None where none was loaded.
+    pub fn processed(&self) -> Option<u64>
+        ensures value { result ≡ last_of processed_word None self.now.who.loads }
+    {
+        self.processed
     }
 
     /// How many outputs the gateway took or passed over, with those given: the place of the next one.

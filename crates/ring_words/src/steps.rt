@@ -31,9 +31,12 @@ impl<L: Logic, const N: usize, const M: usize, const G: usize> Rings<L, N, M, G>
         ensures step { Steps seat.old (looked seat.old.who processed result) seat.new }
         ensures claims { ClaimsUpTo seat.old.who (result + N) }
     {
-        self.table
+        let found = self
+            .table
             .shared
-            .load::<SeeProcessed<N>>(&mut seat.seat, PROCESSED)
+            .load::<SeeProcessed<N>>(&mut seat.seat, PROCESSED);
+        seat.processed = Some(found);
+        found
     }
 
     /// Claims the sequence `from`, if claim is still there. Answers the number of sequences that were claimed.

@@ -1,8 +1,13 @@
 //! Claims of sequences: the first thing that a gateway does with a message for the venue.
-ghost use Rattle.std.specs.Prelude.{◌≡◌, ℕ, ◌↔◌, ◌+◌, ◌^◌, ◌<◌, IfOk, IfErr, IsTrue};
+ghost use Rattle.std.specs.Prelude.{Some, ◌≡◌, ℕ, ◌↔◌, ◌+◌, ◌^◌, ◌<◌, ◌≤◌, List, IfOk, IfErr, IsTrue, IsFalse};
+ghost use Rattle.ring_words.specs.declared.view.Load.{Load};
 ghost use Rattle.ring_words.specs.Log.{times};
-ghost use Rattle.ring_words.specs.At.{IsAt};
-ghost use Rattle.sequencer.specs.Claims.{Claimed, Refused};
+ghost use Rattle.ring_words.specs.Places.{processed};
+ghost use Rattle.ring_words.specs.Seats.{looked};
+ghost use Rattle.ring_words.specs.At.{IsAt, Steps};
+ghost use Rattle.ring_words.specs.Steps.{ClaimsUpTo, HasRoom};
+ghost use Rattle.sequencer.specs.Claims.{last_processed, ShowsFull, SeesRoom, Claimed, Refused};
+ghost use Rattle.sequencer.specs.Outputs.{loading};
 
 use ring_words::{GatewaySeat, Rings};
 use std::marker::Model;
@@ -49,7 +54,7 @@ impl Claim {
     }
 }
 
-/// Whether the sequence `at` has a free row in a ring of so many. The processed word was loaded after the claim word, so it may
+/// Whether the sequence `at` has a free row in a ring of so many, by this processed value. It may have been loaded after the claim word, so it may
 /// have passed `at`.
 fn has_room(at: u64, processed: u64, rows: u64) -> bool
     ensures { IsTrue result ↔ (at < processed + rows) }
@@ -57,8 +62,40 @@ fn has_room(at: u64, processed: u64, rows: u64) -> bool
     at < processed || at - processed < rows
 }
 
-/// Tries once to claim the next sequence of the input ring for this gateway: the claim word is loaded, then the processed word,
-/// then the claim word is compared and exchanged (docs/RINGS.md, "The twenty kinds of step", 1 to 3).
+/// Whether the processed value that the seat loaded last leaves room for the sequence `at`. Where none was loaded nothing is said to be free.
+fn keeps_room<L>(seat: &GatewaySeat<L>, at: u64, rows: u64) -> bool
+    ensures room { IsTrue result → (p : ℕ) × (last_processed seat.now.who.loads ≡ Some p) × (at < p + rows) }
+    ensures full { IsFalse result → ShowsFull rows (last_processed seat.now.who.loads) at }
+{
+    match seat.processed() {
+        Some(processed) => has_room(at, processed, rows),
+        None => false,
+    }
+}
+
+/// Looks whether the sequence `at` has a free row. The processed word only rises, so a value loaded earlier that leaves room is as good as one loaded
+/// now; only where it leaves none, or none was loaded, is the word loaded, whose cache line the processor writes.
+fn sees_room<L: Logic, const N: usize, const M: usize, const G: usize>(
+    rings: &Rings<L, N, M, G>,
+    seat: &mut GatewaySeat<L>,
+    at: u64,
+) -> bool
+    requires at { IsAt rings.now seat.old }
+    ensures room { IsTrue result → (p : ℕ) × ((ls : List Load) × SeesRoom N (last_processed seat.old.who.loads) at p ls
+        × Steps seat.old (loading seat.old.who ls) seat.new × (at < p + N)) }
+    ensures free { IsTrue result → HasRoom N seat.new.who at }
+    ensures full { IsFalse result → (p : ℕ) × Steps seat.old (looked seat.old.who processed p) seat.new × (p + N ≤ at) × ClaimsUpTo seat.old.who (p + N) }
+{
+    if keeps_room(seat, at, N as u64) {
+        return true;
+    }
+    let processed = rings.load_processed(seat);
+    has_room(at, processed, N as u64)
+}
+
+/// Tries once to claim the next sequence of the input ring for this gateway: the claim word is loaded; then, where the processed value
+/// loaded last shows no room, the processed word; then the claim word is compared and exchanged (docs/RINGS.md, "The twenty kinds of
+/// step", 1 to 3).
 pub fn try_claim<L: Logic, const N: usize, const M: usize, const G: usize>(
     rings: &Rings<L, N, M, G>,
     seat: &mut GatewaySeat<L>,
@@ -72,8 +109,7 @@ pub fn try_claim<L: Logic, const N: usize, const M: usize, const G: usize>(
     if at == SEQUENCES {
         return Err(ClaimRefusal::Exhausted);
     }
-    let processed = rings.load_processed(seat);
-    if !has_room(at, processed, N as u64) {
+    if !sees_room(rings, seat, at) {
         return Err(ClaimRefusal::Full);
     }
     let found = rings.exchange_claim(seat, at);

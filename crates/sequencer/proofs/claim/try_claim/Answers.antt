@@ -1,25 +1,40 @@
-use Rattle.std.proofs.Common.{ℕ, ◌+◌, ◌≤◌, rules, arith}
-use Rattle.ring_words.specs.Steps.{ClaimsUpTo}
-use Rattle.ring_words.specs.SeatLaws.{room_just_loaded, claims_before, claim_just_loaded}
+use Rattle.std.proofs.Common.{ℕ, ◌+◌, ◌≤◌, refl, rules, arith}
+use Rattle.sequencer.proofs.ClaimRooms.{same_room, claim_below, both_loaded, claim_below_then, claimed_then, looked_then}
 use Rattle.sequencer.proofs.claim.try_claim.Goals as goal
 
-pub exchange_claim-found-requires : goal.exchange_claim-found-requires
-exchange_claim-found-requires g c =
-    let room = room_just_loaded _ c.load_claim-at.new.seat.who c.load_processed-processed.result c.load_claim-at.result (search rules) in
-    (omega arith, (search rules, (rw c.load_processed-processed.ensures.step room, search rules)))
-
-pub returns-then-not-has_room-clause-refused : goal.returns-then-not-has_room-clause-refused
-returns-then-not-has_room-clause-refused g c =
-    let at : ℕ = c.load_claim-at.result in let processed : ℕ = c.load_processed-processed.result in
-    let before = c.args.seat.now.who in let claims = c.load_processed-processed.ensures.claims in
-    let most : at ≤ processed + g.row.N = claim_just_loaded before _ _ (rw c.load_claim-at.ensures.step at claims) in
-    let full : processed + g.row.N ≤ at = search rules in
-    (at, processed, search rules, omega arith, search rules)
+pub returns-then-not-sees_room-clause-refused : goal.returns-then-not-sees_room-clause-refused
+returns-then-not-sees_room-clause-refused g c = let at : ℕ = c.load_claim-at.result in let first = c.load_claim-at.ensures.step in
+    let full = c.if-not-sees_room.ensures.full refl in let p : ℕ = full.0 in
+    let most : at ≤ p + g.row.N = claim_below g.row.N _ _ c.sees_room.new.seat at first (p + g.row.N) full.3 in let least : p + g.row.N ≤ at = full.2 in
+    (at, p, both_loaded g.row.N _ _ _ at first p full.1, omega arith, search rules)
 
 pub returns-then-found-at-clause-refused : goal.returns-then-found-at-clause-refused
-returns-then-found-at-clause-refused g c =
-    let at : ℕ = c.load_claim-at.result in let processed : ℕ = c.load_processed-processed.result in let found : ℕ = c.exchange_claim-found.result in
-    let loaded = c.load_claim-at.new.seat.who in let claims = c.exchange_claim-found.ensures.claims in
-    let earlier : ClaimsUpTo loaded found = claims_before loaded _ _ _ (rw c.load_processed-processed.ensures.step at claims) in
-    let most : at ≤ found = claim_just_loaded c.args.seat.now.who _ _ (rw c.load_claim-at.ensures.step at earlier) in
-    (at, processed, found, search rules, search rules, search rules, omega arith)
+returns-then-found-at-clause-refused g c = let at : ℕ = c.load_claim-at.result in let first = c.load_claim-at.ensures.step in
+    let room = c.if-not-sees_room.ensures.room refl in let found : ℕ = c.exchange_claim-found.result in
+    let most : at ≤ found = claim_below_then g.row.N _ _ _ at first room.1.0 room.1.2 c.exchange_claim-found.new.seat found c.exchange_claim-found.ensures.claims in (
+      at,
+      room.0,
+      found,
+      (
+        room.1.0,
+        same_room g.row.N _ _ c.sees_room.new.seat at first room.0 room.1.0 room.1.1,
+        looked_then g.row.N _ _ _ at first room.1.0 room.1.2 _ found (search rules),
+        room.1.3,
+        search rules,
+        omega arith,
+      ),
+    )
+
+pub returns-clause-claimed : goal.returns-clause-claimed
+returns-clause-claimed g c = let at : ℕ = c.load_claim-at.result in let first = c.load_claim-at.ensures.step in
+    let room = c.if-not-sees_room.ensures.room refl in (
+      room.0,
+      (
+        room.1.0,
+        same_room g.row.N _ _ c.sees_room.new.seat at first room.0 room.1.0 room.1.1,
+        claimed_then g.row.N _ _ _ at first room.1.0 room.1.2 _ (search rules),
+        room.1.3,
+        search rules,
+        search rules,
+      ),
+    )

@@ -1,18 +1,20 @@
-use Rattle.std.proofs.Common.{rules, ◌≡◌, ℕ, List, [], length, refl, ap, sym, subst, ◌∙◌}
+use Rattle.std.proofs.Common.{None, rules, ◌≡◌, ℕ, List, [], length, refl, ap, sym, subst, ◌∙◌}
 use Rattle.venue_model.specs.History.{Message}
 use Rattle.ring_words.specs.declared.view.Person.{Person}
 use Rattle.ring_words.specs.Terms.{terms_of}
+use Rattle.ring_words.specs.Places.{processed}
 use Rattle.ring_words.specs.Seats.{person}
+use Rattle.ring_words.specs.SeatLaws.{last_now}
 use Rattle.ring_words.specs.At.{At, Steps, seat_of}
 use Rattle.ring_words.specs.Steps.{Seated}
 use Rattle.ring_words.specs.Meeting.{longer, met, AreMet}
-use Rattle.ring_words.proofs.Becomes.{still_sits, parted_first, parted_second, steps, steps_either}
+use Rattle.ring_words.proofs.Becomes.{gateway_sits, parted_first, parted_second, steps, steps_either}
 use Rattle.ring_words.proofs.Meetings.{loads_meeting, both_people}
 use Rattle.ring_words.proofs.Seatings.{parts}
 use Rattle.ring_words.proofs.rings.Rings.meet.Goals as goal
 
-pub load-requires : goal.load-requires
-load-requires g c = let key = c.self.inside.table.shared.key in let one = c.one.inside in let other = c.other.inside in (
+pub load-found-requires : goal.load-found-requires
+load-found-requires g c = let key = c.self.inside.table.shared.key in let one = c.one.inside in let other = c.other.inside in (
   search rules,
   search rules,
   loads_meeting (Unit {0}) (terms_of g.L.Logic.reads g.L.Logic.outputs g.L.Logic.text g.L.Logic.nothing g.L.Logic.grows key) _ _ _ (person one.seat.me.0) (person other.seat.me.0) one.number other.number
@@ -25,19 +27,19 @@ split_seat-requires g c = let key = c.self.inside.table.shared.key in
 
 pub invariant_of-one-inside : goal.invariant_of-one-inside
 invariant_of-one-inside g c = let one = c.one.inside in let other = c.other.inside in let came = c.bring_together.ensures.first.1 in
-    let learned = c.load.ensures.2 (person one.seat.me.0) (person other.seat.me.0) one.number other.number (both_people one.seat.me.0 other.seat.me.0 _ one.alone other.alone came) one.role other.role in
+    let learned = c.load-found.ensures.2 (person one.seat.me.0) (person other.seat.me.0) one.number other.number (both_people one.seat.me.0 other.seat.me.0 _ one.alone other.alone came) one.role other.role in
     let is = parted_first one.seat.me.0 other.seat.me.0 _ _ _ _ _ came learned.0 c.split_seat.ensures.2 in
-    still_sits (one.seat.me.0, []) _ _ is refl _ one.role (one.numbered, (one.counts ∙ sym (ap (λ (z : Seated (Unit {0}) g.row.L.Denot). (person z.0).own) is), tt))
+    gateway_sits (one.seat.me.0, []) _ _ is refl _ one.role one.numbered _ one.counts _ (sym (last_now processed None c.load-found.result (person one.seat.me.0).loads))
 
 pub invariant_of-other-inside : goal.invariant_of-other-inside
 invariant_of-other-inside g c = let one = c.one.inside in let other = c.other.inside in let came = c.bring_together.ensures.first.1 in
-    let learned = c.load.ensures.2 (person one.seat.me.0) (person other.seat.me.0) one.number other.number (both_people one.seat.me.0 other.seat.me.0 _ one.alone other.alone came) one.role other.role in
+    let learned = c.load-found.ensures.2 (person one.seat.me.0) (person other.seat.me.0) one.number other.number (both_people one.seat.me.0 other.seat.me.0 _ one.alone other.alone came) one.role other.role in
     let is = parted_second one.seat.me.0 other.seat.me.0 _ _ _ _ _ came learned.0 c.split_seat.ensures.4 in
-    still_sits (one.seat.me.0, []) _ _ is refl _ other.role (other.numbered, (other.counts ∙ sym (ap (λ (z : Seated (Unit {0}) g.row.L.Denot). (person z.0).own) is), tt))
+    gateway_sits (one.seat.me.0, []) _ _ is refl _ other.role other.numbered _ other.counts _ (sym (last_now processed None c.load-found.result (person other.seat.me.0).loads))
 
 pub returns-clause-met : goal.returns-clause-met
 returns-clause-met g c = let one = c.one.inside in let other = c.other.inside in let came = c.bring_together.ensures.first.1 in
-    let learned = c.load.ensures.2 (person one.seat.me.0) (person other.seat.me.0) one.number other.number (both_people one.seat.me.0 other.seat.me.0 _ one.alone other.alone came) one.role other.role in
+    let learned = c.load-found.ensures.2 (person one.seat.me.0) (person other.seat.me.0) one.number other.number (both_people one.seat.me.0 other.seat.me.0 _ one.alone other.alone came) one.role other.role in
     let base : c.bring_together.new.first.me.0.base ≡ c.args.self.now.base =
     ap (λ (z : Seated (Unit {0}) g.row.L.Denot). z.0.base) came ∙ ap (λ (s : At g.row.L.Denot). s.base) c.one.view_is ∙ ap (λ (s : At g.row.L.Denot). s.base) c.requires.one in
     subst (λ (z : Person × Person). AreMet (length c.args.self.now.base) z.0 z.1) (λ i. ((c.one.view_is i).who, (c.other.view_is i).who))
@@ -45,8 +47,8 @@ returns-clause-met g c = let one = c.one.inside in let other = c.other.inside in
 
 pub returns-clause-steps : goal.returns-clause-steps
 returns-clause-steps g c = let one = c.one.inside in let other = c.other.inside in let came = c.bring_together.ensures.first.1 in let cut = c.split_seat.ensures in
-    let learned = c.load.ensures.2 (person one.seat.me.0) (person other.seat.me.0) one.number other.number (both_people one.seat.me.0 other.seat.me.0 _ one.alone other.alone came) one.role other.role in
-    let r : ℕ = c.load.result in let table = c.load.ensures.0 ∙ c.bring_together.ensures.first.0 in
+    let learned = c.load-found.ensures.2 (person one.seat.me.0) (person other.seat.me.0) one.number other.number (both_people one.seat.me.0 other.seat.me.0 _ one.alone other.alone came) one.role other.role in
+    let r : ℕ = c.load-found.result in let table = c.load-found.ensures.0 ∙ c.bring_together.ensures.first.0 in
     let first = steps one.seat.table_id c.split_seat.new.seat.table_id one.seat.me.0 [] c.split_seat.new.seat.me _ c.args.one.now c.one.view_is (cut.0 ∙ table)
     (parted_first one.seat.me.0 other.seat.me.0 _ _ _ _ _ came learned.0 cut.2) in
     let second = steps one.seat.table_id c.split_seat.result.table_id one.seat.me.0 [] c.split_seat.result.me _ c.args.one.now c.one.view_is (cut.3 ∙ table)

@@ -1,18 +1,20 @@
-use Rattle.std.proofs.Common.{rules, ◌≡◌, ◌≤◌, ℕ, List, [], length, take, refl, ap, sym, subst, ◌∙◌}
+use Rattle.std.proofs.Common.{None, rules, ◌≡◌, ◌≤◌, ℕ, List, [], length, take, refl, ap, sym, subst, ◌∙◌}
 use Rattle.venue_model.specs.History.{Message}
 use Rattle.ring_words.specs.declared.view.Person.{Person}
 use Rattle.ring_words.specs.Terms.{terms_of}
+use Rattle.ring_words.specs.Places.{processed}
 use Rattle.ring_words.specs.Seats.{person}
+use Rattle.ring_words.specs.SeatLaws.{last_now}
 use Rattle.ring_words.specs.At.{At, Steps, seat_of}
 use Rattle.ring_words.specs.Steps.{Seated}
 use Rattle.ring_words.specs.Meeting.{met, MeetsJournal}
-use Rattle.ring_words.proofs.Becomes.{still_sits, parted_first, parted_second, steps, steps_either}
+use Rattle.ring_words.proofs.Becomes.{still_sits, gateway_sits, parted_first, parted_second, steps, steps_either}
 use Rattle.ring_words.proofs.Meetings.{loads_journal, both_people}
 use Rattle.ring_words.proofs.Seatings.{parts}
 use Rattle.ring_words.proofs.rings.Rings.meet_journal.Goals as goal
 
-pub load-requires : goal.load-requires
-load-requires g c = let key = c.self.inside.table.shared.key in let gateway = c.gateway.inside in let journal = c.journal.inside in (
+pub load-found-requires : goal.load-found-requires
+load-found-requires g c = let key = c.self.inside.table.shared.key in let gateway = c.gateway.inside in let journal = c.journal.inside in (
   search rules,
   search rules,
   loads_journal (Unit {0}) (terms_of g.L.Logic.reads g.L.Logic.outputs g.L.Logic.text g.L.Logic.nothing g.L.Logic.grows key) _ _ _ (person gateway.seat.me.0) (person journal.seat.me.0) gateway.number
@@ -25,13 +27,13 @@ split_seat-requires g c = let key = c.self.inside.table.shared.key in
 
 pub invariant_of-gateway-inside : goal.invariant_of-gateway-inside
 invariant_of-gateway-inside g c = let gateway = c.gateway.inside in let journal = c.journal.inside in let came = c.bring_together.ensures.first.1 in
-    let learned = c.load.ensures.2 (person gateway.seat.me.0) (person journal.seat.me.0) gateway.number (both_people gateway.seat.me.0 journal.seat.me.0 _ gateway.alone journal.alone came) gateway.role journal.role (subst (λ (x : ℕ). x ≤ length (person journal.seat.me.0).seen) journal.counts.1 (subst (λ (x : ℕ). journal.own ≤ x) journal.counts.0 journal.counts.2)) in
+    let learned = c.load-found.ensures.2 (person gateway.seat.me.0) (person journal.seat.me.0) gateway.number (both_people gateway.seat.me.0 journal.seat.me.0 _ gateway.alone journal.alone came) gateway.role journal.role (subst (λ (x : ℕ). x ≤ length (person journal.seat.me.0).seen) journal.counts.1 (subst (λ (x : ℕ). journal.own ≤ x) journal.counts.0 journal.counts.2)) in
     let is = parted_first gateway.seat.me.0 journal.seat.me.0 _ _ _ _ _ came learned.0 c.split_seat.ensures.2 in
-    still_sits (gateway.seat.me.0, []) _ _ is refl _ gateway.role (gateway.numbered, (gateway.counts ∙ sym (ap (λ (z : Seated (Unit {0}) g.row.L.Denot). (person z.0).own) is), tt))
+    gateway_sits (gateway.seat.me.0, []) _ _ is refl _ gateway.role gateway.numbered _ gateway.counts _ (sym (last_now processed None c.load-found.result (person gateway.seat.me.0).loads))
 
 pub invariant_of-journal-inside : goal.invariant_of-journal-inside
 invariant_of-journal-inside g c = let gateway = c.gateway.inside in let journal = c.journal.inside in let came = c.bring_together.ensures.first.1 in
-    let learned = c.load.ensures.2 (person gateway.seat.me.0) (person journal.seat.me.0) gateway.number (both_people gateway.seat.me.0 journal.seat.me.0 _ gateway.alone journal.alone came) gateway.role journal.role (subst (λ (x : ℕ). x ≤ length (person journal.seat.me.0).seen) journal.counts.1 (subst (λ (x : ℕ). journal.own ≤ x) journal.counts.0 journal.counts.2)) in
+    let learned = c.load-found.ensures.2 (person gateway.seat.me.0) (person journal.seat.me.0) gateway.number (both_people gateway.seat.me.0 journal.seat.me.0 _ gateway.alone journal.alone came) gateway.role journal.role (subst (λ (x : ℕ). x ≤ length (person journal.seat.me.0).seen) journal.counts.1 (subst (λ (x : ℕ). journal.own ≤ x) journal.counts.0 journal.counts.2)) in
     let is = parted_second gateway.seat.me.0 journal.seat.me.0 _ _ _ _ _ came learned.0 c.split_seat.ensures.4 in
     still_sits (gateway.seat.me.0, []) _ _ is refl _ journal.role (
       (
@@ -45,7 +47,7 @@ invariant_of-journal-inside g c = let gateway = c.gateway.inside in let journal 
 
 pub returns-clause-met : goal.returns-clause-met
 returns-clause-met g c = let gateway = c.gateway.inside in let journal = c.journal.inside in let came = c.bring_together.ensures.first.1 in
-    let learned = c.load.ensures.2 (person gateway.seat.me.0) (person journal.seat.me.0) gateway.number (both_people gateway.seat.me.0 journal.seat.me.0 _ gateway.alone journal.alone came) gateway.role journal.role (subst (λ (x : ℕ). x ≤ length (person journal.seat.me.0).seen) journal.counts.1 (subst (λ (x : ℕ). journal.own ≤ x) journal.counts.0 journal.counts.2)) in
+    let learned = c.load-found.ensures.2 (person gateway.seat.me.0) (person journal.seat.me.0) gateway.number (both_people gateway.seat.me.0 journal.seat.me.0 _ gateway.alone journal.alone came) gateway.role journal.role (subst (λ (x : ℕ). x ≤ length (person journal.seat.me.0).seen) journal.counts.1 (subst (λ (x : ℕ). journal.own ≤ x) journal.counts.0 journal.counts.2)) in
     let base : c.bring_together.new.first.me.0.base ≡ c.args.self.now.base =
     ap (λ (z : Seated (Unit {0}) g.row.L.Denot). z.0.base) came ∙ ap (λ (s : At g.row.L.Denot). s.base) c.gateway.view_is ∙ ap (λ (s : At g.row.L.Denot). s.base) c.requires.gateway in
     subst (λ (z : Person × Person). MeetsJournal (length c.args.self.now.base) z.0 z.1) (λ i. ((c.gateway.view_is i).who, (c.journal.view_is i).who))
@@ -53,8 +55,8 @@ returns-clause-met g c = let gateway = c.gateway.inside in let journal = c.journ
 
 pub returns-clause-steps : goal.returns-clause-steps
 returns-clause-steps g c = let gateway = c.gateway.inside in let journal = c.journal.inside in let came = c.bring_together.ensures.first.1 in let cut = c.split_seat.ensures in
-    let learned = c.load.ensures.2 (person gateway.seat.me.0) (person journal.seat.me.0) gateway.number (both_people gateway.seat.me.0 journal.seat.me.0 _ gateway.alone journal.alone came) gateway.role journal.role (subst (λ (x : ℕ). x ≤ length (person journal.seat.me.0).seen) journal.counts.1 (subst (λ (x : ℕ). journal.own ≤ x) journal.counts.0 journal.counts.2)) in
-    let r : ℕ = c.load.result in let table = c.load.ensures.0 ∙ c.bring_together.ensures.first.0 in
+    let learned = c.load-found.ensures.2 (person gateway.seat.me.0) (person journal.seat.me.0) gateway.number (both_people gateway.seat.me.0 journal.seat.me.0 _ gateway.alone journal.alone came) gateway.role journal.role (subst (λ (x : ℕ). x ≤ length (person journal.seat.me.0).seen) journal.counts.1 (subst (λ (x : ℕ). journal.own ≤ x) journal.counts.0 journal.counts.2)) in
+    let r : ℕ = c.load-found.result in let table = c.load-found.ensures.0 ∙ c.bring_together.ensures.first.0 in
     let first = steps gateway.seat.table_id c.split_seat.new.seat.table_id gateway.seat.me.0 [] c.split_seat.new.seat.me _ c.args.gateway.now c.gateway.view_is (cut.0 ∙ table)
     (parted_first gateway.seat.me.0 journal.seat.me.0 _ _ _ _ _ came learned.0 cut.2) in
     let second = steps gateway.seat.table_id c.split_seat.result.table_id gateway.seat.me.0 [] c.split_seat.result.me _ c.args.gateway.now c.gateway.view_is (cut.3 ∙ table)

@@ -4,7 +4,7 @@ use Rattle.ring_words.specs.Places.{number_of}
 use Rattle.ring_words.specs.Seats.{person}
 use Rattle.ring_words.specs.At.{number}
 use Rattle.ring_words.specs.Steps.{Seated}
-use Rattle.ring_words.proofs.Becomes.{still_sits}
+use Rattle.ring_words.proofs.Becomes.{gateway_sits}
 use Rattle.ring_words.proofs.Marks.{marks_row_in}
 use Rattle.ring_words.proofs.rings.Rings.store_availability.Goals as goal
 
@@ -19,4 +19,4 @@ store-requires g c = let key = c.self.inside.table.shared.key in let e = c.requi
 pub invariant_of-seat-inside : goal.invariant_of-seat-inside
 invariant_of-seat-inside g c = let seat = c.seat.inside in let e = c.requires.message in let next : c.args.sequence + 1 ≡ suc c.args.sequence = omega arith in
     let is = c.store.ensures.2 c.args.sequence e.0 next (search rules) e.2 in
-    still_sits seat.seat.me _ _ is seat.bare _ seat.role (seat.numbered, (seat.counts ∙ sym (ap (λ (z : Seated (Unit {0}) g.row.L.Denot). (person z.0).own) is), tt))
+    gateway_sits seat.seat.me _ _ is seat.bare _ seat.role seat.numbered _ seat.counts _ seat.kept

@@ -2,7 +2,7 @@ use Rattle.std.proofs.Common.{rules, ◌∙◌, ap, sym}
 use Rattle.ring_words.specs.Terms.{terms_of}
 use Rattle.ring_words.specs.Seats.{person}
 use Rattle.ring_words.specs.Steps.{Seated}
-use Rattle.ring_words.proofs.Becomes.{still_sits}
+use Rattle.ring_words.proofs.Becomes.{gateway_sits}
 use Rattle.ring_words.proofs.Writes.{writes_raw_in}
 use Rattle.ring_words.proofs.rings.Rings.store_raw.Goals as goal
 
@@ -16,4 +16,4 @@ store-requires g c = let key = c.self.inside.table.shared.key in (
 
 pub invariant_of-seat-inside : goal.invariant_of-seat-inside
 invariant_of-seat-inside g c = let seat = c.seat.inside in let is = c.store.ensures.2 c.args.sequence c.args.word (search rules) c.requires.word c.row_word-place.ensures.place in
-    still_sits seat.seat.me _ _ is seat.bare _ seat.role (seat.numbered, (seat.counts ∙ sym (ap (λ (z : Seated (Unit {0}) g.row.L.Denot). (person z.0).own) is), tt))
+    gateway_sits seat.seat.me _ _ is seat.bare _ seat.role seat.numbered _ seat.counts _ seat.kept
