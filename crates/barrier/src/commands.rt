@@ -8,13 +8,14 @@ ghost use Rattle.ring_words.specs.Log.{IsEntry};
 ghost use Rattle.ring_words.specs.Packing.{command_words, IsPackable};
 ghost use Rattle.ring_words.specs.Seats.{wrote};
 ghost use Rattle.ring_words.specs.At.{IsAt, Steps};
+ghost use Rattle.ring_words.specs.Steps.{MayWrite};
 ghost use Rattle.barrier.specs.Commands.{after_command};
 
 use ring_words::{COMMAND_WORDS, ProcessSeat, Rings, UnmarshalSeat, pack, unpack, words_of};
 use venue_model::{Command, Logic};
 
 /// Writes the command of an entry that the unmarshaller knows and hasn't released, with the number of the entry's gateway, into the
-/// entry's row.
+/// entry's row. Rows are written in order: the first that isn't released, the one under way again, or when that is written whole the next one.
 pub fn write_command<L: Logic, const N: usize, const M: usize, const G: usize>(
     rings: &Rings<L, N, M, G>,
     seat: &mut UnmarshalSeat<L>,
@@ -27,6 +28,7 @@ pub fn write_command<L: Logic, const N: usize, const M: usize, const G: usize>(
     requires to { sequence < length seat.old.who.seen }
     requires gateway { gateway < 16 }
     requires numbers { IsCommand command.now }
+    requires row { MayWrite (L.reads rings.now.logic) seat.old.who sequence }
     ensures step { Steps seat.old (wrote seat.old.who sequence (command_words gateway command.now)) seat.new }
     ensures packable { IsPackable gateway command.now }
 {

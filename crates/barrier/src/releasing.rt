@@ -24,16 +24,19 @@ pub fn release<L: Logic, const N: usize, const M: usize, const G: usize>(
     rings.store_processed(seat, upto);
 }
 
-/// Hands the next sequence on to the processor, when its command is written.
+/// Hands all sequences below `upto` on to the processor, as far as the unmarshaller is concerned, when their commands are written: the last of
+/// them is the row under way.
 pub fn release_written<L: Logic, const N: usize, const M: usize, const G: usize>(
     rings: &Rings<L, N, M, G>,
     seat: &mut UnmarshalSeat<L>,
+    upto: u64,
 )
     requires at { IsAt rings.now seat.old }
+    requires last { upto ≡ suc seat.old.who.part.sequence }
     requires command { (e : Message) × WroteCommand (L.reads rings.now.logic) seat.old.who e }
-    ensures step { Steps seat.old (moved seat.old.who (suc seat.old.who.own)) seat.new }
+    ensures step { Steps seat.old (moved seat.old.who upto) seat.new }
 {
-    rings.store_unmarshalled(seat);
+    rings.store_unmarshalled(seat, upto);
 }
 
 /// Hands all sequences below `upto` on to the processor, as far as the journaller is concerned: what a crash now may leave begins with

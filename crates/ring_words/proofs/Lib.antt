@@ -14,6 +14,7 @@ pub mod Marshalling
 pub mod TextWords
 pub mod Reading
 pub mod Taking
+pub mod Written
 pub mod Logs
 pub mod Loads
 pub mod Stores

@@ -141,6 +141,7 @@ module _ {L : Type 0} (S : Type 0) (terms : Terms L) where
             (λ ne. times_left a t p.claims ne ∙ knows.claims t);
         loads = λ j l there low. subst (λ (y : ℕ). l.value ≤ y) (sym (control l.place low)) (knows.loads j l there low);
         part = subst (λ (z : Role). PartOf terms.rows terms.output_rows w' log' z record { sequence = a; words = [] }) (sym role) (λ j y there. absurd (some-ne-none y (sym there)));
+        written = λ is_unmarshaller. absurd (let z : 32 + 8 * k ≡ 16 = ap place_of (sym role ∙ is_unmarshaller) in omega arith);
       }
       (λ o apart_from kn. let differs : number_of o.role ≢ k = other_number o.role k gateway.0 (λ z. apart_from (z ∙ sym (ap place_of role))) in
       others_know terms w w' r.log log' o r.few entries

@@ -1,5 +1,5 @@
 -- Two seats that came together load a word: the rule stays, and what their persons learn then.
-use Rattle.std.proofs.Common.{◌≡◌, ◌≢◌, ℕ, zero, suc, ◌+◌, ◌≤◌, Bool, true, false, List, [], ◌∷◌, ◌++◌, ◌⊎◌, inl, inr, ⊎_elim, cond, eqb, leb, length, get_or, set, take, refl, ap, sym, subst, ◌∙◌, arith, le_refl}
+use Rattle.std.proofs.Common.{◌≡◌, ◌≢◌, ℕ, zero, suc, ◌+◌, ◌*◌, ◌≤◌, Bool, true, false, List, [], ◌∷◌, ◌++◌, ◌⊎◌, inl, inr, ⊎_elim, cond, eqb, leb, length, get_or, set, take, refl, ap, sym, subst, ◌∙◌, arith, le_refl}
 use Rattle.std.proofs.lemmas.Bool.{cond-true, cond-false, eq-eqb, ne_eqb, le-leb, leb-true}
 use mathlib.Core.Option.{none, some, some-injective, some-ne-none}
 use lib.ListN.{get_elem?}
@@ -11,10 +11,10 @@ use native.Mathlib.Decide.{ℕ_discrete, dec_le}
 use Rattle.atomic_table.proofs.Lists.{at_set}
 use Rattle.venue_model.specs.History.{Message}
 use Rattle.ring_words.specs.declared.view.Role.{Role}
-use Rattle.ring_words.specs.declared.view.Role.TheVariants.{Journal, Gateway}
+use Rattle.ring_words.specs.declared.view.Role.TheVariants.{Unmarshal, Journal, Gateway}
 use Rattle.ring_words.specs.declared.view.Person.{Person}
 use Rattle.ring_words.specs.declared.view.View.{View}
-use Rattle.ring_words.specs.Places.{processed, journalled, taken, place_of, number_of}
+use Rattle.ring_words.specs.Places.{processed, unmarshalled, journalled, taken, place_of, number_of}
 use Rattle.ring_words.specs.Log.{Log, Status, unclaimed, old, claimed, sent, sends_of, sent_at, IsFront}
 use Rattle.ring_words.specs.Terms.{Terms}
 use Rattle.ring_words.specs.Rule.{Depth, Knows, owners, words_of, Lawful}
@@ -105,10 +105,14 @@ apart_at j k (sent e) ne = dite (ℕ_discrete e.gateway j)
     (λ is. inr (cond-false (eqb e.gateway k) (e ∷ []) [] (ne_eqb e.gateway k (λ z. ne (sym is ∙ z)))))
     (λ other. inl (cond-false (eqb e.gateway j) (e ∷ []) [] (ne_eqb e.gateway j other)))
 
+-- who stores another word than the unmarshaller's isn't the unmarshaller
+no_unmarshaller : (role other : Role) → place_of role ≢ unmarshalled → other ≡ role → other ≢ Unmarshal
+no_unmarshaller role other ne is unmarshal = ne (ap place_of (sym is ∙ unmarshal))
+
 module _ {L : Type 0} (terms : Terms L) (w : ℕ → ℕ) (log : Log) where
   -- what a person knows after it loaded processed and saw a beginning of the log that it may see
-  knows_met : (p : Person) (x : ℕ) (h : List Message) → x ≤ w processed → IsFront log.status h → Depth w p.role (length h) → Knows terms w log p → Knows terms w log (met p x h)
-  knows_met p x h low front deep r = let k = knows_looked terms w log p processed x (λ _. low) r in record {
+  knows_met : (p : Person) (x : ℕ) (h : List Message) → p.role ≢ Unmarshal → x ≤ w processed → IsFront log.status h → Depth w p.role (length h) → Knows terms w log p → Knows terms w log (met p x h)
+  knows_met p x h other low front deep r = let k = knows_looked terms w log p processed x (λ _. low) r in record {
     role = k.role;
     front = front;
     depth = deep;
@@ -117,6 +121,7 @@ module _ {L : Type 0} (terms : Terms L) (w : ℕ → ℕ) (log : Log) where
     claims = k.claims;
     loads = k.loads;
     part = k.part;
+    written = λ is. absurd (other is);
   }
 
   -- two gateways published nothing at one sequence
@@ -145,8 +150,8 @@ module _ {L : Type 0} (S : Type 0) (terms : Terms L) where
         legal_other = legal_front terms w r.log q h r.logged knows_q is.2;
       } in
       looks_two S terms s r processed id me p q (met p x h) (met q x h) (sees_meeting (step slots processed 0 0 none) me) at two refl refl
-      (knows_met terms w r.log p x h (le_refl x) is.2 (subst (λ (z : Role). Depth w z (length h)) (sym role_p) low) knows_p)
-      (knows_met terms w r.log q x h (le_refl x) is.2 (subst (λ (z : Role). Depth w z (length h)) (sym role_q) low) knows_q)
+      (knows_met terms w r.log p x h (no_unmarshaller (Gateway j) p.role (λ (e : 32 + 8 * j ≡ 16). omega arith) role_p) (le_refl x) is.2 (subst (λ (z : Role). Depth w z (length h)) (sym role_p) low) knows_p)
+      (knows_met terms w r.log q x h (no_unmarshaller (Gateway k) q.role (λ (e : 32 + 8 * k ≡ 16). omega arith) role_q) (le_refl x) is.2 (subst (λ (z : Role). Depth w z (length h)) (sym role_q) low) knows_q)
       (λ a b _ _ both _ _. (
       let a_is : p ≡ a = some-injective p a (ap (λ (l : List Person). get_elem? l 0) (sym two ∙ both)) in let b_is : q ≡ b = some-injective q b (ap (λ (l : List Person). get_elem? l 1) (sym two ∙ both)) in
       let told : (z : Person × Person) → Type 0 = λ (z : Person × Person). (◌≡◌ {A = Seated S L} (record me.0 { people = met p x h ∷ met q x h ∷ [] }, me.1)
@@ -166,8 +171,8 @@ module _ {L : Type 0} (S : Type 0) (terms : Terms L) where
       let front : IsFront status h = front_taken status q.own q.seen knows_q.front in
       let learned : MeetsJournal (length terms.base) p q = record { begins = begun status p.seen h knows_p.front front (omega arith); legal = legal_front terms w r.log p h r.logged knows_p front } in
       looks_two S terms s r processed id me p q (met p x h) (met q x q.seen) (sees_journal (step slots processed 0 0 none) me) at two refl refl
-      (knows_met terms w r.log p x h (le_refl x) front (subst (λ (z : Role). Depth w z (length h)) (sym role_p) (let low : length h ≤ w journalled = omega arith in low)) knows_p)
-      (knows_met terms w r.log q x q.seen (le_refl x) knows_q.front knows_q.depth knows_q)
+      (knows_met terms w r.log p x h (no_unmarshaller (Gateway j) p.role (λ (e : 32 + 8 * j ≡ 16). omega arith) role_p) (le_refl x) front (subst (λ (z : Role). Depth w z (length h)) (sym role_p) (let low : length h ≤ w journalled = omega arith in low)) knows_p)
+      (knows_met terms w r.log q x q.seen (no_unmarshaller Journal q.role (λ (e : 24 ≡ 16). omega arith) role_q) (le_refl x) knows_q.front knows_q.depth knows_q)
       (λ a b _ both _ _ _. (
       let a_is : p ≡ a = some-injective p a (ap (λ (l : List Person). get_elem? l 0) (sym two ∙ both)) in let b_is : q ≡ b = some-injective q b (ap (λ (l : List Person). get_elem? l 1) (sym two ∙ both)) in
       let told : (z : Person × Person) → Type 0 = λ (z : Person × Person). (◌≡◌ {A = Seated S L} (record me.0 { people = met p x h ∷ met q x q.seen ∷ [] }, me.1)

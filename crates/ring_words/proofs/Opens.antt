@@ -15,6 +15,7 @@ use Rattle.ring_words.specs.Places.{processed, unmarshalled, journalled, marshal
 use Rattle.ring_words.specs.Log.{Status, unclaimed, old, claimed, sent, Log, entry_of, sends_of, claims_of}
 use Rattle.ring_words.specs.Terms.{Terms, outputs_of}
 use Rattle.ring_words.specs.Rule.{IsGateway, IsRole, Depth, PartOf, Knows, at_place, newcomer, processor, gateways, crew, opening_word, owners, Lawful, first_view}
+use Rattle.ring_words.proofs.Written.{none_written}
 use Rattle.ring_words.proofs.Windows.{row_inside}
 use Rattle.ring_words.proofs.Logs.{beyond}
 
@@ -77,8 +78,8 @@ module _ {L : Type 0} where
 module _ {L : Type 0} (S : Type 0) (terms : Terms L) where
   -- what someone who knows the history at the start knows, and nothing more: its row under way, at this place, has no word
   new_knows : (w : ℕ → ℕ) (role : Role) (own place : ℕ) → IsRole terms.gateways role → w (place_of role) ≡ own → length terms.base ≤ w unmarshalled → length terms.base ≤ w journalled
-      → (role ≡ Process → place ≡ w published) → Knows terms w (start_log terms.base) (at_place (newcomer role terms.base own) place)
-  new_knows w role own place there is u j at_published = record {
+      → (role ≡ Process → place ≡ w published) → (role ≡ Unmarshal → place ≡ 0) → Knows terms w (start_log terms.base) (at_place (newcomer role terms.base own) place)
+  new_knows w role own place there is u j at_published at_none = record {
     role = there;
     front = λ s e at. ap (λ (o : Option Message). entry_of (as_status o)) at;
     depth = deep role;
@@ -87,6 +88,7 @@ module _ {L : Type 0} (S : Type 0) (terms : Terms L) where
     claims = λ s. no_claims (number_of role) (get_elem? terms.base s);
     loads = λ i l at. absurd (some-ne-none l (sym at));
     part = nothing_stored role refl;
+    written = λ e. (let none = at_none e in none_written terms w terms.base own place (omega arith) (omega arith));
   } where
     deep : (role : Role) → Depth w role (length terms.base)
     deep Process = (u, j)
@@ -116,13 +118,13 @@ module _ {L : Type 0} (S : Type 0) (terms : Terms L) where
     v = omega arith
 
     by_place : (j : ℕ) → get_elem? (crew terms.gateways terms.base terms.given) j ≡ some p → Knows terms w (start_log terms.base) p
-    by_place zero at = subst (Knows terms w (start_log terms.base)) (some-injective (processor terms.base terms.given) p at) (new_knows w Process n terms.given tt first u v (λ _. sym last))
-    by_place (suc zero) at = subst (Knows terms w (start_log terms.base)) (some-injective (newcomer Unmarshal terms.base n) p at) (new_knows w Unmarshal n 0 tt second u v (λ e. absurd (let z : 16 ≡ 0 = ap place_of e in omega arith)))
-    by_place (suc (suc zero)) at = subst (Knows terms w (start_log terms.base)) (some-injective (newcomer Journal terms.base n) p at) (new_knows w Journal n 0 tt third u v (λ e. absurd (let z : 24 ≡ 0 = ap place_of e in omega arith)))
-    by_place (suc (suc (suc zero))) at = subst (Knows terms w (start_log terms.base)) (some-injective (newcomer Marshal terms.base terms.given) p at) (new_knows w Marshal terms.given 0 tt fourth u v (λ e. absurd (let z : 32 ≡ 0 = ap place_of e in omega arith)))
+    by_place zero at = subst (Knows terms w (start_log terms.base)) (some-injective (processor terms.base terms.given) p at) (new_knows w Process n terms.given tt first u v (λ _. sym last) (λ e. absurd (let z : 0 ≡ 16 = ap place_of e in omega arith)))
+    by_place (suc zero) at = subst (Knows terms w (start_log terms.base)) (some-injective (newcomer Unmarshal terms.base n) p at) (new_knows w Unmarshal n 0 tt second u v (λ e. absurd (let z : 16 ≡ 0 = ap place_of e in omega arith)) (λ _. refl))
+    by_place (suc (suc zero)) at = subst (Knows terms w (start_log terms.base)) (some-injective (newcomer Journal terms.base n) p at) (new_knows w Journal n 0 tt third u v (λ e. absurd (let z : 24 ≡ 0 = ap place_of e in omega arith)) (λ _. refl))
+    by_place (suc (suc (suc zero))) at = subst (Knows terms w (start_log terms.base)) (some-injective (newcomer Marshal terms.base terms.given) p at) (new_knows w Marshal terms.given 0 tt fourth u v (λ e. absurd (let z : 32 ≡ 0 = ap place_of e in omega arith)) (λ _. refl))
     by_place (suc (suc (suc (suc j)))) at = let g : ℕ = terms.gateways in let t = each_of 1 g terms.base terms.given j p at in let k : ℕ = t.0 in let lo : 1 ≤ k = t.1 in let hi : k < 1 + g = t.2 in
         let few_g : g ≤ 8 = few_gates in let le : k ≤ 8 = omega arith in let inside : k ≤ g = omega arith in
-        subst (Knows terms w (start_log terms.base)) t.3 (new_knows w (Gateway k) terms.given 0 (lo, inside) (each k lo le) u v (λ e. absurd (let z : 32 + 8 * k ≡ 0 = ap place_of e in omega arith)))
+        subst (Knows terms w (start_log terms.base)) t.3 (new_knows w (Gateway k) terms.given 0 (lo, inside) (each k lo le) u v (λ e. absurd (let z : 32 + 8 * k ≡ 0 = ap place_of e in omega arith)) (λ _. refl))
 
   pub starts : (ws : List ℕ) → 0 < terms.rows → 0 < terms.output_rows → 1 ≤ terms.gateways → terms.gateways ≤ 8 → terms.given ≡ length (outputs_of terms terms.base) → length terms.base ≤ 2 ^ 48 → length ws ≡ table_words terms.rows terms.output_rows
       → ((k : ℕ) → k < length ws → get_or ws k 0 ≡ opening_word (length terms.base) terms.given k) → Lawful S terms (opening {S = S} ws [] (first_view terms))

@@ -4,7 +4,7 @@ use mathlib.Core.Option.{none, some}
 use lib.ListN.{get_elem?}
 use Rattle.atomic_table.specs.Table.{State, step, keeps, Allows}
 use Rattle.ring_words.specs.declared.view.Role.{Role}
-use Rattle.ring_words.specs.declared.view.Role.TheVariants.{Process}
+use Rattle.ring_words.specs.declared.view.Role.TheVariants.{Process, Unmarshal}
 use Rattle.ring_words.specs.declared.view.View.{View}
 use Rattle.ring_words.specs.Places.{marshalled, taken, published, first_row, in_row, out_row, place_of}
 use Rattle.ring_words.specs.Terms.{Terms}
@@ -76,6 +76,7 @@ module _ {L : Type 0} (S : Type 0) (terms : Terms L) where
             (λ j y lt on there. (let h = part.1 j y there in (h.0, stays a j (let few = h.0 in omega arith) (λ _. (λ (e : j ≡ i). omega arith)) ∙ h.1)))
             (small, word_here ws here x inside),
       ))
+      (λ is. absurd (let z : 0 ≡ 16 = ap place_of (sym role ∙ is) in omega arith))
       (λ o other. record {
         raw = λ t j q o_is few t_is. (t_is, rows t (j + 1) (omega arith));
         commands = λ t j o_is few. rows t (j + 48) (omega arith);

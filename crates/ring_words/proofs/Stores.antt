@@ -1,9 +1,9 @@
 -- The stores of a stage's own control word keep the rule.
-use Rattle.std.proofs.Common.{◌≡◌, ◌≢◌, ℕ, suc, ◌+◌, ◌<◌, ◌≤◌, List, length, take, length-set, get_or, set, refl, ap, sym, subst, ◌∙◌, arith, le_refl}
+use Rattle.std.proofs.Common.{inr, ◌≡◌, ◌≢◌, ℕ, suc, ◌+◌, ◌<◌, ◌≤◌, List, length, take, length-set, get_or, set, refl, ap, sym, subst, ◌∙◌, arith, le_refl}
 use Rattle.std.proofs.lemmas.List.{length-take-le}
 use mathlib.Core.Option.{none, some}
 use mathlib.Core.Logic.{dite}
-use native.Mathlib.Decide.{ℕ_discrete}
+use native.Mathlib.Decide.{dec_lt, ℕ_discrete}
 use lib.ListN.{get_elem?}
 use Rattle.std.specs.Prelude.{Some}
 use Rattle.std.proofs.lemmas.Option.{same_Some}
@@ -17,11 +17,12 @@ use Rattle.ring_words.specs.Places.{processed, claim, unmarshalled, journalled, 
 use Rattle.ring_words.specs.Log.{sent, entry_of}
 use Rattle.ring_words.specs.Packing.{command_words, IsPackable}
 use Rattle.ring_words.specs.Terms.{Terms, commands_of, command_of}
-use Rattle.ring_words.specs.Rule.{Ordered, PartOf, Outgoing, words_of, Lawful}
+use Rattle.ring_words.specs.Rule.{Ordered, PartOf, Written, Outgoing, words_of, Lawful}
 use Rattle.ring_words.specs.Seats.{person, IsAlone, alone, moved}
-use Rattle.ring_words.specs.Steps.{Seated, moves_own}
+use Rattle.ring_words.specs.Steps.{Seated, WroteCommand, moves_own}
 use Rattle.ring_words.proofs.Windows.{no_control}
 use Rattle.ring_words.proofs.Puts.{word_here, word_else}
+use Rattle.ring_words.proofs.Written.{written_below}
 use Rattle.ring_words.proofs.Logs.{one_entry, reaches, knows_risen, still_knows}
 use Rattle.ring_words.proofs.Keeps.{mine, after}
 use Rattle.ring_words.proofs.Outputs.{begins, front_taken}
@@ -113,23 +114,24 @@ module _ {L : Type 0} (S : Type 0) (terms : Terms L) where
         refl,
       )
 
-  -- the unmarshaller moves its word behind the next sequence, whose command it wrote whole
-  pub stores_unmarshalled : (slots id : ℕ) (me : Seated S L) (x : ℕ) (lg : L) (e : Message) → me.0.logic ≡ Some lg → IsAlone me.0 → (person me.0).role ≡ Unmarshal → x ≡ suc (person me.0).own
-      → get_elem? (person me.0).seen (person me.0).own ≡ some e → (person me.0).part.sequence ≡ (person me.0).own → (person me.0).part.words ≡ command_words e.gateway (terms.reads lg (person me.0).own e)
-      → IsPackable e.gateway (terms.reads lg (person me.0).own e)
+  -- the unmarshaller moves its word behind the row under way, whose command it wrote whole
+  pub stores_unmarshalled : (slots id : ℕ) (me : Seated S L) (x : ℕ) (e : Message) → IsAlone me.0 → (person me.0).role ≡ Unmarshal → x ≡ suc (person me.0).part.sequence
+      → WroteCommand (terms.reads terms.logic) (person me.0) e
       → Allows (Lawful S terms) slots id me unmarshalled (λ _. x) (λ _. moves_own (step slots unmarshalled x 0 none) me x)
-  stores_unmarshalled slots id me x lg e view_is one role next held on_row whole_by packed_by s r wide at _ =
+  stores_unmarshalled slots id me x e one role next wrote s r wide at _ =
       let p = person me.0 in let ws = s.words in let w = words_of s in let w' : ℕ → ℕ = λ (j : ℕ). get_or (set ws 16 x) j 0 in
       let knows = (mine S terms s r id me.0 p at one).2 in let own_is : w 16 ≡ p.own = subst (λ (z : Role). w (place_of z) ≡ p.own) role knows.own in
-      let reach = reaches terms w r.log p.seen r.logged knows.front in let longer : p.own < length p.seen = within p.seen p.own e held in
+      let reach = reaches terms w r.log p.seen r.logged knows.front in let row = wrote.row in
+      let longer : p.part.sequence < length p.seen = within p.seen p.part.sequence e wrote.entry in
+      let part = subst (λ (z : Role). PartOf terms.rows terms.output_rows w r.log z p.part) role knows.part in
+      let all : Written terms w p.seen p.own x = written_below terms w p part (knows.written role) x (inr (inr (next, (e, wrote)))) (omega arith) in
       let inside : 16 < length ws = (let v = r.wide in omega arith) in
       let here : w' 16 ≡ x = word_here ws 16 x inside in let zero_is : w' 0 ≡ w 0 = word_else ws 16 0 x (λ (z : 0 ≡ 16). omega arith) in let claim_is : w' 8 ≡ w 8 = word_else ws 16 8 x (λ (z : 8 ≡ 16). omega arith) in
       let journalled_is : w' 24 ≡ w 24 = word_else ws 16 24 x (λ (z : 24 ≡ 16). omega arith) in
       let order = r.order in let first = order.processed_unmarshalled in let second = order.processed_journalled in let third = order.unmarshalled_claimed in let fourth = order.journalled_claimed in let room = order.room in let most = order.most in
-      let part = subst (λ (z : Role). PartOf terms.rows terms.output_rows w r.log z p.part) role knows.part in
-      let logic_is : lg ≡ terms.logic = same_Some lg terms.logic (sym view_is ∙ (mine S terms s r id me.0 p at one).0) in
-      let whole : p.part.words ≡ commands_of terms p.own e = subst (λ (l : L). p.part.words ≡ command_words e.gateway (terms.reads l p.own e)) logic_is whole_by in
-      let packed : IsPackable e.gateway (command_of terms p.own e) = subst (λ (l : L). IsPackable e.gateway (terms.reads l p.own e)) logic_is packed_by in (
+      let below : (t : ℕ) → t < w' 16 → t < x = λ t lt. subst (λ (y : ℕ). t < y) here lt in
+      let known : (t : ℕ) (d : Message) → t < x → r.log.status t ≡ sent d → get_elem? p.seen t ≡ some d = λ t d lt is. (let stood = stands p.seen t (omega arith) in
+      stood.1 ∙ ap some (one_entry (r.log.status t) stood.0 d (knows.front t stood.0 stood.1) is)) in (
         alone me.0 (moved p x),
         keeps,
         tt,
@@ -142,19 +144,14 @@ module _ {L : Type 0} (S : Type 0) (terms : Terms L) where
               room = omega arith;
               most = omega arith;
             }
-            (λ t lt. (let below : t < x = subst (λ (y : ℕ). t < y) here lt in let d = stands p.seen t (let l : t < length p.seen = omega arith in l) in (d.0, knows.front t d.0 d.1)))
+            (λ t lt. (let under = below t lt in let d = stands p.seen t (let l : t < length p.seen = omega arith in l) in (d.0, knows.front t d.0 d.1)))
             (λ t lt. r.logged.kept t (subst (λ (y : ℕ). t < y) journalled_is lt))
-            (λ t d is below late i y there. dite (ℕ_discrete t p.own)
-            (λ here_is. (let stood : entry_of (r.log.status p.own) ≡ some e = knows.front p.own e held in
-            let same : e ≡ d = one_entry (r.log.status p.own) e d stood (ap r.log.status (sym here_is) ∙ is) in
-            let there' : get_elem? p.part.words i ≡ some y = ap (λ (l : List ℕ). get_elem? l i) whole ∙ ap (λ (m : Message). get_elem? (commands_of terms p.own m) i) same ∙ ap (λ (j : ℕ). get_elem? (commands_of terms j d) i) (sym here_is) ∙ there in
-            let stand = part i y there' in ap (λ (j : ℕ). w (in_row terms.rows j (i + 48))) (here_is ∙ sym on_row) ∙ stand.1))
-            (λ ne. r.rows.commands t d is (let below' : t < x = subst (λ (z : ℕ). t < z) here below in let g : t < w 16 = omega arith in g) late i y there))
-            (λ t d is below. dite (ℕ_discrete t p.own)
-            (λ here_is. (let stood : entry_of (r.log.status p.own) ≡ some e = knows.front p.own e held in
-            let same : e ≡ d = one_entry (r.log.status p.own) e d stood (ap r.log.status (sym here_is) ∙ is) in
-            subst (λ (j : ℕ). IsPackable d.gateway (command_of terms j d)) (sym here_is) (subst (λ (m : Message). IsPackable m.gateway (command_of terms p.own m)) same packed)))
-            (λ ne. r.rows.packable t d is (let below' : t < x = subst (λ (z : ℕ). t < z) here below in let g : t < w 16 = omega arith in g)))
+            (λ t d is lt late i y there. dite (dec_lt t (w 16))
+            (λ before. r.rows.commands t d is before late i y there)
+            (λ (behind : ¬ (t < w 16)). all.commands t d (known t d (below t lt) is) (omega arith) (below t lt) i y there))
+            (λ t d is lt. dite (dec_lt t (w 16))
+            (λ before. r.rows.packable t d is before)
+            (λ (behind : ¬ (t < w 16)). all.packable t d (known t d (below t lt) is) (omega arith) (below t lt)))
             (outgoing_stays terms w w' r.log r.log r.few refl r.outgoing.front zero_is journalled_is
             (λ k from to. word_else ws 16 k x (λ (z : k ≡ 16). omega arith))
             (all_outputs terms w w' (λ q i. word_else ws 16 (out_row terms.rows terms.output_rows q i) x (no_output terms.rows terms.output_rows q i 16 (let n : ℕ = terms.rows in omega arith)))) r.outgoing),

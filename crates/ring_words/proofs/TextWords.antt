@@ -4,7 +4,7 @@ use mathlib.Core.Option.{none, some}
 use lib.ListN.{get_elem?}
 use Rattle.atomic_table.specs.Table.{State, step, keeps, Allows}
 use Rattle.ring_words.specs.declared.view.Role.{Role}
-use Rattle.ring_words.specs.declared.view.Role.TheVariants.{Marshal}
+use Rattle.ring_words.specs.declared.view.Role.TheVariants.{Unmarshal, Marshal}
 use Rattle.ring_words.specs.declared.view.View.{View}
 use Rattle.ring_words.specs.Places.{marshalled, taken, published, in_row, out_row, place_of}
 use Rattle.ring_words.specs.Terms.{Terms}
@@ -45,6 +45,7 @@ module _ {L : Type 0} (S : Type 0) (terms : Terms L) where
       (λ j y lt on there. (let h = subst (λ (z : Role). PartOf n m w r.log z p.part) role knows.part j y there in
       (h.0, stays a (j + 64) (let few = h.0 in omega arith) (λ _. (λ (e : j + 64 ≡ i + 64). omega arith)) ∙ ap (λ (t : ℕ). w (out_row n m t (j + 64))) (sym on) ∙ h.1)))
       (small, word_here ws here x inside)))
+      (λ is. absurd (let z : 32 ≡ 16 = ap place_of (sym role ∙ is) in omega arith))
       (λ o other. record {
         raw = λ t j q o_is few t_is. (t_is, rows t (j + 1) (omega arith));
         commands = λ t j o_is few. rows t (j + 48) (omega arith);

@@ -1,5 +1,5 @@
 -- A store in a row that is claimed keeps the rule: no other row in use has the word, and no published one that may be read.
-use Rattle.std.proofs.Common.{◌≡◌, ◌≢◌, ℕ, ◌+◌, ◌-◌, ◌%◌, ◌<◌, ◌≤◌, eqb, length, get_or, set, ap, sym, subst, ◌∙◌, arith}
+use Rattle.std.proofs.Common.{◌≡◌, ◌≢◌, ℕ, ◌+◌, ◌*◌, ◌-◌, ◌%◌, ◌<◌, ◌≤◌, eqb, length, get_or, set, ap, sym, subst, ◌∙◌, arith}
 use Rattle.std.proofs.lemmas.Bool.{ne_eqb, cond-false}
 use mathlib.Core.Option.{none, some, some-ne-none}
 use mathlib.Core.Logic.{dite}
@@ -7,7 +7,7 @@ use native.Mathlib.Decide.{ℕ_discrete, dec_le}
 use lib.ListN.{get_elem?}
 use Rattle.atomic_table.specs.Table.{State, step, keeps, Allows}
 use Rattle.ring_words.specs.declared.view.Role.{Role}
-use Rattle.ring_words.specs.declared.view.Role.TheVariants.{Gateway}
+use Rattle.ring_words.specs.declared.view.Role.TheVariants.{Unmarshal, Gateway}
 use Rattle.ring_words.specs.declared.view.View.{View}
 use Rattle.ring_words.specs.Places.{processed, claim, taken, in_row, out_row, place_of, number_of}
 use Rattle.ring_words.specs.Log.{Status, unclaimed, old, claimed, sent, Log, entry_of, claims_of, times}
@@ -81,6 +81,7 @@ module _ {L : Type 0} (S : Type 0) (terms : Terms L) where
       (λ j y lt on there. (let h = subst (λ (z : Role). PartOf n m w r.log z p.part) role knows.part j y there in
       (h.0, is, stays a (j + 1) (let few = h.0 in omega arith) (λ _. (λ (e : j + 1 ≡ i + 1). omega arith)) ∙ ap (λ (t : ℕ). w (in_row n t (j + 1))) (sym on) ∙ h.2)))
       (small, is, word_here ws here x inside)))
+      (λ unmarshals. absurd (let z : 32 + 8 * k ≡ 16 = ap place_of (sym role ∙ unmarshals) in omega arith))
       (λ o apart_from. record {
         raw = λ t j q o_is few t_is. (
           t_is,

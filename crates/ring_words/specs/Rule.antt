@@ -119,8 +119,15 @@ module _ {L : Type 0} where
     pub done : (s : ℕ) → s < w unmarshalled → (e : Message) × (entry_of (log.status s) ≡ some e)
     pub kept : (s : ℕ) → s < w journalled → (e : Message) × (entry_of (log.status s) ≡ some e)
 
+  -- the commands of the entries seen from one sequence up to another stand whole in their rows, and their words keep them
+  pub record Written (terms : Terms L) (w : ℕ → ℕ) (seen : List Message) (from to : ℕ) : Type 0 where
+    pub short : to ≤ length seen
+    pub commands : (s : ℕ) (e : Message) → get_elem? seen s ≡ some e → from ≤ s → s < to
+        → (i x : ℕ) → get_elem? (commands_of terms s e) i ≡ some x → w (in_row terms.rows s (i + 48)) ≡ x
+    pub packable : (s : ℕ) (e : Message) → get_elem? seen s ≡ some e → from ≤ s → s < to → IsPackable e.gateway (command_of terms s e)
+
   -- what a person knows: a beginning of the log, no longer than its role may know, its own word, exactly its publications and claims,
-  -- what it loaded, its row under way
+  -- what it loaded, its row under way, and of the unmarshaller the commands that it wrote before that row
   pub record Knows (terms : Terms L) (w : ℕ → ℕ) (log : Log) (p : Person) : Type 0 where
     pub role : IsRole terms.gateways p.role
     pub front : IsFront log.status p.seen
@@ -130,6 +137,7 @@ module _ {L : Type 0} where
     pub claims : (s : ℕ) → times s p.claims ≡ claims_of (number_of p.role) (log.status s)
     pub loads : (i : ℕ) (l : Load) → get_elem? p.loads i ≡ some l → l.place < first_row → l.value ≤ w l.place
     pub part : PartOf terms.rows terms.output_rows w log p.role p.part
+    pub written : p.role ≡ Unmarshal → Written terms w p.seen p.own p.part.sequence
 
   -- the rows: an availability word names a published sequence of its row, and a row that may still be read has its own, its message, and below
   -- unmarshalled its command

@@ -73,12 +73,16 @@ pub record Meaning (L : Type 0) : Type 0 where
 abbrev pub meaning : {L : Type 0} → (L → List Message → List Output) → (L → Output → ℕ → Text) → Meaning L
 meaning outputs text = record { outputs = outputs; text = text }
 
--- the unmarshaller wrote the whole command of the next sequence, which is that of the entry e, by this reading
+-- the unmarshaller wrote the whole command of the row under way, which it hasn't handed on and is that of the entry e, by this reading
 pub record WroteCommand (reads : ℕ → Message → Command) (p : Person) (e : Message) : Type 0 where
-  pub entry : get_elem? p.seen p.own ≡ some e
-  pub row : p.part.sequence ≡ p.own
-  pub words : p.part.words ≡ command_words e.gateway (reads p.own e)
-  pub packable : IsPackable e.gateway (reads p.own e)
+  pub row : p.own ≤ p.part.sequence
+  pub entry : get_elem? p.seen p.part.sequence ≡ some e
+  pub words : p.part.words ≡ command_words e.gateway (reads p.part.sequence e)
+  pub packable : IsPackable e.gateway (reads p.part.sequence e)
+
+-- the rows that the unmarshaller may write: the first that it hasn't handed on, the one under way, and when that is written whole the next one
+abbrev pub MayWrite : (ℕ → Message → Command) → Person → ℕ → Type 0
+MayWrite reads p s = (s ≡ p.own) ⊎ ((s ≡ p.part.sequence) ⊎ ((s ≡ suc p.part.sequence) × ((e : Message) × WroteCommand reads p e)))
 
 -- the processor wrote the whole output at the next place, which is one of the next entry's; it saw that entry journalled
 pub record WroteOutput (outputs : List Message → List Output) (p : Person) (o : Output) : Type 0 where

@@ -8,7 +8,7 @@ ghost use Rattle.ring_words.specs.Log.{IsEntry};
 ghost use Rattle.ring_words.specs.Raw.{raw_word, raw_count};
 ghost use Rattle.ring_words.specs.Seats.{looked, stored, moved};
 ghost use Rattle.ring_words.specs.At.{IsAt, Steps};
-ghost use Rattle.ring_words.specs.Steps.{GoesOn, WroteCommand};
+ghost use Rattle.ring_words.specs.Steps.{GoesOn, WroteCommand, MayWrite};
 ghost use Rattle.ring_words.specs.Finds.{FindsEntry, FindsNone};
 
 use crate::places::{COMMAND, JOURNALLED, UNMARSHALLED};
@@ -55,13 +55,14 @@ impl<L: Logic, const N: usize, const M: usize, const G: usize> Rings<L, N, M, G>
     }
 
     /// Stores a word of the command of an entry that the unmarshaller knows and hasn't released: the first one, or one behind or among
-    /// those stored so far.
+    /// those stored so far. Of a row behind the one under way that is the first one, when that row's command is written whole.
     pub fn store_command(&self, seat: &mut UnmarshalSeat<L>, sequence: u64, word: usize, value: u64)
         requires at { IsAt self.now seat.old }
         requires from { seat.old.who.own ≤ sequence }
         requires to { sequence < length seat.old.who.seen }
         requires word { word < 16 }
         requires order { GoesOn seat.old.who.part sequence word }
+        requires row { MayWrite (L.reads self.now.logic) seat.old.who sequence }
         ensures step { Steps seat.old (stored seat.old.who sequence word value) seat.new }
     {
         let place = self.row_word(sequence, word + COMMAND);
@@ -70,17 +71,18 @@ impl<L: Logic, const N: usize, const M: usize, const G: usize> Rings<L, N, M, G>
             .store::<StoreCommand<N>>(&mut seat.seat, place, value);
     }
 
-    /// Stores the unmarshaller's word: the next sequence, whose command it has written, is done.
-    pub fn store_unmarshalled(&self, seat: &mut UnmarshalSeat<L>)
+    /// Stores the unmarshaller's word: all sequences below `upto` are done. The last of them is the row under way, and its command is written, as
+    /// are those before it.
+    pub fn store_unmarshalled(&self, seat: &mut UnmarshalSeat<L>, upto: u64)
         requires at { IsAt self.now seat.old }
+        requires last { upto ≡ suc seat.old.who.part.sequence }
         requires command { (e : Message) × WroteCommand (L.reads self.now.logic) seat.old.who e }
-        ensures step { Steps seat.old (moved seat.old.who (suc seat.old.who.own)) seat.new }
+        ensures step { Steps seat.old (moved seat.old.who upto) seat.new }
     {
-        let next = seat.own + 1;
         self.table
             .shared
-            .store::<MoveOwn>(&mut seat.seat, UNMARSHALLED, next);
-        seat.own = next;
+            .store::<MoveOwn>(&mut seat.seat, UNMARSHALLED, upto);
+        seat.own = upto;
     }
 
     /// Stores the journaller's word: all sequences below it are kept.

@@ -1,5 +1,5 @@
 -- One sequence through the unmarshaller: its words are loaded, its command is stored, and it is handed on.
-use Rattle.std.proofs.Common.{◌≡◌, ℕ, suc, List, take, ap, sym, subst, ◌∙◌}
+use Rattle.std.proofs.Common.{◌≡◌, ℕ, suc, ◌+◌, ◌≤◌, List, take, ap, sym, subst, ◌∙◌, arith, add-one}
 use mathlib.Core.Option.{some}
 use lib.ListN.{get_elem?}
 use Rattle.venue_model.specs.History.{Message}
@@ -37,19 +37,20 @@ module _ {L : Type 0} (n : ℕ) (v : At L) (s : ℕ) (e : Message) (c : Command)
       → b ≡ seated v after_words → WroteCommand reads b.who e
   may_hand_on reads b gateway command there is from command_is packable b_is =
       subst (λ (z : At L). WroteCommand reads z.who e) (sym b_is) (record {
-        entry = subst (λ (t : ℕ). get_elem? v.who.seen t ≡ some e) own_is there;
-        row = own_is;
-        words = ap (command_words e.gateway) (is v.who.own);
-        packable = subst (IsPackable e.gateway) (command_is ∙ is v.who.own) (subst (λ (k : ℕ). IsPackable k command) from packable);
+        row = omega arith;
+        entry = there;
+        words = ap (command_words e.gateway) (is s);
+        packable = subst (IsPackable e.gateway) (command_is ∙ is s) (subst (λ (k : ℕ). IsPackable k command) from packable);
       })
 
   -- and is
-  pub handed_on : (b w : At L) → b ≡ seated v after_words → w ≡ seated b (moved b.who (suc b.who.own))
+  pub handed_on : (b w : At L) → b ≡ seated v after_words → w ≡ seated b (moved b.who (s + 1))
       → w ≡ seated v (moved (wrote (after_loads n v.who v.who.own e (raw_count e)) v.who.own (command_words e.gateway c))
       (suc v.who.own))
   handed_on b w b_is w_is = w_is
-      ∙ ap (λ (z : At L). seated z (moved z.who (suc z.who.own))) b_is
-      ∙ ap (λ (t : ℕ). seated v (moved (wrote (after_loads n v.who t e (raw_count e)) t (command_words e.gateway c)) (suc v.who.own))) own_is
+      ∙ ap (λ (z : At L). seated z (moved z.who (s + 1))) b_is
+      ∙ ap (λ (t : ℕ). seated v (moved (wrote (after_loads n v.who t e (raw_count e)) t (command_words e.gateway c)) (t + 1))) own_is
+      ∙ ap (λ (t : ℕ). seated v (moved (wrote (after_loads n v.who v.who.own e (raw_count e)) v.who.own (command_words e.gateway c)) t)) (add-one v.who.own)
 
 module _ {L : Type 0} (n : ℕ) (v a b : At L) (s : ℕ) (e : Message) (own_is : s ≡ v.who.own) (raw : Raw) (buf : List ℕ) (command : Command)
     (read : Reads e raw buf) (decoded : command ≡ reads (take raw.len buf)) (loaded : Loaded n v s e (reads e.bytes) own_is a)
@@ -62,5 +63,5 @@ module _ {L : Type 0} (n : ℕ) (v a b : At L) (s : ℕ) (e : Message) (own_is :
   all_written = written n v s e (reads e.bytes) own_is a b raw.gateway command loaded read.head.gateway is_its_command stored
 
   -- all four steps
-  pub unmarshalled : (w : At L) → w ≡ seated b (moved b.who (suc b.who.own)) → w ≡ seated v (after_unmarshalling n v.who e)
+  pub unmarshalled : (w : At L) → w ≡ seated b (moved b.who (s + 1)) → w ≡ seated v (after_unmarshalling n v.who e)
   unmarshalled w released = handed_on n v s e (reads e.bytes) own_is b w all_written released

@@ -1,4 +1,4 @@
-use Rattle.std.proofs.Common.{◌≡◌, length, refl, ap, arith}
+use Rattle.std.proofs.Common.{◌≡◌, ◌∙◌, inl, length, refl, ap, sym, arith}
 use Rattle.fix_orders.specs.Reading.{reads}
 use Rattle.ring_words.specs.At.{At}
 use Rattle.venue_model.specs.ListLaws.{stands}
@@ -12,7 +12,7 @@ write_command-requires g c = let v = c.args.seat.now in let stood = stands v.who
     let loaded = c.read_raw-raw.ensures.step stood.0 stood.1 in let range = c.read_raw-raw.ensures.range in
     let own : c.read_raw-raw.new.seat.who.own ≡ v.who.own = ap (λ z. z.who.own) loaded in
     let seen : length c.read_raw-raw.new.seat.who.seen ≡ length v.who.seen = ap (λ z. length z.who.seen) loaded in
-    (omega arith, (still_at c.args.rings.now v _ _ c.requires.at loaded, (omega (arith, c.requires.next), (omega (arith, c.requires.known), (omega arith, c.decode-command.ensures.range)))))
+    (omega arith, (still_at c.args.rings.now v _ _ c.requires.at loaded, (omega (arith, c.requires.next), (omega (arith, c.requires.known), (omega arith, (c.decode-command.ensures.range, inl (c.requires.next ∙ sym own)))))))
 
 pub release_written-requires : goal.release_written-requires
 release_written-requires g c = let v = c.args.seat.now in let s = c.args.next in
@@ -22,7 +22,8 @@ release_written-requires g c = let v = c.args.seat.now in let s = c.args.next in
     let stored = all_written g.row.N v _ _ s e c.requires.next _ _ _ read value loaded c.write_command.ensures.step in
     let may = may_hand_on g.row.N v s e (reads e.bytes) c.requires.next _ _ _ _ stood.1 (λ t. refl) read.head.gateway command
     c.write_command.ensures.packable stored in
-    (omega arith, (still_at c.args.rings.now v _ _ c.requires.at stored, (e, may)))
+    let on : c.write_command.new.seat.who.part.sequence ≡ s = ap (λ (z : At _). z.who.part.sequence) stored in
+    (omega arith, (still_at c.args.rings.now v _ _ c.requires.at stored, (omega arith, (e, may))))
 
 pub returns-clause-step : goal.returns-clause-step
 returns-clause-step g c = let v = c.args.seat.now in let stood = stands v.who.seen c.args.next c.requires.known in
