@@ -1,67 +1,87 @@
--- One sequence through the unmarshaller: its words are loaded, its command is stored, and it is handed on.
-use Rattle.std.proofs.Common.{◌≡◌, ℕ, suc, ◌+◌, ◌≤◌, List, take, ap, sym, subst, ◌∙◌, arith, add-one}
+-- Sequences through the unmarshaller: of each its words are loaded and its command is stored, and then all are handed on at once.
+use Rattle.std.proofs.Common.{◌≡◌, ◌⊎◌, inl, inr, ℕ, suc, ◌+◌, ◌-◌, ◌≤◌, List, take, refl, ap, sym, subst, ◌∙◌, arith}
 use mathlib.Core.Option.{some}
 use lib.ListN.{get_elem?}
 use Rattle.venue_model.specs.History.{Message}
 use Rattle.venue_model.specs.declared.commands.Command.{Command}
-use Rattle.ring_words.specs.declared.view.Person.{Person}
+use Rattle.ring_words.specs.declared.raw.Raw.{Raw}
 use Rattle.ring_words.specs.Raw.{raw_count}
 use Rattle.ring_words.specs.Packing.{command_words, IsPackable}
-use Rattle.ring_words.specs.Seats.{wrote, moved}
+use Rattle.ring_words.specs.Seats.{wrote}
 use Rattle.ring_words.specs.At.{At, seated}
-use Rattle.ring_words.specs.Steps.{WroteCommand}
+use Rattle.ring_words.specs.Steps.{WroteCommand, MayWrite}
 use Rattle.barrier.specs.Reading.{after_loads, Reads}
-use Rattle.ring_words.specs.declared.raw.Raw.{Raw}
 use Rattle.fix_orders.specs.Reading.{reads}
-use Rattle.stages.specs.Turns.{after_unmarshalling}
+use Rattle.stages.specs.Turns.{as_read, after_writing, Wrote}
 
-module _ {L : Type 0} (n : ℕ) (v : At L) (s : ℕ) (e : Message) (c : Command) (own_is : s ≡ v.who.own) where
-  -- its message is loaded
-  abbrev pub Loaded : At L → Type 0
-  Loaded a = a ≡ seated v (after_loads n v.who s e (raw_count e))
+-- loads leave which rows may be written
+pub still_may : {L : Type 0} (n : ℕ) (v a : At L) (s : ℕ) (e : Message) → a ≡ seated v (after_loads n v.who s e (raw_count e)) → MayWrite as_read v.who s → MayWrite as_read a.who s
+still_may n v a s e loaded may = subst (λ (z : At _). MayWrite as_read z.who s) (sym loaded) (by_row may) where
+  by_row : MayWrite as_read v.who s → MayWrite as_read (after_loads n v.who s e (raw_count e)) s
+  by_row (inl first) = inl first
+  by_row (inr (inl on)) = inr (inl on)
+  by_row (inr (inr (next, (d, whole)))) = inr (inr (next, (d, record { row = whole.row; entry = whole.entry; words = whole.words; packable = whole.packable })))
 
-  abbrev pub after_words : Person
-  after_words = wrote (after_loads n v.who s e (raw_count e)) s (command_words e.gateway c)
-
-  -- and its command stored
-  pub written : (a b : At L) (gateway : ℕ) (command : Command) → Loaded a → gateway ≡ e.gateway → command ≡ c
-      → b ≡ seated a (wrote a.who s (command_words gateway command)) → b ≡ seated v after_words
-  written a b gateway command loaded from is stored = stored
-      ∙ ap (λ (z : At L). seated z (wrote z.who s (command_words gateway command))) loaded
-      ∙ ap (λ (k : ℕ). seated v (wrote (after_loads n v.who s e (raw_count e)) s (command_words k command))) from
-      ∙ ap (λ (d : Command). seated v (wrote (after_loads n v.who s e (raw_count e)) s (command_words e.gateway d))) is
-
-  -- so it may be handed on
-  pub may_hand_on : (reads : ℕ → Message → Command) (b : At L) (gateway : ℕ) (command : Command)
-      → get_elem? v.who.seen s ≡ some e → ((t : ℕ) → c ≡ reads t e) → gateway ≡ e.gateway → command ≡ c → IsPackable gateway command
-      → b ≡ seated v after_words → WroteCommand reads b.who e
-  may_hand_on reads b gateway command there is from command_is packable b_is =
-      subst (λ (z : At L). WroteCommand reads z.who e) (sym b_is) (record {
-        row = omega arith;
-        entry = there;
-        words = ap (command_words e.gateway) (is s);
-        packable = subst (IsPackable e.gateway) (command_is ∙ is s) (subst (λ (k : ℕ). IsPackable k command) from packable);
-      })
-
-  -- and is
-  pub handed_on : (b w : At L) → b ≡ seated v after_words → w ≡ seated b (moved b.who (s + 1))
-      → w ≡ seated v (moved (wrote (after_loads n v.who v.who.own e (raw_count e)) v.who.own (command_words e.gateway c))
-      (suc v.who.own))
-  handed_on b w b_is w_is = w_is
-      ∙ ap (λ (z : At L). seated z (moved z.who (s + 1))) b_is
-      ∙ ap (λ (t : ℕ). seated v (moved (wrote (after_loads n v.who t e (raw_count e)) t (command_words e.gateway c)) (t + 1))) own_is
-      ∙ ap (λ (t : ℕ). seated v (moved (wrote (after_loads n v.who v.who.own e (raw_count e)) v.who.own (command_words e.gateway c)) t)) (add-one v.who.own)
-
-module _ {L : Type 0} (n : ℕ) (v a b : At L) (s : ℕ) (e : Message) (own_is : s ≡ v.who.own) (raw : Raw) (buf : List ℕ) (command : Command)
-    (read : Reads e raw buf) (decoded : command ≡ reads (take raw.len buf)) (loaded : Loaded n v s e (reads e.bytes) own_is a)
+-- one sequence
+module _ {L : Type 0} (n : ℕ) (v a b : At L) (s : ℕ) (e : Message) (raw : Raw) (buf : List ℕ) (command : Command)
+    (read : Reads e raw buf) (decoded : command ≡ reads (take raw.len buf)) (loaded : a ≡ seated v (after_loads n v.who s e (raw_count e)))
     (stored : b ≡ seated a (wrote a.who s (command_words raw.gateway command))) where
   -- the command that was decoded is the entry's
-  pub is_its_command : command ≡ reads e.bytes
+  is_its_command : command ≡ reads e.bytes
   is_its_command = decoded ∙ ap reads read.bytes
 
-  pub all_written : b ≡ seated v (after_words n v s e (reads e.bytes) own_is)
-  all_written = written n v s e (reads e.bytes) own_is a b raw.gateway command loaded read.head.gateway is_its_command stored
+  -- its message was read and its command stored
+  pub is_written : b ≡ seated v (after_writing n v.who s e)
+  is_written = stored
+      ∙ ap (λ (z : At L). seated z (wrote z.who s (command_words raw.gateway command))) loaded
+      ∙ ap (λ (k : ℕ). seated v (wrote (after_loads n v.who s e (raw_count e)) s (command_words k command))) read.head.gateway
+      ∙ ap (λ (d : Command). seated v (wrote (after_loads n v.who s e (raw_count e)) s (command_words e.gateway d))) is_its_command
 
-  -- all four steps
-  pub unmarshalled : (w : At L) → w ≡ seated b (moved b.who (s + 1)) → w ≡ seated v (after_unmarshalling n v.who e)
-  unmarshalled w released = handed_on n v s e (reads e.bytes) own_is b w all_written released
+  -- the command stands whole
+  pub is_whole : v.who.own ≤ s → get_elem? v.who.seen s ≡ some e → IsPackable raw.gateway command → WroteCommand as_read b.who e
+  is_whole from there packable = subst (λ (z : At L). WroteCommand as_read z.who e) (sym is_written) (record {
+    row = from;
+    entry = there;
+    words = refl;
+    packable = subst (λ (k : ℕ). IsPackable k (reads e.bytes)) read.head.gateway (subst (IsPackable raw.gateway) is_its_command packable);
+  })
+
+-- the commands of all sequences from the next one up to s were written
+pub record WroteUpTo {L : Type 0} (n : ℕ) (v u : At L) (next s : ℕ) : Type 0 where
+  pub from : next ≤ s
+  pub place : u ≡ seated v u.who
+  pub own : u.who.own ≡ v.who.own
+  pub seen : u.who.seen ≡ v.who.seen
+  pub all : Wrote n v.who (s - next) u.who
+  pub last : (s ≡ next) ⊎ ((s ≡ suc u.who.part.sequence) × ((e : Message) × WroteCommand as_read u.who e))
+
+module _ {L : Type 0} (n : ℕ) (v u : At L) (next s : ℕ) (is_next : next ≡ v.who.own) (so_far : WroteUpTo n v u next s) where
+  -- so the row of s may be written
+  pub may_write : MayWrite as_read u.who s
+  may_write = by_last so_far.last where
+    by_last : (s ≡ next) ⊎ ((s ≡ suc u.who.part.sequence) × ((e : Message) × WroteCommand as_read u.who e)) → MayWrite as_read u.who s
+    by_last (inl none) = inl (none ∙ is_next ∙ sym so_far.own)
+    by_last (inr some_written) = inr (inr some_written)
+
+  -- and then one more is written
+  pub one_more : (w : At L) (e : Message) → get_elem? v.who.seen s ≡ some e → w ≡ seated u w.who → w.who ≡ after_writing n u.who s e
+      → WroteCommand as_read w.who e → WroteUpTo n v w next (s + 1)
+  one_more w e there place written whole =
+      let from = so_far.from in let here : s ≡ v.who.own + (s - next) = omega arith in
+      let longer : suc (s - next) ≡ s + 1 - next = omega arith in
+      let row : w.who.part.sequence ≡ s = ap (λ p. p.part.sequence) written in record {
+        from = omega arith;
+        place = place ∙ ap (λ (z : At L). seated z w.who) so_far.place;
+        own = ap (λ p. p.own) written ∙ so_far.own;
+        seen = ap (λ p. p.seen) written ∙ so_far.seen;
+        all = subst (λ (k : ℕ). Wrote n v.who k w.who) longer (
+          u.who,
+          so_far.all,
+          (
+            e,
+            subst (λ (t : ℕ). get_elem? v.who.seen t ≡ some e) here there,
+            written ∙ ap (λ (t : ℕ). after_writing n u.who t e) here,
+          ),
+        );
+        last = inr (omega arith, (e, whole));
+      }
