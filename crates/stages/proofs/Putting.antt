@@ -149,7 +149,7 @@ same_logic rings v symbols of_rings by = let same : Some symbols ≡ Some rings.
 
 -- ONE LOOK FOR ROOM
 
-at_drop : {A : Type 0} (n : ℕ) (l : List A) (i : ℕ) → get_elem? (drop n l) i ≡ get_elem? l (n + i)
+pub at_drop : {A : Type 0} (n : ℕ) (l : List A) (i : ℕ) → get_elem? (drop n l) i ≡ get_elem? l (n + i)
 at_drop zero l i = let g : i ≡ 0 + i = omega arith in ap (get_elem? l) g
 at_drop (suc n) [] i = refl
 at_drop (suc n) (x ∷ xs) i = let g : suc (n + i) ≡ suc n + i = omega arith in at_drop n xs i ∙ ap (get_elem? (x ∷ xs)) g

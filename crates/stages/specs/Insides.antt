@@ -1,17 +1,19 @@
 -- What holds of the fields of a stage that holds more than a seat.
 use Rattle.std.specs.Prelude.{◌≡◌, ℕ, suc, ◌+◌, ◌<◌, ◌≤◌, false, List, [], length, take, drop, Some}
+use Rattle.venue_model.specs.History.{History}
 use Rattle.venue_model.specs.Requests.{Symbols}
 use Rattle.venue_model.specs.declared.outputs.Output.{Output}
 use Rattle.ring_words.specs.declared.view.Person.{Person}
 use Rattle.ring_words.specs.Places.{journalled}
 use Rattle.ring_words.specs.Seats.{last_from}
-use Rattle.ring_words.specs.At.{At}
+use Rattle.ring_words.specs.At.{At, seated}
 use Rattle.journal.specs.Disk.{Told}
 use Rattle.journal.specs.Journals.{OneJournal}
 use Rattle.book.specs.Books.{Book}
 use Rattle.book.specs.Histories.{state_of, outputs_of}
 use Rattle.stages.specs.Kept.{HoldsDone, KeepsDone}
 use Rattle.stages.specs.Stations.{AtBook}
+use Rattle.stages.specs.Turns.{after_messages}
 
 -- the journal has just the entries that are done, while no append failed; and whatever a crash leaves has them
 pub record IsKeeping {D : Type 0} (honest : Type 0) (disk : Told) (who : Person) (journal : OneJournal D) : Type 0 where
@@ -32,3 +34,9 @@ pub record IsWorking (p : AtBook) : Type 0 where
   pub counts : (p.seat.who.own ≤ p.applied) × (p.applied ≤ suc p.seat.who.own) × (p.applied ≤ length p.seat.who.seen)
   pub whole : p.applied ≡ p.seat.who.own → p.left ≡ []
   pub synced : p.seat.who.own < p.applied → p.seat.who.own < last_from journalled 0 p.seat.who.loads
+
+-- the entries below upto, which stand from the own word on, were read
+pub record HasRead {L : Type 0} (n : ℕ) (v : At L) (upto : ℕ) (block : History) (w : At L) : Type 0 where
+  pub read : w ≡ seated v (after_messages n v.who block)
+  pub are : block ≡ take (length block) (drop v.who.own v.who.seen)
+  pub count : upto ≡ v.who.own + length block

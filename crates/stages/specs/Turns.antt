@@ -1,10 +1,11 @@
 -- What one poll of a stage does, by what it answers: of the stage's person before and after it.
-use Rattle.std.specs.Prelude.{◌≡◌, ◌≢◌, ◌⊎◌, ℕ, zero, suc, ◌+◌, ◌≤◌, length}
+use Rattle.std.specs.Prelude.{◌≡◌, ◌≢◌, ◌⊎◌, ℕ, zero, suc, ◌+◌, ◌≤◌, List, [], ◌∷◌, ◌++◌, length, take, drop}
 use mathlib.Core.Option.{some}
 use lib.ListN.{get_elem?}
-use Rattle.venue_model.specs.History.{Message}
+use Rattle.venue_model.specs.History.{History, Message}
 use Rattle.venue_model.specs.declared.commands.Command.{Command}
 use Rattle.fix_orders.specs.Reading.{reads}
+use Rattle.ring_words.specs.declared.view.Load.{Load}
 use Rattle.ring_words.specs.declared.view.Person.{Person}
 use Rattle.ring_words.specs.Places.{in_row}
 use Rattle.ring_words.specs.Raw.{raw_count}
@@ -12,7 +13,7 @@ use Rattle.ring_words.specs.Packing.{command_words}
 use Rattle.ring_words.specs.Seats.{looked, wrote, moved}
 use Rattle.barrier.specs.Availability.{Shown}
 use Rattle.barrier.specs.Commands.{after_command}
-use Rattle.barrier.specs.Reading.{after_loads}
+use Rattle.barrier.specs.Reading.{word_loads, after_loads}
 use Rattle.stages.specs.declared.turn.Turn.{Turn}
 use Rattle.stages.specs.declared.turn.Turn.TheVariants.{Did, Idle, OutFull, JournalFailed}
 
@@ -51,26 +52,42 @@ Unmarshals n Idle v w = NothingShown n v w
 Unmarshals n OutFull v w = ⊥
 Unmarshals n JournalFailed v w = ⊥
 
--- the message of the next sequence was read
-abbrev pub after_message : ℕ → Person → Message → Person
-after_message n v e = after_loads n v v.own e (raw_count e)
+-- one load for each word of these messages, which stand in the rows of s, s + 1, .. of a ring of n rows
+abbrev pub message_loads : ℕ → ℕ → List Message → List Load
+message_loads n s [] = []
+message_loads n s (e ∷ rest) = word_loads n s e (raw_count e) ++ message_loads n (suc s) rest
 
--- the message of the next sequence, which the look for new ones left known, was read, and that was all
+-- these messages, the next ones, were read, one behind the other
+abbrev pub after_messages : ℕ → Person → List Message → Person
+after_messages n v block = record v { loads = v.loads ++ message_loads n v.own block }
+
+-- the entries that a poll of the journaller takes up together: all that are known beyond those handed on, at most a ring of n rows
+abbrev pub next_block : ℕ → ℕ → History → History
+next_block n own seen = take n (drop own seen)
+
+-- the messages of the next block were read
+abbrev pub after_block : ℕ → Person → Person
+after_block n v = after_messages n v (next_block n v.own v.seen)
+
+-- there is a next block, of so many entries
+abbrev pub HasBlock : ℕ → ℕ → Person → Type 0
+HasBlock n k v = (k ≡ length (next_block n v.own v.seen)) × (1 ≤ k) × (k ≤ 4096)
+
+-- the messages of the next block, which the look for new ones left known, were read, and that was all
 abbrev pub OnlyRead : ℕ → Person → Person → Type 0
-OnlyRead n v w = (u : Person) × Shown n v u × ((e : Message) × (get_elem? u.seen u.own ≡ some e) × (w ≡ after_message n u e))
+OnlyRead n v w = (u : Person) × Shown n v u × ((k : ℕ) × HasBlock n k u × (w ≡ after_block n u))
 
--- the next sequence was read and handed on; or it couldn't be kept, and was only read
-abbrev pub KeepsNext : ℕ → Turn → Person → Person → Type 0
-KeepsNext n (Did k) v w = (k ≡ 1) × ((e : Message) × (get_elem? v.seen v.own ≡ some e) × (w ≡ done (after_message n v e)))
-KeepsNext n Idle v w = ⊥
-KeepsNext n OutFull v w = ⊥
-KeepsNext n JournalFailed v w = (e : Message) × (get_elem? v.seen v.own ≡ some e) × (w ≡ after_message n v e)
+-- the next block was read and handed on; or it couldn't be kept, and was only read
+abbrev pub KeepsBlock : ℕ → Turn → Person → Person → Type 0
+KeepsBlock n (Did k) v w = HasBlock n k v × (w ≡ moved (after_block n v) (v.own + k))
+KeepsBlock n Idle v w = ⊥
+KeepsBlock n OutFull v w = ⊥
+KeepsBlock n JournalFailed v w = (k : ℕ) × HasBlock n k v × (w ≡ after_block n v)
 
--- The journaller did one sequence, which the look for new ones left known; or that showed nothing new; or the journal had failed before,
+-- The journaller did the next block, which the look for new ones left known; or that showed nothing new; or the journal had failed before,
 -- or failed now.
 abbrev pub Journals : ℕ → Turn → Person → Person → Type 0
-Journals n (Did k) v w =
-    (k ≡ 1) × ((u : Person) × Shown n v u × ((e : Message) × (get_elem? u.seen u.own ≡ some e) × (w ≡ done (after_message n u e))))
+Journals n (Did k) v w = (u : Person) × Shown n v u × (HasBlock n k u × (w ≡ moved (after_block n u) (u.own + k)))
 Journals n Idle v w = NothingShown n v w
 Journals n OutFull v w = ⊥
 Journals n JournalFailed v w = (w ≡ v) ⊎ OnlyRead n v w

@@ -71,7 +71,8 @@ pub type CrewAndGateways<D> = (Crew<D>, Vec<GatewaySeat<BookLogic>>);
 
 impl<D: JournalDisk> Crew<D> {
     /// The stages at the seats of rings that were just opened, the journal of the history that these were opened with, and the book of that
-    /// history, and the gateways' seats. Where memory for the outputs of one command is refused, the journal is given back.
+    /// history, and the gateways' seats. Where memory for the outputs of one command or for the entries of one block is refused, the
+    /// journal is given back.
     pub fn new<const N: usize, const M: usize, const G: usize>(
         alloc: Global,
         rings: &Rings<BookLogic, N, M, G>,
@@ -97,17 +98,21 @@ impl<D: JournalDisk> Crew<D> {
         let Ok(processor) = Processor::new(alloc, process, book) else {
             return Err(journal);
         };
+        let journaller = match Journaller::new(alloc, seat, journal) {
+            Ok(journaller) => journaller,
+            Err((_, _, journal)) => return Err(journal),
+        };
         let crew = Crew {
             unmarshaller: Unmarshaller::new(unmarshal),
-            journaller: Journaller::new(seat, journal),
+            journaller,
             processor,
             marshaller: Marshaller::new(marshal),
         };
         Ok((crew, gateways))
     }
 
-    /// Lets each stage poll once, in the order in which a message meets them, so that one message that was published is kept and processed,
-    /// and one output marshalled. Where the journal failed, what isn't kept isn't processed. Takes no memory.
+    /// Lets each stage poll once, in the order in which a message meets them, so that what was published is kept, one message processed, and
+    /// one output marshalled. Where the journal failed, what isn't kept isn't processed. Takes no memory.
     pub fn poll<const N: usize, const M: usize, const G: usize>(
         &mut self,
         rings: &Rings<BookLogic, N, M, G>,

@@ -10,7 +10,7 @@ mod turn;
 mod unmarshaller;
 
 pub use crew::{Crew, CrewAndGateways, Turns};
-pub use journaller::Journaller;
+pub use journaller::{Journaller, NotMade};
 pub use marshaller::Marshaller;
 pub use processor::{Processor, ProcessorError, Refused};
 pub use turn::Turn;
