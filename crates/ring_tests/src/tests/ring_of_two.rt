@@ -56,14 +56,14 @@ fn fill<A: Abort, const N: usize, const M: usize, const G: usize>(
     assert_eq!(rt; one.publish(&order), Err(ClaimRefusal::Full));
     assert_eq!(rt;
         poll(rings, stages),
-        turns_of([Did(1), Did(1), Did(1), Idle])
+        turns_of([Did(2), Did(2), Did(1), Idle])
     );
     assert_eq!(rt; one.publish(&order), Ok(2));
     assert_eq!(rt;
         poll(rings, stages),
         turns_of([Did(1), Did(1), Did(1), Idle])
     );
-    assert_eq!(rt; poll(rings, stages), turns_of([Did(1); 4]));
+    assert_eq!(rt; poll(rings, stages), turns_of([Idle, Idle, Did(1), Did(1)]));
     assert_eq!(rt; poll(rings, stages), turns_of([Idle; 4]));
     let mut body = [0; 320];
     assert!(rt; matches!(one.take(&mut body), Take::Mine(_)));
