@@ -79,7 +79,10 @@ fn print_figures<R: Clock + Print + AllocGlobal + Threads + Sync, const G: usize
     requires { (1 ≤ G) × (G ≤ 8) }
 {
     let took = time_threads::<R, G>(rt, task)?;
-    println!(rt; "ring.venue.g{G}.joined.project: {}", Rate::of(task.commands, took))?;
+    println!(rt;
+        "ring.venue.g{G}.joined.project: {}",
+        Rate::of(task.commands, took)
+    )?;
     let took = time_one_thread::<R, G>(rt, task)?;
     println!(rt; "ring.turns.project: {}", Cost::of(task.commands, took))?;
     Ok(())
