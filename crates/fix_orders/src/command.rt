@@ -159,10 +159,7 @@ fn symbol_of(kind: RefMsgType, values: &Values) -> Symbol
     requires { AreRight kind values.now }
     ensures { result ≡ value_in values.now OrderTag.Symbol }
 {
-    match Symbol::new(values.get(OrderTag::Symbol)) {
-        Some(symbol) => symbol,
-        None => unreachable!(),
-    }
+    Symbol::of_name(values.get(OrderTag::Symbol))
 }
 
 /// Side (54).

@@ -138,16 +138,27 @@ impl<'a> OrderFields<'a> {
     {
         let mut found = None;
         for tag in ORDER_TAGS {
-            found = lesser_if(self.is_missing(kind, tag), tag.number(), found);
+            found = self.lesser_missing(kind, tag, found);
         }
         found
+    }
+
+    /// The lesser of a tag that was found and this one, where it is missing. Most tags of a message aren't.
+    fn lesser_missing(&self, kind: RefMsgType, tag: OrderTag, found: Option<u32>) -> Option<u32>
+        ensures { result ≡ lesser_if (is_missing kind self.now.values tag) (number_of tag) found }
+    {
+        if self.is_missing(kind, tag) {
+            lesser_if(true, tag.number(), found)
+        } else {
+            found
+        }
     }
 
     /// Whether the type requires the tag and no field has it.
     fn is_missing(&self, kind: RefMsgType, tag: OrderTag) -> bool
         ensures { result ≡ is_missing kind self.now.values tag }
     {
-        tag.need(kind) == Need::Required && !self.values.has(tag)
+        !self.values.has(tag) && tag.need(kind) == Need::Required
     }
 }
 

@@ -70,5 +70,5 @@ pub fn judge(format: Format, value: &[u8]) -> Judged
 fn is_symbol(value: &[u8]) -> bool
     ensures { result ≡ is_symbol value.now }
 {
-    Symbol::new(value).is_some()
+    Symbol::is_name(value)
 }

@@ -52,6 +52,7 @@ pub fn read_header<'a>(mut fields: Fields<'a>) -> Option<Header<'a>>
 }
 
 /// The value of the next field, where it has this tag.
+#[inline(always)]
 fn next_value<'a>(fields: &mut Fields<'a>, tag: u32) -> Option<&'a [u8]>
     ensures { MatchOption result (LacksFirst tag (fields_left fields.old))
         (λ v. fields_left fields.old ≡ field tag v.now ∷ fields_left fields.new) }
@@ -65,6 +66,7 @@ fn next_value<'a>(fields: &mut Fields<'a>, tag: u32) -> Option<&'a [u8]>
 }
 
 /// MsgSeqNum.
+#[inline(always)]
 fn seq_num(value: &[u8]) -> Option<u32>
     ensures { MatchOption result (IsFalse (is_seq_num value.now))
         (λ n. IsTrue (is_seq_num value.now) × (n ≡ value_of value.now)) }

@@ -10,7 +10,11 @@ use crate::put::put_bytes;
 /// YYYYMMDD-HH:MM:SS, where 0 stands for any digit.
 const SHAPE: [u8; 17] = *b"00000000-00:00:00";
 
+/// What the bytes of two digits, the first one ten times, add up to above their number.
+const TWO_ZEROS: u64 = 528;
+
 /// Whether the bytes are a time.
+#[inline(always)]
 pub fn is_time(value: &[u8]) -> bool
     ensures { result ≡ is_time value.now }
 {
@@ -18,6 +22,7 @@ pub fn is_time(value: &[u8]) -> bool
 }
 
 /// Whether each byte fits the shape.
+#[inline(always)]
 fn has_shape(value: &[u8]) -> bool
     ensures { result ≡ list_all fits (zip time_shape value.now) }
 {
@@ -59,7 +64,7 @@ fn two_at(time: &[u8], at: usize) -> u64
     ensures value { result ≡ (slice_index time.now at - 48) * 10 + (slice_index time.now (at + 1) - 48) }
     ensures small { result < 100 }
 {
-    (time[at] - b'0') as u64 * 10 + (time[at + 1] - b'0') as u64
+    u64::from(time[at]) * 10 + u64::from(time[at + 1]) - TWO_ZEROS
 }
 
 /// The time of a number of 14 digits.

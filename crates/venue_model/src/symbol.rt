@@ -36,15 +36,31 @@ impl Symbol {
     pub fn new(name: &[u8]) -> Option<Symbol>
         ensures { MatchOption result (IsSpelling name.now → ⊥) (λ s. (s ≡ name.now) × IsSpelling name.now) }
     {
-        if !is_name(name) {
-            return None;
+        if Symbol::is_name(name) {
+            Some(Symbol::of_name(name))
+        } else {
+            None
         }
+    }
+
+    /// The symbol that the bytes spell, where that is known: they aren't looked at again.
+    pub fn of_name(name: &[u8]) -> Symbol
+        requires { IsSpelling name.now }
+        ensures { result ≡ name.now }
+    {
         let mut bytes = [0; 8];
         bytes[..name.len()].copy_from_slice(name);
-        Some(Symbol {
+        Symbol {
             bytes,
             len: name.len() as u8,
-        })
+        }
+    }
+
+    /// Whether the bytes spell a symbol.
+    pub fn is_name(name: &[u8]) -> bool
+        ensures { IsTrue result ↔ IsSpelling name.now }
+    {
+        0 < name.len() && name.len() <= 8 && has_name_bytes(name)
     }
 
     /// Whether both are one symbol. It is what `==` answers, said of the names.
@@ -61,13 +77,6 @@ impl Symbol {
     {
         &self.bytes[..self.len as usize]
     }
-}
-
-/// Whether the bytes spell a symbol.
-fn is_name(name: &[u8]) -> bool
-    ensures { IsTrue result ↔ IsSpelling name.now }
-{
-    0 < name.len() && name.len() <= 8 && has_name_bytes(name)
 }
 
 /// Whether each byte may stand in a symbol.

@@ -4,7 +4,6 @@ use Rattle.fix_orders.specs.declared.tags.OrderTag.TheVariants.{Symbol}
 use Rattle.fix_orders.specs.FaultLaws.{spelling, symbol_needed}
 use Rattle.fix_orders.proofs.command.symbol_of.Goals as goal
 
-pub unreachable-requires : goal.unreachable-requires
-unreachable-requires c =
-    c.in-None.ensures (subst IsSpelling (sym c.get.ensures)
-    (spelling _ (c.requires.format Symbol (symbol_needed c.args.kind))))
+pub of_name-requires : goal.of_name-requires
+of_name-requires c =
+    subst IsSpelling (sym c.get.ensures) (spelling _ (c.requires.format Symbol (symbol_needed c.args.kind)))

@@ -4,13 +4,12 @@ use Rattle.fix_orders.specs.Findings.{lesser_if, missing_among}
 use Rattle.fix_orders.specs.Reading.{least}
 use Rattle.fix_orders.specs.declared.tags.OrderTag.{OrderTag}
 use Rattle.fix_orders.specs.declared.tags.TheConstants.{ORDER_TAGS}
-use Rattle.fix_orders.proofs.FindingLemmas.{counted}
 use Rattle.fix_orders.proofs.FoundLemmas.{missing_more, missing_is}
 use Rattle.fix_orders.proofs.fields.OrderFields.least_missing.Goals as goal
 
 pub loop-tag-preserved : goal.loop-tag-preserved
 loop-tag-preserved c =
-    counted _ _ _ _ _ _ c.lesser_if-found.ensures c.is_missing.ensures c.number.ensures
+    c.lesser_missing-found.ensures
     ∙ ap (lesser_if _ _) c.loop-tag.invariant
     ∙ sym (missing_more c.args.kind c.args.self.now.values _ c.loop-tag.tag-index _ c.loop-tag-test.true)
 
