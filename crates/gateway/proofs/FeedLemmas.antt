@@ -1,16 +1,19 @@
 -- What a feed of the session comes to, from what the framer and the judgement tell.
-use Rattle.std.proofs.Common.{◌≡◌, ℕ, zero, suc, ◌≤◌, List, [], ◌++◌, length, take, ap, refl, sym, ◌∙◌, subst, inl, inr, arith, append-nil, Some, None}
+use Rattle.std.proofs.Common.{◌≡◌, ℕ, zero, suc, ◌≤◌, List, [], ◌++◌, length, take, ap, refl, sym, ◌∙◌, subst, inl, inr, arith, append-nil, Option, Some, None}
 use Rattle.std.proofs.lemmas.List.{take_all}
 use Rattle.fix_frame.specs.Grammar.{Field, IsBody, frame_text, most_in}
 use Rattle.fix_frame.specs.Framing.{Framing, HasFault}
 use Rattle.fix_frame.specs.Stream.{BeginsNoFrame, Faults}
 use Rattle.fix_frame.specs.declared.FrameFault.{FrameFault}
 use Rattle.gateway.specs.declared.ending.Reason.TheVariants.{Refused}
+use Rattle.gateway.specs.declared.hearing.Judged.{Judged}
+use Rattle.gateway.specs.declared.hearing.Judged.TheVariants as judged
 use Rattle.gateway.specs.declared.refusal.Refusal.{Refusal}
 use Rattle.gateway.specs.declared.refusal.Refusal.TheVariants as refusal
 use Rattle.gateway.specs.Verdict.{Verdict, Welcome, Beat, Hold, Pass, Leave, Refuse, verdict, refusal_text}
 use Rattle.gateway.specs.Answers.{time_after, Logout}
 use Rattle.gateway.specs.Session.{Standing}
+use Rattle.gateway.specs.Hears.{verdict_of, Holds, IsHeld}
 use Rattle.gateway.specs.Moves.{heard, refusing, replying}
 use Rattle.gateway.specs.Parts.{Listens}
 
@@ -30,20 +33,42 @@ under_way_gone time message Pass s rest = refl
 under_way_gone time message Leave s rest = refl
 under_way_gone time message (Refuse r) s rest = refl
 
-pub listens-frame : (old new : Standing) (piece : List ℕ) (n : ℕ) (frame : List Field) (rest time : List ℕ) (v : Verdict) →
+-- nor what was held before a message that is to be held
+held_gone : (time message : List ℕ) (j : Judged) (s : Standing) (held : Option (List ℕ)) → Holds message j s.held held →
+    heard time message (verdict_of j) (record s { held = held }) ≡ heard time message (verdict_of j) s
+held_gone time message judged.Welcome s held stays = ap (λ h. heard time message Welcome (record s { held = h })) stays
+held_gone time message (judged.Beat echo) s held stays = ap (λ h. heard time message (Beat echo.items) (record s { held = h })) stays
+held_gone time message judged.Pass s held stays = ap (λ h. heard time message Pass (record s { held = h })) stays
+held_gone time message judged.Leave s held stays = ap (λ h. heard time message Leave (record s { held = h })) stays
+held_gone time message judged.Hold s held is = refl
+held_gone time message (judged.Refuse r) s held stays = ap (λ h. heard time message (Refuse r) (record s { held = h })) stays
+
+-- a message that is to be held is held
+pub is_held : (message : List ℕ) (j : Judged) (before held : Option (List ℕ)) → Holds message j before held → IsHeld message j held
+is_held message judged.Welcome before held stays = tt
+is_held message (judged.Beat echo) before held stays = tt
+is_held message judged.Pass before held stays = tt
+is_held message judged.Leave before held stays = tt
+is_held message judged.Hold before held is = is
+is_held message (judged.Refuse r) before held stays = tt
+
+pub listens-frame : (old new : Standing) (piece : List ℕ) (n : ℕ) (frame : List Field) (rest time text : List ℕ) (j : Judged) (held : Option (List ℕ)) →
     BeginsNoFrame old.under_way → n ≤ length piece → IsBody most_in frame → old.under_way ++ take n piece ≡ frame_text frame →
-    time ≡ time_after old.time frame → v ≡ verdict old.gateway old.accepted frame →
-    new ≡ heard time (frame_text frame) v (record old { under_way = rest }) →
+    time ≡ time_after old.time frame → verdict_of j ≡ verdict old.gateway old.accepted frame →
+    text ≡ frame_text frame → Holds text j old.held held →
+    new ≡ heard time text (verdict_of j) (record old { under_way = rest; held = held }) →
     Listens old new piece n
-listens-frame old new piece n frame rest time v partial within body whole time_is v_is new_is = record {
+listens-frame old new piece n frame rest time text j held partial within body whole time_is v_is text_is holds new_is = record {
   some = some_fed old.under_way piece n frame partial body whole;
   within = within;
   hears = inl (inr (record {
     frame = frame;
     body = body;
     whole = whole;
-    new_is = new_is ∙ under_way_gone time (frame_text frame) v old rest
-        ∙ ap (λ t. heard t (frame_text frame) v old) time_is
+    new_is = new_is ∙ under_way_gone time text (verdict_of j) (record old { held = held }) rest
+        ∙ held_gone time text j old held holds
+        ∙ ap (λ t. heard time t (verdict_of j) old) text_is
+        ∙ ap (λ t. heard t (frame_text frame) (verdict_of j) old) time_is
         ∙ ap (λ w. heard (time_after old.time frame) (frame_text frame) w old) v_is;
   }));
 }

@@ -1,6 +1,5 @@
 -- How many bytes frames and fields have.
-use Rattle.std.proofs.Common.{◌≡◌, ℕ, ◌+◌, ◌≤◌, List, [], ◌∷◌, ◌++◌, length, refl, arith, length-append, Result, Ok, Err}
-use Rattle.std.specs.Result.{IsOk, OnOk}
+use Rattle.std.proofs.Common.{◌≡◌, ℕ, ◌+◌, ◌≤◌, List, [], ◌∷◌, ◌++◌, length, refl, ap, arith, length-append}
 use Rattle.std.specs.Fmt.{decimal}
 use Rattle.std.proofs.lemmas.Fmt.{length-decimal-le}
 use Rattle.fix_frame.specs.Grammar.{Field, IsBody, head, trailer, frame_of, frame_text, print_fields, field_then, most_in}
@@ -25,13 +24,22 @@ length_frame body small =
     omega (arith, length_head (length body) small, length_trailer front, length-append front (trailer front), length-append (head (length body)) body)
 
 -- a frame that comes in has at most 320
-pub length_text : (fields : List Field) → IsBody most_in fields → length (frame_text fields) ≤ 320
+length_text : (fields : List Field) → IsBody most_in fields → length (frame_text fields) ≤ 320
 length_text fields body = omega (arith, body.at_most, length_frame (print_fields fields) (omega (arith, body.at_most)))
 
--- what holds of a value holds where there is one
-pub on_ok : {T E : Type 0} (r : Result T E) (P : Type 0) → IsOk r → OnOk r P → P
-on_ok (Ok value) P is on = on
-on_ok (Err e) P is on = cc
+-- and some
+some_text : (fields : List Field) → 1 ≤ length (frame_text fields)
+unfolding frame_of
+some_text fields =
+    let body = print_fields fields in
+    let front = head (length body) ++ body in
+    omega (arith, length_trailer front, length-append front (trailer front))
+
+pub has_some_text : (fields : List Field) (text : List ℕ) → text ≡ frame_text fields → 1 ≤ length text
+has_some_text fields text is = omega (arith, ap length is, some_text fields)
+
+pub has_short_text : (fields : List Field) (text : List ℕ) → IsBody most_in fields → text ≡ frame_text fields → length text ≤ 320
+has_short_text fields text body is = omega (arith, ap length is, length_text fields body)
 
 -- a field in front of what follows it
 pub length_field : (f : Field) (rest : List ℕ) → length (field_then f rest) ≡ length (decimal f.tag) + length f.value + 2 + length rest

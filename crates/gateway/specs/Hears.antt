@@ -1,5 +1,5 @@
 -- What the code's judgement of a frame stands for.
-use Rattle.std.specs.Prelude.{◌≡◌, ℕ, ◌<◌, ◌≤◌, List, length, ⊤}
+use Rattle.std.specs.Prelude.{◌≡◌, ℕ, ◌<◌, List, Option, Some, ⊤}
 use Rattle.gateway.specs.declared.hearing.Judged.{Judged}
 use Rattle.gateway.specs.declared.hearing.Judged.TheVariants as judged
 use Rattle.fix_frame.specs.Grammar.{IsField}
@@ -11,17 +11,26 @@ verdict_of judged.Welcome = Welcome
 verdict_of (judged.Beat echo) = Beat echo.items
 verdict_of judged.Pass = Pass
 verdict_of judged.Leave = Leave
-verdict_of (judged.Hold message) = Hold
+verdict_of judged.Hold = Hold
 verdict_of (judged.Refuse refusal) = Refuse refusal
 
--- a message to hold is this one
-abbrev pub IsOfMessage : List ℕ → Judged → Type 0
-IsOfMessage message judged.Welcome = ⊤
-IsOfMessage message (judged.Beat echo) = ⊤
-IsOfMessage message judged.Pass = ⊤
-IsOfMessage message judged.Leave = ⊤
-IsOfMessage message (judged.Hold held) = held.items ≡ message
-IsOfMessage message (judged.Refuse refusal) = ⊤
+-- a message that is to be held is held then; else what was held stays
+abbrev pub Holds : List ℕ → Judged → Option (List ℕ) → Option (List ℕ) → Type 0
+Holds message judged.Welcome old new = new ≡ old
+Holds message (judged.Beat echo) old new = new ≡ old
+Holds message judged.Pass old new = new ≡ old
+Holds message judged.Leave old new = new ≡ old
+Holds message judged.Hold old new = new ≡ Some message
+Holds message (judged.Refuse refusal) old new = new ≡ old
+
+-- a message that is to be held is held
+abbrev pub IsHeld : List ℕ → Judged → Option (List ℕ) → Type 0
+IsHeld message judged.Welcome held = ⊤
+IsHeld message (judged.Beat echo) held = ⊤
+IsHeld message judged.Pass held = ⊤
+IsHeld message judged.Leave held = ⊤
+IsHeld message judged.Hold held = held ≡ Some message
+IsHeld message (judged.Refuse refusal) held = ⊤
 
 -- one more message can be counted
 abbrev pub CanCount : ℕ → Judged → Type 0
@@ -29,17 +38,8 @@ CanCount accepted judged.Welcome = accepted < 999999999
 CanCount accepted (judged.Beat echo) = accepted < 999999999
 CanCount accepted judged.Pass = accepted < 999999999
 CanCount accepted judged.Leave = ⊤
-CanCount accepted (judged.Hold message) = accepted < 999999999
+CanCount accepted judged.Hold = accepted < 999999999
 CanCount accepted (judged.Refuse refusal) = ⊤
-
--- a message to hold has a byte
-abbrev pub CanHold : Judged → Type 0
-CanHold judged.Welcome = ⊤
-CanHold (judged.Beat echo) = ⊤
-CanHold judged.Pass = ⊤
-CanHold judged.Leave = ⊤
-CanHold (judged.Hold message) = 1 ≤ length message.items
-CanHold (judged.Refuse refusal) = ⊤
 
 -- a TestReqID to say again is the value of a field
 abbrev pub CanEcho : Judged → Type 0
@@ -47,5 +47,5 @@ CanEcho judged.Welcome = ⊤
 CanEcho (judged.Beat echo) = IsField (field 112 echo.items)
 CanEcho judged.Pass = ⊤
 CanEcho judged.Leave = ⊤
-CanEcho (judged.Hold message) = ⊤
+CanEcho judged.Hold = ⊤
 CanEcho (judged.Refuse refusal) = ⊤

@@ -17,6 +17,7 @@ pub mod Gateways
 pub mod Flushing
 pub mod Inputs
 pub mod Sessions
+pub mod Holding
 pub mod Hears
 pub mod Messages
 pub mod Logons

@@ -1,5 +1,5 @@
 -- What the fields of a session stand for.
-use Rattle.std.specs.Prelude.{◌≡◌, ◌≤◌, length, None, IfSome, option_map, ⊤}
+use Rattle.std.specs.Prelude.{◌≡◌, ◌≤◌, None, IfSome, ⊤}
 use Rattle.fix_frame.specs.Stream.{BeginsNoFrame}
 use Rattle.fix_orders.specs.Formats.{time_text}
 use Rattle.gateway.specs.declared.session.Session.TheInside.{Inside}
@@ -11,7 +11,7 @@ abbrev pub standing : Inside → Standing
 standing s = record {
   gateway = s.gateway;
   under_way = s.framer.held;
-  held = option_map (λ m. m.items) s.held;
+  held = s.held;
   accepted = s.accepted;
   time = time_text s.time;
   outgoing = s.outgoing.items;
@@ -29,12 +29,11 @@ ClosesItself Closed = ⊥
 ClosesItself WireFailed = ⊥
 ClosesItself Stalled = ⊥
 
--- A gateway is one of eight; a message held has a byte; fewer messages were accepted than MsgSeqNum counts. While the
+-- A gateway is one of eight; fewer messages were accepted than MsgSeqNum counts. While the
 -- session isn't closing its framer has found no fault, and no whole frame waits in it.
 pub record KeepsSession (s : Inside) : Type 0 where
   pub from : 1 ≤ s.gateway
   pub to_eight : s.gateway ≤ 8
-  pub some : IfSome s.held (λ m. 1 ≤ length m.items)
   pub few : s.accepted ≤ 999999999
   pub own : IfSome s.closing ClosesItself
   pub unbroken : s.closing ≡ None → s.framer.fault ≡ None

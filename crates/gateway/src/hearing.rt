@@ -1,12 +1,11 @@
 //! A whole frame, judged: what the session does with it.
-ghost use Rattle.std.specs.Prelude.{◌≡◌, ◌≤◌, ℕ, List, length, drop};
+ghost use Rattle.std.specs.Prelude.{◌≡◌, ◌≤◌, length, drop};
 ghost use Rattle.fix_frame.specs.Borrowed.{body_fields, fields_left};
-ghost use Rattle.fix_frame.specs.Grammar.{frame_text};
 ghost use Rattle.fix_orders.specs.Formats.{time_text};
 ghost use Rattle.fix_orders.specs.Header.{header as as_header};
 ghost use Rattle.gateway.specs.Verdict.{verdict, header_verdict, first_verdict, later_verdict, test_verdict, is_party, is_type, is_order, is_logon_body};
 ghost use Rattle.gateway.specs.Answers.{time_after};
-ghost use Rattle.gateway.specs.Hears.{verdict_of, IsOfMessage, CanCount, CanEcho};
+ghost use Rattle.gateway.specs.Hears.{verdict_of, CanCount, CanEcho};
 ghost use Rattle.gateway.specs.Logons.{begins_with};
 
 use crate::names::{client_name, venue_name};
@@ -26,8 +25,8 @@ pub enum Judged {
     Pass,
     /// Answers the Logout, and ends.
     Leave,
-    /// Holds this message until it is published.
-    Hold(ArrayVec<u8, 320>),
+    /// Holds the message until it is published.
+    Hold,
     /// Sends a Logout, and ends.
     Refuse(Refusal),
 }
@@ -43,7 +42,6 @@ pub struct Heard {
 pub fn hear(frame: &Frame, gateway: u8, accepted: u32, last: u64) -> Heard
     ensures verdict { verdict_of result.verdict ≡ verdict gateway accepted (body_fields frame.now) }
     ensures time { time_text result.time ≡ time_after (time_text last) (body_fields frame.now) }
-    ensures message { IsOfMessage (frame_text (body_fields frame.now)) result.verdict }
     ensures counts { CanCount accepted result.verdict }
     ensures echo { CanEcho result.verdict }
 {
@@ -54,17 +52,16 @@ pub fn hear(frame: &Frame, gateway: u8, accepted: u32, last: u64) -> Heard
         };
     };
     Heard {
-        verdict: judge(&header, frame, gateway, accepted),
+        verdict: judge(&header, gateway, accepted),
         time: number_of_time(header.time),
     }
 }
 
 /// Judges a frame with a right header.
-fn judge(header: &Header, frame: &Frame, gateway: u8, accepted: u32) -> Judged
+fn judge(header: &Header, gateway: u8, accepted: u32) -> Judged
     requires from { 1 ≤ header.now.number }
     requires upto { header.now.number ≤ 999999999 }
     ensures verdict { verdict_of result ≡ header_verdict gateway accepted (as_header header.now) }
-    ensures message { IsOfMessage (frame_text (body_fields frame.now)) result }
     ensures counts { CanCount accepted result }
     ensures echo { CanEcho result }
 {
@@ -75,7 +72,7 @@ fn judge(header: &Header, frame: &Frame, gateway: u8, accepted: u32) -> Judged
     } else if accepted == 0 {
         judge_first(header)
     } else {
-        judge_later(header, frame)
+        judge_later(header)
     }
 }
 
@@ -102,8 +99,7 @@ fn is_order(header: &Header) -> bool
 
 /// Judges the first message, which has to be the Logon.
 fn judge_first(header: &Header) -> Judged
-    ensures verdict { verdict_of result ≡ first_verdict (as_header header.now) }
-    ensures message { (message : List ℕ) → IsOfMessage message result }
+    ensures { verdict_of result ≡ first_verdict (as_header header.now) }
 {
     if !is_type(header, b"A") {
         Judged::Refuse(Refusal::NoLogon)
@@ -115,9 +111,8 @@ fn judge_first(header: &Header) -> Judged
 }
 
 /// Judges a message behind the Logon, by its type. An order message is held, whatever it asks for.
-fn judge_later(header: &Header, frame: &Frame) -> Judged
+fn judge_later(header: &Header) -> Judged
     ensures verdict { verdict_of result ≡ later_verdict (as_header header.now) }
-    ensures message { IsOfMessage (frame_text (body_fields frame.now)) result }
     ensures echo { CanEcho result }
 {
     if is_type(header, b"A") {
@@ -129,7 +124,7 @@ fn judge_later(header: &Header, frame: &Frame) -> Judged
     } else if is_type(header, b"5") {
         Judged::Leave
     } else if is_order(header) {
-        Judged::Hold(message_of(frame))
+        Judged::Hold
     } else {
         Judged::Refuse(Refusal::BadType)
     }
@@ -138,7 +133,6 @@ fn judge_later(header: &Header, frame: &Frame) -> Judged
 /// Judges a TestRequest, which has one TestReqID (112) of 1 to 32 bytes.
 fn judge_test(mut fields: Fields) -> Judged
     ensures verdict { verdict_of result ≡ test_verdict (fields_left fields.entry) }
-    ensures message { (message : List ℕ) → IsOfMessage message result }
     ensures echo { CanEcho result }
 {
     let Some(field) = fields.next() else {
@@ -179,13 +173,4 @@ fn is_next(fields: &mut Fields, tag: u32, value: &[u8]) -> bool
         Some(field) => field.tag == tag && field.value == value,
         None => false,
     }
-}
-
-/// The bytes of a frame.
-fn message_of(frame: &Frame) -> ArrayVec<u8, 320>
-    ensures { result.items ≡ frame_text (body_fields frame.now) }
-{
-    let mut message = ArrayVec::new();
-    let _ = message.try_extend_from_slice(frame.text());
-    message
 }

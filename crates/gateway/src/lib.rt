@@ -9,6 +9,7 @@ mod ending;
 mod flushing;
 mod gateway;
 mod hearing;
+mod held;
 mod input;
 mod message;
 mod names;

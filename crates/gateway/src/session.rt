@@ -7,6 +7,7 @@ ghost use Rattle.fix_orders.specs.Text.{Said};
 use crate::ending::Reason;
 use crate::flushing::{Flushed, flush};
 use crate::hearing::{Heard, Judged, hear};
+use crate::held::Held;
 use crate::message::write_message;
 use crate::refusal::Refusal;
 use crate::seat::{TryPublish, type_text};
@@ -23,7 +24,7 @@ use std::marker::Model;
 pub struct Session {
     gateway: u8,
     framer: Framer,
-    held: Option<ArrayVec<u8, 320>>,
+    held: Held,
     accepted: u32,
     time: u64,
     outgoing: ArrayVec<u8, 1024>,
@@ -54,7 +55,7 @@ impl Session {
     ghost use Rattle.std.specs.Prelude.{IfSome};
     ghost use Rattle.gateway.specs.Sessions.{ClosesItself};
     ghost use Rattle.gateway.specs.Parts.{Listens, Settles};
-    ghost use Rattle.gateway.specs.Hears.{verdict_of, IsOfMessage, CanCount, CanHold, CanEcho};
+    ghost use Rattle.gateway.specs.Hears.{verdict_of, IsHeld, CanCount, CanEcho};
     ghost use Rattle.gateway.specs.Messages.{IsTypeText, AreFields, Spells, IsRefusalText};
     ghost use Rattle.gateway.specs.Ledgers.{Carries};
 
@@ -67,7 +68,7 @@ impl Session {
         Ok(Session {
             gateway,
             framer: Framer::new(alloc)?,
-            held: None,
+            held: Held::new(),
             accepted: 0,
             time: 0,
             outgoing: ArrayVec::new(),
@@ -120,7 +121,7 @@ impl Session {
         ensures { self.new ≡ fresh self.old.gateway }
     {
         self.framer.reset();
-        self.held = None;
+        self.held.release();
         self.accepted = 0;
         self.time = 0;
         self.outgoing.clear();
@@ -150,23 +151,26 @@ impl Session {
             }
         };
         let heard = match self.framer.next() {
-            Some(frame) => hear(&frame, self.gateway, self.accepted, self.time),
+            Some(frame) => {
+                let heard = hear(&frame, self.gateway, self.accepted, self.time);
+                self.held.hold_as(frame.text(), &heard.verdict);
+                heard
+            }
             None => return fed,
         };
         self.answer(heard);
         fed
     }
 
-    /// Does what the session does with a judged frame.
+    /// Does what the session does with a judged frame, whose message is held if it is to be.
     fn answer(&mut self, frame: Heard)
         requires open { self.old.closing ≡ None }
         requires given { self.old.under_way ≡ [] }
         requires room { length self.old.outgoing ≤ 512 }
         requires number { self.old.number < 2 ^ 63 }
         requires counts { CanCount self.old.accepted frame.verdict }
-        requires message { CanHold frame.verdict }
         requires echo { CanEcho frame.verdict }
-        ensures new { (message : List ℕ) → IsOfMessage message frame.verdict →
+        ensures new { (message : List ℕ) → IsHeld message frame.verdict self.old.held →
             self.new ≡ heard (time_text frame.time) message (verdict_of frame.verdict) self.old }
         ensures room { length self.new.outgoing ≤ length self.old.outgoing + 412 }
     {
@@ -183,18 +187,13 @@ impl Session {
                 self.time = time;
                 self.say_heartbeat(time, echo.as_slice());
             }
-            Judged::Pass => {
+            Judged::Pass | Judged::Hold => {
                 self.accepted += 1;
                 self.time = time;
             }
             Judged::Leave => {
                 self.closing = Some(Reason::LoggedOut);
                 self.return_logout(time);
-            }
-            Judged::Hold(message) => {
-                self.accepted += 1;
-                self.time = time;
-                self.held = Some(message);
             }
             Judged::Refuse(refusal) => {
                 self.closing = Some(Reason::Refused);
@@ -273,10 +272,7 @@ impl Session {
         ensures some { 1 ≤ length result.now }
         ensures most { length result.now ≤ 320 }
     {
-        let Some(message) = &self.held else {
-            unreachable!()
-        };
-        message.as_slice()
+        self.held.message()
     }
 
     /// Does what the session does when it was tried to publish the message held: it lets go of one that is published, keeps one that was
@@ -290,10 +286,10 @@ impl Session {
         ensures room { length self.new.outgoing ≤ length self.old.outgoing + 412 }
     {
         match answer {
-            TryPublish::Done => self.held = None,
+            TryPublish::Done => self.held.release(),
             TryPublish::Refused => {}
             TryPublish::Exhausted => {
-                self.held = None;
+                self.held.release();
                 self.closing = Some(Reason::Exhausted);
                 let time = self.time;
                 self.say_logout(time, Refusal::Exhausted.text());

@@ -12,7 +12,6 @@ pub invariant_of-self : goal.invariant_of-self
 invariant_of-self c = record {
   from = c.self.invariant.from;
   to_eight = c.self.invariant.to_eight;
-  some = search rules;
   few = search rules;
   own = search rules;
   unbroken = λ h. ap (λ (f : Framing). f.fault) c.reset.ensures;
@@ -21,5 +20,5 @@ invariant_of-self c = record {
 
 pub returns : goal.returns
 returns c =
-    is_fresh c.self.inside.gateway _ _ _ (ap (λ (f : Framing). f.held) c.reset.ensures) time_text-zero c.clear.ensures
+    is_fresh c.self.inside.gateway _ _ _ _ (ap (λ (f : Framing). f.held) c.reset.ensures) c.release.ensures time_text-zero c.clear.ensures
     ∙ ap (λ (s : Standing). fresh s.gateway) c.self.view_is

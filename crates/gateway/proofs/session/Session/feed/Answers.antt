@@ -2,15 +2,14 @@
 use Rattle.std.proofs.Common.{◌≡◌, ap, sym, ◌∙◌, subst, length}
 use Rattle.fix_frame.specs.Borrowed.{body_fields}
 use Rattle.fix_frame.specs.Framing.{Framing, fresh}
-use Rattle.fix_frame.specs.Grammar.{frame_text}
 use Rattle.fix_frame.specs.Stream.{BeginsNoFrame}
 use Rattle.fix_orders.specs.Formats.{time_text}
 use Rattle.gateway.specs.Session.{Standing}
 use Rattle.gateway.specs.declared.refusal.Refusal.TheVariants.{Frame}
 use Rattle.gateway.specs.Parts.{Listens}
 use Rattle.gateway.specs.Sessions.{standing}
-use Rattle.gateway.specs.Hears.{verdict_of}
-use Rattle.gateway.proofs.FeedLemmas.{listens-frame, listens-fault, refused_is, fault_now}
+use Rattle.gateway.proofs.FeedLemmas.{listens-frame, listens-fault, refused_is, fault_now, is_held}
+use Rattle.gateway.proofs.FrameBytes.{has_some_text, has_short_text}
 use Rattle.gateway.proofs.Opening.{no_frame_in_nothing}
 use Rattle.gateway.proofs.session.Session.feed.Goals as goal
 
@@ -24,20 +23,17 @@ returns-in-Err-clause-hears c =
     (refused_is old c.say_logout.new.self c.feed.new.self.held (time_text c.self.inside.time) c.text.result.now (Frame c.in-Err.fault)
     c.text.ensures.value c.say_logout.ensures.new))
 
--- the frame is given, so nothing is under way
-given : (c : goal.After-self-in-Some-1) → c.next.follows.lender-at-none ≡ fresh
-given c = rw c.in-Some.is at c.next.follows.holds-at-none
-
-pub invariant_of-self-2 : goal.invariant_of-self-2
-invariant_of-self-2 c = record {
-  from = c.self.invariant.from;
-  to_eight = c.self.invariant.to_eight;
-  some = c.self.invariant.some;
-  few = c.self.invariant.few;
-  own = c.self.invariant.own;
-  unbroken = λ h. ap (λ (f : Framing). f.fault) (given c);
-  partial = λ h. subst (λ (f : Framing). BeginsNoFrame f.held) (sym (given c)) no_frame_in_nothing;
-}
+pub invariant_of-self-in-Some : goal.invariant_of-self-in-Some
+invariant_of-self-in-Some c =
+    -- the frame is given, so nothing is under way
+    let given : c.next.follows.lender-at-none ≡ fresh = rw c.in-Some.is at c.next.follows.holds-at-none in record {
+      from = c.self.invariant.from;
+      to_eight = c.self.invariant.to_eight;
+      few = c.self.invariant.few;
+      own = c.self.invariant.own;
+      unbroken = λ h. ap (λ (f : Framing). f.fault) given;
+      partial = λ h. subst (λ (f : Framing). BeginsNoFrame f.held) (sym given) no_frame_in_nothing;
+    }
 
 pub returns-clause-hears : goal.returns-clause-hears
 returns-clause-hears c =
@@ -45,8 +41,14 @@ returns-clause-hears c =
     let fields = body_fields c.in-Some.frame in
     subst (λ (s : Standing). Listens s c.answer.new.self c.args.bytes.now c.in-Ok.fed) c.self.view_is
     (listens-frame (standing c.self.inside) c.answer.new.self c.args.bytes.now c.in-Ok.fed fields
-    c.next.follows.lender-at-none.held (time_text c.hear-heard.result.time) (verdict_of c.hear-heard.result.verdict)
+    c.next.follows.lender-at-none.held (time_text c.hear-heard.result.time) c.text-in-Some.result.now c.hear-heard.result.verdict c.hold_as.new.self
     (c.self.invariant.partial is_open) c.in-Ok.ensures.taken.within c.in-Some.ensures.found.body
     (sym c.in-Ok.ensures.taken.held ∙ c.in-Some.ensures.found.spells)
-    c.hear-heard.ensures.time c.hear-heard.ensures.verdict
-    (c.answer.ensures.new (frame_text fields) c.hear-heard.ensures.message))
+    c.hear-heard.ensures.time c.hear-heard.ensures.verdict c.text-in-Some.ensures.value c.hold_as.ensures
+    (c.answer.ensures.new c.text-in-Some.result.now (is_held c.text-in-Some.result.now c.hear-heard.result.verdict c.self.inside.held c.hold_as.new.self c.hold_as.ensures)))
+
+pub hold_as-requires-clause-some : goal.hold_as-requires-clause-some
+hold_as-requires-clause-some c = has_some_text (body_fields c.in-Some.frame) c.text-in-Some.result.now c.text-in-Some.ensures.value
+
+pub hold_as-requires-clause-most : goal.hold_as-requires-clause-most
+hold_as-requires-clause-most c = has_short_text (body_fields c.in-Some.frame) c.text-in-Some.result.now c.text-in-Some.ensures.body c.text-in-Some.ensures.value

@@ -10,7 +10,6 @@ pub invariant_of-result : goal.invariant_of-result
 invariant_of-result c = record {
   from = c.requires.from;
   to_eight = c.requires.to;
-  some = search rules;
   few = search rules;
   own = search rules;
   unbroken = λ h. ap (λ (f : Framing). f.fault) c.in_ok-new.ensures;
@@ -18,4 +17,4 @@ invariant_of-result c = record {
 }
 
 pub returns : goal.returns
-returns c = is_fresh c.args.gateway _ _ _ (ap (λ (f : Framing). f.held) c.in_ok-new.ensures) time_text-zero c.new-2.ensures
+returns c = is_fresh c.args.gateway _ _ _ _ (ap (λ (f : Framing). f.held) c.in_ok-new.ensures) c.new-2.ensures time_text-zero c.new-3.ensures
