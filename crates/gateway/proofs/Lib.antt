@@ -6,6 +6,7 @@ pub mod WireLemmas
 pub mod FlushLemmas
 pub mod SessionLemmas
 pub mod MessageLemmas
+pub mod OutgoingLemmas
 pub mod FeedLemmas
 pub mod StepLemmas
 pub mod HearLemmas

@@ -1,5 +1,5 @@
-//! A gateway's side towards its client: the session, the bytes read and not yet fed, and counts of turns. Each turn writes, reads, hears,
-//! publishes and hands on a little, through a wire and a seat at the rings that it is lent.
+//! A gateway's side towards its client: the session, the bytes read and not yet fed, room for an output's body, and counts of turns. Each turn
+//! writes, reads, hears, publishes and hands on a little, through a wire and a seat at the rings that it is lent.
 ghost use Rattle.std.specs.Prelude.{◌≡◌, ◌≢◌, ◌≤◌, ◌<◌, ◌+◌, ◌^◌, [], None, true, false, IfOk, length};
 ghost use Rattle.gateway.specs.HeardOf.{heard_of};
 
@@ -31,6 +31,7 @@ pub struct ClientSide {
     idle: u32,
     passed: u64,
     live: bool,
+    body: [u8; 320],
 }
 
 impl Model for ClientSide {
@@ -78,6 +79,7 @@ impl ClientSide {
             idle: 0,
             passed: 0,
             live: false,
+            body: [0; 320],
         })
     }
 
@@ -227,10 +229,9 @@ impl ClientSide {
         if self.session.closing().is_some() {
             return false;
         }
-        let mut body = [0; 320];
-        match take(rings, seat, &mut body) {
+        match take(rings, seat, &mut self.body) {
             Take::Mine(head) if self.session.is_logged_on() => {
-                self.session.hand_on(head, &body);
+                self.session.hand_on(head, &self.body);
                 true
             }
             Take::Mine(_) => {
@@ -257,8 +258,8 @@ impl ClientSide {
         ensures stays { StaysSeated seat.old seat.new }
         ensures looks { MayLook seat.old seat.new }
     {
-        match take(rings, seat, &mut [0; 320]) {
-            Take::Mine(_) => {
+        match take(rings, seat, &mut self.body) {
+            Take::Mine(_head) => {
                 self.passed += 1;
                 true
             }

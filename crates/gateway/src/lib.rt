@@ -13,6 +13,7 @@ mod held;
 mod input;
 mod message;
 mod names;
+mod outgoing;
 mod refusal;
 mod seat;
 mod session;

@@ -8,11 +8,10 @@ use crate::ending::Reason;
 use crate::flushing::{Flushed, flush};
 use crate::hearing::{Heard, Judged, hear};
 use crate::held::Held;
-use crate::message::write_message;
+use crate::outgoing::Outgoing;
 use crate::refusal::Refusal;
 use crate::seat::{TryPublish, type_text};
 use crate::wire::Wire;
-use arrayvec::ArrayVec;
 use fix_frame::Framer;
 use fix_orders::put_field;
 use sequencer::Head;
@@ -27,7 +26,7 @@ pub struct Session {
     held: Held,
     accepted: u32,
     time: u64,
-    outgoing: ArrayVec<u8, 1024>,
+    outgoing: Outgoing,
     number: u64,
     logged_on: bool,
     closing: Option<Reason>,
@@ -71,7 +70,7 @@ impl Session {
             held: Held::new(),
             accepted: 0,
             time: 0,
-            outgoing: ArrayVec::new(),
+            outgoing: Outgoing::new(),
             number: 1,
             logged_on: false,
             closing: None,
@@ -259,9 +258,8 @@ impl Session {
         ensures new { (said : Said) → Spells msg_type.now time body.now said → self.new ≡ saying said self.old }
         ensures room { length self.new.outgoing ≤ length self.old.outgoing + 412 }
     {
-        let mut text = [0; 512];
-        let len = write_message(&mut text, self.gateway, self.number, msg_type, time, body);
-        let _ = self.outgoing.try_extend_from_slice(&text[..len]);
+        self.outgoing
+            .put_message(self.gateway, self.number, msg_type, time, body);
         self.number += 1;
     }
 

@@ -27,4 +27,6 @@ returns-in-Mine-2-clause-hands_on g c =
 
 pub returns-in-Passed-clause-hands_on : goal.returns-in-Passed-clause-hands_on
 returns-in-Passed-clause-hands_on g c =
-    hands-other c.args.self.now (ledger_of g.row.N c.args.seat.now) (ledger_of g.row.N c.take.new.seat) c.in-Passed.ensures.tells.1 c.in-Passed.ensures.tells.0 c.in-Passed.ensures.tells.2
+    let ledger = ledger_of g.row.N in
+    subst (λ (f : Front). HandsOn f (front c.self.inside) (ledger c.args.seat.now) (ledger c.take.new.seat) true) c.self.view_is
+    (hands-other (front c.self.inside) (ledger c.args.seat.now) (ledger c.take.new.seat) c.in-Passed.ensures.tells.1 c.in-Passed.ensures.tells.0 c.in-Passed.ensures.tells.2)
