@@ -1,5 +1,5 @@
 //! Outputs on their way through the marshaller: it reads each one out of its row, and writes its text beside it.
-ghost use Rattle.std.specs.Prelude.{◌≡◌, suc, ◌+◌, ◌<◌, ◌≤◌, length};
+ghost use Rattle.std.specs.Prelude.{◌≡◌, suc, ◌<◌, ◌≤◌, length};
 ghost use mathlib.Core.Option.{some};
 ghost use lib.ListN.{get_elem?};
 ghost use Rattle.venue_model.specs.declared.outputs.Output.{Output};
@@ -8,7 +8,7 @@ ghost use Rattle.ring_words.specs.Texts.{text_words, IsPackableText};
 ghost use Rattle.ring_words.specs.Places.{published};
 ghost use Rattle.ring_words.specs.Seats.{wrote, moved};
 ghost use Rattle.ring_words.specs.At.{IsAt, Steps};
-ghost use Rattle.ring_words.specs.Steps.{Shows, WroteText};
+ghost use Rattle.ring_words.specs.Steps.{Shows, WroteText, MayWriteText};
 ghost use Rattle.ring_words.specs.Finds.{FindsPublished};
 ghost use Rattle.barrier.specs.Outputs.{after_output};
 
@@ -54,7 +54,8 @@ pub fn read_output<L: Logic, const N: usize, const M: usize, const G: usize>(
     unpack_output(&words[..count])
 }
 
-/// Writes the text of an output that is published and not released into its row: MsgType, SendingTime and the body, at most 320 bytes.
+/// Writes the text of an output that is published and not released into its row: MsgType, SendingTime and the body, at most 320 bytes. Rows are
+/// written in order: the first that isn't released, the one under way again, or when that is written whole the next one.
 pub fn write_text<L: Logic, const N: usize, const M: usize, const G: usize>(
     rings: &Rings<L, N, M, G>,
     seat: &mut MarshalSeat<L>,
@@ -67,6 +68,7 @@ pub fn write_text<L: Logic, const N: usize, const M: usize, const G: usize>(
     requires from { seat.old.who.own ≤ place }
     requires to { Shows published seat.old.who place }
     requires most { length body.now ≤ 320 }
+    requires row { MayWriteText (L.outputs rings.now.logic) (L.text rings.now.logic) seat.old.who place }
     ensures step { Steps seat.old (wrote seat.old.who place (text_words (record { msg_type = msg_type; sending_time = sending_time; body = body.now }))) seat.new }
     ensures packable { IsPackableText (record { msg_type = msg_type; sending_time = sending_time; body = body.now }) }
 {
@@ -81,15 +83,16 @@ pub fn write_text<L: Logic, const N: usize, const M: usize, const G: usize>(
     }
 }
 
-/// Hands the next output on to the gateways, when its text is written.
+/// Hands all outputs below `upto` on to the gateways, when their texts are written: the last of them is that of the row under way.
 pub fn release_marshalled<L: Logic, const N: usize, const M: usize, const G: usize>(
     rings: &Rings<L, N, M, G>,
     seat: &mut MarshalSeat<L>,
+    upto: u64,
 )
     requires at { IsAt rings.now seat.old }
-    requires small { seat.old.who.own + 1 < 18446744073709551616 }
+    requires last { upto ≡ suc seat.old.who.part.sequence }
     requires text { (o : Output) × WroteText (L.outputs rings.now.logic) (L.text rings.now.logic) seat.old.who o }
-    ensures step { Steps seat.old (moved seat.old.who (suc seat.old.who.own)) seat.new }
+    ensures step { Steps seat.old (moved seat.old.who upto) seat.new }
 {
-    rings.store_marshalled(seat);
+    rings.store_marshalled(seat, upto);
 }

@@ -23,6 +23,7 @@ use Rattle.ring_words.specs.Steps.{Seated, ClaimsUpTo, HasRoom, claims_next}
 use Rattle.ring_words.proofs.Windows.{no_control}
 use Rattle.ring_words.proofs.Puts.{put, put_else, by_put, word_here, word_else}
 use Rattle.ring_words.proofs.Written.{written_on}
+use Rattle.ring_words.proofs.WrittenTexts.{texts_on}
 use Rattle.ring_words.proofs.Logs.{depth_risen, knows_looked}
 use Rattle.ring_words.proofs.Keeps.{mine, after}
 use Rattle.ring_words.proofs.Outgoings.{all_outputs, outgoing_stays, no_output}
@@ -80,6 +81,7 @@ knows_claimed terms w w' log a k p free risen same outside published_is is claim
   loads = λ i l at low. (let x = r.loads i l at low in let y = risen l.place low in omega arith);
   part = part_stays p.role r.part;
   written = λ is_unmarshaller. written_on terms w w' p.seen p.own p.own p.part.sequence (le_refl p.own) (λ s i x e lo hi at. same s (i + 48)) (r.written is_unmarshaller);
+  written_texts = λ is_marshaller. texts_on terms w w' p.seen p.own p.own p.part.sequence (le_refl p.own) (λ q i lo hi few. outside q (i + 64)) (r.written_texts is_marshaller);
 } where
   part_stays : (role : Role) → PartOf terms.rows terms.output_rows w log role p.part → PartOf terms.rows terms.output_rows w' (record log { status = put log.status a (claimed k) }) role p.part
   part_stays Process h = (h.0 ∙ sym published_is, λ i x at. let t = h.1 i x at in (t.0, outside p.part.sequence i ∙ t.1))

@@ -54,6 +54,7 @@ module _ {L : Type 0} (S : Type 0) (terms : Terms L) where
       (λ t j y e lo hi there. (let size = short_words e.gateway (command_of terms t e) in let few = within (commands_of terms t e) j y there in
       stays t (j + 48) (omega arith) (λ same. absurd (let one_sequence : t ≡ a = one_window p.own t a n lo from (omega arith) (omega arith) same in omega arith))))
       below))
+      (λ is. absurd (let z : 16 ≡ 32 = ap place_of (sym role ∙ is) in omega arith))
       (λ o other. record {
         raw = λ t j q o_is few t_is. (t_is, raw_stays t (j + 1) (omega arith));
         commands = λ t j o_is few. absurd (other (ap place_of o_is ∙ sym (ap place_of role)));

@@ -15,6 +15,7 @@ pub mod TextWords
 pub mod Reading
 pub mod Taking
 pub mod Written
+pub mod WrittenTexts
 pub mod Logs
 pub mod Loads
 pub mod Stores

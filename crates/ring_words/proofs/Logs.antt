@@ -18,9 +18,10 @@ use Rattle.ring_words.specs.Places.{claim, published, first_row, in_row, out_row
 use Rattle.ring_words.specs.Log.{Status, unclaimed, old, claimed, sent, Log, entry_of, IsFront}
 use Rattle.ring_words.specs.Packing.{command_words}
 use Rattle.ring_words.specs.Terms.{Terms}
-use Rattle.ring_words.specs.Rule.{Depth, Logged, Knows, PartOf, Written}
+use Rattle.ring_words.specs.Rule.{Depth, Logged, Knows, PartOf, Written, WrittenTexts}
 use Rattle.ring_words.specs.Seats.{load_of, looked, saw, knowing, moved}
 use Rattle.ring_words.proofs.Written.{written_grows, written_on}
+use Rattle.ring_words.proofs.WrittenTexts.{texts_grow, texts_on}
 
 -- what stands in the first elements
 pub in_take : {A : Type 0} (l : List A) (i j : ℕ) (a : A) → get_elem? (take i l) j ≡ some a → (j < i) × (get_elem? l j ≡ some a)
@@ -91,6 +92,7 @@ module _ {L : Type 0} (terms : Terms L) (w : ℕ → ℕ) (log : Log) where
     claims = r.claims;
     part = r.part;
     written = r.written;
+    written_texts = r.written_texts;
     loads = λ i l at low. ⊎_elim (λ was. r.loads i l was low) (λ (is : load_of k x ≡ l). subst (λ (y : Load). y.place < first_row → y.value ≤ w y.place) is le low) (at_snoc p.loads (load_of k x) l i at);
   }
 
@@ -104,6 +106,7 @@ module _ {L : Type 0} (terms : Terms L) (w : ℕ → ℕ) (log : Log) where
     claims = r.claims;
     part = r.part;
     written = λ is. written_grows terms w p.seen (e ∷ []) p.own p.part.sequence (r.written is);
+    written_texts = λ is. texts_grow terms w p.seen (e ∷ []) p.own p.part.sequence (r.written_texts is);
     loads = r.loads;
     front = λ s d at. ⊎_elim (λ was. r.front s d was)
         (λ (t : (s ≡ length p.seen) × (e ≡ d)). ap (λ (i : ℕ). entry_of (log.status i)) t.0 ∙ next ∙ ap some t.1) (at_end p.seen e d s at);
@@ -119,15 +122,16 @@ module _ {L : Type 0} (terms : Terms L) (w : ℕ → ℕ) (log : Log) where
     claims = r.claims;
     part = r.part;
     written = λ is. written_grows terms w p.seen rest p.own p.part.sequence (r.written is);
+    written_texts = λ is. texts_grow terms w p.seen rest p.own p.part.sequence (r.written_texts is);
     loads = r.loads;
     front = front;
   }
 
   -- what a person knows behind a step of its own: no control word fell, and its own word, its row under way and what it wrote before are as it says
   pub knows_on : (w' : ℕ → ℕ) (p : Person) (own : ℕ) (t : Part) → ((k : ℕ) → k < first_row → w k ≤ w' k) → w' (place_of p.role) ≡ own
-      → PartOf terms.rows terms.output_rows w' log p.role t → (p.role ≡ Unmarshal → Written terms w' p.seen own t.sequence)
+      → PartOf terms.rows terms.output_rows w' log p.role t → (p.role ≡ Unmarshal → Written terms w' p.seen own t.sequence) → (p.role ≡ Marshal → WrittenTexts terms w' p.seen own t.sequence)
       → Knows terms w log p → Knows terms w' log (record p { own = own; part = t })
-  knows_on w' p own t risen is part written r = record {
+  knows_on w' p own t risen is part written texts r = record {
     role = r.role;
     front = r.front;
     depth = depth_risen w w' risen p.role (length p.seen) r.depth;
@@ -137,17 +141,23 @@ module _ {L : Type 0} (terms : Terms L) (w : ℕ → ℕ) (log : Log) where
     loads = λ i l at low. (let a = r.loads i l at low in let b = risen l.place low in omega arith);
     part = part;
     written = written;
+    written_texts = texts;
   }
 
   -- what is known stays where no control word falls, no row word changes, published is as it was, and the own word is as it says
   pub knows_risen : (w' : ℕ → ℕ) (p : Person) (own : ℕ) → ((k : ℕ) → k < first_row → w k ≤ w' k) → ((s i : ℕ) → w' (in_row terms.rows s i) ≡ w (in_row terms.rows s i))
       → ((q i : ℕ) → w' (out_row terms.rows terms.output_rows q i) ≡ w (out_row terms.rows terms.output_rows q i)) → (p.role ≡ Process → w' published ≡ w published)
       → w' (place_of p.role) ≡ own → Knows terms w log p → Knows terms w' log (moved p own)
-  knows_risen w' p own risen same same_out place_stays is r = knows_on w' p own p.part risen is (part_stays p.role refl r.part) stays r where
+  knows_risen w' p own risen same same_out place_stays is r = knows_on w' p own p.part risen is (part_stays p.role refl r.part) stays texts_stay r where
     stays : p.role ≡ Unmarshal → Written terms w' p.seen own p.part.sequence
     stays role = let up : w 16 ≤ w' 16 = risen 16 (omega arith) in
         let before : w 16 ≡ p.own = subst (λ (z : Role). w (place_of z) ≡ p.own) role r.own in let after : w' 16 ≡ own = subst (λ (z : Role). w' (place_of z) ≡ own) role is in
         written_on terms w w' p.seen p.own own p.part.sequence (omega arith) (λ s i x e lo hi at. same s (i + 48)) (r.written role)
+
+    texts_stay : p.role ≡ Marshal → WrittenTexts terms w' p.seen own p.part.sequence
+    texts_stay role = let up : w 32 ≤ w' 32 = risen 32 (omega arith) in
+        let before : w 32 ≡ p.own = subst (λ (z : Role). w (place_of z) ≡ p.own) role r.own in let after : w' 32 ≡ own = subst (λ (z : Role). w' (place_of z) ≡ own) role is in
+        texts_on terms w w' p.seen p.own own p.part.sequence (omega arith) (λ q i lo hi few. same_out q (i + 64)) (r.written_texts role)
 
     part_stays : (role : Role) → p.role ≡ role → PartOf terms.rows terms.output_rows w log role p.part → PartOf terms.rows terms.output_rows w' log role p.part
     part_stays Process e h = (h.0 ∙ sym (place_stays e), λ i x at. let t = h.1 i x at in (t.0, same_out p.part.sequence i ∙ t.1))
@@ -168,6 +178,7 @@ module _ {L : Type 0} (terms : Terms L) (w : ℕ → ℕ) (log : Log) where
     loads = r.loads;
     part = part_stays p.role r.part;
     written = r.written;
+    written_texts = r.written_texts;
   } where
     part_stays : (role : Role) → PartOf terms.rows terms.output_rows w log role p.part → PartOf terms.rows terms.output_rows w (record log { history = h }) role p.part
     part_stays Process t = t

@@ -21,6 +21,7 @@ use Rattle.ring_words.specs.Terms.{Terms, commands_of, command_of}
 use Rattle.ring_words.specs.Rule.{IsGateway, IsRole, PartOf, words_of, Lawful}
 use Rattle.ring_words.specs.Seats.{person, IsAlone, alone, sent_of, marked}
 use Rattle.ring_words.specs.Steps.{Seated, marks_sent}
+use Rattle.ring_words.proofs.Written.{writes_rows}
 use Rattle.ring_words.proofs.Windows.{row_inside, no_control}
 use Rattle.ring_words.proofs.Puts.{put, put_here, put_else, by_put, word_here, word_else}
 use Rattle.ring_words.proofs.Logs.{short_words, depth_risen}
@@ -141,7 +142,8 @@ module _ {L : Type 0} (S : Type 0) (terms : Terms L) where
             (λ ne. times_left a t p.claims ne ∙ knows.claims t);
         loads = λ j l there low. subst (λ (y : ℕ). l.value ≤ y) (sym (control l.place low)) (knows.loads j l there low);
         part = subst (λ (z : Role). PartOf terms.rows terms.output_rows w' log' z record { sequence = a; words = [] }) (sym role) (λ j y there. absurd (some-ne-none y (sym there)));
-        written = λ is_unmarshaller. absurd (let z : 32 + 8 * k ≡ 16 = ap place_of (sym role ∙ is_unmarshaller) in omega arith);
+        written = λ is_unmarshaller. absurd (let z : 0 ≡ 1 = ap writes_rows (sym role ∙ is_unmarshaller) in omega arith);
+        written_texts = λ is_marshaller. absurd (let z : 0 ≡ 1 = ap writes_rows (sym role ∙ is_marshaller) in omega arith);
       }
       (λ o apart_from kn. let differs : number_of o.role ≢ k = other_number o.role k gateway.0 (λ z. apart_from (z ∙ sym (ap place_of role))) in
       others_know terms w w' r.log log' o r.few entries

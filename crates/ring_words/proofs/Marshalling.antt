@@ -1,24 +1,25 @@
 -- The marshaller's steps at control words and at published outputs keep the rule, and what its loads tell.
-use Rattle.std.proofs.Common.{Some, ◌≡◌, ◌≢◌, ℕ, suc, ◌+◌, ◌*◌, ◌<◌, ◌≤◌, List, ◌++◌, length, take, get_or, set, refl, ap, sym, subst, ◌∙◌, arith, le_refl}
+use Rattle.std.proofs.Common.{Some, inr, ◌≡◌, ◌≢◌, ℕ, suc, ◌+◌, ◌*◌, ◌<◌, ◌≤◌, List, ◌++◌, length, take, get_or, set, refl, ap, sym, subst, ◌∙◌, arith, le_refl}
 use Rattle.std.proofs.lemmas.Option.{same_Some}
-use mathlib.Core.Option.{none, some, some-injective}
+use mathlib.Core.Option.{none, some}
 use mathlib.Core.Logic.{dite}
-use native.Mathlib.Decide.{ℕ_discrete}
+use native.Mathlib.Decide.{dec_lt}
 use lib.ListN.{get_elem?}
 use Rattle.atomic_table.specs.Table.{State, step, keeps, Allows}
 use Rattle.venue_model.specs.History.{Message}
+use Rattle.venue_model.specs.ListLaws.{stands}
 use Rattle.venue_model.specs.declared.outputs.Output.{Output}
 use Rattle.ring_words.specs.declared.view.Role.{Role}
 use Rattle.ring_words.specs.declared.view.Role.TheVariants.{Marshal}
 use Rattle.ring_words.specs.declared.view.View.{View}
 use Rattle.ring_words.specs.Places.{journalled, marshalled, taken, published, first_row, out_row, place_of}
 use Rattle.ring_words.specs.Log.{IsFront}
-use Rattle.ring_words.specs.Texts.{text_words, IsPackableText}
-use Rattle.ring_words.specs.Terms.{Terms, outputs_of, text_of}
-use Rattle.ring_words.specs.Rule.{IsGateway, Depth, PartOf, Knows, words_of, Lawful}
+use Rattle.ring_words.specs.Terms.{Terms, outputs_of}
+use Rattle.ring_words.specs.Rule.{IsGateway, Depth, PartOf, WrittenTexts, Knows, words_of, Lawful}
 use Rattle.ring_words.specs.Seats.{person, IsAlone, alone, looked, knowing, moved}
 use Rattle.ring_words.specs.Steps.{Seated, WroteText, readable, moves_own, sees_output, sees_published}
 use Rattle.ring_words.proofs.Puts.{word_here, word_else}
+use Rattle.ring_words.proofs.WrittenTexts.{texts_below}
 use Rattle.ring_words.proofs.Logs.{knows_looked, knows_knowing}
 use Rattle.ring_words.proofs.Keeps.{mine}
 use Rattle.ring_words.proofs.Outgoings.{rest_of, output_kept, published_kept, still_above, no_output}
@@ -86,15 +87,19 @@ module _ {L : Type 0} (S : Type 0) (terms : Terms L) where
   loads_marshal_output_in n m rows output_rows slots id me k one role = subst (λ (j : ℕ). Loads slots id me k (sees_output (readable n j published) terms.outputs (step slots k 0 0 none) me)) output_rows
       (subst (λ (j : ℕ). Loads slots id me k (sees_output (readable j terms.output_rows published) terms.outputs (step slots k 0 0 none) me)) rows (loads_marshal_output slots id me k one role))
 
-  -- the marshaller moves its word behind the next output, whose text it wrote whole
-  pub stores_marshalled : (slots id : ℕ) (me : Seated S L) (x : ℕ) (lg : L) (o : Output) → me.0.logic ≡ Some lg → WroteText (terms.outputs lg) (terms.text lg) (person me.0) o → IsAlone me.0 → (person me.0).role ≡ Marshal → x ≡ suc (person me.0).own
+  -- the marshaller moves its word behind the row under way, whose text it wrote whole
+  pub stores_marshalled : (slots id : ℕ) (me : Seated S L) (x : ℕ) (o : Output) → IsAlone me.0 → (person me.0).role ≡ Marshal → x ≡ suc (person me.0).part.sequence
+      → WroteText (terms.outputs terms.logic) (terms.text terms.logic) (person me.0) o
       → Allows (Lawful S terms) slots id me marshalled (λ _. x) (λ _. moves_own (step slots marshalled x 0 none) me x)
-  stores_marshalled slots id me x lg o by wrote one role next s r wide at _ =
+  stores_marshalled slots id me x o one role next wrote s r wide at _ =
       let p = person me.0 in let ws = s.words in let w = words_of s in let w' : ℕ → ℕ = λ (j : ℕ). get_or (set ws 32 x) j 0 in
-      let own = mine S terms s r id me.0 p at one in let knows = own.2 in let out = r.outgoing in
+      let own = mine S terms s r id me.0 p at one in let knows = own.2 in let out = r.outgoing in let row = wrote.row in
       let own_is : w 32 ≡ p.own = subst (λ (z : Role). w (place_of z) ≡ p.own) role knows.own in
       let deep : length p.seen ≤ w journalled = subst (λ (z : Role). Depth w z (length p.seen)) role knows.depth in
-      let shown : p.own < w published = still_above terms w r.log p published p.own knows (omega arith) wrote.shown in
+      let shown : p.part.sequence < w 104 = still_above terms w r.log p published p.part.sequence knows (omega arith) wrote.shown in
+      let part = subst (λ (z : Role). PartOf terms.rows terms.output_rows w r.log z p.part) role knows.part in
+      let all : WrittenTexts terms w p.seen p.own x = texts_below terms w p part (knows.written_texts role) x (inr (inr (next, (o, wrote)))) in
+      let longer : x ≤ length (outputs_of terms p.seen) = all.short (omega arith) in
       let inside : 32 < length ws = (let v = r.wide in omega arith) in
       let here : w' 32 ≡ x = word_here ws 32 x inside in let else : (j : ℕ) → j ≢ 32 → w' j ≡ w j = λ j ne. word_else ws 32 j x ne in
       let zero_is : w' 0 ≡ w 0 = else 0 (λ (z : 0 ≡ 32). omega arith) in let journalled_is : w' 24 ≡ w 24 = else 24 (λ (z : 24 ≡ 32). omega arith) in
@@ -102,15 +107,10 @@ module _ {L : Type 0} (S : Type 0) (terms : Terms L) where
       let taken_is : (k : ℕ) → IsGateway terms.gateways k → w' (taken k) ≡ w (taken k) = λ k g. else (taken k) (λ (z : 32 + 8 * k ≡ 32). let lo : 1 ≤ k = g.0 in omega arith) in
       let row_is : (q i : ℕ) → w' (out_row terms.rows terms.output_rows q i) ≡ w (out_row terms.rows terms.output_rows q i) =
       λ q i. else (out_row terms.rows terms.output_rows q i) (no_output terms.rows terms.output_rows q i 32 (let n : ℕ = terms.rows in omega arith)) in
-      let part = subst (λ (z : Role). PartOf terms.rows terms.output_rows w r.log z p.part) role knows.part in
-      let logic_is : lg ≡ terms.logic = same_Some lg terms.logic (sym by ∙ own.0) in
-      let mine_at : get_elem? (outputs_of terms p.seen) p.own ≡ some o = subst (λ (l : L). get_elem? (terms.outputs l p.seen) p.own ≡ some o) logic_is wrote.output in
-      let kept_at = output_kept terms w r.log p.seen p.own o out knows.front deep mine_at in
-      let whole : p.part.words ≡ text_words (text_of terms o p.own) = subst (λ (l : L). p.part.words ≡ text_words (terms.text l o p.own)) logic_is wrote.words in
-      let packed : IsPackableText (text_of terms o p.own) = subst (λ (l : L). IsPackableText (terms.text l o p.own)) logic_is wrote.packable in
-      let same : (q : ℕ) (d : Output) → q ≡ p.own → get_elem? (outputs_of terms r.log.history) q ≡ some d → o ≡ d =
-      λ q d here_is there. some-injective o d (sym kept_at ∙ ap (λ (j : ℕ). get_elem? (outputs_of terms r.log.history) j) (sym here_is) ∙ there) in
-      let lower : (q : ℕ) → q < w' 32 → q ≢ p.own → q < w 32 = λ q lt ne. (let lt' : q < x = subst (λ (z : ℕ). q < z) here lt in omega arith) in (
+      let below : (q : ℕ) → q < w' 32 → q < x = λ q lt. subst (λ (z : ℕ). q < z) here lt in
+      let known : (q : ℕ) (d : Output) → q < x → get_elem? (outputs_of terms r.log.history) q ≡ some d → get_elem? (outputs_of terms p.seen) q ≡ some d =
+      λ q d lt there. (let stood = stands (outputs_of terms p.seen) q (omega arith) in
+      stood.1 ∙ sym (output_kept terms w r.log p.seen q stood.0 out knows.front deep stood.1) ∙ there) in (
         alone me.0 (moved p x),
         keeps,
         tt,
@@ -127,15 +127,12 @@ module _ {L : Type 0} (S : Type 0) (terms : Terms L) where
                   let a : w 104 ≤ length (outputs_of terms (take (suc (w 0)) r.log.history)) = out.most in omega arith);
               outputs = λ k q d g from to there i y word. (let e = taken_is k g in let lo : w (taken k) ≤ q = omega arith in let hi : q < w 104 = omega arith in row_is q i ∙ out.outputs k q d g lo hi there i y word);
               packable = λ k q d g from to there. (let e = taken_is k g in let lo : w (taken k) ≤ q = omega arith in let hi : q < w 104 = omega arith in out.packable k q d g lo hi there);
-              texts = λ k q d g from to there i y word. row_is q (i + 64) ∙ dite (ℕ_discrete q p.own)
-                  (λ here_is. (let is = same q d here_is there in
-                  let word' : get_elem? p.part.words i ≡ some y = ap (λ (l : List ℕ). get_elem? l i) whole ∙ ap (λ (c : Output). get_elem? (text_words (text_of terms c p.own)) i) is
-                  ∙ ap (λ (j : ℕ). get_elem? (text_words (text_of terms d j)) i) (sym here_is) ∙ word in
-                  ap (λ (j : ℕ). w (out_row terms.rows terms.output_rows j (i + 64))) (here_is ∙ sym wrote.row) ∙ (part i y word').1))
-                  (λ ne. (let e = taken_is k g in let lo : w (taken k) ≤ q = omega arith in out.texts k q d g lo (lower q to ne) there i y word));
-              readable = λ k q d g from to there. dite (ℕ_discrete q p.own)
-                  (λ here_is. subst (λ (j : ℕ). IsPackableText (text_of terms d j)) (sym here_is) (subst (λ (c : Output). IsPackableText (text_of terms c p.own)) (same q d here_is there) packed))
-                  (λ ne. (let e = taken_is k g in let lo : w (taken k) ≤ q = omega arith in out.readable k q d g lo (lower q to ne) there));
+              texts = λ k q d g from to there i y word. row_is q (i + 64) ∙ dite (dec_lt q (w 32))
+                  (λ before. (let e = taken_is k g in let lo : w (taken k) ≤ q = omega arith in out.texts k q d g lo before there i y word))
+                  (λ (behind : ¬ (q < w 32)). all.texts q d (known q d (below q to) there) (omega arith) (below q to) i y word);
+              readable = λ k q d g from to there. dite (dec_lt q (w 32))
+                  (λ before. (let e = taken_is k g in let lo : w (taken k) ≤ q = omega arith in out.readable k q d g lo before there))
+                  (λ (behind : ¬ (q < w 32)). all.readable q d (known q d (below q to) there) (omega arith) (below q to));
             },
         refl,
       )

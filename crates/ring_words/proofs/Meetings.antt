@@ -21,6 +21,7 @@ use Rattle.ring_words.specs.Rule.{Depth, Knows, owners, words_of, Lawful}
 use Rattle.ring_words.specs.Seats.{person, together}
 use Rattle.ring_words.specs.Steps.{Seated}
 use Rattle.ring_words.specs.Meeting.{longer, met, AreMet, MeetsJournal, sees_meeting, sees_journal}
+use Rattle.ring_words.proofs.Written.{writes_rows}
 use Rattle.ring_words.proofs.Owners.{one_of, owners_both, same_owners}
 use Rattle.ring_words.proofs.Logs.{knows_looked}
 use Rattle.ring_words.proofs.Outputs.{begins, front_taken}
@@ -105,13 +106,9 @@ apart_at j k (sent e) ne = dite (ℕ_discrete e.gateway j)
     (λ is. inr (cond-false (eqb e.gateway k) (e ∷ []) [] (ne_eqb e.gateway k (λ z. ne (sym is ∙ z)))))
     (λ other. inl (cond-false (eqb e.gateway j) (e ∷ []) [] (ne_eqb e.gateway j other)))
 
--- who stores another word than the unmarshaller's isn't the unmarshaller
-no_unmarshaller : (role other : Role) → place_of role ≢ unmarshalled → other ≡ role → other ≢ Unmarshal
-no_unmarshaller role other ne is unmarshal = ne (ap place_of (sym is ∙ unmarshal))
-
 module _ {L : Type 0} (terms : Terms L) (w : ℕ → ℕ) (log : Log) where
   -- what a person knows after it loaded processed and saw a beginning of the log that it may see
-  knows_met : (p : Person) (x : ℕ) (h : List Message) → p.role ≢ Unmarshal → x ≤ w processed → IsFront log.status h → Depth w p.role (length h) → Knows terms w log p → Knows terms w log (met p x h)
+  knows_met : (p : Person) (x : ℕ) (h : List Message) → writes_rows p.role ≡ 0 → x ≤ w processed → IsFront log.status h → Depth w p.role (length h) → Knows terms w log p → Knows terms w log (met p x h)
   knows_met p x h other low front deep r = let k = knows_looked terms w log p processed x (λ _. low) r in record {
     role = k.role;
     front = front;
@@ -121,7 +118,8 @@ module _ {L : Type 0} (terms : Terms L) (w : ℕ → ℕ) (log : Log) where
     claims = k.claims;
     loads = k.loads;
     part = k.part;
-    written = λ is. absurd (other is);
+    written = λ is. absurd (let z : 0 ≡ 1 = sym other ∙ ap writes_rows is in omega arith);
+    written_texts = λ is. absurd (let z : 0 ≡ 1 = sym other ∙ ap writes_rows is in omega arith);
   }
 
   -- two gateways published nothing at one sequence
@@ -150,8 +148,8 @@ module _ {L : Type 0} (S : Type 0) (terms : Terms L) where
         legal_other = legal_front terms w r.log q h r.logged knows_q is.2;
       } in
       looks_two S terms s r processed id me p q (met p x h) (met q x h) (sees_meeting (step slots processed 0 0 none) me) at two refl refl
-      (knows_met terms w r.log p x h (no_unmarshaller (Gateway j) p.role (λ (e : 32 + 8 * j ≡ 16). omega arith) role_p) (le_refl x) is.2 (subst (λ (z : Role). Depth w z (length h)) (sym role_p) low) knows_p)
-      (knows_met terms w r.log q x h (no_unmarshaller (Gateway k) q.role (λ (e : 32 + 8 * k ≡ 16). omega arith) role_q) (le_refl x) is.2 (subst (λ (z : Role). Depth w z (length h)) (sym role_q) low) knows_q)
+      (knows_met terms w r.log p x h (ap writes_rows role_p) (le_refl x) is.2 (subst (λ (z : Role). Depth w z (length h)) (sym role_p) low) knows_p)
+      (knows_met terms w r.log q x h (ap writes_rows role_q) (le_refl x) is.2 (subst (λ (z : Role). Depth w z (length h)) (sym role_q) low) knows_q)
       (λ a b _ _ both _ _. (
       let a_is : p ≡ a = some-injective p a (ap (λ (l : List Person). get_elem? l 0) (sym two ∙ both)) in let b_is : q ≡ b = some-injective q b (ap (λ (l : List Person). get_elem? l 1) (sym two ∙ both)) in
       let told : (z : Person × Person) → Type 0 = λ (z : Person × Person). (◌≡◌ {A = Seated S L} (record me.0 { people = met p x h ∷ met q x h ∷ [] }, me.1)
@@ -171,8 +169,8 @@ module _ {L : Type 0} (S : Type 0) (terms : Terms L) where
       let front : IsFront status h = front_taken status q.own q.seen knows_q.front in
       let learned : MeetsJournal (length terms.base) p q = record { begins = begun status p.seen h knows_p.front front (omega arith); legal = legal_front terms w r.log p h r.logged knows_p front } in
       looks_two S terms s r processed id me p q (met p x h) (met q x q.seen) (sees_journal (step slots processed 0 0 none) me) at two refl refl
-      (knows_met terms w r.log p x h (no_unmarshaller (Gateway j) p.role (λ (e : 32 + 8 * j ≡ 16). omega arith) role_p) (le_refl x) front (subst (λ (z : Role). Depth w z (length h)) (sym role_p) (let low : length h ≤ w journalled = omega arith in low)) knows_p)
-      (knows_met terms w r.log q x q.seen (no_unmarshaller Journal q.role (λ (e : 24 ≡ 16). omega arith) role_q) (le_refl x) knows_q.front knows_q.depth knows_q)
+      (knows_met terms w r.log p x h (ap writes_rows role_p) (le_refl x) front (subst (λ (z : Role). Depth w z (length h)) (sym role_p) (let low : length h ≤ w journalled = omega arith in low)) knows_p)
+      (knows_met terms w r.log q x q.seen (ap writes_rows role_q) (le_refl x) knows_q.front knows_q.depth knows_q)
       (λ a b _ both _ _ _. (
       let a_is : p ≡ a = some-injective p a (ap (λ (l : List Person). get_elem? l 0) (sym two ∙ both)) in let b_is : q ≡ b = some-injective q b (ap (λ (l : List Person). get_elem? l 1) (sym two ∙ both)) in
       let told : (z : Person × Person) → Type 0 = λ (z : Person × Person). (◌≡◌ {A = Seated S L} (record me.0 { people = met p x h ∷ met q x q.seen ∷ [] }, me.1)

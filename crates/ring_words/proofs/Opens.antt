@@ -1,5 +1,5 @@
 -- The rule holds of the table at the start.
-use Rattle.std.proofs.Common.{◌≡◌, ℕ, zero, suc, ◌+◌, ◌*◌, ◌^◌, ◌<◌, ◌≤◌, Bool, true, false, List, [], ◌∷◌, cond, ltb, length, get_or, take, refl, ap, sym, subst, ◌∙◌, arith, le_refl}
+use Rattle.std.proofs.Common.{◌≡◌, ◌≢◌, ℕ, zero, suc, ◌+◌, ◌*◌, ◌^◌, ◌<◌, ◌≤◌, Bool, true, false, List, [], ◌∷◌, cond, ltb, length, get_or, take, refl, ap, sym, subst, ◌∙◌, arith, le_refl}
 use Rattle.std.proofs.lemmas.Bool.{lt-ltb, ltb-true, cond-true, cond-false}
 use Rattle.std.proofs.lemmas.List.{take_all}
 use mathlib.Core.Option.{Option, none, some, some-injective, some-ne-none}
@@ -16,6 +16,7 @@ use Rattle.ring_words.specs.Log.{Status, unclaimed, old, claimed, sent, Log, ent
 use Rattle.ring_words.specs.Terms.{Terms, outputs_of}
 use Rattle.ring_words.specs.Rule.{IsGateway, IsRole, Depth, PartOf, Knows, at_place, newcomer, processor, gateways, crew, opening_word, owners, Lawful, first_view}
 use Rattle.ring_words.proofs.Written.{none_written}
+use Rattle.ring_words.proofs.WrittenTexts.{no_texts}
 use Rattle.ring_words.proofs.Windows.{row_inside}
 use Rattle.ring_words.proofs.Logs.{beyond}
 
@@ -78,7 +79,7 @@ module _ {L : Type 0} where
 module _ {L : Type 0} (S : Type 0) (terms : Terms L) where
   -- what someone who knows the history at the start knows, and nothing more: its row under way, at this place, has no word
   new_knows : (w : ℕ → ℕ) (role : Role) (own place : ℕ) → IsRole terms.gateways role → w (place_of role) ≡ own → length terms.base ≤ w unmarshalled → length terms.base ≤ w journalled
-      → (role ≡ Process → place ≡ w published) → (role ≡ Unmarshal → place ≡ 0) → Knows terms w (start_log terms.base) (at_place (newcomer role terms.base own) place)
+      → (role ≡ Process → place ≡ w published) → (place_of role ≢ processed → place ≡ 0) → Knows terms w (start_log terms.base) (at_place (newcomer role terms.base own) place)
   new_knows w role own place there is u j at_published at_none = record {
     role = there;
     front = λ s e at. ap (λ (o : Option Message). entry_of (as_status o)) at;
@@ -88,7 +89,8 @@ module _ {L : Type 0} (S : Type 0) (terms : Terms L) where
     claims = λ s. no_claims (number_of role) (get_elem? terms.base s);
     loads = λ i l at. absurd (some-ne-none l (sym at));
     part = nothing_stored role refl;
-    written = λ e. (let none = at_none e in none_written terms w terms.base own place (omega arith) (omega arith));
+    written = λ e. (let none = at_none (λ z. (let y : 16 ≡ 0 = sym (ap place_of e) ∙ z in omega arith)) in none_written terms w terms.base own place (omega arith) (omega arith));
+    written_texts = λ e. (let none = at_none (λ z. (let y : 32 ≡ 0 = sym (ap place_of e) ∙ z in omega arith)) in no_texts terms w terms.base own place (omega arith));
   } where
     deep : (role : Role) → Depth w role (length terms.base)
     deep Process = (u, j)
@@ -118,7 +120,7 @@ module _ {L : Type 0} (S : Type 0) (terms : Terms L) where
     v = omega arith
 
     by_place : (j : ℕ) → get_elem? (crew terms.gateways terms.base terms.given) j ≡ some p → Knows terms w (start_log terms.base) p
-    by_place zero at = subst (Knows terms w (start_log terms.base)) (some-injective (processor terms.base terms.given) p at) (new_knows w Process n terms.given tt first u v (λ _. sym last) (λ e. absurd (let z : 0 ≡ 16 = ap place_of e in omega arith)))
+    by_place zero at = subst (Knows terms w (start_log terms.base)) (some-injective (processor terms.base terms.given) p at) (new_knows w Process n terms.given tt first u v (λ _. sym last) (λ ne. absurd (ne refl)))
     by_place (suc zero) at = subst (Knows terms w (start_log terms.base)) (some-injective (newcomer Unmarshal terms.base n) p at) (new_knows w Unmarshal n 0 tt second u v (λ e. absurd (let z : 16 ≡ 0 = ap place_of e in omega arith)) (λ _. refl))
     by_place (suc (suc zero)) at = subst (Knows terms w (start_log terms.base)) (some-injective (newcomer Journal terms.base n) p at) (new_knows w Journal n 0 tt third u v (λ e. absurd (let z : 24 ≡ 0 = ap place_of e in omega arith)) (λ _. refl))
     by_place (suc (suc (suc zero))) at = subst (Knows terms w (start_log terms.base)) (some-injective (newcomer Marshal terms.base terms.given) p at) (new_knows w Marshal terms.given 0 tt fourth u v (λ e. absurd (let z : 32 ≡ 0 = ap place_of e in omega arith)) (λ _. refl))

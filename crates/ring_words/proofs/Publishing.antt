@@ -109,7 +109,7 @@ module _ {L : Type 0} (S : Type 0) (terms : Terms L) where
             (λ k g. (let lt = has_room S terms s r id me p.part.sequence at one room k g in omega arith)) in_history words packed r.outgoing)
             (knows_on terms w r.log w' p p.own (at_place p x).part rises (else (place_of p.role) (not_published terms.gateways p.role r.few knows.role) ∙ knows.own)
             (subst (λ (z : Role). PartOf n m w' r.log z (at_place p x).part) (sym role) (sym here, λ i y there. absurd (some-ne-none y (sym there))))
-            (λ is. absurd (let z : 0 ≡ 16 = ap place_of (sym role ∙ is) in omega arith)) knows)
+            (λ is. absurd (let z : 0 ≡ 16 = ap place_of (sym role ∙ is) in omega arith)) (λ is. absurd (let z : 0 ≡ 32 = ap place_of (sym role ∙ is) in omega arith)) knows)
             (λ d other known. knows_risen terms w r.log w' d d.own rises same same_out (λ (is : d.role ≡ Process). absurd (other (ap place_of is ∙ sym (ap place_of role))))
             (else (place_of d.role) (not_published terms.gateways d.role r.few known.role) ∙ known.own) known),
         refl,

@@ -77,6 +77,7 @@ module _ {L : Type 0} (S : Type 0) (terms : Terms L) where
             (small, word_here ws here x inside),
       ))
       (λ is. absurd (let z : 0 ≡ 16 = ap place_of (sym role ∙ is) in omega arith))
+      (λ is. absurd (let z : 0 ≡ 32 = ap place_of (sym role ∙ is) in omega arith))
       (λ o other. record {
         raw = λ t j q o_is few t_is. (t_is, rows t (j + 1) (omega arith));
         commands = λ t j o_is few. rows t (j + 48) (omega arith);

@@ -16,11 +16,12 @@ use Rattle.ring_words.specs.Log.{IsEntry, claimed, sent, Log, entry_of, sends_of
 use Rattle.ring_words.specs.Raw.{raw_count}
 use Rattle.ring_words.specs.Packing.{IsPackable}
 use Rattle.ring_words.specs.Terms.{Terms, commands_of, command_of}
-use Rattle.ring_words.specs.Rule.{IsRole, Ordered, Logged, Rows, PartOf, Written, Knows, words_of, Lawful}
+use Rattle.ring_words.specs.Rule.{IsRole, Ordered, Logged, Rows, PartOf, Written, WrittenTexts, Knows, words_of, Lawful}
 use Rattle.ring_words.specs.Seats.{person, IsAlone, alone, stored}
 use Rattle.ring_words.specs.Steps.{Seated, GoesOn}
 use Rattle.ring_words.proofs.Puts.{word_else}
 use Rattle.ring_words.proofs.Written.{written_on}
+use Rattle.ring_words.proofs.WrittenTexts.{texts_on}
 use Rattle.ring_words.proofs.Logs.{short_words, in_take, depth_risen, knows_on}
 use Rattle.ring_words.proofs.Keeps.{mine, after}
 use Rattle.ring_words.proofs.Outgoings.{SameOutputs, outgoing_stays}
@@ -138,6 +139,7 @@ others_know terms w w' log log' o few entries sends claims control same r = reco
   written = λ is. written_on terms w w' o.seen o.own o.own o.part.sequence (le_refl o.own)
       (λ s i x e lo hi at. (let size = short_words e.gateway (command_of terms s e) in let few = within (commands_of terms s e) i x at in same.commands s i is (omega arith)))
       (r.written is);
+  written_texts = λ is. texts_on terms w w' o.seen o.own o.own o.part.sequence (le_refl o.own) (λ q i lo hi few. same.texts q i is few) (r.written_texts is);
 } where
   part_stays : (role : Role) → o.role ≡ role → PartOf terms.rows terms.output_rows w log role o.part → PartOf terms.rows terms.output_rows w' log' role o.part
   part_stays Process is h = (h.0 ∙ sym (control published (omega arith)), λ i x at. let t = h.1 i x at in (t.0, same.outputs o.part.sequence i is t.0 ∙ t.1))
@@ -169,9 +171,10 @@ module _ {L : Type 0} (S : Type 0) (terms : Terms L) where
       → SameRows terms (words_of s) (λ j. get_or (set s.words here x) j 0) r.log → SameOutputs terms (words_of s) (λ j. get_or (set s.words here x) j 0)
       → PartOf terms.rows terms.output_rows (λ j. get_or (set s.words here x) j 0) r.log (person me.0).role (stored (person me.0) a i x).part
       → ((person me.0).role ≡ Unmarshal → Written terms (λ j. get_or (set s.words here x) j 0) (person me.0).seen (person me.0).own a)
+      → ((person me.0).role ≡ Marshal → WrittenTexts terms (λ j. get_or (set s.words here x) j 0) (person me.0).seen (person me.0).own a)
       → ((o : Person) → place_of o.role ≢ place_of (person me.0).role → SameParts terms (words_of s) (λ j. get_or (set s.words here x) j 0) r.log r.log o.role)
       → Lawful S terms record { words = set s.words here x; homes = s.homes; views = set s.views id (alone me.0 (stored (person me.0) a i x)) }
-  word_stored s r id here a i x me at one no_control rows outputs part written others =
+  word_stored s r id here a i x me at one no_control rows outputs part written texts others =
       let p = person me.0 in let w = words_of s in let w' : ℕ → ℕ = λ (j : ℕ). get_or (set s.words here x) j 0 in let knows = (mine S terms s r id me.0 p at one).2 in
       let control : (c : ℕ) → c < first_row → w' c ≡ w c = λ c low. word_else s.words here c x (λ e. no_control c low (sym e)) in
       let input : (c : ℕ) → c < marshalled → w' c ≡ w c = λ c low. control c (omega arith) in
@@ -181,5 +184,5 @@ module _ {L : Type 0} (S : Type 0) (terms : Terms L) where
       (rows_stay terms w w' r.log input r.logged rows r.rows)
       (outgoing_stays terms w w' r.log r.log r.few refl r.outgoing.front (control processed (omega arith)) (control journalled (omega arith)) (λ c _ low. control c low) outputs r.outgoing)
       (knows_on terms w r.log w' p p.own (stored p a i x).part (λ c low. subst (λ (y : ℕ). w c ≤ y) (sym (control c low)) (le_refl (w c)))
-      (control (place_of p.role) (place_low terms.gateways p.role r.few knows.role) ∙ knows.own) part written knows)
+      (control (place_of p.role) (place_low terms.gateways p.role r.few knows.role) ∙ knows.own) part written texts knows)
       (λ o apart known. others_know terms w w' r.log r.log o r.few (λ _ _ e. e) (λ _. refl) (λ _. refl) control (others o apart) known)

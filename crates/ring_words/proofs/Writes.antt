@@ -15,6 +15,7 @@ use Rattle.ring_words.specs.Terms.{Terms}
 use Rattle.ring_words.specs.Rule.{Ordered, Logged, PartOf, words_of, Lawful}
 use Rattle.ring_words.specs.Seats.{person, IsAlone, alone, stored}
 use Rattle.ring_words.specs.Steps.{Seated, GoesOn, stores_raw}
+use Rattle.ring_words.proofs.Written.{writes_rows}
 use Rattle.ring_words.proofs.Windows.{same_row, one_window, row_inside, no_control}
 use Rattle.ring_words.proofs.Puts.{word_here}
 use Rattle.ring_words.proofs.Keeps.{mine}
@@ -81,7 +82,8 @@ module _ {L : Type 0} (S : Type 0) (terms : Terms L) where
       (λ j y lt on there. (let h = subst (λ (z : Role). PartOf n m w r.log z p.part) role knows.part j y there in
       (h.0, is, stays a (j + 1) (let few = h.0 in omega arith) (λ _. (λ (e : j + 1 ≡ i + 1). omega arith)) ∙ ap (λ (t : ℕ). w (in_row n t (j + 1))) (sym on) ∙ h.2)))
       (small, is, word_here ws here x inside)))
-      (λ unmarshals. absurd (let z : 32 + 8 * k ≡ 16 = ap place_of (sym role ∙ unmarshals) in omega arith))
+      (λ unmarshals. absurd (let z : 0 ≡ 1 = ap writes_rows (sym role ∙ unmarshals) in omega arith))
+      (λ marshals. absurd (let z : 0 ≡ 1 = ap writes_rows (sym role ∙ marshals) in omega arith))
       (λ o apart_from. record {
         raw = λ t j q o_is few t_is. (
           t_is,

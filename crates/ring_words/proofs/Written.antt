@@ -6,12 +6,22 @@ use native.Mathlib.Decide.{ℕ_discrete}
 use lib.ListN.{get_elem?}
 use Rattle.venue_model.specs.History.{Message}
 use Rattle.venue_model.specs.ListLaws.{stands, at_longer}
+use Rattle.ring_words.specs.declared.view.Role.{Role}
+use Rattle.ring_words.specs.declared.view.Role.TheVariants.{Process, Unmarshal, Journal, Marshal, Gateway}
 use Rattle.ring_words.specs.declared.view.Person.{Person}
 use Rattle.ring_words.specs.Places.{in_row}
 use Rattle.ring_words.specs.Packing.{IsPackable}
 use Rattle.ring_words.specs.Terms.{Terms, commands_of, command_of}
 use Rattle.ring_words.specs.Rule.{StandsBehind, Written}
 use Rattle.ring_words.specs.Steps.{WroteCommand, MayWrite}
+
+-- 1 for the roles that write several rows before they hand them on, 0 for the others
+abbrev pub writes_rows : Role → ℕ
+writes_rows Process = 0
+writes_rows Unmarshal = 1
+writes_rows Journal = 0
+writes_rows Marshal = 1
+writes_rows (Gateway k) = 0
 
 module _ {L : Type 0} (terms : Terms L) (w : ℕ → ℕ) where
   -- they stay where more entries are seen

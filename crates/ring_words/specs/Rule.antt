@@ -126,8 +126,15 @@ module _ {L : Type 0} where
         → (i x : ℕ) → get_elem? (commands_of terms s e) i ≡ some x → w (in_row terms.rows s (i + 48)) ≡ x
     pub packable : (s : ℕ) (e : Message) → get_elem? seen s ≡ some e → from ≤ s → s < to → IsPackable e.gateway (command_of terms s e)
 
+  -- the texts of the outputs of a history from one place up to another stand whole in their rows, and their words keep them
+  pub record WrittenTexts (terms : Terms L) (w : ℕ → ℕ) (seen : List Message) (from to : ℕ) : Type 0 where
+    pub short : from < to → to ≤ length (outputs_of terms seen)
+    pub texts : (q : ℕ) (o : Output) → get_elem? (outputs_of terms seen) q ≡ some o → from ≤ q → q < to
+        → (i x : ℕ) → get_elem? (text_words (text_of terms o q)) i ≡ some x → w (out_row terms.rows terms.output_rows q (i + 64)) ≡ x
+    pub readable : (q : ℕ) (o : Output) → get_elem? (outputs_of terms seen) q ≡ some o → from ≤ q → q < to → IsPackableText (text_of terms o q)
+
   -- what a person knows: a beginning of the log, no longer than its role may know, its own word, exactly its publications and claims,
-  -- what it loaded, its row under way, and of the unmarshaller the commands that it wrote before that row
+  -- what it loaded, its row under way, and of unmarshaller and marshaller the commands or texts that they wrote before that row
   pub record Knows (terms : Terms L) (w : ℕ → ℕ) (log : Log) (p : Person) : Type 0 where
     pub role : IsRole terms.gateways p.role
     pub front : IsFront log.status p.seen
@@ -138,6 +145,7 @@ module _ {L : Type 0} where
     pub loads : (i : ℕ) (l : Load) → get_elem? p.loads i ≡ some l → l.place < first_row → l.value ≤ w l.place
     pub part : PartOf terms.rows terms.output_rows w log p.role p.part
     pub written : p.role ≡ Unmarshal → Written terms w p.seen p.own p.part.sequence
+    pub written_texts : p.role ≡ Marshal → WrittenTexts terms w p.seen p.own p.part.sequence
 
   -- the rows: an availability word names a published sequence of its row, and a row that may still be read has its own, its message, and below
   -- unmarshalled its command

@@ -95,13 +95,17 @@ pub record WroteOutput (outputs : List Message → List Output) (p : Person) (o 
 abbrev pub HasPublished : (List Message → List Output) → Person → ℕ → Type 0
 HasPublished outputs p upto = length (outputs (take upto p.seen)) ≤ p.part.sequence
 
--- the marshaller wrote the whole text of the next output
+-- the marshaller wrote the whole text of the row under way, which it hasn't handed on and is that of the output o; published was shown above it
 pub record WroteText (outputs : List Message → List Output) (text : Output → ℕ → Text) (p : Person) (o : Output) : Type 0 where
-  pub shown : Shows published p p.own
-  pub output : get_elem? (outputs p.seen) p.own ≡ some o
-  pub row : p.part.sequence ≡ p.own
-  pub words : p.part.words ≡ text_words (text o p.own)
-  pub packable : IsPackableText (text o p.own)
+  pub row : p.own ≤ p.part.sequence
+  pub shown : Shows published p p.part.sequence
+  pub output : get_elem? (outputs p.seen) p.part.sequence ≡ some o
+  pub words : p.part.words ≡ text_words (text o p.part.sequence)
+  pub packable : IsPackableText (text o p.part.sequence)
+
+-- the rows that the marshaller may write: the first that it hasn't handed on, the one under way, and when that is written whole the next one
+abbrev pub MayWriteText : (List Message → List Output) → (Output → ℕ → Text) → Person → ℕ → Type 0
+MayWriteText outputs text p q = (q ≡ p.own) ⊎ ((q ≡ p.part.sequence) ⊎ ((q ≡ suc p.part.sequence) × ((o : Output) × WroteText outputs text p o)))
 
 module _ {S L : Type 0} where
   -- the seat is as before, but for its one person, who is now q

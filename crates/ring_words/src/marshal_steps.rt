@@ -1,10 +1,10 @@
 //! The single steps of the marshaller, which writes the text of each output that is published.
-ghost use Rattle.std.specs.Prelude.{suc, ◌+◌, ◌<◌, ◌≤◌};
+ghost use Rattle.std.specs.Prelude.{◌≡◌, suc, ◌<◌, ◌≤◌};
 ghost use Rattle.venue_model.specs.declared.outputs.Output.{Output};
 ghost use Rattle.ring_words.specs.Places.{published, out_row};
 ghost use Rattle.ring_words.specs.Seats.{looked, stored, moved};
 ghost use Rattle.ring_words.specs.At.{IsAt, Steps};
-ghost use Rattle.ring_words.specs.Steps.{GoesOn, Shows, WroteText};
+ghost use Rattle.ring_words.specs.Steps.{GoesOn, Shows, WroteText, MayWriteText};
 ghost use Rattle.ring_words.specs.Finds.{IsOutputWord, FindsPublished};
 
 use crate::marshal_seat::MarshalSeat;
@@ -41,13 +41,14 @@ impl<L: Logic, const N: usize, const M: usize, const G: usize> Rings<L, N, M, G>
     }
 
     /// Stores a word of the text of an output that is published and not released: the first one, or one behind or among those stored
-    /// so far.
+    /// so far. Of a row behind the one under way that is the first one, when that row's text is written whole.
     pub fn store_text(&self, seat: &mut MarshalSeat<L>, place: u64, word: usize, value: u64)
         requires at { IsAt self.now seat.old }
         requires from { seat.old.who.own ≤ place }
         requires to { Shows published seat.old.who place }
         requires word { word < 64 }
         requires order { GoesOn seat.old.who.part place word }
+        requires row { MayWriteText (L.outputs self.now.logic) (L.text self.now.logic) seat.old.who place }
         ensures step { Steps seat.old (stored seat.old.who place word value) seat.new }
     {
         let at = self.output_word(place, word + TEXT);
@@ -56,17 +57,17 @@ impl<L: Logic, const N: usize, const M: usize, const G: usize> Rings<L, N, M, G>
             .store::<StoreText<N, M>>(&mut seat.seat, at, value);
     }
 
-    /// Stores the marshaller's word: the next output, whose text is written, may be taken.
-    pub fn store_marshalled(&self, seat: &mut MarshalSeat<L>)
+    /// Stores the marshaller's word: all outputs below `upto` may be taken. The last of them is that of the row under way, and its text is written,
+    /// as are those before it.
+    pub fn store_marshalled(&self, seat: &mut MarshalSeat<L>, upto: u64)
         requires at { IsAt self.now seat.old }
-        requires small { seat.old.who.own + 1 < 18446744073709551616 }
+        requires last { upto ≡ suc seat.old.who.part.sequence }
         requires text { (o : Output) × WroteText (L.outputs self.now.logic) (L.text self.now.logic) seat.old.who o }
-        ensures step { Steps seat.old (moved seat.old.who (suc seat.old.who.own)) seat.new }
+        ensures step { Steps seat.old (moved seat.old.who upto) seat.new }
     {
-        let next = seat.own + 1;
         self.table
             .shared
-            .store::<MoveOwn>(&mut seat.seat, MARSHALLED, next);
-        seat.own = next;
+            .store::<MoveOwn>(&mut seat.seat, MARSHALLED, upto);
+        seat.own = upto;
     }
 }

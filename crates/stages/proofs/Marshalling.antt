@@ -1,5 +1,5 @@
--- One output through the marshaller: its words are loaded, its text is stored, and it is handed on.
-use Rattle.std.proofs.Common.{◌≡◌, ℕ, zero, suc, ◌<◌, ◌≤◌, List, [], ◌∷◌, ◌++◌, length, take, refl, ap, sym, subst, ◌∙◌, arith}
+-- Outputs through the marshaller: of each its words are loaded and its text is stored, and then all are handed on at once.
+use Rattle.std.proofs.Common.{◌≡◌, ◌⊎◌, inl, inr, ℕ, zero, suc, ◌+◌, ◌-◌, ◌<◌, ◌≤◌, List, [], ◌∷◌, ◌++◌, length, take, refl, ap, sym, subst, ◌∙◌, arith}
 use mathlib.Core.Option.{some}
 use lib.ListN.{get_elem?}
 use Rattle.venue_model.specs.History.{Message}
@@ -14,11 +14,11 @@ use Rattle.ring_words.specs.OutputPacking.{output_words}
 use Rattle.ring_words.specs.Texts.{text_words, IsPackableText}
 use Rattle.ring_words.specs.Seats.{load_of, looked, knowing, wrote, moved}
 use Rattle.ring_words.specs.At.{At, seated}
-use Rattle.ring_words.specs.Steps.{Shows, WroteText}
-use Rattle.venue_model.specs.ListLaws.{stands, at_longer, at_behind}
+use Rattle.ring_words.specs.Steps.{Shows, WroteText, MayWriteText}
+use Rattle.venue_model.specs.ListLaws.{at_longer, at_behind}
 use Rattle.barrier.specs.Outputs.{after_output}
 use Rattle.book.specs.Histories.{outputs_of}
-use Rattle.stages.specs.Marshals.{after_marshalling, Marshals}
+use Rattle.stages.specs.Marshals.{after_text, WroteTexts, Marshals}
 use Rattle.stages.specs.declared.turn.Turn.TheVariants.{Did, Idle}
 
 -- LISTS AND LOADS
@@ -47,43 +47,95 @@ is_its_text o output s kind body is kind_is body_is = by_fields ∙ ap (λ (x : 
   by_fields : ◌≡◌ {A = Text} (record { msg_type = kind; sending_time = output.sending_time; body = body }) (text_bytes output s)
   by_fields = λ k. record { msg_type = kind_is k; sending_time = output.sending_time; body = body_is k }
 
-module _ {L : Type 0} (n m : ℕ) (v : At L) (s : ℕ) (o : Output) (own_is : s ≡ v.who.own) where
-  -- its words are loaded
-  abbrev pub Loaded : At L → Type 0
-  Loaded a = a ≡ seated v (after_output n m v.who s (output_words o))
+-- ONE OUTPUT
 
-  -- the place is shown as before
-  pub loaded_shown : (a : At L) → Loaded a → Shows published v.who s → Shows published a.who s
-  loaded_shown a loaded shown = subst (λ (z : At L). Shows published z.who s) (sym loaded) (still_shown n m v.who published s s (output_words o) shown)
+module _ {L : Type 0} (n m : ℕ) (outputs : List Message → List Output) (v a : At L) (s : ℕ) (o : Output)
+    (loaded : a ≡ seated v (after_output n m v.who s (output_words o))) where
+  -- its words are loaded: the place is shown as before
+  pub loaded_shown : Shows published v.who s → Shows published a.who s
+  loaded_shown shown = subst (λ (z : At L). Shows published z.who s) (sym loaded) (still_shown n m v.who published s s (output_words o) shown)
 
-  -- the then.who, with the text's words stored
-  abbrev pub after_text : Person
-  after_text = wrote (after_output n m v.who s (output_words o)) s (text_words (text_bytes o s))
+  -- and so is which rows may be written
+  pub still_may : MayWriteText outputs text_bytes v.who s → MayWriteText outputs text_bytes a.who s
+  still_may may = subst (λ (z : At L). MayWriteText outputs text_bytes z.who s) (sym loaded) (by_row may) where
+    by_row : MayWriteText outputs text_bytes v.who s → MayWriteText outputs text_bytes (after_output n m v.who s (output_words o)) s
+    by_row (inl first) = inl first
+    by_row (inr (inl on)) = inr (inl on)
+    by_row (inr (inr (next, (d, whole)))) = inr (inr (
+      next,
+      (
+        d,
+        record {
+          row = whole.row;
+          shown = still_shown n m v.who published s v.who.part.sequence (output_words o) whole.shown;
+          output = whole.output;
+          words = whole.words;
+          packable = whole.packable;
+        },
+      ),
+    ))
 
-  -- its text is stored
-  pub text_written : (a b : At L) (text : Text) → Loaded a → text ≡ text_bytes o s → b ≡ seated a (wrote a.who s (text_words text)) → b ≡ seated v after_text
-  text_written a b text loaded is stored = stored
-      ∙ ap (λ (z : At L). seated z (wrote z.who s (text_words text))) loaded
-      ∙ ap (λ (t : Text). seated v (wrote (after_output n m v.who s (output_words o)) s (text_words t))) is
+  module _ (b : At L) (text : Text) (is : text ≡ text_bytes o s) (stored : b ≡ seated a (wrote a.who s (text_words text))) where
+    -- its text is stored
+    pub is_written : b ≡ seated v (after_text n m v.who s o)
+    is_written = stored
+        ∙ ap (λ (z : At L). seated z (wrote z.who s (text_words text))) loaded
+        ∙ ap (λ (t : Text). seated v (wrote (after_output n m v.who s (output_words o)) s (text_words t))) is
 
-  -- so it may be handed on
-  pub may_hand_on : (outputs : List Message → List Output) (text : Output → ℕ → Text) (b : At L) (written : Text)
-      → Shows published v.who s → get_elem? (outputs v.who.seen) s ≡ some o → ((k : ℕ) → text_bytes o k ≡ text o k)
-      → written ≡ text_bytes o s → IsPackableText written → b ≡ seated v after_text → WroteText outputs text b.who o
-  may_hand_on outputs text b written shown there same is packable b_is =
-      subst (λ (z : At L). WroteText outputs text z.who o) (sym b_is) (record {
-        shown = subst (λ (k : ℕ). Shows published after_text k) own_is (still_shown n m v.who published s s (output_words o) shown);
-        output = subst (λ (k : ℕ). get_elem? (outputs v.who.seen) k ≡ some o) own_is there;
-        row = own_is;
-        words = ap (λ (k : ℕ). text_words (text_bytes o k)) own_is ∙ ap text_words (same v.who.own);
-        packable = subst IsPackableText (is ∙ ap (text_bytes o) own_is ∙ same v.who.own) packable;
-      })
+    -- and stands whole
+    pub is_whole : v.who.own ≤ s → Shows published v.who s → get_elem? (outputs v.who.seen) s ≡ some o → IsPackableText text → WroteText outputs text_bytes b.who o
+    is_whole from shown there packable = subst (λ (z : At L). WroteText outputs text_bytes z.who o) (sym is_written) (record {
+      row = from;
+      shown = still_shown n m v.who published s s (output_words o) shown;
+      output = there;
+      words = refl;
+      packable = subst IsPackableText is packable;
+    })
 
-  -- and is
-  pub handed_on : (b w : At L) → b ≡ seated v after_text → w ≡ seated b (moved b.who (suc b.who.own)) → w ≡ seated v (after_marshalling n m v.who o)
-  handed_on b w b_is w_is = w_is
-      ∙ ap (λ (z : At L). seated z (moved z.who (suc z.who.own))) b_is
-      ∙ ap (λ (k : ℕ). seated v (moved (wrote (after_output n m v.who k (output_words o)) k (text_words (text_bytes o k))) (suc v.who.own))) own_is
+-- ALL OF THEM
+
+-- the texts of all outputs from the next one up to s were written
+pub record WroteUpTo {L : Type 0} (n m : ℕ) (outputs : List Message → List Output) (v u : At L) (next s : ℕ) : Type 0 where
+  pub from : next ≤ s
+  pub place : u ≡ seated v u.who
+  pub own : u.who.own ≡ v.who.own
+  pub seen : u.who.seen ≡ v.who.seen
+  pub shown : (q : ℕ) → Shows published v.who q → Shows published u.who q
+  pub all : WroteTexts n m (outputs v.who.seen) v.who (s - next) u.who
+  pub last : (s ≡ next) ⊎ ((s ≡ suc u.who.part.sequence) × ((o : Output) × WroteText outputs text_bytes u.who o))
+
+module _ {L : Type 0} (n m : ℕ) (outputs : List Message → List Output) (v u : At L) (next s : ℕ) (is_next : next ≡ v.who.own)
+    (so_far : WroteUpTo n m outputs v u next s) where
+  -- so the row of s may be written
+  pub may_write : MayWriteText outputs text_bytes u.who s
+  may_write = by_last so_far.last where
+    by_last : (s ≡ next) ⊎ ((s ≡ suc u.who.part.sequence) × ((o : Output) × WroteText outputs text_bytes u.who o)) → MayWriteText outputs text_bytes u.who s
+    by_last (inl none) = inl (none ∙ is_next ∙ sym so_far.own)
+    by_last (inr some_written) = inr (inr some_written)
+
+  -- and then one more is written
+  pub one_more : (w : At L) (o : Output) → get_elem? (outputs v.who.seen) s ≡ some o → w ≡ seated u w.who → w.who ≡ after_text n m u.who s o
+      → WroteText outputs text_bytes w.who o → WroteUpTo n m outputs v w next (s + 1)
+  one_more w o there place written whole =
+      let from = so_far.from in let here : s ≡ v.who.own + (s - next) = omega arith in
+      let longer : suc (s - next) ≡ s + 1 - next = omega arith in
+      let row : w.who.part.sequence ≡ s = ap (λ p. p.part.sequence) written in record {
+        from = omega arith;
+        place = place ∙ ap (λ (z : At L). seated z w.who) so_far.place;
+        own = ap (λ p. p.own) written ∙ so_far.own;
+        seen = ap (λ p. p.seen) written ∙ so_far.seen;
+        shown = λ q there. subst (λ p. Shows published p q) (sym written) (still_shown n m u.who published s q (output_words o) (so_far.shown q there));
+        all = subst (λ (k : ℕ). WroteTexts n m (outputs v.who.seen) v.who k w.who) longer (
+          u.who,
+          so_far.all,
+          (
+            o,
+            subst (λ (t : ℕ). get_elem? (outputs v.who.seen) t ≡ some o) here there,
+            written ∙ ap (λ (t : ℕ). after_text n m u.who t o) here,
+          ),
+        );
+        last = inr (omega arith, (o, whole));
+      }
 
 -- A POLL
 
@@ -93,31 +145,27 @@ module _ (symbols : Symbols) (v u : At Symbols) (next r : ℕ) (rest : List Mess
   pub next_stays : next ≡ u.who.own
   next_stays = own_is ∙ sym (ap (λ (z : At Symbols). z.who.own) is)
 
-  -- shows an output that is published
-  pub shown_next : next < r → Shows published u.who next
-  shown_next below = subst (λ (z : At Symbols). Shows published z.who next) (sym is) (just_shown v.who published r next rest below)
+  -- shows all outputs that are published
+  pub shown_below : (q : ℕ) → q < r → Shows published u.who q
+  shown_below q below = subst (λ (z : At Symbols). Shows published z.who q) (sym is) (just_shown v.who published r q rest below)
 
-  -- and knows it
-  pub known_next : next < r → next < length (outputs_of symbols u.who.seen)
-  known_next below = subst (λ (z : At Symbols). next < length (outputs_of symbols z.who.seen)) (sym is) (omega (arith, below, most))
+  -- and knows them
+  pub known_below : r ≤ length (outputs_of symbols u.who.seen)
+  known_below = subst (λ (z : At Symbols). r ≤ length (outputs_of symbols z.who.seen)) (sym is) most
 
-  -- an output was marshalled
-  pub marshals_next : (n m : ℕ) (w : Person) → next < r
-      → ((o : Output) → get_elem? (outputs_of symbols u.who.seen) next ≡ some o → w ≡ after_marshalling n m u.who o)
-      → Marshals n m symbols (Did 1) v.who w
-  marshals_next n m w below written =
-      let stood = stands (outputs_of symbols (v.who.seen ++ rest)) next (omega (arith, below, most)) in
-      let there = subst (λ (z : At Symbols). get_elem? (outputs_of symbols z.who.seen) next ≡ some stood.0) (sym is) stood.1 in
-      let did = written stood.0 there in (
-        refl,
+  -- they were marshalled
+  pub marshals_all : (n m : ℕ) (q w : Person) → next < r → WroteTexts n m (outputs_of symbols u.who.seen) u.who (r - next) q → w ≡ moved q r
+      → Marshals n m symbols (Did (r - next)) v.who w
+  marshals_all n m q w below all released =
+      let behind : r ≡ v.who.own + (r - next) = omega (arith, own_is, below) in
+      let written = subst (λ (z : At Symbols). WroteTexts n m (outputs_of symbols z.who.seen) z.who (r - next) q) is all in (
+        omega (arith, below),
         record {
-          value = r;
           rest = rest;
-          output = stood.0;
-          shown = subst (λ (k : ℕ). k < r) own_is below;
-          known = most;
-          next = subst (λ (k : ℕ). get_elem? (outputs_of symbols (v.who.seen ++ rest)) k ≡ some stood.0) own_is stood.1;
-          written = did ∙ ap (λ (z : At Symbols). after_marshalling n m z.who stood.0) is;
+          known = subst (λ (x : ℕ). x ≤ length (outputs_of symbols (v.who.seen ++ rest))) behind most;
+          last = q;
+          written = subst (λ (x : ℕ). WroteTexts n m (outputs_of symbols (v.who.seen ++ rest)) (knowing (looked v.who published x) rest) (r - next) q) behind written;
+          released = released ∙ ap (moved q) behind;
         },
       )
 

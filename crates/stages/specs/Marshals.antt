@@ -1,5 +1,5 @@
 -- What one poll of the marshaller does, by what it answers: of its person before and after it.
-use Rattle.std.specs.Prelude.{◌≡◌, ℕ, ◌<◌, ◌≤◌, List, ◌++◌, length}
+use Rattle.std.specs.Prelude.{◌≡◌, ℕ, zero, suc, ◌+◌, ◌≤◌, List, ◌++◌, length}
 use mathlib.Core.Option.{some}
 use lib.ListN.{get_elem?}
 use Rattle.venue_model.specs.History.{Message}
@@ -10,26 +10,30 @@ use Rattle.ring_words.specs.declared.view.Person.{Person}
 use Rattle.ring_words.specs.Places.{published}
 use Rattle.ring_words.specs.OutputPacking.{output_words}
 use Rattle.ring_words.specs.Texts.{text_words}
-use Rattle.ring_words.specs.Seats.{looked, knowing, wrote}
+use Rattle.ring_words.specs.Seats.{looked, knowing, wrote, moved}
 use Rattle.barrier.specs.Outputs.{after_output}
 use Rattle.book.specs.Histories.{outputs_of}
-use Rattle.stages.specs.Turns.{done}
 use Rattle.stages.specs.declared.turn.Turn.{Turn}
 use Rattle.stages.specs.declared.turn.Turn.TheVariants.{Did, Idle, OutFull, JournalFailed}
 
--- the output at the next place was read, its text stored, and the place handed on
-abbrev pub after_marshalling : ℕ → ℕ → Person → Output → Person
-after_marshalling n m p o = done (wrote (after_output n m p p.own (output_words o)) p.own (text_words (text_bytes o p.own)))
+-- the output at place q was read, and its text stored in its row
+abbrev pub after_text : ℕ → ℕ → Person → ℕ → Output → Person
+after_text n m p q o = wrote (after_output n m p q (output_words o)) q (text_words (text_bytes o q))
 
--- published was loaded and showed the next output, which is that of a history that goes on from what was known; its text is written
-pub record MarshalsNext (n m : ℕ) (symbols : Symbols) (v w : Person) : Type 0 where
-  pub value : ℕ
+-- so it was with k of these outputs, one after another, the first of them the next one
+abbrev pub WroteTexts : ℕ → ℕ → List Output → Person → ℕ → Person → Type 0
+WroteTexts n m outputs v zero w = w ≡ v
+WroteTexts n m outputs v (suc k) w = (u : Person) × WroteTexts n m outputs v k u
+    × ((o : Output) × (get_elem? outputs (v.own + k) ≡ some o) × (w ≡ after_text n m u (v.own + k) o))
+
+-- published was loaded and showed so many outputs more, which are those of a history that goes on from what was known; the texts of all of
+-- them are written, and all are handed on at once
+pub record MarshalsAll (n m : ℕ) (symbols : Symbols) (k : ℕ) (v w : Person) : Type 0 where
   pub rest : List Message
-  pub output : Output
-  pub shown : v.own < value
-  pub known : value ≤ length (outputs_of symbols (v.seen ++ rest))
-  pub next : get_elem? (outputs_of symbols (v.seen ++ rest)) v.own ≡ some output
-  pub written : w ≡ after_marshalling n m (knowing (looked v published value) rest) output
+  pub known : v.own + k ≤ length (outputs_of symbols (v.seen ++ rest))
+  pub last : Person
+  pub written : WroteTexts n m (outputs_of symbols (v.seen ++ rest)) (knowing (looked v published (v.own + k)) rest) k last
+  pub released : w ≡ moved last (v.own + k)
 
 -- published was loaded, and was the stage's own word
 pub record NothingPublished (symbols : Symbols) (v w : Person) : Type 0 where
@@ -37,9 +41,9 @@ pub record NothingPublished (symbols : Symbols) (v w : Person) : Type 0 where
   pub known : v.own ≤ length (outputs_of symbols (v.seen ++ rest))
   pub only : w ≡ knowing (looked v published v.own) rest
 
--- one output was marshalled, or there was none
+-- so many outputs were marshalled, which are all that the look showed; or there was none
 abbrev pub Marshals : ℕ → ℕ → Symbols → Turn → Person → Person → Type 0
-Marshals n m symbols (Did k) v w = (k ≡ 1) × MarshalsNext n m symbols v w
+Marshals n m symbols (Did k) v w = (1 ≤ k) × MarshalsAll n m symbols k v w
 Marshals n m symbols Idle v w = NothingPublished symbols v w
 Marshals n m symbols OutFull v w = ⊥
 Marshals n m symbols JournalFailed v w = ⊥

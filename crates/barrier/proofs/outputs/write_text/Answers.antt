@@ -1,4 +1,4 @@
-use Rattle.std.proofs.Common.{◌≡◌, ℕ, ◌+◌, ◌/◌, ◌%◌, length, min, refl, rules, arith}
+use Rattle.std.proofs.Common.{◌≡◌, inl, inr, ℕ, ◌+◌, ◌/◌, ◌%◌, length, min, refl, rules, arith}
 use Rattle.venue_model.specs.Texts.{Text}
 use Rattle.barrier.proofs.TextStores.{goes_on, store_first, store_next, store_last}
 use Rattle.barrier.proofs.outputs.write_text.Goals as goal
@@ -10,7 +10,7 @@ loop-index-init g c = let t : Text = record { msg_type = c.args.msg_type; sendin
 pub store_text-requires-in-loop-index : goal.store_text-requires-in-loop-index
 store_text-requires-in-loop-index g c = let so_far = c.loop-index.invariant.1 in
     let t : Text = record { msg_type = c.args.msg_type; sending_time = c.args.sending_time; body = c.args.body.now } in
-    (omega arith, (search rules, (rw so_far c.requires.from, (rw so_far c.requires.to, (omega arith, rw so_far (goes_on c.args.seat.now.who c.args.place t c.loop-index.index))))))
+    (omega arith, (search rules, (rw so_far c.requires.from, (rw so_far c.requires.to, (omega arith, (rw so_far (goes_on c.args.seat.now.who c.args.place t c.loop-index.index), rw so_far (inr (inl refl))))))))
 
 pub loop-index-preserved : goal.loop-index-preserved
 loop-index-preserved g c = let t : Text = record { msg_type = c.args.msg_type; sending_time = c.args.sending_time; body = c.args.body.now } in (

@@ -1,5 +1,7 @@
-use Rattle.std.proofs.Common.{rules}
+use Rattle.std.proofs.Common.{rules, sym, subst}
 use Rattle.ring_words.specs.Terms.{terms_of}
+use Rattle.ring_words.specs.At.{Opened, At}
+use Rattle.ring_words.specs.Steps.{MayWriteText}
 use Rattle.ring_words.proofs.Becomes.{still_sits}
 use Rattle.ring_words.proofs.TextWords.{writes_text_in}
 use Rattle.ring_words.proofs.rings.Rings.store_text.Goals as goal
@@ -9,7 +11,10 @@ store-requires g c = let key = c.self.inside.table.shared.key in let sizes = c.s
   search rules,
   search rules,
   writes_text_in (Unit {0}) (terms_of g.L.Logic.reads g.L.Logic.outputs g.L.Logic.text g.L.Logic.nothing g.L.Logic.grows key) g.row.N g.row.M sizes.0 sizes.1 _ _ c.args.place c.args.word c.args.value _ _
-      c.seat.inside.alone c.seat.inside.role (search rules) (search rules) c.requires.word (search rules) c.output_word-at.ensures.place,
+      c.seat.inside.alone c.seat.inside.role (search rules) (search rules) c.requires.word (search rules)
+      (subst (λ (z : Opened g.row.L.Denot × At g.row.L.Denot). MayWriteText (g.L.Logic.outputs z.0.logic) (g.L.Logic.text z.0.logic) z.1.who c.args.place)
+      (λ i. (sym c.self.view_is i, sym c.seat.view_is i)) c.requires.row)
+      c.output_word-at.ensures.place,
 )
 
 pub invariant_of-seat-inside : goal.invariant_of-seat-inside
