@@ -1,75 +1,77 @@
-//! The acknowledgement of an order, written again and again.
-ghost use Rattle.std.specs.Prelude.{◌≤◌};
-
-use fix_frame::write_frame;
-use fix_orders::{body_of, put_bytes, put_field, put_number, time_text};
+//! The bodies of reports, written again and again: what the marshaller does with each output.
+use fix_orders::body_of;
 use venue_model::{ExecType, ExecutionReport, Order, Output, Report, Side, Symbol};
 
-/// The frame of the acknowledgement, 137 bytes.
-pub const ACKNOWLEDGEMENT: &[u8; 137] =
-    b"8=FIX.4.4\x019=114\x0135=8\x0149=VENUE\x0156=C1\x0134=2\x0152=20250102-09:30:00\x0137=1\x0117=1\x01150=0\x0139=0\x0111=1\x0155=ABC\x0154=1\x0138=100\x0144=50\x01151=100\x0114=0\x016=0\x0110=243\x01";
+/// How many reports there are. They are written by turns.
+const REPORTS: usize = 4;
 
-/// Its fields but the first two and the last one.
-const FIELDS: &[u8; 114] =
-    b"35=8\x0149=VENUE\x0156=C1\x0134=2\x0152=20250102-09:30:00\x0137=1\x0117=1\x01150=0\x0139=0\x0111=1\x0155=ABC\x0154=1\x0138=100\x0144=50\x01151=100\x0114=0\x016=0\x01";
+/// ExecID (17) of the first one.
+const FIRST_EXEC_ID: u64 = 1_234_567;
 
-/// The acknowledgement of the first order, to buy 100 ABC at 50.
-pub fn acknowledgement() -> Output {
+/// The body of the first one, an acknowledgement.
+pub const ACKNOWLEDGEMENT: &[u8] =
+    b"37=601234\x0117=1234567\x01150=0\x0139=0\x0111=1000000017\x0155=ABC\x0154=1\x0138=2500\x0144=10050\x01151=2500\x0114=0\x016=0\x01";
+
+/// What happened to an order of this client: a fill of its quantity in part or in full, or nothing but that it came in.
+fn report(client: u8, exec_type: ExecType, cum: u64) -> Output {
     let Some(symbol) = Symbol::new(b"ABC") else {
         unreachable!()
     };
     Output {
-        to: 1,
-        cause: 0,
+        to: client,
+        cause: 601_233,
         sending_time: 20_250_102_093_000,
         report: Report::Exec(ExecutionReport {
-            exec_type: ExecType::New,
+            exec_type,
             order: Order {
-                id: 1,
-                client: 1,
-                cl_ord_id: 1,
+                id: 601_234,
+                client,
+                cl_ord_id: 1_000_000_017,
                 symbol,
                 side: Side::Buy,
-                price: 50,
-                total: 100,
-                cum: 0,
-                notional: 0,
-                stamp: 0,
+                price: 10_050,
+                total: 2_500,
+                cum,
+                notional: cum.wrapping_mul(10_050),
+                stamp: 601_233,
             },
         }),
     }
 }
 
-/// Writes the acknowledgement so many times, each over the one before, and answers how many bytes were written.
-pub fn write_reports(out: &mut [u8; 512], output: &Output, copies: u32) -> u64 {
+/// The reports of an order's life, as four clients get theirs.
+pub fn reports() -> [Output; 4] {
+    let part = ExecType::Trade {
+        last_qty: 700,
+        last_px: 10_050,
+    };
+    let rest = ExecType::Trade {
+        last_qty: 1_800,
+        last_px: 10_050,
+    };
+    let gone = ExecType::Canceled {
+        orig_cl_ord_id: Some(1_000_000_016),
+    };
+    [
+        report(1, ExecType::New, 0),
+        report(4, part, 700),
+        report(7, rest, 2_500),
+        report(8, gone, 700),
+    ]
+}
+
+/// Writes the body of the acknowledgement at the buffer's front, and answers how many bytes it has.
+pub fn write_first(body: &mut [u8; 320], reports: &[Output; 4]) -> usize {
+    body_of(&reports[0], FIRST_EXEC_ID, body)
+}
+
+/// Writes so many bodies by turns, each over the one before and each with an ExecID of its own, and answers how many
+/// bytes were written.
+pub fn write_bodies(body: &mut [u8; 320], reports: &[Output; 4], copies: u32) -> u64 {
     let mut written = 0u64;
-    for _ in 0..copies {
-        written = written.wrapping_add(write_report(out, output) as u64);
+    for at in 0..copies {
+        let report = &reports[at as usize % REPORTS];
+        written = written.wrapping_add(body_of(report, FIRST_EXEC_ID + u64::from(at), body) as u64);
     }
     written
-}
-
-/// Writes the acknowledgement at the buffer's front, and answers how many bytes it has. Where its fields aren't the
-/// right ones it writes nothing.
-fn write_report(out: &mut [u8; 512], output: &Output) -> usize {
-    let mut body = [0; 320];
-    let len = body_of(output, 1, &mut body);
-    let mut fields = [0; 512];
-    let begun = put_header(&mut fields, output.sending_time);
-    let end = put_bytes(&mut fields, begun, &body[..len]);
-    if &fields[..end] != FIELDS.as_slice() {
-        return 0;
-    }
-    write_frame(out, &fields[..end])
-}
-
-/// Writes the header's fields at the buffer's front, and answers where they end.
-fn put_header(fields: &mut [u8; 512], time: u64) -> usize
-    ensures { result ≤ 100 }
-{
-    let end = put_field(fields, 0, 35, b"8");
-    let end = put_field(fields, end, 49, b"VENUE");
-    let end = put_field(fields, end, 56, b"C1");
-    let end = put_number(fields, end, 34, 2);
-    put_field(fields, end, 52, &time_text(time))
 }

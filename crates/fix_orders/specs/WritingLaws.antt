@@ -5,6 +5,7 @@ use Rattle.std.proofs.lemmas.Grind.{take-set_at}
 use Rattle.std.specs.Fmt.{decimal}
 use Rattle.std.proofs.lemmas.Fmt.{decimal_step, decimal_digit, length-decimal-le}
 use Rattle.fix_frame.specs.Grammar.{Field, print_fields, field_then}
+use Rattle.fix_orders.specs.Formats.{last_digits}
 use Rattle.fix_orders.specs.Text.{field}
 use Rattle.fix_orders.specs.Writing.{Puts, PutsFields}
 
@@ -39,6 +40,59 @@ pub puts_more : {a b c : List ℕ} {i j k : ℕ} (n : ℕ) → 10 ≤ n → n < 
 puts_more n large fits first last =
     let end : n % 10 < 10 = omega arith in
     rw (decimal_step n large fits, ← decimal_digit (n % 10) end) (puts_join first last)
+
+-- two digits, and two behind the digits of a number
+decimal_two : (n : ℕ) → 10 ≤ n → n < 100 → decimal n ≡ last_digits 2 n
+decimal_two n large small =
+    let front : n / 10 < 10 = omega arith in
+    let tens : n / 10 % 10 ≡ n / 10 = omega arith in
+    decimal_step n large (omega arith) ∙ ap (λ ds. ds ++ (48 + n % 10) ∷ []) (decimal_digit (n / 10) front)
+    ∙ ap (λ d. (48 + d) ∷ (48 + n % 10) ∷ []) (sym tens)
+
+pub puts_two : {a b : List ℕ} {i j : ℕ} (n : ℕ) → 10 ≤ n → n < 100 → Puts a b i j (last_digits 2 n) → Puts a b i j (decimal n)
+puts_two n large small written = rw (decimal_two n large small) written
+
+decimal_hundreds : (n : ℕ) → 100 ≤ n → n < 2 ^ 64 → decimal n ≡ decimal (n / 100) ++ last_digits 2 n
+decimal_hundreds n large fits =
+    let front : n / 10 / 10 ≡ n / 100 = omega arith in
+    decimal_step n (omega arith) fits
+    ∙ ap (λ ds. ds ++ (48 + n % 10) ∷ []) (decimal_step (n / 10) (omega arith) (omega arith))
+    ∙ append_assoc (decimal (n / 10 / 10)) ((48 + n / 10 % 10) ∷ []) ((48 + n % 10) ∷ [])
+    ∙ ap (λ m. decimal m ++ last_digits 2 n) front
+
+-- the last two digits are those of the remainder
+last_of : (n m : ℕ) → n % 100 ≡ m % 100 → last_digits 2 n ≡ last_digits 2 m
+last_of n m same =
+    let tens : n / 10 % 10 ≡ m / 10 % 10 = omega (arith, same) in
+    let ones : n % 10 ≡ m % 10 = omega (arith, same) in
+    ap (λ d. (48 + d) ∷ (48 + n % 10) ∷ []) tens ∙ ap (λ d. (48 + m / 10 % 10) ∷ (48 + d) ∷ []) ones
+
+pub puts_hundreds : {a b c : List ℕ} {i j k : ℕ} (n m : ℕ) → 100 ≤ n → n < 2 ^ 64 → n % 100 ≡ m % 100
+    → Puts a b i j (decimal (n / 100)) → Puts b c j k (last_digits 2 m) → Puts a c i k (decimal n)
+puts_hundreds n m large fits same first last =
+    rw (decimal_hundreds n large fits, last_of n m same) (puts_join first last)
+
+-- four digits behind those of a number
+pub puts_four : {a b c d : List ℕ} {i j k l : ℕ} (n : ℕ) → 10000 ≤ n → n < 2 ^ 64
+    → Puts a b i j (decimal (n / 10000)) → Puts b c j k (last_digits 2 (n % 10000 / 100))
+    → Puts c d k l (last_digits 2 (n % 10000)) → Puts a d i l (decimal n)
+puts_four {a} {b} {c} {d} {i} {j} n large fits first second third =
+    let front : n / 10000 ≡ n / 100 / 100 = omega arith in
+    let begun : Puts a b i j (decimal (n / 100 / 100)) = rw (← front) first in
+    puts_hundreds n (n % 10000) (omega arith) fits (omega arith)
+    (puts_hundreds (n / 100) (n % 10000 / 100) (omega arith) (omega arith) (omega arith) begun second) third
+
+-- how many digits stand in front of the last two, or four
+pub length_hundreds : (n : ℕ) → 100 ≤ n → n < 2 ^ 64 → length (decimal n) ≡ length (decimal (n / 100)) + 2
+length_hundreds n large fits = ap length (decimal_hundreds n large fits) ∙ length-append (decimal (n / 100)) (last_digits 2 n)
+
+pub length_four : (n : ℕ) → 10000 ≤ n → n < 2 ^ 64 → length (decimal n) ≡ length (decimal (n / 10000)) + 4
+length_four n large fits =
+    let front : length (decimal (n / 100 / 100)) ≡ length (decimal (n / 10000)) = ap (λ m. length (decimal m)) (omega arith) in
+    omega (arith, length_hundreds n (omega arith) fits, length_hundreds (n / 100) (omega arith) (omega arith), front)
+
+pub length_two : (n : ℕ) → 10 ≤ n → n < 100 → length (decimal n) ≡ 2
+length_two n large small = ap length (decimal_two n large small)
 
 -- a tag has 5 digits at most, a number 20
 pub tag_digits : (tag : ℕ) → tag ≤ 99999 → length (decimal tag) ≤ 5

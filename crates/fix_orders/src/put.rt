@@ -2,38 +2,76 @@
 ghost use Rattle.std.specs.Prelude.{◌≡◌, ◌+◌, ◌<◌, ◌≤◌, [], ◌∷◌, length};
 ghost use Rattle.std.specs.Fmt.{decimal};
 ghost use Rattle.fix_frame.specs.Grammar.{IsField};
+ghost use Rattle.fix_orders.specs.Formats.{last_digits};
 ghost use Rattle.fix_orders.specs.Text.{field, number};
 ghost use Rattle.fix_orders.specs.Writing.{Puts, PutsFields};
 
-/// Writes the digits of a number from `at` on, and answers where they end.
+/// Writes the digits of a number from `at` on, and answers where they end. The numbers of tags are known where this is
+/// called, and have two digits or three.
 #[inline(always)]
 fn put_digits(buf: &mut [u8], at: usize, n: u64) -> usize
     requires { at + length (decimal n) ≤ length buf.old }
     ensures { Puts buf.old buf.new at result (decimal n) }
 {
-    if n < 10 {
-        return put_digit(buf, at, n);
+    if n < 1_000 {
+        put_few(buf, at, n)
+    } else {
+        put_many(buf, at, n)
     }
-    if n < 100 {
-        let last = put_digit(buf, at, n / 10);
-        return put_digit(buf, last, n % 10);
-    }
-    put_many(buf, at, n)
 }
 
-/// The same, however many there are.
+/// The same, however many there are: four at a time.
 fn put_many(buf: &mut [u8], at: usize, n: u64) -> usize
     requires { at + length (decimal n) ≤ length buf.old }
+    ensures { Puts buf.old buf.new at result (decimal n) }
+{
+    if n < 10_000 {
+        return put_few(buf, at, n);
+    }
+    let last = put_many(buf, at, n / 10_000);
+    let four = n % 10_000;
+    let last = put_two(buf, last, four / 100);
+    put_two(buf, last, four)
+}
+
+/// The same of four digits at most.
+#[inline(always)]
+fn put_few(buf: &mut [u8], at: usize, n: u64) -> usize
+    requires small { n < 10000 }
+    requires room { at + length (decimal n) ≤ length buf.old }
+    ensures { Puts buf.old buf.new at result (decimal n) }
+{
+    if n < 100 {
+        return put_short(buf, at, n);
+    }
+    let last = put_short(buf, at, n / 100);
+    put_two(buf, last, n % 100)
+}
+
+/// The same of two digits at most.
+#[inline(always)]
+fn put_short(buf: &mut [u8], at: usize, n: u64) -> usize
+    requires small { n < 100 }
+    requires room { at + length (decimal n) ≤ length buf.old }
     ensures { Puts buf.old buf.new at result (decimal n) }
 {
     if n < 10 {
         return put_digit(buf, at, n);
     }
-    let last = put_many(buf, at, n / 10);
-    put_digit(buf, last, n % 10)
+    put_two(buf, at, n)
 }
 
-/// The same of a single digit.
+/// Writes the last two digits of a number from `at` on, and answers where they end.
+pub(crate) fn put_two(buf: &mut [u8], at: usize, n: u64) -> usize
+    requires { at + 2 ≤ length buf.old }
+    ensures { Puts buf.old buf.new at result (last_digits 2 n) }
+{
+    buf[at] = b'0' + (n / 10 % 10) as u8;
+    buf[at + 1] = b'0' + (n % 10) as u8;
+    at + 2
+}
+
+/// The same of one digit.
 fn put_digit(buf: &mut [u8], at: usize, digit: u64) -> usize
     requires small { digit < 10 }
     requires room { at < length buf.old }

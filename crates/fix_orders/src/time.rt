@@ -2,10 +2,9 @@
 ghost use Rattle.std.specs.Prelude.{◌≡◌, ◌+◌, ◌-◌, ◌*◌, ◌<◌, ◌≤◌, IsTrue, length, slice_index};
 ghost use Rattle.std.specs.List.{list_all, zip};
 ghost use Rattle.fix_orders.specs.Formats.{time_shape, is_time, number_of_time, time_text, last_digits, fits};
-ghost use Rattle.fix_orders.specs.Writing.{Puts};
 
 use crate::number::is_digit;
-use crate::put::put_bytes;
+use crate::put::{put_bytes, put_two};
 
 /// YYYYMMDD-HH:MM:SS, where 0 stands for any digit.
 const SHAPE: [u8; 17] = *b"00000000-00:00:00";
@@ -83,14 +82,4 @@ pub fn time_text(time: u64) -> [u8; 17]
     let end = put_bytes(&mut text, end, b":");
     put_two(&mut text, end, time);
     text
-}
-
-/// Writes the last two digits of a number from `at` on, and answers where they end.
-fn put_two(buf: &mut [u8], at: usize, n: u64) -> usize
-    requires { at + 2 ≤ length buf.old }
-    ensures { Puts buf.old buf.new at result (last_digits 2 n) }
-{
-    buf[at] = b'0' + (n / 10 % 10) as u8;
-    buf[at + 1] = b'0' + (n % 10) as u8;
-    at + 2
 }
