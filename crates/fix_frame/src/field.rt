@@ -39,6 +39,7 @@ impl<'a> Iterator for Fields<'a> {
 
     ghost remaining = { item_count fields_left };
 
+    #[inline(always)]
     fn next(&mut self) -> Option<Field<'a>> {
         if self.rest.is_empty() {
             return None;

@@ -1,5 +1,6 @@
 //! The formats and ranges of values, by tag (docs/PROFILE.md, "Formats").
-ghost use Rattle.std.specs.Prelude.{◌≡◌};
+ghost use Rattle.std.specs.Prelude.{◌≡◌, ◌==◌};
+ghost use Rattle.std.specs.List.{list_any};
 ghost use Rattle.fix_orders.specs.Formats.{format_of, is_symbol};
 ghost use Rattle.fix_orders.specs.OrderTags.{number_of};
 ghost use Rattle.fix_orders.specs.Judging.{as_format, IsBounded, judged};
@@ -56,13 +57,26 @@ pub fn judge(format: Format, value: &[u8]) -> Judged
             None => Judged::WrongFormat,
         },
         Format::ByteOf(bytes) => match value {
-            [byte] if bytes.contains(byte) => Judged::Right,
+            [byte] if is_one_of(bytes, *byte) => Judged::Right,
             [_] => Judged::OutOfRange,
             _ => Judged::WrongFormat,
         },
         Format::Symbol if is_symbol(value) => Judged::Right,
         Format::Time if is_time(value) => Judged::Right,
         Format::Symbol | Format::Time => Judged::WrongFormat,
+    }
+}
+
+/// Whether the byte is one of these, which are few.
+#[inline(always)]
+fn is_one_of(bytes: &[u8], byte: u8) -> bool
+    ensures { result ≡ list_any (λ b. b == byte) bytes.now }
+{
+    match bytes {
+        [first] => *first == byte,
+        [first, second] => *first == byte || *second == byte,
+        [first, second, third] => *first == byte || *second == byte || *third == byte,
+        _ => bytes.contains(&byte),
     }
 }
 
