@@ -6,7 +6,7 @@ use Rattle.ring_words.specs.declared.view.Person.{Person}
 use Rattle.atomic_table.specs.Seated.{TableId}
 use Rattle.ring_words.specs.declared.view.View.{View}
 use Rattle.ring_words.specs.Places.{processed}
-use Rattle.ring_words.specs.Seats.{person, IsAlone, together, looked, last_of}
+use Rattle.ring_words.specs.Seats.{person, IsAlone, together, looked, last_of, AreTaken}
 use Rattle.ring_words.specs.At.{Opened, At, IsAt, Steps, seat_of}
 use Rattle.ring_words.specs.SeatLaws.{last_stays}
 use Rattle.ring_words.specs.Meeting.{first_alone, second_alone}
@@ -36,6 +36,10 @@ gateway_sits {S} {L} me me' q is bare number role numbered count own kept last =
 -- that value stays where another word is loaded
 pub kept_behind : (p : Person) (j x : ℕ) (kept : Option ℕ) → j ≢ processed → kept ≡ last_of processed None p.loads → kept ≡ last_of processed None (looked p j x).loads
 kept_behind p j x kept ne last = last ∙ sym (last_stays processed j None x p.loads ne)
+
+-- the processor's seat keeps the taken values loaded last, where they are those of the person that it has now
+pub still_taken : {S L : Type 0} (me me' : Seated S L) (q : Person) → Became me q me' → (values : List (Option ℕ)) → AreTaken values q.loads → AreTaken values (person me'.0).loads
+still_taken {S} {L} me me' q is values kept = subst (λ (z : Seated S L). AreTaken values (person z.0).loads) (sym is) kept
 
 -- Two seats came together, their persons became p and q, and the seat was split again: the first has p, the second q, each beside what the first had.
 module _ {S L : Type 0} (v w : View L) (came both cut : Seated S L) (p q : Person) (a : came ≡ (together v w, [])) (b : both ≡ (record came.0 { people = p ∷ q ∷ [] }, came.1)) where

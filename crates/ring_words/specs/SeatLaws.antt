@@ -1,6 +1,7 @@
 -- Laws on a seat behind a step: what its person loaded and knows, and whose seat it is.
-use Rattle.std.proofs.Common.{◌≡◌, ◌≢◌, ◌⊎◌, ◌∙◌, List, Option, None, Some, inl, inr, ap, ◌++◌, cond, ℕ, suc, ◌+◌, ◌<◌, ◌≤◌, [], ◌∷◌, eqb, length, refl, sym, subst, arith}
-use Rattle.std.proofs.lemmas.List.{append-nil}
+use Rattle.std.proofs.Common.{◌≡◌, ◌≢◌, ◌⊎◌, ◌∙◌, List, Option, None, Some, inl, inr, ap, ◌++◌, cond, ℕ, suc, ◌+◌, ◌<◌, ◌≤◌, [], ◌∷◌, eqb, length, get_or, set, length-set, refl, sym, subst, arith}
+use Rattle.std.proofs.lemmas.List.{append-nil, get_or-set_same, get_or-set_other}
+use mathlib.Core.Logic.{dite}
 use Rattle.std.proofs.lemmas.Bool.{eq-eqb, ne_eqb, cond-true, cond-false}
 use Rattle.std.proofs.lemmas.Option.{same_Some}
 use mathlib.Core.Option.{some}
@@ -10,10 +11,11 @@ use Rattle.venue_model.specs.History.{Message}
 use Rattle.venue_model.specs.ListLaws.{at_longer, at_behind}
 use Rattle.ring_words.specs.declared.view.Load.{Load}
 use Rattle.ring_words.specs.declared.view.Person.{Person}
-use Rattle.ring_words.specs.Places.{claim, processed}
-use Rattle.ring_words.specs.Seats.{load_of, looked, last_from, last_of}
+use Rattle.ring_words.specs.Places.{claim, processed, taken}
+use Rattle.ring_words.specs.Rule.{IsGateway}
+use Rattle.ring_words.specs.Seats.{load_of, looked, last_from, last_of, AreTaken}
 use Rattle.ring_words.specs.At.{Opened, At, at, seated, IsAt, Steps}
-use Rattle.ring_words.specs.Steps.{ClaimsUpTo, HasRoom, Reaches}
+use Rattle.ring_words.specs.Steps.{ClaimsUpTo, HasRoom, HasOutputRoom, Reaches}
 
 -- the value that was just loaded is the last one of its word
 pub last_now : (k : ℕ) (d : Option ℕ) (x : ℕ) (ls : List Load) → last_of k d (ls ++ load_of k x ∷ []) ≡ Some x
@@ -47,6 +49,27 @@ room_last_loaded n p x s is room = by_load (last_found processed None x p.loads 
   by_load : (None ≡ Some x) ⊎ Found processed x p.loads → HasRoom n p s
   by_load (inl none) = absurd (let none_is = none in cc)
   by_load (inr (i, (l, there, place, value))) = (i, (l, there, place, subst (λ (y : ℕ). s < y + n) (sym value) room))
+
+-- the taken values that were loaded last leave room for an output
+pub output_room_last_loaded : (g m : ℕ) (p : Person) (q : ℕ) → ((k : ℕ) → IsGateway g k → (x : ℕ) × (last_of (taken k) None p.loads ≡ Some x) × (q < x + m)) → HasOutputRoom g m p q
+output_room_last_loaded g m p q rooms k gateway = let room = rooms k gateway in by_load room.0 room.2 (last_found (taken k) None room.0 p.loads room.1) where
+  by_load : (x : ℕ) → q < x + m → (None ≡ Some x) ⊎ Found (taken k) x p.loads → (i : ℕ) × ((l : Load) × (get_elem? p.loads i ≡ some l) × (l.place ≡ taken k) × (q < l.value + m))
+  by_load x room (inl none) = absurd (let none_is = none in cc)
+  by_load x room (inr (i, (l, there, place, value))) = (i, (l, there, place, subst (λ (y : ℕ). q < y + m) (sym value) room))
+
+-- the taken values kept are the last ones where another word is loaded
+pub kept_else : (values : List (Option ℕ)) (ls : List Load) (j x : ℕ) → ((k : ℕ) → k < 8 → j ≢ taken (suc k)) → AreTaken values ls → AreTaken values (ls ++ load_of j x ∷ [])
+kept_else values ls j x ne kept = (kept.0, λ k few. kept.1 k few ∙ sym (last_stays (taken (suc k)) j None x ls (ne k few)))
+
+-- and where one of these words is, and its value is kept
+pub kept_now : (values : List (Option ℕ)) (ls : List Load) (i j x : ℕ) → i < 8 → j ≡ taken (suc i) → AreTaken values ls → AreTaken (set values i (Some x)) (ls ++ load_of j x ∷ [])
+kept_now values ls i j x inside is kept = subst (λ (place : ℕ). AreTaken (set values i (Some x)) (ls ++ load_of place x ∷ [])) (sym is) (
+  length-set values i (Some x) ∙ kept.0,
+  λ k few. dite (ℕ_discrete k i)
+      (λ here. (let long = kept.0 in ap (λ (j : ℕ). get_or (set values i (Some x)) j None) here ∙ get_or-set_same values i (Some x) None (omega arith)
+      ∙ sym (ap (λ (j : ℕ). last_of (taken (suc j)) None (ls ++ load_of (taken (suc i)) x ∷ [])) here ∙ last_now (taken (suc i)) None x ls)))
+      (λ other. get_or-set_other values i k (Some x) None other ∙ kept.1 k few ∙ sym (last_stays (taken (suc k)) (taken (suc i)) None x ls (λ (e : taken (suc i) ≡ taken (suc k)). other (omega arith)))),
+)
 
 -- a bound on the claim values loaded is one on those loaded before the last load
 pub claims_before : (p : Person) (k y x : ℕ) → ClaimsUpTo (looked p k y) x → ClaimsUpTo p x

@@ -1,5 +1,5 @@
 -- The person of a seat in use, and what its own steps make of it.
-use Rattle.std.specs.Prelude.{Option, None, Some, ◌≡◌, ◌⊎◌, ℕ, List, [], ◌∷◌, ◌++◌, ◌==◌, cond, take, drop}
+use Rattle.std.specs.Prelude.{Option, None, Some, ◌≡◌, ◌⊎◌, ℕ, suc, ◌<◌, List, [], ◌∷◌, ◌++◌, ◌==◌, cond, length, take, drop, slice_index_or}
 use Rattle.venue_model.specs.History.{Message}
 use Rattle.ring_words.specs.declared.view.Role.{Role}
 use Rattle.ring_words.specs.declared.view.Role.TheVariants.{Process, Unmarshal, Journal}
@@ -7,6 +7,7 @@ use Rattle.ring_words.specs.declared.view.Sent.{Sent}
 use Rattle.ring_words.specs.declared.view.Load.{Load}
 use Rattle.ring_words.specs.declared.view.Person.{Person}
 use Rattle.ring_words.specs.declared.view.View.{View}
+use Rattle.ring_words.specs.Places.{taken}
 use Rattle.ring_words.specs.Log.{without}
 use Rattle.ring_words.specs.Rule.{newcomer}
 
@@ -58,6 +59,10 @@ last_from k d (l ∷ ls) = last_from k (cond (l.place == k) l.value d) ls
 abbrev pub last_of : ℕ → Option ℕ → List Load → Option ℕ
 last_of k d [] = d
 last_of k d (l ∷ ls) = last_of k (cond (l.place == k) (Some l.value) d) ls
+
+-- these are the values that the loads found last of the taken words of gateways 1 to 8
+abbrev pub AreTaken : List (Option ℕ) → List Load → Type 0
+AreTaken values ls = (length values ≡ 8) × ((k : ℕ) → k < 8 → slice_index_or values k None ≡ last_of (taken (suc k)) None ls)
 
 -- a stage that reads what gateways published
 abbrev pub IsReader : Role → Type 0

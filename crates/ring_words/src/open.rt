@@ -100,6 +100,7 @@ impl<L: Logic, const N: usize, const M: usize, const G: usize> Rings<L, N, M, G>
             own: count,
             gate: 0,
             published: given,
+            taken: [None; 8],
         }
     }
 

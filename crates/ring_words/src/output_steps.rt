@@ -44,7 +44,9 @@ impl<L: Logic, const N: usize, const M: usize, const G: usize> Rings<L, N, M, G>
     {
         let shared = &self.table.shared;
         let place = self.taken_word(gateway);
-        shared.load::<SeeTaken<M>>(&mut seat.seat, place)
+        let found = shared.load::<SeeTaken<M>>(&mut seat.seat, place);
+        seat.taken[gateway as usize - 1] = Some(found);
+        found
     }
 
     /// Stores a word of the next output in its row, which every gateway has passed: the first word, or one behind or among those stored

@@ -1,15 +1,16 @@
 //! The processor's seat, behind those of unmarshaller and journaller.
-ghost use Rattle.std.specs.Prelude.{◌≡◌, ◌≤◌, ◌^◌, [], length};
+ghost use Rattle.std.specs.Prelude.{None, ◌≡◌, ◌≤◌, ◌^◌, [], length};
 ghost use Rattle.ring_words.specs.declared.view.Role.TheVariants.{Process};
-ghost use Rattle.ring_words.specs.Places.{unmarshalled};
-ghost use Rattle.ring_words.specs.Seats.{person, IsAlone, last_from};
+ghost use Rattle.ring_words.specs.Places.{unmarshalled, taken as taken_word};
+ghost use Rattle.ring_words.specs.Seats.{person, IsAlone, last_from, last_of, AreTaken};
 
 use crate::view::View;
 use atomic_table::Seat;
 use std::marker::Model;
 
 /// The processor's place at the table. It holds the length of the history that it knows, its own word, the unmarshalled value that it loaded
-/// last, and how many outputs are published.
+/// last, how many outputs are published, and of each gateway the taken value that it loaded last, if any: the taken words only rise, so outputs that
+/// these values leave room for need no look at the words.
 #[derive(Drop)]
 pub struct ProcessSeat<L> {
     pub(crate) seat: Seat<(), View<L>>,
@@ -17,12 +18,14 @@ pub struct ProcessSeat<L> {
     pub(crate) own: u64,
     pub(crate) gate: u64,
     pub(crate) published: u64,
+    pub(crate) taken: [Option<u64>; 8],
     ghost alone: { IsAlone seat.me.0 },
     ghost bare: { seat.me.1 ≡ [] },
     ghost role: { (person seat.me.0).role ≡ Process },
     ghost counts: { (known ≡ length (person seat.me.0).seen) × (own ≡ (person seat.me.0).own) × (own ≤ known) × (known ≤ 2 ^ 48) },
     ghost gated: { gate ≡ last_from unmarshalled 0 (person seat.me.0).loads },
     ghost put: { published ≡ (person seat.me.0).part.sequence },
+    ghost kept: { AreTaken taken (person seat.me.0).loads },
 }
 
 impl<L> Model for ProcessSeat<L> {
@@ -55,5 +58,14 @@ impl<L> ProcessSeat<L> {
         ensures value { result ≡ self.now.who.part.sequence }
     {
         self.published
+    }
+
+    /// The value of this gateway's taken word that the processor loaded last: so many outputs were taken by then, and by now maybe more. None where none
+    /// was loaded.
+    pub fn taken(&self, gateway: u64) -> Option<u64>
+        requires gateway { (1 ≤ gateway) × (gateway ≤ 8) }
+        ensures value { result ≡ last_of (taken_word gateway) None self.now.who.loads }
+    {
+        self.taken[gateway as usize - 1]
     }
 }

@@ -1,5 +1,5 @@
 -- The look for room: the taken words are loaded one after another, and the least of them is kept.
-use Rattle.std.proofs.Common.{◌≡◌, ℕ, zero, suc, ◌+◌, ◌<◌, ◌≤◌, List, [], ◌∷◌, ◌++◌, length, min, refl, ap, sym, subst, ◌∙◌, arith, append_assoc, length-append}
+use Rattle.std.proofs.Common.{Option, None, Some, ◌≡◌, ℕ, zero, suc, ◌+◌, ◌<◌, ◌≤◌, List, [], ◌∷◌, ◌++◌, length, min, refl, ap, sym, subst, ◌∙◌, arith, append_assoc, length-append}
 use Rattle.venue_model.specs.ListLaws.{stands, at_behind}
 use mathlib.Core.Option.{some, some-injective, some-ne-none}
 use lib.ListN.{get_elem?}
@@ -7,9 +7,10 @@ use Rattle.ring_words.specs.declared.view.Load.{Load}
 use Rattle.ring_words.specs.declared.view.Person.{Person}
 use Rattle.ring_words.specs.Places.{taken}
 use Rattle.ring_words.specs.Seats.{load_of, looked}
+use Rattle.ring_words.specs.SeatLaws.{output_room_last_loaded}
 use Rattle.ring_words.specs.At.{At, seated}
 use Rattle.ring_words.specs.Steps.{HasOutputRoom}
-use Rattle.sequencer.specs.Outputs.{taken_loads, least_from, least, HasLooked}
+use Rattle.sequencer.specs.Outputs.{taken_loads, least_from, least, HasLooked, last_taken, LeavesRoom, KeepsRoom}
 
 -- one value more is one load more, of the next gateway's word
 taken_more : (k : ℕ) (xs : List ℕ) (x : ℕ) → taken_loads k (xs ++ x ∷ []) ≡ taken_loads k xs ++ load_of (taken (k + length xs)) x ∷ []
@@ -112,3 +113,13 @@ module _ {L : Type 0} (m : ℕ) (v : At L) where
   -- published is as before
   pub place_kept : (u : At L) (k low : ℕ) → LookedBelow m v u k low → u.who.part.sequence ≡ v.who.part.sequence
   place_kept u k low r = ap (λ (y : At L). y.who.part.sequence) r.view
+
+-- where a taken value leaves room, it was loaded
+left_by : (m upto : ℕ) (last : Option ℕ) → LeavesRoom m upto last → (x : ℕ) × ((last ≡ Some x) × (upto ≤ x + m))
+left_by m upto None none = elim none [ ]
+left_by m upto (Some x) room = (x, (refl, room))
+
+-- by the values kept there is room for each output of those that they leave room for
+pub keeps_free : (g m : ℕ) (p : Person) (n i : ℕ) → KeepsRoom g m p n → i < n → HasOutputRoom g m p (p.part.sequence + i)
+keeps_free g m p n i kept below = output_room_last_loaded g m p (p.part.sequence + i) (λ k gateway.
+    let room = left_by m (p.part.sequence + n) (last_taken k p.loads) (kept k gateway) in let enough = room.1.1 in (room.0, room.1.0, omega arith))

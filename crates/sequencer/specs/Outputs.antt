@@ -1,5 +1,5 @@
 -- What the processor's look for room says, and what the taking of an output says.
-use Rattle.std.specs.Prelude.{◌≡◌, ◌≢◌, ℕ, suc, ◌+◌, ◌^◌, ◌<◌, ◌≤◌, List, [], ◌∷◌, ◌++◌, length, take, min}
+use Rattle.std.specs.Prelude.{⊤, Option, None, Some, ◌≡◌, ◌≢◌, ◌⊎◌, ℕ, suc, ◌+◌, ◌^◌, ◌<◌, ◌≤◌, List, [], ◌∷◌, ◌++◌, length, take, min}
 use mathlib.Core.Option.{some}
 use lib.ListN.{get_elem?}
 use Rattle.venue_model.specs.History.{Message}
@@ -8,7 +8,8 @@ use Rattle.venue_model.specs.declared.outputs.Output.{Output}
 use Rattle.ring_words.specs.declared.view.Load.{Load}
 use Rattle.ring_words.specs.declared.view.Person.{Person}
 use Rattle.ring_words.specs.Places.{marshalled, taken}
-use Rattle.ring_words.specs.Seats.{load_of}
+use Rattle.ring_words.specs.Rule.{IsGateway}
+use Rattle.ring_words.specs.Seats.{load_of, last_of}
 use Rattle.ring_words.specs.At.{At, Steps, number}
 use Rattle.ring_words.specs.Steps.{IsLegal}
 use Rattle.sequencer.specs.declared.take.Head.{Head}
@@ -38,6 +39,33 @@ pub record HasLooked (g m : ℕ) (p : Person) (answer : ℕ) (q : Person) : Type
   pub loads : q ≡ record p { loads = p.loads ++ taken_loads 1 values }
   pub below : least values ≤ p.part.sequence
   pub room : answer + p.part.sequence ≡ least values + m
+
+-- the value of gateway k's taken word that these loads found last, if any did
+abbrev pub last_taken : ℕ → List Load → Option ℕ
+last_taken k ls = last_of (taken k) None ls
+
+-- by that value a ring of m rows has room for all outputs below the place upto
+abbrev pub LeavesRoom : ℕ → ℕ → Option ℕ → Type 0
+LeavesRoom m upto None = ⊥
+LeavesRoom m upto (Some x) = upto ≤ x + m
+
+-- or it hasn't, or there is none
+abbrev pub LeavesNoRoom : ℕ → ℕ → Option ℕ → Type 0
+LeavesNoRoom m upto None = ⊤
+LeavesNoRoom m upto (Some x) = x + m < upto
+
+-- by the values that were loaded last there is room for n outputs more, behind each of g gateways
+abbrev pub KeepsRoom : ℕ → ℕ → Person → ℕ → Type 0
+KeepsRoom g m p n = (k : ℕ) → IsGateway g k → LeavesRoom m (p.part.sequence + n) (last_taken k p.loads)
+
+-- or behind one of them there isn't
+abbrev pub KeepsNoRoom : ℕ → ℕ → Person → ℕ → Type 0
+KeepsNoRoom g m p n = (k : ℕ) × (IsGateway g k × LeavesNoRoom m (p.part.sequence + n) (last_taken k p.loads))
+
+-- The answer says how many outputs more there is room for, where n are wanted. By the taken values that were loaded last there is room for all of these, and
+-- then no word is loaded; or there isn't, and then each word was loaded once
+abbrev pub SeesRoomFor : ℕ → ℕ → Person → ℕ → ℕ → Person → Type 0
+SeesRoomFor g m p n answer q = (KeepsRoom g m p n × ((answer ≡ n) × (q ≡ p))) ⊎ (KeepsNoRoom g m p n × HasLooked g m p answer q)
 
 -- the gateway knows this history, made these loads, and took one output more or passed it over
 abbrev pub after_taking : Person → List Message → List Load → Person

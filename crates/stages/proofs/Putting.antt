@@ -1,9 +1,11 @@
 -- The outputs of one command on their way into the output ring: what one look for room leaves, and what the put ones leave.
 use Rattle.std.proofs.Common.{◌≡◌, ◌⊎◌, inl, inr, ℕ, zero, suc, ◌+◌, ◌<◌, ◌≤◌, Bool, true, false, cond, List, [], ◌∷◌, ◌++◌, length, get_or, take, drop, min, Some, ap, refl, sym, subst, ◌∙◌, append_assoc, length-drop, arith, add-one, eqb}
 use Rattle.std.proofs.lemmas.List.{append-nil, drop-drop, drop_all, length-take-le}
-use Rattle.std.specs.Prelude.{◌-◌, ◌↔◌, if◌then◌else◌, nat_le, nat_eq}
+use Rattle.std.specs.Prelude.{MatchBool, ◌-◌, ◌↔◌, if◌then◌else◌, nat_le, nat_eq}
 use Rattle.std.proofs.lemmas.Bool.{eqb-true, eq-eqb, leb-true}
 use mathlib.Core.Option.{some, some-ne-none}
+use mathlib.Core.Logic.{dite}
+use native.Mathlib.Decide.{dec_lt}
 use lib.ListN.{get_elem?}
 use Rattle.venue_model.specs.History.{Message}
 use Rattle.venue_model.specs.Requests.{Symbols}
@@ -22,11 +24,11 @@ use Rattle.ring_words.specs.Steps.{HasOutputRoom, Shows, lesser}
 use Rattle.ring_words.specs.SeatLaws.{last_kept, last_loaded}
 use Rattle.barrier.specs.Availability.{Gated}
 use Rattle.barrier.specs.Commands.{command_loads}
-use Rattle.sequencer.specs.Outputs.{taken_loads, HasLooked}
+use Rattle.sequencer.specs.Outputs.{taken_loads, HasLooked, SeesRoomFor}
 use Rattle.book.specs.Books.{Book}
 use Rattle.book.specs.Histories.{state_of, outputs_of}
 use Rattle.stages.specs.Turns.{after_reading}
-use Rattle.stages.specs.Processes.{to_put, TakesUp, ahead, Puts}
+use Rattle.stages.specs.Processes.{to_put, TakesUp, ahead, Puts, PutsAll}
 use Rattle.stages.specs.Stations.{AtBook}
 use Rattle.stages.specs.Insides.{Follows, IsWorking}
 use Rattle.stages.proofs.Processing.{MayTake, Took, at_rest, follows_on, left_to_put}
@@ -160,7 +162,32 @@ at_front (suc n) [] i a at = at
 at_front (suc n) (x ∷ xs) zero a at = at
 at_front (suc n) (x ∷ xs) (suc i) a at = at_front n xs i a at
 
-module _ (g m : ℕ) (v u : At Symbols) (room : ℕ) (looked : HasLooked g m v.who room u.who) (u_is : u ≡ seated v u.who) where
+-- only taken words were loaded, or none
+pub record OnlyLooked (p q : Person) : Type 0 where
+  pub values : List ℕ
+  pub loads : q ≡ record p { loads = p.loads ++ taken_loads 1 values }
+
+pub only_looked : (g m : ℕ) (p : Person) (n answer : ℕ) (q : Person) → SeesRoomFor g m p n answer q → OnlyLooked p q
+only_looked g m p n answer q (inl kept) = record { values = []; loads = kept.1.1 ∙ (λ i. record p { loads = sym (append-nil p.loads) i }) }
+only_looked g m p n answer q (inr (none, looked)) = record { values = looked.values; loads = looked.loads }
+
+-- all outputs were put where the values kept leave room for them; else one look was made
+pub were_put : (g m : ℕ) (p : Person) (left : List Output) (answer most : ℕ) (q w : Person) → SeesRoomFor g m p (length left) answer q → 0 < length left
+    → most ≡ min answer (length left) → w ≡ ahead q most → PutsAll m g p left w × (most < length left → Puts m g p left w)
+were_put g m p left answer most q w (inl kept) some_left is w_is = let enough = kept.1.0 in
+    let all : most ≡ length left = omega (arith, is, enough) in
+    (inl (some_left, (kept.0, w_is ∙ (λ i. ahead (kept.1.1 i) (all i)))), λ few. absurd (omega (arith, few, all)))
+were_put g m p left answer most q w (inr (none, looked)) some_left is w_is =
+    let puts : Puts m g p left w = inr (some_left, (answer, (q, looked, w_is ∙ ap (ahead q) is))) in (inr (inr none, puts), λ few. puts)
+
+-- so it is by what is answered
+pub put_or_left : (A B : Type 0) (most n : ℕ) → most ≤ n → A × (most < n → B) → MatchBool (nat_eq most n) A B
+put_or_left A B most n few were = by_answer (nat_eq most n) refl where
+  by_answer : (b : Bool) → nat_eq most n ≡ b → MatchBool b A B
+  by_answer true is = were.0
+  by_answer false is = were.1 (dite (dec_lt most n) (λ less. less) (λ (more : ¬ (most < n)). absurd (let all = eq-eqb most n (omega arith) in let t : true ≡ false = sym all ∙ is in cc)))
+
+module _ (g m : ℕ) (v u : At Symbols) (room : ℕ) (looked : OnlyLooked v.who u.who) (u_is : u ≡ seated v u.who) where
   looked_place : u.who.part.sequence ≡ v.who.part.sequence
   looked_place = ap (λ (q : Person). q.part.sequence) looked.loads
 
@@ -236,10 +263,6 @@ module _ (g m : ℕ) (v u : At Symbols) (room : ℕ) (looked : HasLooked g m v.w
           × (last_from journalled 0 w.who.loads ≡ last_from journalled 0 v.who.loads)
       same_after = (own_after, ap length seen_after, last_after)
 
-      -- and as many were put as there was room for
-      pub were_put : 0 < length left → most ≡ min room (length left) → Puts m g v.who left w.who
-      were_put some_left is = inr (some_left, (room, (u.who, looked, ap (λ (s : At _). s.who) w_is ∙ ap (ahead u.who) is)))
-
 -- the outputs that are lent to be put
 pub lent : (put most : ℕ) (items now : List Output) → now ≡ items → take (put + most - put) (drop put now) ≡ take most (drop put items)
 lent put most items now is = let g : put + most - put ≡ most = omega arith in ap (λ (k : ℕ). take k (drop put now)) g ∙ ap (λ (l : List Output). take most (drop put l)) is
@@ -253,15 +276,15 @@ pub record AreGone (m g : ℕ) (p : AtBook) (w : At Symbols) (most : ℕ) : Type
   pub own : w.who.own ≡ p.seat.who.own
   pub seen : length w.who.seen ≡ length p.seat.who.seen
   pub last : last_from journalled 0 w.who.loads ≡ last_from journalled 0 p.seat.who.loads
-  pub puts : Puts m g p.seat.who p.left w.who
+  pub puts : PutsAll m g p.seat.who p.left w.who × (most < length p.left → Puts m g p.seat.who p.left w.who)
 
 -- those left are the outputs from one place on, of which as many as there is room for are lent and put
-pub are_gone : (m g : ℕ) (p : AtBook) (u w : At Symbols) (room most put : ℕ) (items now : List Output) → IsWorking p → p.left ≡ drop put items
-    → p.seat.who.own < p.applied → HasLooked g m p.seat.who room u.who → u ≡ seated p.seat u.who → now ≡ items
+pub are_gone : (m g : ℕ) (p : AtBook) (u w : At Symbols) (wanted room most put : ℕ) (items now : List Output) → IsWorking p → p.left ≡ drop put items
+    → p.seat.who.own < p.applied → SeesRoomFor g m p.seat.who wanted room u.who → wanted ≡ length p.left → u ≡ seated p.seat u.who → now ≡ items
     → 0 < length p.left → most ≡ min room (length p.left)
     → w ≡ seated u (ahead u.who (length (take (put + most - put) (drop put now)))) → AreGone m g p w most
-are_gone m g p u w room most put items now working left_is under_way looked u_is is some_there least was_put =
-    let v = p.seat in let counts = working.counts in
+are_gone m g p u w wanted room most put items now working left_is under_way sees wanted_is u_is is some_there least was_put =
+    let v = p.seat in let looked = only_looked g m v.who wanted room u.who sees in let counts = working.counts in
     let one : p.applied ≡ suc v.who.own = omega (arith, counts, under_way) in
     let within : most ≤ length p.left = omega (arith, least) in
     let long = ap length left_is in
@@ -273,7 +296,7 @@ are_gone m g p u w room most put items now working left_is under_way looked u_is
       own = kept.0;
       seen = kept.1;
       last = kept.2;
-      puts = were_put g m v u room looked u_is p.book p.applied p.left working.follows one most within w w_is some_there least;
+      puts = were_put g m v.who p.left room most u.who w.who (subst (λ (n : ℕ). SeesRoomFor g m v.who n room u.who) wanted_is sees) some_there least (ap (λ (s : At _). s.who) w_is);
     }
 
 -- the processor with the others left
@@ -342,9 +365,14 @@ module _ (n m g : ℕ) (symbols : Symbols) (p b : AtBook) (is : p.book.symbols �
   are_left : to_put symbols b.seat.who ≡ b.left
   are_left = ap (λ (s : Symbols). to_put s b.seat.who) (sym (begun.same ∙ is)) ∙ left_to_put b.seat b.book b.applied b.left begun.working.follows begun.one
 
-  -- and they were put
-  pub put_on : (w : Person) → Puts m g b.seat.who b.left w → Puts m g b.seat.who (to_put symbols b.seat.who) w
-  put_on w puts = subst (λ (l : List Output). Puts m g b.seat.who l w) (sym are_left) puts
+  -- and they were put, or some of them
+  pub put_all : (w : Person) (t : Bool) → MatchBool t (PutsAll m g b.seat.who b.left w) (Puts m g b.seat.who b.left w) → t ≡ true → PutsAll m g b.seat.who (to_put symbols b.seat.who) w
+  put_all w t puts is = subst (λ (l : List Output). PutsAll m g b.seat.who l w) (sym are_left)
+      (subst (λ (t : Bool). MatchBool t (PutsAll m g b.seat.who b.left w) (Puts m g b.seat.who b.left w)) is puts)
+
+  pub put_some : (w : Person) (t : Bool) → MatchBool t (PutsAll m g b.seat.who b.left w) (Puts m g b.seat.who b.left w) → t ≡ false → Puts m g b.seat.who (to_put symbols b.seat.who) w
+  put_some w t puts is = subst (λ (l : List Output). Puts m g b.seat.who l w) (sym are_left)
+      (subst (λ (t : Bool). MatchBool t (PutsAll m g b.seat.who b.left w) (Puts m g b.seat.who b.left w)) is puts)
 
   module _ (q : AtBook) (kept : (q.applied ≡ b.applied) × (q.book ≡ b.book)) (own : q.seat.who.own ≡ b.seat.who.own) (working : IsWorking q) where
     pub still_one : q.applied ≡ suc q.seat.who.own

@@ -11,7 +11,7 @@ use Rattle.ring_words.specs.Rule.{at_place}
 use Rattle.ring_words.specs.Seats.{looked}
 use Rattle.ring_words.specs.Steps.{lesser}
 use Rattle.barrier.specs.Availability.{Gated}
-use Rattle.sequencer.specs.Outputs.{HasLooked}
+use Rattle.sequencer.specs.Outputs.{HasLooked, KeepsRoom, KeepsNoRoom}
 use Rattle.book.specs.Histories.{outputs_of}
 use Rattle.stages.specs.Turns.{done, after_reading}
 use Rattle.stages.specs.declared.turn.Turn.{Turn}
@@ -44,6 +44,13 @@ Puts m g u outputs w =
     ((outputs ≡ []) × (w ≡ u))
     ⊎ ((0 < length outputs) × ((room : ℕ) × ((q : Person) × HasLooked g m u room q × (w ≡ ahead q (min room (length outputs))))))
 
+-- All of these outputs were put: by the taken values that were loaded last there was room for all, and nobody looked; or there wasn't, and one look for
+-- room was made; or there are none
+abbrev pub PutsAll : ℕ → ℕ → Person → List Output → Person → Type 0
+PutsAll m g u outputs w =
+    ((0 < length outputs) × (KeepsRoom g m u (length outputs) × (w ≡ ahead u (length outputs))))
+    ⊎ (((outputs ≡ []) ⊎ KeepsNoRoom g m u (length outputs)) × Puts m g u outputs w)
+
 -- how many rows the two rings have, and how many gateways there are
 pub record Sizes : Type 0 where
   pub rows : ℕ
@@ -65,7 +72,7 @@ working who applied = record { who = who; applied = applied }
 -- the look for one showed.
 abbrev pub Processes : Sizes → Symbols → Turn → Working → Working → Type 0
 Processes s symbols (Did k) v w =
-    (k ≡ 1) × ((u q : Person) × TakesUp s.rows v.applied v.who u × Puts s.output_rows s.gateways u (to_put symbols u) q × (to_put symbols q ≡ [])
+    (k ≡ 1) × ((u q : Person) × TakesUp s.rows v.applied v.who u × PutsAll s.output_rows s.gateways u (to_put symbols u) q × (to_put symbols q ≡ [])
     × (w.who ≡ done q) × (w.applied ≡ w.who.own))
 Processes s symbols Idle v w = (v.applied ≡ v.who.own) × NothingHandedOn v.who w.who × (w.applied ≡ v.applied)
 Processes s symbols OutFull v w =

@@ -1,20 +1,9 @@
-use Rattle.std.proofs.Common.{rules, arith}
-use Rattle.sequencer.proofs.Rooms.{looks_first, looks_next, has_looked, has_free, place_kept}
+use Rattle.std.proofs.Common.{ℕ, subst}
+use Rattle.sequencer.specs.Outputs.{KeepsRoom}
+use Rattle.sequencer.proofs.Rooms.{keeps_free}
 use Rattle.sequencer.proofs.put.room.Goals as goal
 
-pub loop-gateway-init : goal.loop-gateway-init
-loop-gateway-init g c = let step = c.load_taken-least.ensures in (search rules, looks_first g.row.M c.args.seat.now _ c.load_taken-least.result step.step step.most step.near)
-
-pub loop-gateway-preserved : goal.loop-gateway-preserved
-loop-gateway-preserved g c = let step = c.load_taken.ensures in
-    (search rules, looks_next g.row.M c.args.seat.now c.loop-gateway.seat _ c.loop-gateway.gateway c.loop-gateway.least c.load_taken.result _ c.loop-gateway.invariant.1 step.step step.most step.near c.min-least.ensures)
-
-pub returns-clause-looked : goal.returns-clause-looked
-returns-clause-looked g c = let v = c.args.seat.now in let r = c.loop-gateway.invariant.1 in let below = r.below in let near = r.near in
-    let kept = place_kept g.row.M v c.loop-gateway.seat c.loop-gateway.gateway c.loop-gateway.least r in let value = c.published.ensures.value in
-    has_looked g.row.M v c.loop-gateway.seat c.loop-gateway.gateway c.loop-gateway.least g.row.G _ r (omega arith) (omega arith)
-
-pub returns-clause-free : goal.returns-clause-free
-returns-clause-free g c = let v = c.args.seat.now in let r = c.loop-gateway.invariant.1 in let below = r.below in let near = r.near in
-    let kept = place_kept g.row.M v c.loop-gateway.seat c.loop-gateway.gateway c.loop-gateway.least r in let value = c.published.ensures.value in
-    has_free g.row.M v g.row.G _ _ (has_looked g.row.M v c.loop-gateway.seat c.loop-gateway.gateway c.loop-gateway.least g.row.G _ r (omega arith) (omega arith))
+pub returns-then-keeps_room-clause-free : goal.returns-then-keeps_room-clause-free
+returns-then-keeps_room-clause-free g c = λ i below. let p = c.args.seat.now.who in
+    keeps_free g.row.G g.row.M p c.args.wanted i (subst (λ (z : ℕ × ℕ). KeepsRoom z.0 z.1 p c.args.wanted)
+    (λ j. (c.gateways.ensures.value j, c.output_rows.ensures.value j)) (c.keeps_room.ensures.room c.if-keeps_room.true)) below

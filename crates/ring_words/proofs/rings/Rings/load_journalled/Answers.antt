@@ -1,12 +1,12 @@
-use Rattle.std.proofs.Common.{rules, ◌≡◌, ◌<◌, ◌≤◌, ◌^◌, ◌∙◌, ◌++◌, ℕ, List, inl, inr, length, ap, sym, arith}
+use Rattle.std.proofs.Common.{rules, ◌≡◌, suc, ◌+◌, ◌*◌, ◌<◌, ◌≤◌, ◌^◌, ◌∙◌, ◌++◌, ℕ, List, inl, inr, length, ap, sym, arith}
 use Rattle.venue_model.specs.History.{Message}
 use Rattle.ring_words.specs.Places.{unmarshalled}
 use Rattle.ring_words.specs.Terms.{terms_of}
 use Rattle.ring_words.specs.Seats.{person, last_from}
 use Rattle.ring_words.specs.Steps.{Seated, Reaches, lesser}
-use Rattle.ring_words.specs.SeatLaws.{last_kept, not_reached}
+use Rattle.ring_words.specs.SeatLaws.{kept_else, last_kept, not_reached}
 use Rattle.ring_words.proofs.Loads.{loads_journalled, lesser_low}
-use Rattle.ring_words.proofs.Becomes.{still_sits}
+use Rattle.ring_words.proofs.Becomes.{still_sits, still_taken}
 use Rattle.ring_words.proofs.rings.Rings.load_journalled.Goals as goal
 
 -- how many entries are known behind a load of journalled
@@ -26,7 +26,7 @@ invariant_of-seat-inside g c = let seat = c.seat.inside in let p = person seat.s
     let long : length (p.seen ++ rest) ≡ x = reached x p.seen rest told.1 (omega arith) in
     let new_is : length (person c.load-found.new.seat.me.0).seen ≡ length (p.seen ++ rest) = ap (λ (z : Seated (Unit {0}) g.row.L.Denot). length (person z.0).seen) is in
     let most : r ≤ 2 ^ 48 = c.load-found.ensures.2.1 in let small : x ≤ r = (lesser_low (last_from unmarshalled 0 p.loads) r).1 in let own_low : seat.own ≤ seat.known = seat.counts.2 in
-    still_sits seat.seat.me _ _ is seat.bare _ seat.role ((omega arith, search rules, omega arith, omega arith), (seat.gated ∙ sym (ap (λ (z : Seated (Unit {0}) g.row.L.Denot). last_from 16 0 (person z.0).loads) is ∙ last_kept 16 24 0 r p.loads (λ (e : 24 ≡ 16). omega arith)), (search rules, tt)))
+    still_sits seat.seat.me _ _ is seat.bare _ seat.role ((omega arith, search rules, omega arith, omega arith), (seat.gated ∙ sym (ap (λ (z : Seated (Unit {0}) g.row.L.Denot). last_from 16 0 (person z.0).loads) is ∙ last_kept 16 24 0 r p.loads (λ (e : 24 ≡ 16). omega arith)), (search rules, (still_taken seat.seat.me _ _ is seat.taken (kept_else seat.taken p.loads 24 r (λ k few. (λ (e : 24 ≡ 32 + 8 * suc k). omega arith)) seat.kept), tt))))
 
 pub invariant_of-seat-inside-else-seat-reach : goal.invariant_of-seat-inside-else-seat-reach
 invariant_of-seat-inside-else-seat-reach g c = let seat = c.seat.inside in let p = person seat.seat.me.0 in let told = c.load-found.ensures.2.2 in let rest = told.0 in let is = told.2 in let r : ℕ = c.load-found.result in
@@ -35,4 +35,4 @@ invariant_of-seat-inside-else-seat-reach g c = let seat = c.seat.inside in let p
     let known_is : seat.known ≡ length p.seen = seat.counts.0 in let ge : c.lesser-reach.result ≤ seat.known = c.if-seat-reach.false in
     let long : length (p.seen ++ rest) ≡ length p.seen = not_reached x p.seen rest told.1 (omega arith) in
     let new_is : length (person c.load-found.new.seat.me.0).seen ≡ length (p.seen ++ rest) = ap (λ (z : Seated (Unit {0}) g.row.L.Denot). length (person z.0).seen) is in
-    still_sits seat.seat.me _ _ is seat.bare _ seat.role ((omega arith, search rules, seat.counts.2, seat.counts.3), (seat.gated ∙ sym (ap (λ (z : Seated (Unit {0}) g.row.L.Denot). last_from 16 0 (person z.0).loads) is ∙ last_kept 16 24 0 r p.loads (λ (e : 24 ≡ 16). omega arith)), (search rules, tt)))
+    still_sits seat.seat.me _ _ is seat.bare _ seat.role ((omega arith, search rules, seat.counts.2, seat.counts.3), (seat.gated ∙ sym (ap (λ (z : Seated (Unit {0}) g.row.L.Denot). last_from 16 0 (person z.0).loads) is ∙ last_kept 16 24 0 r p.loads (λ (e : 24 ≡ 16). omega arith)), (search rules, (still_taken seat.seat.me _ _ is seat.taken (kept_else seat.taken p.loads 24 r (λ k few. (λ (e : 24 ≡ 32 + 8 * suc k). omega arith)) seat.kept), tt))))

@@ -5,7 +5,7 @@ use Rattle.ring_words.specs.Terms.{terms_of}
 use Rattle.ring_words.specs.Seats.{person, last_from}
 use Rattle.ring_words.specs.At.{At}
 use Rattle.ring_words.specs.Steps.{Seated, HasOutputRoom}
-use Rattle.ring_words.proofs.Becomes.{still_sits}
+use Rattle.ring_words.proofs.Becomes.{still_sits, still_taken}
 use Rattle.ring_words.proofs.Putting.{writes_output_in}
 use Rattle.ring_words.proofs.rings.Rings.store_output.Goals as goal
 
@@ -20,4 +20,4 @@ store-requires g c = let key = c.self.inside.table.shared.key in let rows = c.se
 pub invariant_of-seat-inside : goal.invariant_of-seat-inside
 invariant_of-seat-inside g c = let seat = c.seat.inside in
     let is = c.store.ensures.2 c.args.word c.requires.word (c.output_word-place.ensures.place ∙ ap (λ (q : ℕ). out_row g.row.N g.row.M q c.args.word) seat.put) in
-    still_sits seat.seat.me _ _ is seat.bare _ seat.role (search rules, (seat.gated ∙ sym (ap (λ (z : Seated (Unit {0}) g.row.L.Denot). last_from 16 0 (person z.0).loads) is), (search rules, tt)))
+    still_sits seat.seat.me _ _ is seat.bare _ seat.role (search rules, (seat.gated ∙ sym (ap (λ (z : Seated (Unit {0}) g.row.L.Denot). last_from 16 0 (person z.0).loads) is), (search rules, (still_taken seat.seat.me _ _ is seat.taken seat.kept, tt))))
