@@ -1,0 +1,242 @@
+// What the book's figures are compared with: a plain C++ book of price levels that is asked the same commands as
+// bench_book asks, and has the same outputs. Build and run it beside that program, on one quiet machine:
+//
+//   c++ -O2 -std=c++17 -o /tmp/baseline_book scripts/baseline_book.cpp
+//   /tmp/baseline_book RESTING COMMANDS
+//
+// Orders lie in an array with a list of free places; each symbol and side has its levels in a sorted array, the best one
+// last, and each level a doubly linked list in the order of time. A table with open addressing finds an order by client
+// and ClOrdID. It checks what the venue's book checks: names that rise, who asks, symbol and side.
+#include <algorithm>
+#include <chrono>
+#include <cstdint>
+#include <cstdio>
+#include <cstdlib>
+#include <vector>
+
+using u64 = uint64_t;
+using u32 = uint32_t;
+using u8 = uint8_t;
+
+enum Kind : u8 { NEW, CANCEL, REPLACE };
+enum What : u8 { ACKNOWLEDGED, TRADED, CANCELED, REPLACED, REFUSED };
+
+struct Command {
+    Kind kind;
+    u8 client, symbol, side, is_day;
+    u64 name, orig, price, quantity;
+};
+
+struct Order {
+    u64 id, name, price, total, cum, notional, stamp;
+    u8 client, symbol, side;
+};
+
+struct Output {
+    u8 to;
+    What what;
+    u64 cause, last_qty, last_px, orig;
+    Order order;
+};
+
+constexpr int MOST = 4096, TABLE = 8192, NONE = -1;
+
+struct Node { Order order; int prev, next; };
+struct Level { u64 price; int first, last; };
+
+struct Book {
+    std::vector<Node> nodes{MOST};
+    std::vector<int> free_places;
+    std::vector<Level> levels[8][2];
+    std::vector<int> table = std::vector<int>(TABLE, NONE);
+    u64 greatest[9] = {};
+
+    Book() {
+        for (int place = MOST; place-- > 0;) free_places.push_back(place);
+        for (auto &symbol : levels)
+            for (auto &side : symbol) side.reserve(MOST);
+    }
+
+    static u32 home(u8 client, u64 name) { return (u32)(((name * 8 + client) * 0x9E3779B97F4A7C15ull) >> 51); }
+    static bool ahead(u8 side, u64 a, u64 b) { return side == 0 ? a > b : a < b; }
+
+    int find(u8 client, u64 name) const {
+        for (u32 at = home(client, name);; at = (at + 1) % TABLE) {
+            int place = table[at];
+            if (place == NONE) return NONE;
+            const Order &o = nodes[place].order;
+            if (o.client == client && o.name == name) return place;
+        }
+    }
+
+    void put_name(int place) {
+        u32 at = home(nodes[place].order.client, nodes[place].order.name);
+        while (table[at] != NONE) at = (at + 1) % TABLE;
+        table[at] = place;
+    }
+
+    void drop_name(int place) {
+        u32 hole = home(nodes[place].order.client, nodes[place].order.name);
+        while (table[hole] != place) hole = (hole + 1) % TABLE;
+        for (u32 at = (hole + 1) % TABLE; table[at] != NONE; at = (at + 1) % TABLE) {
+            u32 from = home(nodes[table[at]].order.client, nodes[table[at]].order.name);
+            if ((at - from) % TABLE >= (at - hole) % TABLE) table[hole] = table[at], hole = at;
+        }
+        table[hole] = NONE;
+    }
+
+    // Where a price's level stands, or would stand: behind it are those ahead of it.
+    static int level_at(const std::vector<Level> &all, u8 side, u64 price) {
+        return (int)(std::partition_point(all.begin(), all.end(), [&](const Level &l) { return ahead(side, price, l.price); }) - all.begin());
+    }
+
+    void rest(const Order &order) {
+        int place = free_places.back();
+        free_places.pop_back();
+        auto &all = levels[order.symbol][order.side];
+        int at = level_at(all, order.side, order.price);
+        if (at == (int)all.size() || all[at].price != order.price) {
+            all.insert(all.begin() + at, Level{order.price, place, place});
+            nodes[place] = Node{order, NONE, NONE};
+        } else {
+            nodes[place] = Node{order, all[at].last, NONE};
+            nodes[all[at].last].next = place;
+            all[at].last = place;
+        }
+        put_name(place);
+    }
+
+    void leave(int place) {
+        Node &node = nodes[place];
+        drop_name(place);
+        auto &all = levels[node.order.symbol][node.order.side];
+        if (node.prev == NONE || node.next == NONE) {
+            int at = level_at(all, node.order.side, node.order.price);
+            if (node.prev == NONE && node.next == NONE) all.erase(all.begin() + at);
+            else if (node.prev == NONE) all[at].first = node.next;
+            else all[at].last = node.prev;
+        }
+        if (node.prev != NONE) nodes[node.prev].next = node.next;
+        if (node.next != NONE) nodes[node.next].prev = node.prev;
+        free_places.push_back(place);
+    }
+
+    static void say(std::vector<Output> &out, u8 to, What what, u64 cause, const Order &o, u64 qty = 0, u64 px = 0, u64 orig = 0) {
+        out.push_back(Output{to, what, cause, qty, px, orig, o});
+    }
+
+    void match(Order &order, u64 sequence, std::vector<Output> &out) {
+        auto &other = levels[order.symbol][1 - order.side];
+        while (order.cum < order.total && !other.empty()) {
+            Level &best = other.back();
+            if (ahead(order.side, best.price, order.price)) return;
+            int place = best.first;
+            Order &resting = nodes[place].order;
+            u64 qty = std::min(order.total - order.cum, resting.total - resting.cum), px = resting.price;
+            order.cum += qty, order.notional += qty * px;
+            resting.cum += qty, resting.notional += qty * px;
+            say(out, order.client, TRADED, sequence, order, qty, px);
+            say(out, resting.client, TRADED, sequence, resting, qty, px);
+            if (resting.cum == resting.total) leave(place);
+        }
+    }
+
+    void apply(u64 sequence, const Command &c, std::vector<Output> &out) {
+        if (c.kind == NEW) {
+            Order order{sequence + 1, c.name, c.price, c.quantity, 0, 0, sequence, c.client, c.symbol, c.side};
+            if (c.name <= greatest[c.client]) return say(out, c.client, REFUSED, sequence, order);
+            greatest[c.client] = c.name;
+            say(out, c.client, ACKNOWLEDGED, sequence, order);
+            match(order, sequence, out);
+            if (order.cum == order.total) return;
+            if (c.is_day && !free_places.empty()) rest(order);
+            else say(out, c.client, CANCELED, sequence, order);
+            return;
+        }
+        int place = find(c.client, c.orig);
+        if (c.name <= greatest[c.client] || place == NONE || nodes[place].order.symbol != c.symbol || nodes[place].order.side != c.side)
+            return say(out, c.client, REFUSED, sequence, Order{});
+        greatest[c.client] = c.name;
+        Order order = nodes[place].order;
+        order.name = c.name;
+        if (c.kind == CANCEL) {
+            leave(place);
+            return say(out, c.client, CANCELED, sequence, order, 0, 0, c.orig);
+        }
+        bool keeps = c.price == order.price && c.quantity <= order.total;
+        order.price = c.price, order.total = c.quantity;
+        if (keeps && order.cum < order.total) {
+            drop_name(place);
+            nodes[place].order = order;
+            put_name(place);
+            return say(out, c.client, REPLACED, sequence, order, 0, 0, c.orig);
+        }
+        leave(place);
+        order.stamp = sequence;
+        say(out, c.client, REPLACED, sequence, order, 0, 0, c.orig);
+        match(order, sequence, out);
+        if (order.cum < order.total) rest(order);
+    }
+};
+
+// The flow of bench_book, number by number.
+constexpr u64 PLACES = 4096, NO_PLACE = 4095, MIDDLE = 10000, PRICES = 32;
+struct Resting { bool is; u8 client, symbol, side; u64 name; };
+static u64 state = 1;
+static u64 chance() { return (state = state * 6364136223846793005ull + 1442695040888963407ull) >> 33; }
+static u64 resting_price(u8 side, u64 n) { return side == 0 ? MIDDLE - 1 - n % PRICES : MIDDLE + n % PRICES; }
+static u64 name_of(u32 turn, u64 place) { return ((u64)turn + 1) * PLACES + place % PLACES; }
+
+static Command choose(const std::vector<Resting> &known, u32 resting, u32 turn, u32 wanted) {
+    u64 place = chance() % wanted, kind = chance() % 100;
+    const Resting &order = known[place];
+    if (order.is && turn >= wanted && kind < 25)
+        return {CANCEL, order.client, order.symbol, order.side, 0, name_of(turn, place), order.name, 0, 0};
+    if (order.is && turn >= wanted && kind < 40)
+        return {REPLACE, order.client, order.symbol, order.side, 1, name_of(turn, place), order.name, resting_price(order.side, chance()), 100};
+    u8 symbol = chance() % 8, side = chance() % 2;
+    if (resting >= wanted) {
+        u64 price = side == 0 ? 2 * MIDDLE : 1;
+        u8 client = 1 + chance() % 8;
+        return {NEW, client, symbol, side, 0, name_of(turn, NO_PLACE), 0, price, 100};
+    }
+    place = 0;
+    while (known[place].is) place++;
+    u64 price = resting_price(side, chance());
+    u8 client = 1 + chance() % 8;
+    return {NEW, client, symbol, side, 1, name_of(turn, place), 0, price, 100};
+}
+
+int main(int words, char **word) {
+    if (words != 3) return fprintf(stderr, "usage: baseline_book RESTING COMMANDS\n"), 1;
+    u32 wanted = atoi(word[1]), commands = atoi(word[2]), resting = 0;
+    std::vector<Command> asked;
+    std::vector<Output> out;
+    out.reserve(8194);
+    std::vector<Resting> known(PLACES);
+    Book chooser;
+    u64 all = 0, told = 0;
+    for (u32 turn = 0; turn < wanted + commands; turn++) {
+        asked.push_back(choose(known, resting, turn, wanted));
+        out.clear();
+        chooser.apply(turn, asked.back(), out);
+        all += out.size();
+        for (const Output &o : out) {
+            u64 place = o.order.name % PLACES;
+            if (o.what == REFUSED || place == NO_PLACE || (o.what == TRADED && o.order.cum != o.order.total)) continue;
+            Resting &there = known[place];
+            bool rests = o.what == ACKNOWLEDGED || o.what == REPLACED;
+            resting += rests - there.is;
+            there = {rests, o.order.client, o.order.symbol, o.order.side, o.order.name};
+        }
+    }
+    Book book;
+    for (u32 turn = 0; turn < wanted; turn++) out.clear(), book.apply(turn, asked[turn], out), told += out.size();
+    u64 filled = told;
+    auto begun = std::chrono::steady_clock::now();
+    for (u32 turn = wanted; turn < wanted + commands; turn++) out.clear(), book.apply(turn, asked[turn], out), told += out.size();
+    double seconds = std::chrono::duration<double>(std::chrono::steady_clock::now() - begun).count();
+    if (told != all) return fprintf(stderr, "wrong results\n"), 2;
+    printf("book.%u.cpp: %.3f Morders/s\n", wanted, commands / seconds / 1e6);
+    fprintf(stderr, "%lu outputs\n", (unsigned long)(told - filled));
+}
