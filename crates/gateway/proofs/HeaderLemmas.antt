@@ -112,15 +112,14 @@ module _ (gateway n : ℕ) (type time : List ℕ) where
       (omega arith, omega arith)
 
 -- the header's fields as they are written
-pub header_put : (a b : List ℕ) (end gateway n time : ℕ) (type venue client moment : List ℕ) →
-    venue ≡ venue_name → client ≡ client_name gateway → moment ≡ time_text time →
+pub header_put : (a b : List ℕ) (end gateway n : ℕ) (type venue client moment : List ℕ) →
+    venue ≡ venue_name → client ≡ client_name gateway →
     PutsFields a b 0 end (field 35 type ∷ field 49 venue ∷ field 56 client ∷ number 34 n ∷ field 52 moment ∷ []) →
-    PutsFields a b 0 end (header_fields gateway n type (time_text time))
-header_put a b end gateway n time type venue client moment venue_is client_is moment_is puts =
+    PutsFields a b 0 end (header_fields gateway n type moment)
+header_put a b end gateway n type venue client moment venue_is client_is puts =
     subst (λ fs. PutsFields a b 0 end fs)
     (ap (λ v. field 35 type ∷ field 49 v ∷ field 56 client ∷ number 34 n ∷ field 52 moment ∷ []) venue_is
-    ∙ ap (λ c. field 35 type ∷ field 49 venue_name ∷ field 56 c ∷ number 34 n ∷ field 52 moment ∷ []) client_is
-    ∙ ap (λ m. field 35 type ∷ field 49 venue_name ∷ field 56 (client_name gateway) ∷ number 34 n ∷ field 52 m ∷ []) moment_is)
+    ∙ ap (λ c. field 35 type ∷ field 49 venue_name ∷ field 56 c ∷ number 34 n ∷ field 52 moment ∷ []) client_is)
     puts
 
 -- a header and a body are a body that goes out
@@ -145,6 +144,11 @@ pub behind_header : (header : List Field) (body blank filled whole : List ℕ) (
 behind_header header body blank filled whole begun upto first then = then.written ∙ ap (λ front. front ++ body) first.written
 
 -- they spell a body
+-- with the text of a time
+pub at_time : (gateway n time : ℕ) (type body bytes text : List ℕ) → text ≡ time_text time → bytes ≡ print_fields (header_fields gateway n type text) ++ body →
+    bytes ≡ print_fields (header_fields gateway n type (time_text time)) ++ body
+at_time gateway n time type body bytes text text_is is = is ∙ ap (λ t. print_fields (header_fields gateway n type t) ++ body) text_is
+
 pub spelled : (gateway n time : ℕ) (type body bytes : List ℕ) → gateway < 256 → n < 2 ^ 64 → IsTypeText type → AreFields body → length body ≤ 320 →
     bytes ≡ print_fields (header_fields gateway n type (time_text time)) ++ body → (fs : List Field) × SpellsFrame most_out fs bytes
 spelled gateway n time type body bytes small fits kind (fields, each, are) short is =

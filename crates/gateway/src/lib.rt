@@ -12,6 +12,7 @@ mod hearing;
 mod held;
 mod input;
 mod message;
+mod moment;
 mod names;
 mod outgoing;
 mod refusal;

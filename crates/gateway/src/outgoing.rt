@@ -6,6 +6,7 @@ ghost use Rattle.gateway.specs.Session.{message_text};
 ghost use Rattle.gateway.specs.Messages.{IsTypeText, AreFields, Spells};
 
 use crate::message::put_fields;
+use crate::moment::Moment;
 use fix_frame::write_frame;
 use std::marker::Model;
 
@@ -21,6 +22,7 @@ pub struct Outgoing {
     bytes: [u8; 1024],
     len: usize,
     fields: [u8; 512],
+    moment: Moment,
 }
 
 impl Model for Outgoing {
@@ -42,6 +44,7 @@ impl Outgoing {
             bytes: [0; SIZE],
             len: 0,
             fields: [0; FIELDS],
+            moment: Moment::new(),
         }
     }
 
@@ -87,7 +90,15 @@ impl Outgoing {
         ensures text { (said : Said) → Spells msg_type.now time body.now said → self.new ≡ self.old ++ message_text gateway number said }
         ensures few { length self.new ≤ length self.old + 412 }
     {
-        let end = put_fields(&mut self.fields, gateway, number, msg_type, time, body);
+        self.moment.set(time);
+        let end = put_fields(
+            &mut self.fields,
+            gateway,
+            number,
+            msg_type,
+            &self.moment.text,
+            body,
+        );
         let len = write_frame(&mut self.bytes[self.len..], &self.fields[..end]);
         self.len += len;
     }

@@ -1,16 +1,15 @@
 use Rattle.std.proofs.Common.{◌∙◌, length, ap, arith}
-use Rattle.fix_orders.specs.Formats.{time_text}
 use Rattle.fix_orders.specs.WritingLaws.{◌⨟◌}
-use Rattle.gateway.proofs.HeaderLemmas.{header_put, length_header, length_time}
+use Rattle.gateway.proofs.HeaderLemmas.{header_put, length_header}
 use Rattle.gateway.proofs.message.put_header.Goals as goal
 
 pub returns : goal.returns
 returns c =
-    let puts = header_put c.args.fields.now c.put_field.new.buf c.put_field.result c.args.gateway c.args.number c.args.time c.args.msg_type.now
-    c.venue_name.result.now c.as_slice.result.now c.time_text.result
-    c.venue_name.ensures (c.as_slice.ensures.value ∙ c.client_name.ensures) c.time_text.ensures
+    let puts = header_put c.args.fields.now c.put_field.new.buf c.put_field.result c.args.gateway c.args.number c.args.msg_type.now
+    c.venue_name.result.now c.as_slice.result.now c.args.moment.now
+    c.venue_name.ensures (c.as_slice.ensures.value ∙ c.client_name.ensures)
     (c.put_field-end.ensures.puts ⨟ c.put_field-end-2.ensures.puts ⨟ c.put_field-end-3.ensures.puts ⨟ c.put_number-end.ensures.puts
     ⨟ c.put_field.ensures.puts) in
-    let few = length_header c.args.gateway c.args.number c.args.msg_type.now (time_text c.args.time) (omega arith) (omega arith)
-    (ap length c.requires.kind.2) (length_time c.args.time) in
+    let few = length_header c.args.gateway c.args.number c.args.msg_type.now c.args.moment.now (omega arith) (omega arith)
+    (ap length c.requires.kind.2) c.requires.moment in
     record { puts = puts; most = omega (arith, puts.long, few.1) }
