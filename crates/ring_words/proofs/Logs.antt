@@ -7,7 +7,7 @@ use Rattle.atomic_table.proofs.Lists.{at_snoc}
 use Rattle.venue_model.specs.History.{Message}
 use Rattle.venue_model.specs.declared.commands.Command.{Command}
 use Rattle.venue_model.specs.declared.commands.Command.TheVariants.{New, Cancel, Replace, Malformed, Void}
-use Rattle.venue_model.specs.ListLaws.{stands, at_longer, at_behind}
+use Rattle.venue_model.specs.ListLaws.{stands}
 use Rattle.venue_model.specs.ListLaws.{at_end, read_at}
 use Rattle.ring_words.specs.declared.view.Load.{Load}
 use Rattle.ring_words.specs.declared.view.Role.{Role}

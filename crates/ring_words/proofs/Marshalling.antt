@@ -1,5 +1,5 @@
 -- The marshaller's steps at control words and at published outputs keep the rule, and what its loads tell.
-use Rattle.std.proofs.Common.{Some, inr, ◌≡◌, ◌≢◌, ℕ, suc, ◌+◌, ◌*◌, ◌<◌, ◌≤◌, List, ◌++◌, length, take, get_or, set, refl, ap, sym, subst, ◌∙◌, arith, le_refl}
+use Rattle.std.proofs.Common.{inr, ◌≡◌, ◌≢◌, ℕ, suc, ◌+◌, ◌*◌, ◌<◌, ◌≤◌, List, ◌++◌, length, take, get_or, set, refl, ap, sym, subst, ◌∙◌, arith, le_refl}
 use Rattle.std.proofs.lemmas.Option.{same_Some}
 use mathlib.Core.Option.{none, some}
 use mathlib.Core.Logic.{dite}

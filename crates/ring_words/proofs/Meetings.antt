@@ -1,5 +1,5 @@
 -- Two seats that came together load a word: the rule stays, and what their persons learn then.
-use Rattle.std.proofs.Common.{◌≡◌, ◌≢◌, ℕ, zero, suc, ◌+◌, ◌*◌, ◌≤◌, Bool, true, false, List, [], ◌∷◌, ◌++◌, ◌⊎◌, inl, inr, ⊎_elim, cond, eqb, leb, length, get_or, set, take, refl, ap, sym, subst, ◌∙◌, arith, le_refl}
+use Rattle.std.proofs.Common.{◌≡◌, ◌≢◌, ℕ, zero, suc, ◌+◌, ◌≤◌, Bool, true, false, List, [], ◌∷◌, ◌++◌, ◌⊎◌, inl, inr, ⊎_elim, cond, eqb, leb, length, get_or, set, take, refl, ap, sym, subst, ◌∙◌, arith, le_refl}
 use Rattle.std.proofs.lemmas.Bool.{cond-true, cond-false, eq-eqb, ne_eqb, le-leb, leb-true}
 use mathlib.Core.Option.{none, some, some-injective, some-ne-none}
 use lib.ListN.{get_elem?}
@@ -11,10 +11,10 @@ use native.Mathlib.Decide.{ℕ_discrete, dec_le}
 use Rattle.atomic_table.proofs.Lists.{at_set}
 use Rattle.venue_model.specs.History.{Message}
 use Rattle.ring_words.specs.declared.view.Role.{Role}
-use Rattle.ring_words.specs.declared.view.Role.TheVariants.{Unmarshal, Journal, Gateway}
+use Rattle.ring_words.specs.declared.view.Role.TheVariants.{Journal, Gateway}
 use Rattle.ring_words.specs.declared.view.Person.{Person}
 use Rattle.ring_words.specs.declared.view.View.{View}
-use Rattle.ring_words.specs.Places.{processed, unmarshalled, journalled, taken, place_of, number_of}
+use Rattle.ring_words.specs.Places.{processed, journalled, taken, place_of, number_of}
 use Rattle.ring_words.specs.Log.{Log, Status, unclaimed, old, claimed, sent, sends_of, sent_at, IsFront}
 use Rattle.ring_words.specs.Terms.{Terms}
 use Rattle.ring_words.specs.Rule.{Depth, Knows, owners, words_of, Lawful}

@@ -4,7 +4,7 @@ use mathlib.Core.Option.{none, some}
 use lib.ListN.{get_elem?}
 use Rattle.atomic_table.specs.Table.{State, step, keeps, Allows}
 use Rattle.ring_words.specs.declared.view.Role.{Role}
-use Rattle.ring_words.specs.declared.view.Role.TheVariants.{Process, Unmarshal}
+use Rattle.ring_words.specs.declared.view.Role.TheVariants.{Process}
 use Rattle.ring_words.specs.declared.view.View.{View}
 use Rattle.ring_words.specs.Places.{marshalled, taken, published, first_row, in_row, out_row, place_of}
 use Rattle.ring_words.specs.Terms.{Terms}

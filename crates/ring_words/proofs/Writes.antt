@@ -1,5 +1,5 @@
 -- A store in a row that is claimed keeps the rule: no other row in use has the word, and no published one that may be read.
-use Rattle.std.proofs.Common.{◌≡◌, ◌≢◌, ℕ, ◌+◌, ◌*◌, ◌-◌, ◌%◌, ◌<◌, ◌≤◌, eqb, length, get_or, set, ap, sym, subst, ◌∙◌, arith}
+use Rattle.std.proofs.Common.{◌≡◌, ◌≢◌, ℕ, ◌+◌, ◌-◌, ◌%◌, ◌<◌, ◌≤◌, eqb, length, get_or, set, ap, sym, subst, ◌∙◌, arith}
 use Rattle.std.proofs.lemmas.Bool.{ne_eqb, cond-false}
 use mathlib.Core.Option.{none, some, some-ne-none}
 use mathlib.Core.Logic.{dite}
@@ -7,7 +7,7 @@ use native.Mathlib.Decide.{ℕ_discrete, dec_le}
 use lib.ListN.{get_elem?}
 use Rattle.atomic_table.specs.Table.{State, step, keeps, Allows}
 use Rattle.ring_words.specs.declared.view.Role.{Role}
-use Rattle.ring_words.specs.declared.view.Role.TheVariants.{Unmarshal, Gateway}
+use Rattle.ring_words.specs.declared.view.Role.TheVariants.{Gateway}
 use Rattle.ring_words.specs.declared.view.View.{View}
 use Rattle.ring_words.specs.Places.{processed, claim, taken, in_row, out_row, place_of, number_of}
 use Rattle.ring_words.specs.Log.{Status, unclaimed, old, claimed, sent, Log, entry_of, claims_of, times}

@@ -64,6 +64,10 @@ last_of k d (l ∷ ls) = last_of k (cond (l.place == k) (Some l.value) d) ls
 abbrev pub AreTaken : List (Option ℕ) → List Load → Type 0
 AreTaken values ls = (length values ≡ 8) × ((k : ℕ) → k < 8 → slice_index_or values k None ≡ last_of (taken (suc k)) None ls)
 
+-- as where none was loaded
+abbrev pub no_values : List (Option ℕ)
+no_values = None ∷ None ∷ None ∷ None ∷ None ∷ None ∷ None ∷ None ∷ []
+
 -- a stage that reads what gateways published
 abbrev pub IsReader : Role → Type 0
 IsReader r = (r ≡ Unmarshal) ⊎ (r ≡ Journal)

@@ -10,7 +10,7 @@ ghost use Rattle.ring_words.specs.Crew.{AreNewGateways, AreNew};
 use crate::marshal_seat::MarshalSeat;
 use crate::places::{FIRST_ROW, MARSHALLED, OUTPUT_ROW_WORDS, OUTPUT_WORDS_END, ROW_WORDS};
 use crate::plays::Apart;
-use crate::process_seat::ProcessSeat;
+use crate::process_seat::{ProcessSeat, no_values};
 use crate::reader_seat::{Reader, ReaderSeat};
 use crate::rings::Rings;
 use crate::seats::{GatewaySeat, Seats};
@@ -100,7 +100,7 @@ impl<L: Logic, const N: usize, const M: usize, const G: usize> Rings<L, N, M, G>
             own: count,
             gate: 0,
             published: given,
-            taken: [None; 8],
+            taken: no_values(),
         }
     }
 

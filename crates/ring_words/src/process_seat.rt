@@ -2,7 +2,7 @@
 ghost use Rattle.std.specs.Prelude.{None, ◌≡◌, ◌≤◌, ◌^◌, [], length};
 ghost use Rattle.ring_words.specs.declared.view.Role.TheVariants.{Process};
 ghost use Rattle.ring_words.specs.Places.{unmarshalled, taken as taken_word};
-ghost use Rattle.ring_words.specs.Seats.{person, IsAlone, last_from, last_of, AreTaken};
+ghost use Rattle.ring_words.specs.Seats.{person, IsAlone, last_from, last_of, AreTaken, no_values};
 
 use crate::view::View;
 use atomic_table::Seat;
@@ -26,6 +26,13 @@ pub struct ProcessSeat<L> {
     ghost gated: { gate ≡ last_from unmarshalled 0 (person seat.me.0).loads },
     ghost put: { published ≡ (person seat.me.0).part.sequence },
     ghost kept: { AreTaken taken (person seat.me.0).loads },
+}
+
+/// No taken word was loaded yet.
+pub(crate) fn no_values() -> [Option<u64>; 8]
+    ensures { result ≡ no_values }
+{
+    [None; 8]
 }
 
 impl<L> Model for ProcessSeat<L> {

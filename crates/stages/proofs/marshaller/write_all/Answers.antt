@@ -1,9 +1,9 @@
-use Rattle.std.proofs.Common.{◌≡◌, ◌+◌, ◌<◌, ◌≤◌, ◌∙◌, ℕ, length, ap, sym, arith}
+use Rattle.std.proofs.Common.{◌<◌, ◌∙◌, ℕ, ap, arith}
 use lib.ListN.{get_elem?}
 use Rattle.venue_model.specs.ListLaws.{stands}
 use Rattle.ring_words.specs.SeatLaws.{still_at}
 use Rattle.book.specs.Histories.{outputs_of}
-use Rattle.stages.proofs.Marshalling.{may_write, one_more}
+use Rattle.stages.proofs.Marshalling.{one_more}
 use Rattle.stages.proofs.marshaller.write_all.Goals as goal
 
 pub loop-place-preserved : goal.loop-place-preserved

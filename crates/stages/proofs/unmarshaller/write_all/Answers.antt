@@ -1,4 +1,4 @@
-use Rattle.std.proofs.Common.{◌≡◌, ◌+◌, ◌<◌, ◌≤◌, ◌∙◌, ℕ, length, ap, arith}
+use Rattle.std.proofs.Common.{◌≡◌, ◌<◌, ◌∙◌, ℕ, length, ap, arith}
 use lib.ListN.{get_elem?}
 use Rattle.venue_model.specs.ListLaws.{stands}
 use Rattle.ring_words.specs.SeatLaws.{still_at}

@@ -1,4 +1,4 @@
-use Rattle.std.proofs.Common.{◌≡◌, ◌≤◌, ℕ, refl, rules, arith}
+use Rattle.std.proofs.Common.{◌≡◌, ◌≤◌, ℕ, rules, arith}
 use Rattle.ring_words.specs.Terms.{terms_of}
 use Rattle.ring_words.proofs.Taking.{loads_marshalled}
 use mathlib.Core.Logic.{dite}

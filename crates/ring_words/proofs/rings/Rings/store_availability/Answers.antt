@@ -1,9 +1,7 @@
 use Rattle.std.proofs.Common.{rules, ◌≡◌, ◌+◌, suc, ◌∙◌, ap, sym, arith}
 use Rattle.ring_words.specs.Terms.{terms_of}
 use Rattle.ring_words.specs.Places.{number_of}
-use Rattle.ring_words.specs.Seats.{person}
 use Rattle.ring_words.specs.At.{number}
-use Rattle.ring_words.specs.Steps.{Seated}
 use Rattle.ring_words.proofs.Becomes.{gateway_sits}
 use Rattle.ring_words.proofs.Marks.{marks_row_in}
 use Rattle.ring_words.proofs.rings.Rings.store_availability.Goals as goal

@@ -1,7 +1,5 @@
-use Rattle.std.proofs.Common.{rules, ◌∙◌, ap, sym}
+use Rattle.std.proofs.Common.{rules}
 use Rattle.ring_words.specs.Terms.{terms_of}
-use Rattle.ring_words.specs.Seats.{person}
-use Rattle.ring_words.specs.Steps.{Seated}
 use Rattle.ring_words.proofs.Becomes.{gateway_sits}
 use Rattle.ring_words.proofs.Writes.{writes_raw_in}
 use Rattle.ring_words.proofs.rings.Rings.store_raw.Goals as goal

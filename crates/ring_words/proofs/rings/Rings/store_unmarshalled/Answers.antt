@@ -1,5 +1,4 @@
 use Rattle.std.proofs.Common.{◌≡◌, suc, rules, sym, subst, arith}
-use Rattle.venue_model.specs.History.{Message}
 use Rattle.venue_model.specs.ListLaws.{within}
 use Rattle.ring_words.specs.Terms.{terms_of}
 use Rattle.ring_words.specs.Seats.{person}
