@@ -1,0 +1,8 @@
+-- The first order of the first level of the symbol and side.
+use Rattle.price_levels.proofs.Bests.{best-is}
+use Rattle.price_levels.proofs.finds.best.Goals as goal
+
+pub returns : goal.returns
+returns c =
+    best-is c.args.nodes.now.items c.args.levels.now c.requires c.args.symbol.now c.args.side c.search_side.result
+    c.search_side.ensures.before c.search_side.ensures.behind c.first_in.result c.first_in.ensures

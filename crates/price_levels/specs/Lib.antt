@@ -1,0 +1,5 @@
+pub mod Places
+pub mod Keys
+pub mod Arena
+pub mod Stamps
+pub mod StampLaws

@@ -1,0 +1,99 @@
+//! What is found among the levels: the best order of a symbol and side, the next one, and what an order would cross.
+ghost use Rattle.std.specs.Prelude.{◌≡◌, ◌≢◌, ◌<◌, ◌^◌, None, MatchOption};
+ghost use Rattle.venue_model.specs.Orders.{meets};
+ghost use Rattle.price_levels.specs.Places.{NoneOf, BestOf, NoneBehind, NextBehind, crossing_leaves};
+ghost use Rattle.price_levels.specs.Keys.{key_crossed};
+ghost use Rattle.price_levels.specs.Arena.{AreLevels, crossed_left, of_side, first_in, places_of, order_at};
+
+use crate::keys::{Level, key_of, meets, opposite, same_side, search, search_side};
+use crate::nodes::Node;
+use venue_model::{Order, Side, Symbol};
+
+/// Whether a level is one of the symbol and side.
+fn is_of(level: &Level, symbol: &Symbol, side: Side) -> bool
+    ensures { result ≡ of_side symbol.now side level.now.key }
+{
+    level.key.symbol.is(symbol) && same_side(level.key.side, side)
+}
+
+/// The place of the first order of the level at this place, if that is one of the symbol and side.
+fn first_in(levels: &[Level], at: usize, symbol: &Symbol, side: Side) -> Option<usize>
+    ensures { result ≡ first_in symbol.now side levels.now at }
+{
+    if levels.len() <= at {
+        return None;
+    }
+    let level = &levels[at];
+    if is_of(level, symbol, side) {
+        Some(level.first)
+    } else {
+        None
+    }
+}
+
+/// The place of the order of a symbol and side that is ahead of all others.
+pub(crate) fn best(
+    nodes: &Vec<Node>,
+    levels: &[Level],
+    symbol: &Symbol,
+    side: Side,
+) -> Option<usize>
+    requires { AreLevels nodes.now.items levels.now }
+    ensures { MatchOption result (NoneOf symbol.now side (places_of nodes.now.items))
+        (BestOf symbol.now side (places_of nodes.now.items)) }
+{
+    first_in(levels, search_side(levels, symbol, side), symbol, side)
+}
+
+/// The place of the order that comes next behind the one at this place.
+pub(crate) fn after(nodes: &Vec<Node>, levels: &[Level], place: usize) -> Option<usize>
+    requires levels { AreLevels nodes.now.items levels.now }
+    requires stands { order_at nodes.now.items place ≢ None }
+    ensures { MatchOption result (NoneBehind (places_of nodes.now.items) place)
+        (NextBehind (places_of nodes.now.items) place) }
+{
+    let node = nodes[place];
+    if let Some(next) = node.next {
+        return Some(next);
+    }
+    let order = node.order.unwrap();
+    let at = search(levels, &key_of(&order));
+    first_in(levels, at + 1, &order.symbol, order.side)
+}
+
+/// Whether an order of this symbol, side and price crosses those of a level.
+fn is_crossed(level: &Level, symbol: &Symbol, side: Side, price: u64) -> bool
+    ensures { result ≡ key_crossed symbol.now side price level.now.key }
+{
+    symbol.is(&level.key.symbol) && meets(side, price, level.key.side, level.key.price)
+}
+
+/// What the levels have left that it crosses, up to the first that it doesn't.
+fn crossed_left(levels: &[Level], symbol: &Symbol, side: Side, price: u64) -> u64
+    requires { crossed_left symbol.now side price levels.now < 2 ^ 64 }
+    ensures { result ≡ crossed_left symbol.now side price levels.now }
+{
+    let mut total = 0;
+    'levels: for level in levels {
+        if !is_crossed(level, symbol, side, price) {
+            return total;
+        }
+        total += level.left;
+    }
+    total
+}
+
+/// What all orders have left that it crosses.
+pub(crate) fn crossing_total(
+    nodes: &Vec<Node>,
+    levels: &[Level],
+    symbol: &Symbol,
+    side: Side,
+    price: u64,
+) -> u64
+    requires { AreLevels nodes.now.items levels.now }
+    ensures { result ≡ crossing_leaves symbol.now side price (places_of nodes.now.items) }
+{
+    let from = search_side(levels, symbol, opposite(side));
+    crossed_left(&levels[from..], symbol, side, price)
+}

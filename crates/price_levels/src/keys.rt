@@ -1,0 +1,151 @@
+//! The levels in their order: by symbol, buys before sells, and of one symbol and side from the best price on. A key's
+//! place among them is found by halving.
+ghost use Rattle.std.specs.Prelude.{◌≡◌, ◌<◌, ◌≤◌, ◌+◌, length, take, drop, true, false, if◌then◌else◌};
+ghost use Rattle.std.specs.List.{AllByRecursion};
+ghost use Rattle.venue_model.specs.Orders.{same_side, is_better, meets, leaves};
+ghost use Rattle.price_levels.specs.Keys.{key_of, same_key, key_before, opposite, symbol_before, before_side, InOrder};
+
+use std::cmp::Ordering;
+use venue_model::{Order, Side, Symbol};
+
+/// What the orders of one level share.
+#[derive(Clone, Copy)]
+pub(crate) struct Key {
+    pub(crate) symbol: Symbol,
+    pub(crate) side: Side,
+    pub(crate) price: u64,
+}
+
+/// One price of one symbol and side: the places of its first and last order, and what all of them have left.
+#[derive(Clone, Copy)]
+pub(crate) struct Level {
+    pub(crate) key: Key,
+    pub(crate) first: usize,
+    pub(crate) last: usize,
+    pub(crate) left: u64,
+}
+
+/// The level that an order rests in.
+pub(crate) fn key_of(order: &Order) -> Key
+    ensures { result ≡ key_of order.now }
+{
+    Key {
+        symbol: order.symbol,
+        side: order.side,
+        price: order.price,
+    }
+}
+
+/// What is left of an order.
+pub(crate) fn leaves(order: &Order) -> u64
+    ensures { result ≡ leaves order.now }
+{
+    order.total.saturating_sub(order.cum)
+}
+
+/// Whether both are one side.
+pub(crate) fn same_side(side: Side, other: Side) -> bool
+    ensures { result ≡ same_side side other }
+{
+    match (side, other) {
+        (Side::Buy, Side::Buy) | (Side::Sell, Side::Sell) => true,
+        _ => false,
+    }
+}
+
+/// The other side.
+pub(crate) fn opposite(side: Side) -> Side
+    ensures { result ≡ opposite side }
+{
+    match side {
+        Side::Buy => Side::Sell,
+        Side::Sell => Side::Buy,
+    }
+}
+
+/// Whether an order of this side and price accepts the price of one of the other side.
+pub(crate) fn meets(side: Side, price: u64, other: Side, its_price: u64) -> bool
+    ensures { result ≡ meets side price other its_price }
+{
+    match (side, other) {
+        (Side::Buy, Side::Sell) => its_price <= price,
+        (Side::Sell, Side::Buy) => price <= its_price,
+        _ => false,
+    }
+}
+
+/// Whether both are one level's.
+pub(crate) fn same_key(key: &Key, other: &Key) -> bool
+    ensures { result ≡ same_key key.now other.now }
+{
+    key.symbol.is(&other.symbol) && same_side(key.side, other.side) && key.price == other.price
+}
+
+/// Whether a symbol stands before another.
+fn symbol_before(symbol: &Symbol, other: &Symbol) -> bool
+    ensures { result ≡ symbol_before symbol.now other.now }
+{
+    match symbol.as_bytes().cmp(other.as_bytes()) {
+        Ordering::Less => true,
+        _ => false,
+    }
+}
+
+/// Whether a price stands before another of its side.
+fn price_before(side: Side, price: u64, other: u64) -> bool
+    ensures { result ≡ is_better side price other }
+{
+    match side {
+        Side::Buy => other < price,
+        Side::Sell => price < other,
+    }
+}
+
+/// Whether a level stands before another.
+fn comes_before(key: &Key, other: &Key) -> bool
+    ensures { result ≡ key_before key.now other.now }
+{
+    if key.symbol.is(&other.symbol) {
+        match (key.side, other.side) {
+            (Side::Buy, Side::Sell) => true,
+            (Side::Sell, Side::Buy) => false,
+            _ => price_before(key.side, key.price, other.price),
+        }
+    } else {
+        symbol_before(&key.symbol, &other.symbol)
+    }
+}
+
+/// The place of a key: all levels ahead of it stand before the key, and none from it on does.
+pub(crate) fn search(levels: &[Level], key: &Key) -> usize
+    requires { InOrder levels.now }
+    ensures within { result ≤ length levels.now }
+    ensures before { AllByRecursion (λ l. key_before l.key key.now ≡ true) (take result levels.now) }
+    ensures behind { AllByRecursion (λ l. key_before l.key key.now ≡ false) (drop result levels.now) }
+{
+    levels.partition_point(|level| comes_before(&level.key, key))
+}
+
+/// Whether a level stands before all of a symbol and side.
+fn comes_before_side(key: &Key, symbol: &Symbol, side: Side) -> bool
+    ensures { result ≡ before_side symbol.now side key.now }
+{
+    if key.symbol.is(symbol) {
+        match (key.side, side) {
+            (Side::Buy, Side::Sell) => true,
+            _ => false,
+        }
+    } else {
+        symbol_before(&key.symbol, symbol)
+    }
+}
+
+/// The place of a symbol and side: all levels ahead of it stand before those, and none from it on does.
+pub(crate) fn search_side(levels: &[Level], symbol: &Symbol, side: Side) -> usize
+    requires { InOrder levels.now }
+    ensures within { result ≤ length levels.now }
+    ensures before { AllByRecursion (λ l. before_side symbol.now side l.key ≡ true) (take result levels.now) }
+    ensures behind { AllByRecursion (λ l. before_side symbol.now side l.key ≡ false) (drop result levels.now) }
+{
+    levels.partition_point(|level| comes_before_side(&level.key, symbol, side))
+}

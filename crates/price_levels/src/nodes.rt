@@ -1,0 +1,40 @@
+//! The arena's nodes: at each place an order and its neighbours in its level, or nothing.
+ghost use Rattle.std.specs.Prelude.{◌≡◌, ◌<◌, length, MatchOption, slice_set};
+ghost use Rattle.price_levels.specs.Arena.{set_next, set_prev, IsWithin};
+
+use venue_model::Order;
+
+/// An order and the places of its neighbours in its level: the one before it, and the one behind it.
+#[derive(Clone, Copy)]
+pub(crate) struct Node {
+    pub(crate) order: Option<Order>,
+    pub(crate) prev: Option<usize>,
+    pub(crate) next: Option<usize>,
+}
+
+/// A free place.
+pub(crate) const VACANT: Node = Node {
+    order: None,
+    prev: None,
+    next: None,
+};
+
+/// The order behind the one at a place, where there is one, is another now.
+pub(crate) fn set_next(nodes: &mut Vec<Node>, place: Option<usize>, next: Option<usize>)
+    requires { IsWithin nodes.old.items place }
+    ensures { nodes.new.items ≡ set_next nodes.old.items place next }
+{
+    if let Some(place) = place {
+        nodes[place].next = next;
+    }
+}
+
+/// The order before the one at a place, where there is one, is another now.
+pub(crate) fn set_prev(nodes: &mut Vec<Node>, place: Option<usize>, prev: Option<usize>)
+    requires { IsWithin nodes.old.items place }
+    ensures { nodes.new.items ≡ set_prev nodes.old.items place prev }
+{
+    if let Some(place) = place {
+        nodes[place].prev = prev;
+    }
+}
