@@ -1,0 +1,13 @@
+-- The new entry stands where the way to its name ends.
+use Rattle.std.proofs.Common.{sym}
+use Rattle.order_index.proofs.Tables.{inserted}
+use Rattle.order_index.proofs.index.OrderIndex.insert.Goals as goal
+
+pub invariant_of-self : goal.invariant_of-self
+invariant_of-self c = (inserted c.self.inside.slots.items c.deref.result.now c.args.self.now c.self.invariant c.deref.ensures.value (sym c.self.view_is) c.args.client c.args.name c.reach-at.result c.reach-at.ensures.way c.reach-at.ensures.within c.requires.fresh c.requires.room c.args.place).table
+
+pub returns-clause-places : goal.returns-clause-places
+returns-clause-places c = (inserted c.self.inside.slots.items c.deref.result.now c.args.self.now c.self.invariant c.deref.ensures.value (sym c.self.view_is) c.args.client c.args.name c.reach-at.result c.reach-at.ensures.way c.reach-at.ensures.within c.requires.fresh c.requires.room c.args.place).places
+
+pub returns-clause-entries : goal.returns-clause-entries
+returns-clause-entries c = (inserted c.self.inside.slots.items c.deref.result.now c.args.self.now c.self.invariant c.deref.ensures.value (sym c.self.view_is) c.args.client c.args.name c.reach-at.result c.reach-at.ensures.way c.reach-at.ensures.within c.requires.fresh c.requires.room c.args.place).entries
