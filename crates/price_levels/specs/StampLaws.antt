@@ -5,8 +5,9 @@ use Rattle.std.specs.List.{AllByRecursion}
 use Rattle.std.proofs.lemmas.Bool.Decides.{nat_tests}
 use Rattle.std.proofs.lemmas.List.Sums.{sum_by-cons}
 use Rattle.venue_model.specs.declared.orders.Order.{Order}
+use Rattle.venue_model.specs.declared.orders.Side.{Side}
 use Rattle.venue_model.specs.Orders.{leaves}
-use Rattle.price_levels.specs.Places.{Places, at, IsAt, standing}
+use Rattle.price_levels.specs.Places.{Places, at, IsAt, standing, IsOf, Leads, BestOf}
 use Rattle.price_levels.specs.Stamps.{insert_by_stamp, by_stamp, Alone, StampsApart, Seated, AreRising}
 
 -- it is earlier, or not
@@ -363,11 +364,11 @@ apart-set places p v apart alone = λ a o at_a q x other at_q. elim (at-set plac
   | inl put ↦ elim (at-set places p q v x at_q) [
     | inl also ↦ absurd (other (also.0 ∙ sym put.0))
     | inr stood ↦ alone o put.1 q x stood.0 stood.1
-    ]
+  ]
   | inr was ↦ elim (at-set places p q v x at_q) [
     | inl put ↦ λ same. alone x put.1 a o was.0 was.1 (sym same)
     | inr stood ↦ apart a o was.1 q x other stood.1
-    ]
+  ]
 ]
 
 -- so when an order leaves, changes under its stamp, or comes later than all others
@@ -388,3 +389,14 @@ apart-pushed places p o apart last = apart-set places p (Some o) apart (λ x e q
     let stamp : o.stamp ≡ x.stamp = ap (λ (w : Order). w.stamp) f in
     let earlier = last q z at_q in
     omega (arith, stamp, equal, earlier))
+
+-- the best order of a symbol and side in the list: it leads all others of them
+pub best-seated : (symbol : List ℕ) (side : Side) (places : Places) (p : ℕ) (best : BestOf symbol side places p) → StampsApart places →
+    Seated places p best.order
+best-seated symbol side places p best apart =
+    seated places p best.order (is-within places p best.order best.stands) best.stands (apart p best.order best.stands)
+
+pub best-leads : (symbol : List ℕ) (side : Side) (places : Places) (p : ℕ) (best : BestOf symbol side places p) (seat : Seated places p best.order) →
+    AllByRecursion (λ x. IsOf symbol side x → Leads best.order x) seat.before × AllByRecursion (λ x. IsOf symbol side x → Leads best.order x) seat.behind
+best-leads symbol side places p best seat =
+    others (λ x. IsOf symbol side x → Leads best.order x) places p best.order seat (λ q x other is of. best.leads q x other is of)
