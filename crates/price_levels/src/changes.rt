@@ -39,10 +39,10 @@ pub(crate) fn push(
     order: &Order,
 ) -> usize
     requires levels { IsLevels nodes.old.items free.old.items levels.old.items }
-    requires room { length (standing (places_of nodes.old.items)) < length nodes.old.items }
+    requires room { (length (standing (places_of nodes.old.items)) < length nodes.old.items)
+        × (length nodes.old.items ≤ vec_capacity levels.old) }
     requires later { ComesLater (places_of nodes.old.items) order.now }
     requires quantity { order.now.total ≤ 1000000 }
-    requires capacity { length nodes.old.items ≤ vec_capacity levels.old }
     ensures levels { IsLevels nodes.new.items free.new.items levels.new.items }
     ensures free { (result < length nodes.old.items) × (order_at nodes.old.items result ≡ None) }
     ensures places { places_of nodes.new.items ≡ slice_set (places_of nodes.old.items) result (Some order.now) }

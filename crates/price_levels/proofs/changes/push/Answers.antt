@@ -136,8 +136,8 @@ returns-else-holds-clause-places c =
 
 pub returns-else-holds-clause-capacity : goal.returns-else-holds-clause-capacity
 returns-else-holds-clause-capacity c =
-    let more = room c.args.nodes.now.items c.args.levels.now.items c.requires.levels.ordered c.requires.room in
-    (c.pop.ensures.capacity, (c.insert.ensures.in_place (omega (arith, more, c.requires.capacity, c.args.levels.now.ok.0))).1.0)
+    let more = room c.args.nodes.now.items c.args.levels.now.items c.requires.levels.ordered c.requires.room.0 in
+    (c.pop.ensures.capacity, (c.insert.ensures.in_place (omega (arith, more, c.requires.room.1, c.args.levels.now.ok.0))).1.0)
 
 pub returns-else-holds-clause-levels : goal.returns-else-holds-clause-levels
 returns-else-holds-clause-levels c =
@@ -156,8 +156,8 @@ returns-else-holds-clause-levels c =
     c.key_of-key.ensures (sym c.holds.ensures ∙ c.if-holds.false) in
     let seen = open-seen nodes levels c.requires.levels.ordered o at search place vacant.0 vacant.1 c.requires.quantity
     c.requires.later h in
-    let more = room nodes levels c.requires.levels.ordered c.requires.room in
-    let fits = c.insert.ensures.succeeds (omega (arith, more, c.requires.capacity, c.args.levels.now.ok.0)) in
+    let more = room nodes levels c.requires.levels.ordered c.requires.room.0 in
+    let fits = c.insert.ensures.succeeds (omega (arith, more, c.requires.room.1, c.args.levels.now.ok.0)) in
     whole c.seat-else-holds.new.nodes.items (nodes_with nodes None place o) free' free'
     c.insert.new.self.items (insert levels at (record { key = key_of o; first = place; last = place; left = leaves o }))
     c.seat-else-holds.ensures refl
