@@ -1,15 +1,14 @@
 // What the figures of the rings are compared with: a plain C++ venue that does what bench_stages does, with the same words
-// (docs/RINGS.md) at the same places, and the same batches. Build and run it beside that program, on one quiet machine:
+// (docs/RINGS.md) and the same batches. Build and run it beside that program, on one quiet machine of x86-64:
 //
-//   c++ -O2 -std=c++17 -pthread -Wall -o /tmp/baseline_rings scripts/baseline_rings.cpp
+//   c++ -O2 -std=c++17 -pthread -o /tmp/baseline_rings scripts/baseline_rings.cpp
 //   /tmp/baseline_rings COMMANDS GATEWAYS
 //
 // Each load and store of a word is sequentially consistent. -DPAYLOAD=std::memory_order_relaxed leaves that to the control
-// words and the availability words, which is enough in C++, and shows what it costs for all others. It is for x86-64.
-//
-// Messages are checked as the venue checks them. There are day orders and cancels, and no trades: a message with a fault, and
-// a request that the book refuses, have no output. Where the outputs that a gateway took aren't those due to it, each byte in
-// order, or it finds nothing to do for too long, no figure is printed and the status is 2.
+// words and the availability words, which is enough in C++, and shows what it costs for all others. Messages are checked as
+// the venue checks them. There are day orders and cancels, and no trades: a message with a fault, and a request that the book
+// refuses, have no output. Where the outputs that a gateway took aren't those due to it, each byte in order, or it finds
+// nothing to do for too long, the status is 2.
 #include <algorithm>
 #include <atomic>
 #include <charconv>
@@ -20,6 +19,7 @@
 #include <cstring>
 #include <string>
 #include <thread>
+#include <utility>
 #include <vector>
 
 #ifndef PAYLOAD
@@ -35,38 +35,49 @@ constexpr u64 ROWS = 1024, INPUT = 128, INPUT_WORDS = 64, RAW = 1, COMMAND = 48;
 constexpr u64 OUTPUT = INPUT + INPUT_WORDS * ROWS, OUTPUT_WORDS = 128, TEXT = 64, MOST_BYTES = 320;
 alignas(64) static std::atomic<u64> words[OUTPUT + OUTPUT_WORDS * ROWS];
 
-static u64 row(u64 sequence) { return INPUT + INPUT_WORDS * (sequence % ROWS); }
-static u64 output_row(u64 place) { return OUTPUT + OUTPUT_WORDS * (place % ROWS); }
-static u64 word(u64 at) { return words[at].load(PAYLOAD); }
-static void put_word(u64 at, u64 value) { words[at].store(value, PAYLOAD); }
+inline u64 row(u64 sequence) { return INPUT + INPUT_WORDS * (sequence % ROWS); }
+inline u64 output_row(u64 place) { return OUTPUT + OUTPUT_WORDS * (place % ROWS); }
+inline u64 word(u64 at) { return words[at].load(PAYLOAD); }
+inline void put_word(u64 at, u64 value) { words[at].store(value, PAYLOAD); }
 
-static u64 eight(const u8 *bytes) {
-    u64 value;
-    memcpy(&value, bytes, 8);
-    return value;
+inline void put_words(u64 at, const u64 *values, u64 count) {
+    for (u64 each = 0; each < count; each++) put_word(at + each, values[each]);
+}
+
+inline void take_words(u64 at, u64 *values, u64 count) {
+    for (u64 each = 0; each < count; each++) values[each] = word(at + each);
 }
 
 // Bytes lie eight a word, big-endian, the last word filled up with zeros. Buffers have room for whole words.
-static void put_bytes(u64 at, const u8 *bytes, u64 length) {
+inline u64 eight(const u8 *bytes) {
+    u64 value;
+    return memcpy(&value, bytes, 8), value;
+}
+
+inline void put_bytes(u64 at, const u8 *bytes, u64 length) {
     for (const u8 *end = bytes + length; bytes < end; bytes += 8) put_word(at++, __builtin_bswap64(eight(bytes)));
 }
 
-static void take_bytes(u64 at, u8 *bytes, u64 length) {
+inline void take_bytes(u64 at, u8 *bytes, u64 length) {
     for (u8 *end = bytes + length; bytes < end; bytes += 8) {
         u64 value = __builtin_bswap64(word(at++));
         memcpy(bytes, &value, 8);
     }
 }
 
+// A command takes 1, 4 or 5 words. In the first stand kind, gateway, side, TimeInForce (0 is a day), quantity and price.
+enum Kind : u64 { VOID, NEW, CANCEL };
+enum Word { HEAD, TIME, NAME, SYMBOL, ORIG };
+struct Command { u64 words[5]; };
+inline u64 words_of(u64 head) { return head % 8 == VOID ? 1 : 3 + head % 8; }
+
 // A message's bytes are checked and read in one walk. A reader goes past a value and its SOH, and says whether it was right.
 // Behind the last field stands the trailer, so that each of them ends.
 constexpr u8 SOH = 1;
-enum Kind : u64 { VOID, NEW, CANCEL };
-struct Command { u64 kind, side, terms, quantity, price, time, name, orig, symbol; };
 
-static bool is_digit(u8 byte) { return (u8)(byte - '0') < 10; }
+inline bool is_digit(u8 byte) { return (u8)(byte - '0') < 10; }
 
-static bool read_number(const u8 *&at, u64 most, u64 &number) {
+inline bool read_number(const u8 *&at, u64 most, u64 &number) {
     const u8 *from = at, *to = at;
     u64 found = 0;
     while (is_digit(*to) && found <= most) found = found * 10 + (*to++ - '0');
@@ -74,50 +85,45 @@ static bool read_number(const u8 *&at, u64 most, u64 &number) {
     return found - 1 < most && *from != '0' && *to == SOH;
 }
 
-static bool read_byte(const u8 *&at, u8 least, u8 most, u64 &place) {
-    place = (u8)(*at - least);
-    at += 2;
+inline bool read_byte(const u8 *&at, u8 least, u8 most, u64 &place) {
+    place = (u8)(*at - least), at += 2;
     return place <= (u8)(most - least) && at[-1] == SOH;
 }
 
-static bool read_symbol(const u8 *&at, u64 &symbol) {
+inline bool read_symbol(const u8 *&at, u64 &symbol) {
     u64 found = 0, shift = 64;
     for (; shift > 0 && (is_digit(*at) || (u8)(*at - 'A') < 26); at++) found |= (u64)*at << (shift -= 8);
     symbol = found;
     return shift < 64 && *at++ == SOH;
 }
 
-// Whether these eight bytes are digits, and their number.
-static bool read_eight(u64 text, u64 &number) {
-    u64 high = 0xF0F0F0F0F0F0F0F0, zeros = 0x3030303030303030;
-    bool right = (text & high) == zeros && ((text + 0x0606060606060606) & high) == zeros;
-    text = (text - zeros) * 2561 >> 8 & 0x00FF00FF00FF00FF;
-    text = text * 6553601 >> 16 & 0x0000FFFF0000FFFF;
-    number = text * 42949672960001 >> 32;
-    return right;
-}
-
-static bool read_time(const u8 *&at, const u8 *end, u64 &time) {
+// Both halves of its digits at once: YYYYMMDD, and 00HHMMSS.
+inline bool read_time(const u8 *&at, const u8 *end, u64 &time) {
     if (end - at < 18 || at[8] != '-' || at[11] != ':' || at[14] != ':' || at[17] != SOH) return false;
-    u64 date, seconds, clock = eight(at + 9);
-    bool right = read_eight(eight(at), date);
-    right &= read_eight(0x3030 | (clock & 65535) << 16 | (clock >> 24 & 65535) << 32 | clock >> 48 << 48, seconds);
-    time = date * 1'000'000 + seconds;
-    at += 18;
-    return right;
+    constexpr u64 HIGH = 0xF0F0F0F0F0F0F0F0, ZEROS = 0x3030303030303030;
+    u64 clock = eight(at + 9), wrong = 0;
+    u64 halves[2] = {eight(at), 0x3030 | (clock & 0xFFFF) << 16 | (clock >> 24 & 0xFFFF) << 32 | clock >> 48 << 48};
+    for (u64 &half : halves) {
+        wrong |= ((half & HIGH) ^ ZEROS) | (((half + 0x0606060606060606) & HIGH) ^ ZEROS);
+        half = (half - ZEROS) * 2561 >> 8 & 0x00FF00FF00FF00FF;
+        half = (half * 6553601 >> 16 & 0x0000FFFF0000FFFF) * 42949672960001 >> 32;
+    }
+    time = halves[0] * 1'000'000 + halves[1], at += 18;
+    return !wrong;
 }
 
-static bool read_any(const u8 *&at) {
-    const u8 *from = at, *to = at;
+inline bool read_any(const u8 *&at) {
+    const u8 *to = at;
     while (*to != SOH) to++;
-    at = to + 1;
-    return to > from;
+    return std::exchange(at, to + 1) < to;
 }
 
-template <size_t N> static bool goes_on(const u8 *&at, const char (&text)[N]) { return memcmp((at += N - 1) - (N - 1), text, N - 1) == 0; }
+template <size_t N> inline bool goes_on(const u8 *&at, const char (&text)[N]) {
+    return memcmp(std::exchange(at, at + N - 1), text, N - 1) == 0;
+}
 
 // The sum of the bytes, modulo 256, sixteen at a time.
-static u8 sum_of(const u8 *bytes, u64 length) {
+inline u8 sum_of(const u8 *bytes, u64 length) {
     u8 lanes[16] = {}, sum = 0;
     for (; length >= 16; bytes += 16, length -= 16)
         for (int lane = 0; lane < 16; lane++) lanes[lane] += bytes[lane];
@@ -126,36 +132,33 @@ static u8 sum_of(const u8 *bytes, u64 length) {
     return sum;
 }
 
-static constexpr u64 tags(std::initializer_list<int> those) {
-    u64 all = 0;
-    for (int tag : those) all |= 1ull << tag;
-    return all;
-}
-
 // The fields behind the header: each that the type requires, once, and no other but TimeInForce (59) of an order.
-static bool read_fields(const u8 *at, const u8 *end, Command &c) {
-    u64 seen = 0, ignored;
+template <int... TAGS> constexpr u64 SET = ((1ull << TAGS) | ...);
+
+inline bool read_fields(const u8 *at, const u8 *end, Command &c) {
+    u64 seen = 0, side = 0, terms = 0, quantity = 0, price = 0, ignored;
     while (at < end) {
         if (!is_digit(at[0]) || !is_digit(at[1]) || at[2] != '=') return false;
-        int tag = (at[0] - '0') * 10 + (at[1] - '0');
+        int tag = at[0] * 10 + at[1] - '0' * 11;
         bool right = false;
         at += 3;
         switch (tag) {
-        case 11: right = read_number(at, 999'999'999'999'999, c.name); break;
-        case 38: right = read_number(at, 1'000'000, c.quantity); break;
+        case 11: right = read_number(at, 999'999'999'999'999, c.words[NAME]); break;
+        case 38: right = read_number(at, 1'000'000, quantity); break;
         case 40: right = read_byte(at, '2', '2', ignored); break;
-        case 41: right = read_number(at, 999'999'999'999'999, c.orig); break;
-        case 44: right = read_number(at, 1'000'000, c.price); break;
-        case 54: right = read_byte(at, '1', '2', c.side); break;
-        case 55: right = read_symbol(at, c.symbol); break;
-        case 59: right = read_byte(at, '0', '4', c.terms) && c.terms != 1 && c.terms != 2; break;
+        case 41: right = read_number(at, 999'999'999'999'999, c.words[ORIG]); break;
+        case 44: right = read_number(at, 1'000'000, price); break;
+        case 54: right = read_byte(at, '1', '2', side); break;
+        case 55: right = read_symbol(at, c.words[SYMBOL]); break;
+        case 59: right = read_byte(at, '0', '4', terms) && terms != 1 && terms != 2; break;
         case 60: right = read_time(at, end, ignored); break;
         }
         if (!right || (seen >> tag & 1)) return false;
         seen |= 1ull << tag;
     }
-    if (c.kind == CANCEL) return seen == tags({11, 38, 41, 54, 55, 60});
-    return (seen & ~tags({59})) == tags({11, 38, 40, 44, 54, 55, 60});
+    if (seen == SET<11, 38, 41, 54, 55, 60>) return c.words[HEAD] |= side << 7, c.words[HEAD] % 8 == CANCEL;
+    c.words[HEAD] |= side << 7 | terms << 8 | quantity << 10 | price << 30;
+    return (seen & ~SET<59>) == SET<11, 38, 40, 44, 54, 55, 60> && c.words[HEAD] % 8 == NEW;
 }
 
 static bool read_message(const u8 *bytes, u64 length, Command &c) {
@@ -165,30 +168,11 @@ static bool read_message(const u8 *bytes, u64 length, Command &c) {
     if (body < 5 || at + body != tail || tail[-1] != SOH || memcmp(tail, "10=", 3) || tail[6] != SOH) return false;
     u8 sum = sum_of(bytes, tail - bytes);
     if (tail[3] != '0' + sum / 100 || tail[4] != '0' + sum / 10 % 10 || tail[5] != '0' + sum % 10) return false;
-    if (!goes_on(at, "35=") || (*at != 'D' && *at != 'F') || at[1] != SOH) return false;
-    c.kind = *at == 'D' ? NEW : CANCEL;
-    at += 2;
-    if (!goes_on(at, "49=") || !read_any(at) || !goes_on(at, "56=") || !read_any(at)) return false;
+    if (!goes_on(at, "35=") || (*at != 'D' && *at != 'F')) return false;
+    c.words[HEAD] |= *at++ == 'D' ? NEW : CANCEL;
+    if (!goes_on(at, "\x01" "49=") || !read_any(at) || !goes_on(at, "56=") || !read_any(at)) return false;
     if (!goes_on(at, "34=") || !read_number(at, 999'999'999, number)) return false;
-    return goes_on(at, "52=") && read_time(at, tail, c.time) && read_fields(at, tail, c);
-}
-
-// A command takes 1, 4 or 5 words: the small numbers stand in the first.
-static void put_command(u64 at, u64 gateway, const Command &c) {
-    u64 quantity = c.kind == NEW ? c.quantity : 0;
-    put_word(at, c.kind + 8 * gateway + 128 * c.side + 256 * c.terms + 1024 * quantity + (c.price << 30));
-    if (c.kind == VOID) return;
-    put_word(at + 1, c.time), put_word(at + 2, c.name);
-    if (c.kind == CANCEL) put_word(at + 3, c.orig);
-    put_word(at + 2 + c.kind, c.symbol);
-}
-
-static u64 take_command(u64 at, Command &c) {
-    u64 head = word(at);
-    c = Command{head % 8, head / 128 % 2, head / 256 % 4, (head & ((1 << 30) - 1)) / 1024, head >> 30, 0, 0, 0, 0};
-    if (c.kind != VOID) c.time = word(at + 1), c.name = word(at + 2), c.symbol = word(at + 2 + c.kind);
-    if (c.kind == CANCEL) c.orig = word(at + 3);
-    return head / 8 % 16;
+    return goes_on(at, "52=") && read_time(at, tail, c.words[TIME]) && read_fields(at, tail, c);
 }
 
 // An output is an execution report, a word for each field. Its body is written with zeros behind it.
@@ -197,12 +181,13 @@ struct Order { u64 id, client, name, symbol, side, price, total, cum, notional, 
 struct Output { u64 to, cause, time, kind, event, orig, none; Order order; };
 constexpr u64 REPORT_WORDS = sizeof(Output) / 8;
 
-template <size_t N> static char *put(char *at, const char (&text)[N]) { return (char *)memcpy(at, text, N - 1) + N - 1; }
+template <size_t N> inline char *put(char *at, const char (&text)[N]) { return (char *)memcpy(at, text, N - 1) + N - 1; }
 
-template <size_t N> static char *put(char *at, const char (&tag)[N], u64 number) {
-    at = std::to_chars(put(at, tag), at + 32, number).ptr;
-    *at = SOH;
-    return at + 1;
+template <size_t N> inline char *put(char *at, const char (&tag)[N], u64 number) {
+    at = put(at, tag);
+    if (number < 10) *at++ = (char)('0' + number);
+    else at = std::to_chars(at, at + 20, number).ptr;
+    return *at = SOH, at + 1;
 }
 
 static u64 body_of(const Output &o, u64 exec_id, u8 *body) {
@@ -226,28 +211,25 @@ struct Book {
     std::vector<Order> orders;
     u64 greatest[9] = {};
 
-    u64 apply(u64 sequence, u64 client, const Command &c, Output &out) {
+    u64 apply(u64 sequence, const Command &c, Output &out) {
         constexpr u64 ABC = 0x4142430000000000, MOST_RESTING = 4096;
-        if (c.kind == VOID || c.name <= greatest[client]) return 0;
-        if (c.kind == CANCEL) return cancel(sequence, client, c, out);
-        if (c.symbol != ABC || c.terms != 0 || orders.size() == MOST_RESTING) return 0;
-        for (const Order &other : orders) {
-            bool meets = c.side == 0 ? other.price <= c.price : c.price <= other.price;
-            if (c.symbol == other.symbol && c.side != other.side && meets) return 0;
+        u64 head = c.words[HEAD], client = head >> 3 & 15, side = head >> 7 & 1, name = c.words[NAME], symbol = c.words[SYMBOL], at = 0;
+        if (head % 8 == VOID || name <= greatest[client]) return 0;
+        if (head % 8 == NEW) {
+            u64 terms = head >> 8 & 3, price = head >> 30;
+            if (symbol != ABC || terms != 0 || orders.size() == MOST_RESTING) return 0;
+            for (const Order &other : orders)
+                if (other.symbol == symbol && other.side != side && (side == 0 ? other.price <= price : price <= other.price)) return 0;
+            orders.push_back(Order{sequence + 1, client, name, symbol, side, price, head >> 10 & 0xFFFFF, 0, 0, sequence});
+            out = Output{client, sequence, c.words[TIME], 0, ACKNOWLEDGED, 0, 0, orders.back()};
+        } else {
+            while (at < orders.size() && (orders[at].client != client || orders[at].name != c.words[ORIG])) at++;
+            if (at == orders.size() || orders[at].symbol != symbol || orders[at].side != side) return 0;
+            orders[at].name = name;
+            out = Output{client, sequence, c.words[TIME], 0, CANCELED, c.words[ORIG], 0, orders[at]};
+            orders.erase(orders.begin() + at);
         }
-        greatest[client] = c.name;
-        orders.push_back(Order{sequence + 1, client, c.name, c.symbol, c.side, c.price, c.quantity, 0, 0, sequence});
-        out = Output{client, sequence, c.time, 0, ACKNOWLEDGED, 0, 0, orders.back()};
-        return 1;
-    }
-
-    u64 cancel(u64 sequence, u64 client, const Command &c, Output &out) {
-        u64 at = 0;
-        while (at < orders.size() && (orders[at].client != client || orders[at].name != c.orig)) at++;
-        if (at == orders.size() || orders[at].symbol != c.symbol || orders[at].side != c.side) return 0;
-        greatest[client] = orders[at].name = c.name;
-        out = Output{client, sequence, c.time, 0, CANCELED, c.orig, 0, orders[at]};
-        orders.erase(orders.begin() + at);
+        greatest[client] = name;
         return 1;
     }
 };
@@ -270,9 +252,9 @@ struct alignas(128) Unmarshaller : Reader {
         for (u64 sequence = own; sequence < known; sequence++) {
             u64 at = row(sequence), head = word(at + RAW), length = head % 65536;
             take_bytes(at + RAW + 1, message, length);
-            Command command{};
-            if (!read_message(message, length, command)) command = Command{};
-            put_command(at + COMMAND, head / 65536, command);
+            Command command{{head / 65536 << 3}};
+            if (!read_message(message, length, command)) command.words[HEAD] = VOID;
+            put_words(at + COMMAND, command.words, words_of(command.words[HEAD]));
         }
         words[UNMARSHALLED].store(own = known);
         return true;
@@ -301,7 +283,7 @@ struct alignas(128) Journaller : Reader {
     }
 };
 
-// It does one command, and puts its output, if it has one, when there is room for it.
+// It does one command, and publishes its output, if it has one, when there is room for it.
 struct alignas(128) Processor {
     u64 gateways, own = 0, published = 0, left = 0, taken[9] = {};
     bool is_applied = false;
@@ -322,16 +304,14 @@ struct alignas(128) Processor {
         if (!is_applied) {
             u64 unmarshalled = words[UNMARSHALLED].load(), journalled = words[JOURNALLED].load();
             if (std::min(unmarshalled, journalled) == own) return false;
-            Command command;
-            u64 gateway = take_command(row(own) + COMMAND, command);
-            left = book.apply(own, gateway, command, out);
-            is_applied = true;
+            u64 at = row(own) + COMMAND;
+            Command command{{word(at)}};
+            take_words(at + 1, command.words + 1, words_of(command.words[HEAD]) - 1);
+            left = book.apply(own, command, out), is_applied = true;
         }
         for (; left > 0; left--) {
             if (!has_room(false) && !has_room(true)) return false;
-            u64 all[REPORT_WORDS], at = output_row(published);
-            memcpy(all, &out, sizeof all);
-            for (u64 each : all) put_word(at++, each);
+            put_words(output_row(published), (const u64 *)&out, REPORT_WORDS);
             words[PUBLISHED].store(++published);
         }
         is_applied = false;
@@ -349,12 +329,10 @@ struct alignas(128) Marshaller {
         u64 upto = words[PUBLISHED].load();
         if (upto == own) return false;
         for (; own < upto; own++) {
-            u64 all[REPORT_WORDS], at = output_row(own);
-            for (u64 &each : all) each = word(at++);
-            Output output;
-            memcpy(&output, all, sizeof all);
-            u64 length = body_of(output, own + 1, body), text = output_row(own) + TEXT;
-            put_word(text, 4 * length), put_word(text + 1, output.time);
+            Output out;
+            take_words(output_row(own), (u64 *)&out, REPORT_WORDS);
+            u64 length = body_of(out, own + 1, body), text = output_row(own) + TEXT;
+            put_word(text, 4 * length), put_word(text + 1, out.time);
             put_bytes(text + 2, body, length);
         }
         words[MARSHALLED].store(own);
@@ -371,22 +349,19 @@ static u64 spell(const std::string &text, u8 *bytes) {
 }
 
 // What a gateway's outputs come to: all words of their texts, in order.
-static u64 mixed(u64 sum, u64 value) { return (sum ^ value) * 0x9E3779B97F4A7C15; }
 static u64 mixed(u64 sum, u64 time, const u8 *body, u64 length) {
-    sum = mixed(mixed(sum, length), time);
-    for (u64 at = 0; at < length; at += 8) sum = mixed(sum, eight(body + at));
+    constexpr u64 ODD = 0x9E3779B97F4A7C15;
+    sum = ((sum ^ length) * ODD ^ time) * ODD;
+    for (u64 at = 0; at < length; at += 8) sum = (sum ^ eight(body + at)) * ODD;
     return sum;
 }
 
 struct alignas(128) Gateway {
-    u64 number, commands, taken = 0, processed = 0, answers = 0, sum = 0, idle = 0;
+    u64 number, commands;
     const std::vector<Message> &messages;
     std::vector<u64> sequences; // Of the messages that it published.
+    u64 taken = 0, processed = 0, answers = 0, sum = 0, idle = 0;
     u8 body[MOST_BYTES];
-
-    Gateway(u64 number, u64 commands, const std::vector<Message> &messages) : number(number), commands(commands), messages(messages) {
-        sequences.reserve(messages.size());
-    }
 
     bool is_over() const { return taken == commands || idle == 50'000; }
 
@@ -425,27 +400,23 @@ struct alignas(128) Gateway {
     bool is_right() const {
         u64 due = 0;
         for (u64 k = 0; k < sequences.size(); k++) {
-            std::string order = std::to_string(sequences[k - k % 2] + 1), exec = std::to_string(sequences[k] + 1), name = std::to_string(k + 1);
-            std::string event = k % 2 ? "|150=4|39=4|11=" + name + "|41=" + std::to_string(k) : "|150=0|39=0|11=" + name;
-            u8 text[MOST_BYTES] = {};
-            u64 length = spell("37=" + order + "|17=" + exec + event + "|55=ABC|54=1|38=1|44=50|151=" + (k % 2 ? "0" : "1") + "|14=0|6=0|", text);
-            due = mixed(due, 20250102093000, text, length);
+            std::string text = "37=" + std::to_string(sequences[k - k % 2] + 1) + "|17=" + std::to_string(sequences[k] + 1);
+            text += (k % 2 ? "|150=4|39=4|11=" : "|150=0|39=0|11=") + std::to_string(k + 1);
+            text += (k % 2 ? "|41=" + std::to_string(k) : "") + "|55=ABC|54=1|38=1|44=50|151=" + (k % 2 ? "0" : "1") + "|14=0|6=0|";
+            u8 bytes[MOST_BYTES] = {};
+            due = mixed(due, 20250102093000, bytes, spell(text, bytes));
         }
         return taken == commands && sequences.size() == messages.size() && answers == messages.size() && sum == due;
     }
 };
 
 // A thread that finds nothing to do spins, then lets others run, and then sleeps.
-template <class T, class E> static void work(T turn, E ends) {
-    for (u64 step = 0, idle = 0; !ends();) {
-        if (turn()) {
-            step = idle = 0;
-            continue;
-        }
-        if (idle >= 10'000) std::this_thread::sleep_for(std::chrono::microseconds(std::clamp<u64>(idle - 10'000, 50, 2'000)));
-        else if (step > 6) std::this_thread::yield();
-        else for (u64 spins = 1ull << step++; spins > 0; spins--) __builtin_ia32_pause();
-        idle++;
+template <class W, class E> static void work(W &worker, E ends) {
+    for (u64 idle = 0; !ends(); idle++) {
+        if (worker.turn()) idle = -1;
+        else if (idle <= 6) for (u64 spins = 1ull << idle; spins > 0; spins--) __builtin_ia32_pause();
+        else if (idle < 10'000) std::this_thread::yield();
+        else std::this_thread::sleep_for(std::chrono::microseconds(std::clamp<u64>(idle - 10'000, 50, 2'000)));
     }
 }
 
@@ -458,18 +429,21 @@ struct Venue {
 
     Venue(u64 commands, const std::vector<std::vector<Message>> &messages) : processor{messages.size()} {
         for (auto &word : words) word = 0;
-        for (auto &each : messages) gateways.emplace_back(gateways.size() + 1, commands, each);
+        for (auto &each : messages) {
+            gateways.push_back(Gateway{gateways.size() + 1, commands, each});
+            gateways.back().sequences.reserve(each.size());
+        }
     }
 
     void run_on_threads(u64) {
         std::atomic<bool> stop{false};
         std::vector<std::thread> stages, others;
         auto told = [&] { return stop.load(); };
-        stages.emplace_back([&] { work([&] { return unmarshaller.turn(); }, told); });
-        stages.emplace_back([&] { work([&] { return journaller.turn(); }, told); });
-        stages.emplace_back([&] { work([&] { return processor.turn(); }, told); });
-        stages.emplace_back([&] { work([&] { return marshaller.turn(); }, told); });
-        for (Gateway &one : gateways) others.emplace_back([&] { work([&] { return one.turn(); }, [&] { return told() || one.is_over(); }); });
+        stages.emplace_back([&] { work(unmarshaller, told); });
+        stages.emplace_back([&] { work(journaller, told); });
+        stages.emplace_back([&] { work(processor, told); });
+        stages.emplace_back([&] { work(marshaller, told); });
+        for (Gateway &one : gateways) others.emplace_back([&] { work(one, [&] { return told() || one.is_over(); }); });
         for (std::thread &thread : others) thread.join();
         stop = true;
         for (std::thread &thread : stages) thread.join();
