@@ -1,6 +1,4 @@
 //! The commands that are measured, chosen by what one book answers to those before.
-ghost use Rattle.std.specs.Prelude.{◌≤◌};
-
 use crate::fault::Fault;
 use crate::flow::{
     Asked, PLACES, Resting, cancel, chance, new_resting, new_trading, replace, told,
@@ -26,13 +24,13 @@ pub struct Chosen {
 pub fn choose(alloc: Global, limits: &Limits, task: &Task) -> Result<Chosen, Fault> {
     let mut book = Book::new(alloc, limits)?;
     let mut out = Vec::with_capacity(alloc, 8_194)?;
-    let mut commands = Vec::with_capacity(alloc, (task.resting + task.commands) as usize)?;
-    let mut clients = Vec::with_capacity(alloc, (task.resting + task.commands) as usize)?;
+    let mut commands = Vec::with_capacity(alloc, task.all() as usize)?;
+    let mut clients = Vec::with_capacity(alloc, task.all() as usize)?;
     let mut known = vec![in alloc; None; PLACES as usize]?;
     let mut state = 1;
     let mut resting = 0;
     let mut outputs = 0u64;
-    for turn in 0..task.resting + task.commands {
+    for turn in 0..task.all() {
         let next = choose_one(
             &mut state,
             limits.symbols(),
@@ -84,10 +82,8 @@ fn choose_one(
     resting: u32,
     turn: u32,
     wanted: u32,
-) -> Result<Asked, Fault>
-    requires { 1 ≤ wanted }
-{
-    let place = chance(state) % u64::from(wanted);
+) -> Result<Asked, Fault> {
+    let place = chance(state) % u64::from(wanted.max(1));
     let order = match known.get(place as usize) {
         Some(order) => *order,
         None => None,

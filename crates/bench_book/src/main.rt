@@ -57,7 +57,7 @@ fn measure<R: Env + Clock + Print + Eprint + AllocGlobal>(rt: &R) -> Result<(), 
         &mut out,
     )?;
     let begun = Instant::now(rt)?;
-    let all = task.resting + task.commands;
+    let all = task.all();
     let outputs = run(
         &mut book,
         task.resting,

@@ -10,9 +10,6 @@ pub struct Task {
     pub resting: u32,
     /// How many commands are measured, 1 to 10,000,000.
     pub commands: u32,
-    ghost some: { 1 ≤ resting },
-    ghost few: { resting ≤ 4000 },
-    ghost commands_few: { commands ≤ 10000000 },
 }
 
 impl Task {
@@ -21,15 +18,24 @@ impl Task {
         let [resting, commands] = words else {
             return Err(Fault::Usage);
         };
-        let (Ok(resting), Ok(commands)) = (
-            resting.as_str().parse::<u32>(),
-            commands.as_str().parse::<u32>(),
-        ) else {
-            return Err(Fault::Usage);
-        };
-        if resting == 0 || resting > 4_000 || commands == 0 || commands > 10_000_000 {
-            return Err(Fault::Usage);
-        }
-        Ok(Task { resting, commands })
+        Ok(Task {
+            resting: number(resting, 4_000)?,
+            commands: number(commands, 10_000_000)?,
+        })
+    }
+
+    /// How many commands there are with those that fill the book.
+    pub fn all(&self) -> u32
+        ensures { self.now.resting ≤ result }
+    {
+        self.resting.saturating_add(self.commands)
+    }
+}
+
+/// The number from 1 to `most` that a word says.
+fn number(word: &String, most: u32) -> Result<u32, Fault> {
+    match word.as_str().parse::<u32>() {
+        Ok(number) if number > 0 && number <= most => Ok(number),
+        _ => Err(Fault::Usage),
     }
 }
