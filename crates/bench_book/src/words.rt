@@ -19,8 +19,8 @@ impl Task {
             return Err(Fault::Usage);
         };
         Ok(Task {
-            resting: number(resting, 4_000)?,
-            commands: number(commands, 10_000_000)?,
+            resting: number_to(4_000, resting)?,
+            commands: number_to(10_000_000, commands)?,
         })
     }
 
@@ -32,10 +32,18 @@ impl Task {
     }
 }
 
-/// The number from 1 to `most` that a word says.
-fn number(word: &String, most: u32) -> Result<u32, Fault> {
-    match word.as_str().parse::<u32>() {
-        Ok(number) if number > 0 && number <= most => Ok(number),
-        _ => Err(Fault::Usage),
+/// The number from 1 to `most` that a word of digits says.
+fn number_to(most: u32, word: &String) -> Result<u32, Fault> {
+    let mut number = 0u32;
+    for byte in word.as_bytes() {
+        if !byte.is_ascii_digit() {
+            return Err(Fault::Usage);
+        }
+        let digit = u32::from(byte.wrapping_sub(b'0'));
+        number = number.saturating_mul(10).saturating_add(digit);
     }
+    if number < 1 || number > most {
+        return Err(Fault::Usage);
+    }
+    Ok(number)
 }
