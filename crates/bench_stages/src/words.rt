@@ -1,5 +1,5 @@
 //! The words of the command line.
-ghost use Rattle.std.specs.Prelude.{◌^◌, ◌≤◌, ◌<◌};
+ghost use Rattle.std.specs.Prelude.{◌^◌, ◌≤◌, ◌<◌, IfOk};
 
 use crate::fault::Fault;
 
@@ -23,16 +23,10 @@ impl Task {
         let [commands, gateways] = words else {
             return Err(Fault::Usage);
         };
-        let (Ok(commands), Ok(gateways)) = (
-            commands.as_str().parse::<u64>(),
-            gateways.as_str().parse::<u64>(),
-        ) else {
-            return Err(Fault::Usage);
-        };
-        if commands == 0 || commands > MOST_COMMANDS || gateways == 0 || gateways > 8 {
-            return Err(Fault::Usage);
-        }
-        Ok(Task { commands, gateways })
+        Ok(Task {
+            commands: number_to(MOST_COMMANDS, commands)?,
+            gateways: number_to(8, gateways)?,
+        })
     }
 
     /// How many of the commands this gateway publishes. The shares of all gateways differ by one at most, and are all
@@ -43,4 +37,22 @@ impl Task {
     {
         (self.commands + gateway - 1) / self.gateways
     }
+}
+
+/// The number from 1 to `most` that a word of digits says.
+fn number_to(most: u64, word: &String) -> Result<u64, Fault>
+    ensures { IfOk result (λ number. (1 ≤ number) × (number ≤ most)) }
+{
+    let mut number = 0u64;
+    for byte in word.as_bytes() {
+        if !byte.is_ascii_digit() {
+            return Err(Fault::Usage);
+        }
+        let digit = u64::from(byte.wrapping_sub(b'0'));
+        number = number.saturating_mul(10).saturating_add(digit);
+    }
+    if number < 1 || number > most {
+        return Err(Fault::Usage);
+    }
+    Ok(number)
 }
