@@ -16,6 +16,22 @@ pub struct Place {
     number: usize,
 }
 
+impl Place {
+    /// The place of this number. An order need not stand there.
+    pub fn at(number: usize) -> Place
+        ensures { result.number ≡ number }
+    {
+        Place { number }
+    }
+
+    /// The number of the place: below the room that was made.
+    pub fn number(self) -> usize
+        ensures { result ≡ self.number }
+    {
+        self.number
+    }
+}
+
 /// Resting orders, linked within their price levels. Contracts see the list of places: what stands at each of them.
 #[derive(Drop)]
 pub struct Levels {

@@ -1,0 +1,4 @@
+pub mod Standing
+pub mod Firsts
+pub mod Keeping
+pub mod Queues
