@@ -5,7 +5,7 @@ use crate::flow::{
 };
 use crate::running::apply;
 use crate::words::Task;
-use book::Book;
+use book::{Book, MOST_OUTPUTS};
 use std::alloc::Global;
 use venue_model::{Command, Limits, Output, Symbol};
 
@@ -23,7 +23,7 @@ pub struct Chosen {
 /// Chooses the commands of a task.
 pub fn choose(alloc: Global, limits: &Limits, task: &Task) -> Result<Chosen, Fault> {
     let mut book = Book::new(alloc, limits)?;
-    let mut out = Vec::with_capacity(alloc, 8_194)?;
+    let mut out = Vec::with_capacity(alloc, MOST_OUTPUTS)?;
     let mut commands = Vec::with_capacity(alloc, task.all() as usize)?;
     let mut clients = Vec::with_capacity(alloc, task.all() as usize)?;
     let mut known = vec![in alloc; None; PLACES as usize]?;
@@ -39,7 +39,6 @@ pub fn choose(alloc: Global, limits: &Limits, task: &Task) -> Result<Chosen, Fau
             turn,
             task.resting,
         )?;
-        out.clear();
         apply(&mut book, turn, next.client, &next.command, &mut out)?;
         outputs = outputs.wrapping_add(out.len() as u64);
         for output in &out {

@@ -13,7 +13,7 @@ use crate::fault::Fault;
 use crate::rate::Rate;
 use crate::running::run;
 use crate::words::Task;
-use book::Book;
+use book::{Book, MOST_OUTPUTS};
 use std::alloc::Global;
 use std::env;
 use std::process::ExitCode;
@@ -47,7 +47,7 @@ fn measure<R: Env + Clock + Print + Eprint + AllocGlobal>(rt: &R) -> Result<(), 
     let chosen = choose(rt.alloc(), &limits, &task)?;
 
     let mut book = Book::new(rt.alloc(), &limits)?;
-    let mut out = Vec::with_capacity(rt.alloc(), 8_194)?;
+    let mut out = Vec::with_capacity(rt.alloc(), MOST_OUTPUTS)?;
     let filled = run(
         &mut book,
         0,

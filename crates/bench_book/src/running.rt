@@ -3,10 +3,10 @@ ghost use Rattle.std.specs.Prelude.{◌+◌, ◌^◌, ◌≤◌, length, OnOk};
 ghost use Rattle.book.specs.Standing.{Below};
 
 use crate::fault::Fault;
-use book::Book;
+use book::{Book, MOST_OUTPUTS};
 use venue_model::{Command, Output};
 
-/// Does what a client's command at this sequence asks, and puts its outputs behind those in `out`.
+/// Does what a client's command at this sequence asks, and puts its outputs into `out`, in place of those in it.
 pub fn apply(
     book: &mut Book,
     sequence: u32,
@@ -17,15 +17,16 @@ pub fn apply(
     requires { Below sequence book.old.state.orders }
     ensures { OnOk result (Below (sequence + 1) book.new.state.orders) }
 {
-    if client < 1 || client > 8 || !command.is_in_range() {
+    if client < 1 || client > 8 || !command.is_in_range() || out.capacity() < MOST_OUTPUTS {
         return Err(Fault::Wrong);
     }
+    out.clear();
     book.apply(u64::from(sequence), client, command, out)?;
     Ok(())
 }
 
 /// Does what these commands of these clients ask, from this place of theirs on, which is the first one's sequence, and
-/// answers how many outputs they have. None is kept.
+/// answers how many outputs they have. `out` has room for those of one of them, and only they are kept.
 pub fn run(
     book: &mut Book,
     from: u32,
@@ -44,7 +45,6 @@ pub fn run(
         let (Some(client), Some(command)) = (clients.get(at), commands.get(at)) else {
             return Err(Fault::Wrong);
         };
-        out.clear();
         apply(book, sequence, *client, command, out)?;
         outputs = outputs.wrapping_add(out.len() as u64);
     }

@@ -1,23 +1,22 @@
 -- An order that a request amends: it stays an order of the book under its new name.
-use Rattle.std.proofs.Common.{◌≡◌, ℕ, ◌+◌, ◌-◌, ◌<◌, ◌≤◌, Bool, true, false, ◌&&◌, not, nat_eq, nat_le, List, [], ◌∷◌, ◌++◌, length, take, drop, get_or, refl, ap, sym, subst, ◌∙◌, arith, add-one, Some, None}
-use Rattle.std.specs.Prelude.{slice_index, slice_set, if◌then◌else◌}
+use Rattle.std.proofs.Common.{◌≡◌, ℕ, ◌-◌, ◌<◌, ◌≤◌, Bool, true, false, ◌&&◌, not, nat_eq, nat_le, List, [], ◌∷◌, ◌++◌, map, refl, ap, sym, subst, ◌∙◌, arith, Option, Some, None}
+use Rattle.std.specs.Prelude.{⊤, find, slice_index, if◌then◌else◌, MatchOption}
 use Rattle.std.specs.Str.{bytes_eq}
 use Rattle.std.proofs.lemmas.Bool.{eqb-true}
 use Rattle.std.proofs.lemmas.Bool.Decides.{nat_tests}
 use Rattle.venue_model.specs.declared.orders.Order.{Order}
 use Rattle.venue_model.specs.declared.outputs.Cause.{Cause}
-use Rattle.venue_model.specs.declared.outputs.CxlRejReason.TheVariants.{BrokerOption}
 use Rattle.venue_model.specs.declared.commands.OrderCancelReplaceRequest.{OrderCancelReplaceRequest}
 use Rattle.venue_model.specs.Orders.{leaves, is_live, same_side}
 use Rattle.venue_model.specs.Match.{live_alone}
-use Rattle.venue_model.specs.Requests.{Symbols, State, is_named, is_day, named, unfit, replace_fits, amended, restamped, keeps_place, amended_in_place, order_replaced}
+use Rattle.venue_model.specs.Requests.{Symbols, State, is_named, is_day, replace_fits, amended, restamped, keeps_place, order_replaced}
 use Rattle.venue_model.specs.ReplacedLaws.{in_place, again}
+use Rattle.price_levels.specs.Places.{CanAmend}
 use Rattle.book.specs.Standing.{InRange, Rests, Below}
-use Rattle.book.specs.Books.{Book, NamedApart, Belongs, IsBook, NamedAt, NoneNamed}
-use Rattle.book.proofs.Places.{put-back, before-is, behind-is, place-within, order-is}
-use Rattle.book.proofs.NameLemmas.{named-is, amended-at}
-use Rattle.std.proofs.lemmas.List.{set_split}
-use Rattle.book.proofs.Lists.{each-back, each-set}
+use Rattle.book.specs.Books.{Book, NamedApart, Belongs, IsBook, NoneNamed, Stands, StaysInPlace}
+use Rattle.book.proofs.Lists.{each-back}
+use Rattle.book.proofs.Fills.{live-true}
+use Rattle.book.proofs.NameLemmas.{IsAmong, found, amended-are, amended-kept}
 use Rattle.book.proofs.BookLemmas.{not-mutual}
 use Rattle.book.proofs.StandingLemmas.{each-instead, standing-instead}
 
@@ -33,9 +32,6 @@ more : (quantity cum : ℕ) → not (nat_le quantity cum) ≡ true → cum < qua
 more quantity cum h = grind (arith, nat_tests)
 
 -- a request that fits asks for more than was filled
-pub fits-of : (f : Order → Bool) (o : Order) → unfit f (Some o) ≡ None → f o ≡ true
-fits-of f o fit = elim (f o) as (λ b. (if b then None else Some BrokerOption) ≡ None → b ≡ true) [ true ↦ λ e. refl | false ↦ λ e. cc ] fit
-
 pub fits-more : (r : OrderCancelReplaceRequest) (o : Order) → replace_fits r o ≡ true → o.cum < r.quantity
 fits-more r o fit = more r.quantity o.cum (and_last (bytes_eq r.symbol o.symbol && same_side r.side o.side && is_day r.time_in_force) (not (nat_le r.quantity o.cum)) fit)
 
@@ -61,103 +57,124 @@ apart-instead o o' (x ∷ xs) ys fresh apart = (
 )
 
 -- the order of a name, in the book
-module _ (symbols : Symbols) (greatest : List ℕ) (client name : ℕ) (os : List Order) (place : ℕ) (at : NamedAt client name os place) (book : IsBook symbols os greatest) where
-  whole : IsBook symbols (at.before ++ at.order ∷ at.behind) greatest
-  whole = subst (λ zs. IsBook symbols zs greatest) at.split book
+module _ (symbols : Symbols) (greatest : List ℕ) (client name : ℕ) (os : List Order) (old : Order) (its : IsAmong client name os old)
+    (book : IsBook symbols os greatest) where
+  whole : IsBook symbols (its.before ++ old ∷ its.behind) greatest
+  whole = subst (λ zs. IsBook symbols zs greatest) its.split book
 
-  pub at-rests : Rests at.order
-  at-rests = (each-back Rests at.before (at.order ∷ at.behind) whole.standing.each).0
+  pub its-rests : Rests old
+  its-rests = (each-back Rests its.before (old ∷ its.behind) whole.standing.each).0
 
-  pub at-belongs : Belongs symbols greatest at.order
-  at-belongs = (each-back (Belongs symbols greatest) at.before (at.order ∷ at.behind) whole.each).0
+  pub its-belongs : Belongs symbols greatest old
+  its-belongs = (each-back (Belongs symbols greatest) its.before (old ∷ its.behind) whole.each).0
 
-  pub at-client : at.order.client ≡ client
-  at-client = eqb-true at.order.client client (and_first (nat_eq at.order.client client) (nat_eq at.order.cl_ord_id name) at.is_it)
+  pub its-client : old.client ≡ client
+  its-client = eqb-true old.client client (and_first (nat_eq old.client client) (nat_eq old.cl_ord_id name) its.is_it)
 
   -- another one of its client, symbol and stamp stands in its place
-  pub book-amended : (old o : Order) → old ≡ get_or os place old → o.client ≡ old.client → o.symbol ≡ old.symbol → o.stamp ≡ old.stamp → InRange o →
-      0 < leaves o → o.cl_ord_id ≤ slice_index greatest (client - 1) → NoneNamed client o.cl_ord_id os → IsBook symbols (slice_set os place o) greatest
-  book-amended old o is client_is symbol_is stamp_is range some named fresh =
-      let same : old ≡ at.order = order-is os at.before at.behind at.order place at.split at.place_is old is in
-      let its_client : o.client ≡ at.order.client = client_is ∙ ap (λ (x : Order). x.client) same in
-      let its_symbol : o.symbol ≡ at.order.symbol = symbol_is ∙ ap (λ (x : Order). x.symbol) same in
-      let stamp : o.stamp ≡ at.order.stamp = stamp_is ∙ ap (λ (x : Order). x.stamp) same in
-      let mine : o.client ≡ client = its_client ∙ at-client in
+  pub book-instead : (o : Order) → o.client ≡ old.client → o.symbol ≡ old.symbol → o.stamp ≡ old.stamp → InRange o →
+      0 < leaves o → o.cl_ord_id ≤ slice_index greatest (client - 1) → NoneNamed client o.cl_ord_id os →
+      IsBook symbols (its.before ++ o ∷ its.behind) greatest
+  book-instead o client_is symbol_is stamp range some named fresh =
+      let mine : o.client ≡ client = client_is ∙ its-client in
       let belongs : Belongs symbols greatest o = record {
-        from = let from = at-belongs.from in omega (arith, from, its_client);
-        to = let to = at-belongs.to in omega (arith, to, its_client);
+        from = let from = its-belongs.from in omega (arith, from, client_is);
+        to = let to = its-belongs.to in omega (arith, to, client_is);
         name = rw mine named;
-        symbol = rw its_symbol at-belongs.symbol;
+        symbol = rw symbol_is its-belongs.symbol;
       } in
-      let its_fresh : NoneNamed o.client o.cl_ord_id (at.before ++ at.order ∷ at.behind) = rw mine (subst (NoneNamed client o.cl_ord_id) at.split fresh) in
-      let within : place < length os = place-within os at.before at.behind at.order place at.split at.place_is in
-      let new_is : slice_set os place o ≡ at.before ++ (live_alone o ++ at.behind) =
-      put-back os place o within some
-      ∙ ap (λ xs. xs ++ (live_alone o ++ drop (place + 1) os)) (before-is os at.before at.behind at.order place at.split at.place_is)
-      ∙ ap (λ ys. at.before ++ (live_alone o ++ ys)) (behind-is os at.before at.behind at.order place at.split at.place_is) in
-      rw new_is (record {
-        standing = standing-instead at.order o at.before at.behind stamp range whole.standing;
-        apart = apart-instead at.order o at.before at.behind its_fresh whole.apart;
-        each = each-instead at.order o (Belongs symbols greatest) at.before at.behind (λ live b. belongs) whole.each;
+      let its_fresh : NoneNamed o.client o.cl_ord_id (its.before ++ old ∷ its.behind) = rw mine (subst (NoneNamed client o.cl_ord_id) its.split fresh) in
+      let alone : live_alone o ≡ o ∷ [] = ap (λ b. if b then o ∷ [] else []) (live-true o some) in
+      subst (λ zs. IsBook symbols (its.before ++ (zs ++ its.behind)) greatest) alone (record {
+        standing = standing-instead old o its.before its.behind stamp range whole.standing;
+        apart = apart-instead old o its.before its.behind its_fresh whole.apart;
+        each = each-instead old o (Belongs symbols greatest) its.before its.behind (λ live b. belongs) whole.each;
         clients = whole.clients;
       })
 
--- the order that a replace goes for
-pub record Target (symbols : Symbols) (s : State) (c : Cause) (r : OrderCancelReplaceRequest) (o : Order) : Type 0 where
-  pub is_named : named s c.gateway r.orig_cl_ord_id ≡ Some o
-  pub asks : o.cum < r.quantity
-  pub rests : Rests o
-  pub belongs : Belongs symbols s.greatest o
-  pub client : o.client ≡ c.gateway
+-- an order that is found by its name stands in the book
+pub stands : (book : Book) (client name : ℕ) (o : Order) → IsBook book.symbols book.state.orders book.state.greatest →
+    find (is_named client name) book.state.orders ≡ Some o → Stands book client o
+stands book client name o is_book is =
+    let its = found client name book.state.orders o is_book.apart is in
+    record {
+      rests = its-rests book.symbols book.state.greatest client name book.state.orders o its is_book;
+      belongs = its-belongs book.symbols book.state.greatest client name book.state.orders o its is_book;
+      its_client = its-client book.symbols book.state.greatest client name book.state.orders o its is_book;
+    }
 
-module _ (symbols : Symbols) (s : State) (c : Cause) (r : OrderCancelReplaceRequest) (place : ℕ) (at : NamedAt c.gateway r.orig_cl_ord_id s.orders place) (o : Order)
-    (is : o ≡ get_or s.orders place o) where
-  pub target : IsBook symbols s.orders s.greatest → unfit (replace_fits r) (named s c.gateway r.orig_cl_ord_id) ≡ None → Target symbols s c r o
-  target book fit =
-      let its_name : named s c.gateway r.orig_cl_ord_id ≡ Some o = named-is c.gateway r.orig_cl_ord_id s.orders place o at is in
-      let same : o ≡ at.order = order-is s.orders at.before at.behind at.order place at.split at.place_is o is in
-      record {
-        is_named = its_name;
-        asks = fits-more r o (fits-of (replace_fits r) o (ap (unfit (replace_fits r)) (sym its_name) ∙ fit));
-        rests = rw same (at-rests symbols s.greatest c.gateway r.orig_cl_ord_id s.orders place at book);
-        belongs = rw same (at-belongs symbols s.greatest c.gateway r.orig_cl_ord_id s.orders place at book);
-        client = rw same (at-client symbols s.greatest c.gateway r.orig_cl_ord_id s.orders place at book);
-      }
+pub named-stands : (book : Book) (client name : ℕ) (named : Option Order) → IsBook book.symbols book.state.orders book.state.greatest →
+    named ≡ find (is_named client name) book.state.orders → MatchOption named ⊤ (Stands book client)
+named-stands book client name None is_book is = tt
+named-stands book client name (Some o) is_book is = stands book client name o is_book (sym is)
 
-  -- amended where it stands
-  pub set-is : slice_set s.orders place (amended r o) ≡ amended_in_place s c.gateway r
-  set-is =
-      let same : o ≡ at.order = order-is s.orders at.before at.behind at.order place at.split at.place_is o is in
-      let within : place < length s.orders = place-within s.orders at.before at.behind at.order place at.split at.place_is in
-      set_split s.orders place (amended r o) within
-      ∙ ap (λ k. take place s.orders ++ amended r o ∷ drop k s.orders) (sym (add-one place))
-      ∙ ap (λ xs. xs ++ amended r o ∷ drop (place + 1) s.orders) (before-is s.orders at.before at.behind at.order place at.split at.place_is)
-      ∙ ap (λ ys. at.before ++ amended r o ∷ ys) (behind-is s.orders at.before at.behind at.order place at.split at.place_is)
-      ∙ ap (λ x. at.before ++ amended r x ∷ at.behind) same
-      ∙ sym (amended-at c.gateway r.orig_cl_ord_id s.orders place at (amended r))
+-- WHERE IT STANDS
+
+keeps-price : (r : OrderCancelReplaceRequest) (o : Order) → keeps_place r o ≡ true → r.price ≡ o.price
+keeps-price r o keeps = eqb-true r.price o.price (and_first (nat_eq r.price o.price) (nat_le r.quantity o.total) keeps)
+
+no-more : (n m : ℕ) → nat_le n m ≡ true → n ≤ m
+no-more n m h = grind (arith, nat_tests)
+
+-- its total doesn't grow, and leaves something
+pub can-amend : (r : OrderCancelReplaceRequest) (o : Order) → StaysInPlace r o → CanAmend r.quantity o
+can-amend r o stays = record {
+  no_more = no-more r.quantity o.total (and_last (nat_eq r.price o.price) (nat_le r.quantity o.total) stays.keeps);
+  some = fits-more r o stays.fits;
+}
+
+module _ (symbols : Symbols) (greatest : List ℕ) (client : ℕ) (r : OrderCancelReplaceRequest) (os new : List Order) (book : IsBook symbols os greatest)
+    (new_is : new ≡ map (λ o. if is_named client r.orig_cl_ord_id o then record o { cl_ord_id = r.cl_ord_id; total = r.quantity } else o) os) where
+  module _ (o : Order) (is : find (is_named client r.orig_cl_ord_id) os ≡ Some o) (stays : StaysInPlace r o) where
+    its : IsAmong client r.orig_cl_ord_id os o
+    its = found client r.orig_cl_ord_id os o book.apart is
+
+    price : r.price ≡ o.price
+    price = keeps-price r o stays.keeps
+
+    one-amended : new ≡ map (λ x. if is_named client r.orig_cl_ord_id x then amended r x else x) os
+    one-amended = new_is ∙ amended-kept client r.orig_cl_ord_id os o its r price
+
+    one-book : r.cl_ord_id ≤ slice_index greatest (client - 1) → NoneNamed client r.cl_ord_id os → IsBook symbols new greatest
+    one-book named fresh =
+        let can = can-amend r o stays in
+        let rests = its-rests symbols greatest client r.orig_cl_ord_id os o its book in
+        let range = rests.in_range in
+        let total = range.total in
+        let no_more = can.no_more in
+        let asks = can.some in
+        subst (λ zs. IsBook symbols zs greatest) (sym (one-amended ∙ amended-are client r.orig_cl_ord_id os o its (amended r)))
+        (book-instead symbols greatest client r.orig_cl_ord_id os o its book (amended r o) refl refl refl
+        (amended-range r o range asks (omega (arith, total, no_more)) (rw price range.price)) (omega (arith, asks)) named fresh)
+
+  -- whichever it is
+  its-one : (named : Option Order) → find (is_named client r.orig_cl_ord_id) os ≡ named → MatchOption named ⊥ (StaysInPlace r) →
+      (o : Order) × (find (is_named client r.orig_cl_ord_id) os ≡ Some o) × StaysInPlace r o
+  its-one None is never = absurd never
+  its-one (Some o) is stays = (o, is, stays)
+
+  pub list-amended : MatchOption (find (is_named client r.orig_cl_ord_id) os) ⊥ (StaysInPlace r) →
+      new ≡ map (λ x. if is_named client r.orig_cl_ord_id x then amended r x else x) os
+  list-amended stays =
+      let one = its-one (find (is_named client r.orig_cl_ord_id) os) refl stays in
+      one-amended one.0 one.1 one.2
+
+  pub book-amended : MatchOption (find (is_named client r.orig_cl_ord_id) os) ⊥ (StaysInPlace r) →
+      r.cl_ord_id ≤ slice_index greatest (client - 1) → NoneNamed client r.cl_ord_id os → IsBook symbols new greatest
+  book-amended stays =
+      let one = its-one (find (is_named client r.orig_cl_ord_id) os) refl stays in
+      one-book one.0 one.1 one.2
+
+-- an order keeps its stamp where it is amended, so all stay below a sequence
+pub below-amended : (client name new_name total sequence : ℕ) (os : List Order) → Below sequence os →
+    Below sequence (map (λ o. if is_named client name o then record o { cl_ord_id = new_name; total = total } else o) os)
+below-amended client name new_name total sequence [] below = tt
+below-amended client name new_name total sequence (o ∷ os) below = (
+  elim (is_named client name o) as (λ b. (if b then record o { cl_ord_id = new_name; total = total } else o).stamp < sequence)
+      [ true ↦ below.0 | false ↦ below.0 ],
+  below-amended client name new_name total sequence os below.1,
+)
 
 module _ (s : State) (c : Cause) (r : OrderCancelReplaceRequest) (o : Order) where
-  pub replaced-kept : named s c.gateway r.orig_cl_ord_id ≡ Some o → keeps_place r o ≡ true → order_replaced s c r (named s c.gateway r.orig_cl_ord_id) ≡ in_place s c r o
-  replaced-kept is keeps = ap (order_replaced s c r) is ∙ ap (λ b. if b then in_place s c r o else again s c r o) keeps
-
-  pub replaced-moved : named s c.gateway r.orig_cl_ord_id ≡ Some o → keeps_place r o ≡ false → order_replaced s c r (named s c.gateway r.orig_cl_ord_id) ≡ again s c r o
-  replaced-moved is loses = ap (order_replaced s c r) is ∙ ap (λ b. if b then in_place s c r o else again s c r o) loses
-
--- the target, as the code has read it out of the book
-pub seen : (b : Book) (logic : Symbols) (items : List Order) (greatest : List ℕ) →
-    record { symbols = logic; state = record { orders = items; greatest = greatest } } ≡ b → IsBook logic items greatest →
-    (c : Cause) (r : OrderCancelReplaceRequest) (place : ℕ) → NamedAt c.gateway r.orig_cl_ord_id b.state.orders place →
-    (o : Order) → o ≡ get_or items place o → unfit (replace_fits r) (named b.state c.gateway r.orig_cl_ord_id) ≡ None → Target b.symbols b.state c r o
-seen b logic items greatest view book c r place at o is fit =
-    target b.symbols b.state c r place at o (is ∙ ap (λ (x : Book). get_or x.state.orders place o) view)
-    (subst (λ (x : Book). IsBook x.symbols x.state.orders x.state.greatest) view book) fit
-
--- the amended order keeps its stamp, so all stamps stay below the sequence
-pub amended-below : (client name sequence : ℕ) (os : List Order) (place : ℕ) → NamedAt client name os place → (old o : Order) → old ≡ get_or os place old →
-    o.stamp ≡ old.stamp → Below sequence os → Below sequence (slice_set os place o)
-amended-below client name sequence os place at old o is stamp below =
-    let same : old ≡ at.order = order-is os at.before at.behind at.order place at.split at.place_is old is in
-    let its_stamp : o.stamp ≡ at.order.stamp = stamp ∙ ap (λ (x : Order). x.stamp) same in
-    let its_below : at.order.stamp < sequence =
-    (each-back (λ x. x.stamp < sequence) at.before (at.order ∷ at.behind) (subst (Below sequence) at.split below)).0 in
-    each-set (λ x. x.stamp < sequence) os place o below (rw its_stamp its_below)
+  pub replaced-moved : keeps_place r o ≡ false → order_replaced s c r (Some o) ≡ again s c r o
+  replaced-moved loses = ap (λ b. if b then in_place s c r o else again s c r o) loses

@@ -1,5 +1,5 @@
 -- What stands in the book stands in it after each thing that a request may do.
-use Rattle.std.proofs.Common.{◌≡◌, ℕ, suc, ◌+◌, ◌-◌, ◌<◌, ◌≤◌, Bool, true, false, ◌&&◌, nat_eq, List, [], ◌∷◌, ◌++◌, length, map, refl, ap, sym, subst, ◌∙◌, arith, append-nil, zero, length-set, take, drop, get_or, take-append-drop, drop-cons, add-one}
+use Rattle.std.proofs.Common.{◌≡◌, ℕ, suc, ◌+◌, ◌-◌, ◌<◌, ◌≤◌, Bool, true, false, ◌&&◌, not, nat_eq, List, [], ◌∷◌, ◌++◌, length, map, refl, ap, subst, ◌∙◌, arith, append-nil, zero, length-set}
 use Rattle.std.specs.Prelude.{filter, if◌then◌else◌, slice_index, slice_set}
 use Rattle.std.specs.List.{AllByRecursion}
 use Rattle.std.proofs.lemmas.Bool.{eqb-true}
@@ -12,8 +12,9 @@ use Rattle.venue_model.specs.Match.{crossing, after_fill, settled, rest, done, m
 use Rattle.venue_model.specs.Requests.{Symbols, is_named}
 use Rattle.book.specs.Standing.{Standing}
 use Rattle.book.specs.Books.{NamedApart, Belongs, IsBook, NoneNamed}
-use Rattle.book.proofs.Lists.{each-append, each-map, each-filter, each-without, length-without}
-use Rattle.book.proofs.StandingLemmas.{standing-without}
+use Rattle.book.proofs.Lists.{each-append, each-map, each-filter, length-without}
+use Rattle.book.proofs.StandingLemmas.{standing-filter}
+use Rattle.book.proofs.NameLemmas.{IsAmong, others-are}
 
 -- a change of an order that keeps whose it is, its name and its symbol
 record Keeps (f : Order → Order) : Type 0 where
@@ -34,6 +35,11 @@ none-map : (f : Order → Order) → Keeps f → (client name : ℕ) (os : List 
 none-map f keeps client name [] none = tt
 none-map f keeps client name (o ∷ os) none =
     (rw (keeps.client o, keeps.name o) none.0, none-map f keeps client name os none.1)
+
+-- those that a match leaves have the names that they had
+pub none-rest : (i : Order) (client name : ℕ) (os : List Order) → NoneNamed client name os → NoneNamed client name (rest i os)
+none-rest i client name os none = each-filter (λ x. is_named client name x ≡ false) is_live (map (settled i (crossing i os)) os)
+    (none-map (settled i (crossing i os)) (settled-keeps i (crossing i os)) client name os none)
 
 apart-map : (f : Order → Order) → Keeps f → (os : List Order) → NamedApart os → NamedApart (map f os)
 apart-map f keeps [] apart = tt
@@ -74,17 +80,13 @@ module _ (symbols : Symbols) (greatest : List ℕ) where
     rest-apart : NamedApart (rest i os)
     rest-apart = apart-filter is_live (map (settled i (crossing i os)) os) (apart-map (settled i (crossing i os)) (settled-keeps i (crossing i os)) os book.apart)
 
-    rest-none : NoneNamed i.client i.cl_ord_id (rest i os)
-    rest-none = each-filter (λ x. is_named i.client i.cl_ord_id x ≡ false) is_live (map (settled i (crossing i os)) os)
-        (none-map (settled i (crossing i os)) (settled-keeps i (crossing i os)) i.client i.cl_ord_id os fresh)
-
     rest-belongs : AllByRecursion (Belongs symbols greatest) (rest i os)
     rest-belongs = each-filter (Belongs symbols greatest) is_live (map (settled i (crossing i os)) os)
         (belongs-map (settled i (crossing i os)) (settled-keeps i (crossing i os)) os book.each)
 
     matched-apart : (t : TimeInForce) → NamedApart (matched t i os)
     matched-apart Day = elim (is_live (done i os)) as (λ b. NamedApart (rest i os ++ (if b then done i os ∷ [] else [])))
-        [ true ↦ apart-push (rest i os) (done i os) rest-none rest-apart | false ↦ rw append-nil rest-apart ]
+        [ true ↦ apart-push (rest i os) (done i os) (none-rest i i.client i.cl_ord_id os fresh) rest-apart | false ↦ rw append-nil rest-apart ]
     matched-apart ImmediateOrCancel = rest-apart
     matched-apart FillOrKill = elim (can_fill i os) as (λ b. NamedApart (if b then rest i os else os)) [ true ↦ rest-apart | false ↦ book.apart ]
 
@@ -135,36 +137,20 @@ book-accepted symbols os greatest k n above book = record {
   clients = length-set greatest k n ∙ book.clients;
 }
 
-apart-without : (xs ys : List Order) (o : Order) → NamedApart (xs ++ o ∷ ys) → NamedApart (xs ++ ys)
-apart-without [] ys o apart = apart.1
-apart-without (x ∷ xs) ys o apart = (each-without (λ y. is_named x.client x.cl_ord_id y ≡ false) xs ys o apart.0, apart-without xs ys o apart.1)
+-- some of the orders
+pub book-some : (symbols : Symbols) (greatest : List ℕ) (p : Order → Bool) (os : List Order) → IsBook symbols os greatest → IsBook symbols (filter p os) greatest
+book-some symbols greatest p os book = record {
+  standing = standing-filter p os book.standing;
+  apart = apart-filter p os book.apart;
+  each = each-filter (Belongs symbols greatest) p os book.each;
+  clients = book.clients;
+}
 
--- the order at a place left
-module _ (os new : List Order) (place : ℕ) (o : Order) (within : place < length os) (new_is : new ≡ take place os ++ drop (place + 1) os) where
-  abbrev at : Order
-  at = get_or os place o
-
-  split-at : os ≡ take place os ++ at ∷ drop (place + 1) os
-  split-at =
-      sym (take-append-drop place os) ∙ ap (λ zs. take place os ++ zs) (drop-cons os place o within)
-      ∙ ap (λ n. take place os ++ at ∷ drop n os) (sym (add-one place))
-
-  pub each-removed : (P : Order → Type 0) → AllByRecursion P os → AllByRecursion P new
-  each-removed P all = rw new_is (each-without P (take place os) (drop (place + 1) os) at (subst (AllByRecursion P) split-at all))
-
-  pub length-removed : length new + 1 ≡ length os
-  length-removed =
-      let more = length-without (take place os) (drop (place + 1) os) at in
-      let whole = ap (length {A = Order}) split-at in
-      let less = ap (length {A = Order}) new_is in
-      omega (arith, more, whole, less)
-
-  pub book-without : (symbols : Symbols) (greatest : List ℕ) → IsBook symbols os greatest → IsBook symbols new greatest
-  book-without symbols greatest book =
-      let whole = subst (λ zs. IsBook symbols zs greatest) split-at book in
-      rw new_is (record {
-        standing = standing-without (take place os) (drop (place + 1) os) at whole.standing;
-        apart = apart-without (take place os) (drop (place + 1) os) at whole.apart;
-        each = each-without (Belongs symbols greatest) (take place os) (drop (place + 1) os) at whole.each;
-        clients = whole.clients;
-      })
+-- all but the one of a name
+pub one-less : (client name : ℕ) (os : List Order) (o : Order) → IsAmong client name os o →
+    length (filter (λ x. not (is_named client name x)) os) + 1 ≡ length os
+one-less client name os o its =
+    let less = ap (length {A = Order}) (others-are client name os o its) in
+    let one = length-without its.before its.behind o in
+    let all = ap (length {A = Order}) its.split in
+    omega (arith, less, one, all)

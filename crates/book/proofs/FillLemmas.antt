@@ -1,86 +1,116 @@
--- One fill at the best place, as the definitions of a match see it.
-use Rattle.std.proofs.Common.{◌≡◌, ℕ, ◌+◌, ◌<◌, min, List, [], ◌∷◌, ◌++◌, take, drop, get_or, ap, sym, subst, ◌∙◌, arith, append_assoc}
-use Rattle.std.proofs.Common.{nat_cmp}
-use Rattle.std.specs.Ordering.{ord_min}
+-- One fill, as the definitions of a match see it, and what stands in the book's list behind it.
+use Rattle.std.proofs.Common.{◌≡◌, ℕ, ◌+◌, ◌<◌, ◌≤◌, false, List, [], ◌∷◌, ◌++◌, length, refl, ap, sym, subst, ◌∙◌, arith, append_assoc}
+use Rattle.std.specs.Prelude.{if◌then◌else◌}
+use Rattle.std.proofs.Math.Nat.{mul-le-mul_left}
 use Rattle.std.proofs.lemmas.Bool.Decides.{nat_tests}
-use Rattle.std.proofs.lemmas.Grind.{common_steps}
 use Rattle.venue_model.specs.declared.orders.Order.{Order}
 use Rattle.venue_model.specs.declared.outputs.Cause.{Cause}
 use Rattle.venue_model.specs.declared.outputs.Output.{Output}
-use Rattle.venue_model.specs.declared.outputs.ExecType.TheVariants.{Trade}
-use Rattle.venue_model.specs.Orders.{leaves}
-use Rattle.venue_model.specs.Match.{filled, exec, live_alone, rest, done, trades}
+use Rattle.venue_model.specs.Orders.{leaves, is_live}
+use Rattle.venue_model.specs.Match.{filled, live_alone, rest, done, trades}
+use Rattle.resting.specs.Firsts.{FillsFirst}
 use Rattle.book.specs.Passes.{Matching, matching, Passed, traded, resting_after, incoming_after, orders_after, reports}
-use Rattle.book.specs.Standing.{InRange, Rests, Standing}
-use Rattle.book.specs.Best.{BestAt}
-use Rattle.book.proofs.Lists.{each-back}
+use Rattle.book.specs.Reads.{fills}
+use Rattle.book.specs.Standing.{InRange, Rests, Below, Standing}
+use Rattle.book.proofs.Lists.{each-back, length-without}
 use Rattle.book.proofs.Sides.{ahead-self}
-use Rattle.book.proofs.Places.{before-is, behind-is, order-is}
-use Rattle.book.proofs.StandingLemmas.{standing-instead}
-use Rattle.book.proofs.Passes.{rest-step, done-step, told-step}
+use Rattle.book.proofs.Fills.{leaves-filled}
+use Rattle.book.proofs.StandingLemmas.{standing-instead, below-instead, length-instead}
+use Rattle.book.proofs.Passes.{rest-step, done-step, told-step, gets-one}
 
-module _ (c : Cause) (i : Order) (orders : List Order) (place : ℕ) (best : BestAt i orders place) (told : List Output)
-    (some : 0 < leaves i) (some_resting : 0 < leaves best.order) where
-  fill-best : Passed c (matching i orders told)
-      (matching (incoming_after i best.order) (orders_after i best.order best.before best.behind) (told ++ reports c i best.order))
-  fill-best = record {
-    left = ap (rest i) best.split ∙ rest-step i best.order best.before best.behind best.first (ahead-self best.order);
-    filled = ap (done i) best.split ∙ done-step i best.order best.before best.behind best.first (ahead-self best.order);
-    said =
-        ap (λ os. told ++ trades c i os) best.split
-        ∙ ap (λ ts. told ++ ts) (told-step i best.order best.before best.behind best.first (ahead-self best.order) c (omega (arith, some, some_resting)))
-        ∙ sym (append_assoc told (reports c i best.order) (trades c (incoming_after i best.order) (orders_after i best.order best.before best.behind)));
-  }
+-- a fill keeps an order in range
+filled-range : (o : Order) (n : ℕ) → InRange o → n ≤ leaves o → InRange (filled o n o.price)
+filled-range o n range within =
+    let cum = range.cum in
+    let notional = range.notional in
+    let price = mul-le-mul_left n range.price in
+    record {
+      cum = omega (arith, cum, within);
+      total = range.total;
+      price = range.price;
+      notional = omega (arith, notional, price);
+    }
 
-  -- the same of what the code has found
-  pub fill-passed : (o resting next : Order) (new : List Order) (n : ℕ) (middle more : List Output) → o ≡ get_or orders place o →
-      n ≡ min (leaves o) (leaves i) → resting ≡ filled o n o.price → next ≡ filled i n o.price →
-      new ≡ take place orders ++ (live_alone resting ++ drop (place + 1) orders) →
-      middle ≡ told ++ exec c (Trade n o.price) resting ∷ [] → more ≡ middle ++ exec c (Trade n o.price) next ∷ [] →
-      Passed c (matching i orders told) (matching next new more)
-  fill-passed o resting next new n middle more o_is n_is resting_is next_is new_is middle_is more_is =
-      let b_is : o ≡ best.order = order-is orders best.before best.behind best.order place best.split best.place_is o o_is in
-      let quantity : n ≡ traded i best.order = n_is ∙ ap (λ x. min (leaves x) (leaves i)) b_is in
-      let its_next : next ≡ incoming_after i best.order = next_is ∙ ap (λ x. filled i n x.price) b_is ∙ ap (λ q. filled i q best.order.price) quantity in
-      let its_resting : resting ≡ resting_after i best.order = resting_is ∙ ap (λ x. filled x n x.price) b_is ∙ ap (λ q. filled best.order q best.order.price) quantity in
-      let its_orders : new ≡ orders_after i best.order best.before best.behind =
-      new_is ∙ ap (λ xs. xs ++ (live_alone resting ++ drop (place + 1) orders)) (before-is orders best.before best.behind best.order place best.split best.place_is)
-      ∙ ap (λ ys. best.before ++ (live_alone resting ++ ys)) (behind-is orders best.before best.behind best.order place best.split best.place_is)
-      ∙ ap (λ x. best.before ++ (live_alone x ++ best.behind)) its_resting in
-      let its_told : more ≡ told ++ reports c i best.order =
-      more_is ∙ ap (λ ts. ts ++ exec c (Trade n o.price) next ∷ []) middle_is
-      ∙ append_assoc told (exec c (Trade n o.price) resting ∷ []) (exec c (Trade n o.price) next ∷ [])
-      ∙ ap (λ x. told ++ exec c (Trade n x.price) resting ∷ exec c (Trade n x.price) next ∷ []) b_is
-      ∙ ap (λ q. told ++ exec c (Trade q best.order.price) resting ∷ exec c (Trade q best.order.price) next ∷ []) quantity
-      ∙ ap (λ x. told ++ exec c (Trade (traded i best.order) best.order.price) x ∷ exec c (Trade (traded i best.order) best.order.price) next ∷ []) its_resting
-      ∙ ap (λ x. told ++ exec c (Trade (traded i best.order) best.order.price) (resting_after i best.order) ∷ exec c (Trade (traded i best.order) best.order.price) x ∷ []) its_next in
-      rw (its_next, its_orders, its_told) fill-best
+used-up : (o : Order) → leaves o ≡ 0 → is_live o ≡ false
+used-up o none = grind (arith, nat_tests)
 
--- the lesser of two numbers, as std has it
-pub min-of : (a b n : ℕ) → n ≡ ord_min nat_cmp a b → n ≡ min a b
-min-of a b n is = grind (arith, nat_tests, common_steps)
+-- A fill of the first of the crossed orders: what is told and left goes on, and each thing that stands in the list stands.
+pub record Filled (c : Cause) (old new : Matching) : Type 0 where
+  pub passed : Passed c old new
+  pub less : leaves new.incoming < leaves old.incoming
+  pub standing : Standing new.orders
+  pub below : (sequence : ℕ) → Below sequence old.orders → Below sequence new.orders
+  pub some : 1 ≤ length old.orders
+  pub no_longer : length new.orders ≤ length old.orders
+  pub shorter : 0 < leaves new.incoming → length new.orders + 1 ≡ length old.orders
+  pub one_less : fills old.incoming old.orders ≡ fills new.incoming new.orders + 1
 
--- of the best order something is left
-pub best-live : (i : Order) (orders : List Order) (place : ℕ) (best : BestAt i orders place) → Standing orders → 0 < leaves best.order
-best-live i orders place best standing =
-    let rests : Rests best.order = (each-back Rests best.before (best.order ∷ best.behind) (subst Standing best.split standing).each).0 in
-    let live = rests.live in
-    omega (arith, live)
+module _ (i o : Order) (orders new : List Order) (fill : FillsFirst i orders new o) (standing : Standing orders) where
+  whole : Standing (fill.before ++ o ∷ fill.behind)
+  whole = subst Standing fill.split standing
 
--- what stands in the list behind the fill
-module _ (i : Order) (orders : List Order) (place : ℕ) (best : BestAt i orders place) (o resting : Order) (n : ℕ) (new : List Order)
-    (o_is : o ≡ get_or orders place o) (resting_is : resting ≡ filled o n o.price)
-    (new_is : new ≡ take place orders ++ (live_alone resting ++ drop (place + 1) orders)) where
-  stamp-is : resting.stamp ≡ best.order.stamp
-  stamp-is = ap (λ (x : Order). x.stamp) resting_is ∙ ap (λ (x : Order). x.stamp) (order-is orders best.before best.behind best.order place best.split best.place_is o o_is)
+  pub first-rests : Rests o
+  first-rests = (each-back Rests fill.before (o ∷ fill.behind) whole.each).0
 
-  orders-are : new ≡ best.before ++ (live_alone resting ++ best.behind)
-  orders-are = new_is ∙ ap (λ xs. xs ++ (live_alone resting ++ drop (place + 1) orders)) (before-is orders best.before best.behind best.order place best.split best.place_is)
-      ∙ ap (λ ys. best.before ++ (live_alone resting ++ ys)) (behind-is orders best.before best.behind best.order place best.split best.place_is)
+  some-resting : 0 < leaves o
+  some-resting = let live = first-rests.live in omega (arith, live)
 
-  pub fill-standing : InRange resting → Standing orders → Standing new
-  fill-standing in_range standing = rw orders-are
-      (standing-instead best.order resting best.before best.behind stamp-is in_range (subst Standing best.split standing))
+  -- where something is left of the incoming order, nothing is left of the resting one
+  gone : 0 < leaves (incoming_after i o) → live_alone (resting_after i o) ≡ []
+  gone some =
+      let left = leaves-filled o (traded i o) o.price in
+      let more = leaves-filled i (traded i o) o.price in
+      let none : leaves (resting_after i o) ≡ 0 = omega (arith, left, more, some) in
+      ap (λ b. if b then resting_after i o ∷ [] else []) (used-up (resting_after i o) none)
+
+  abbrev behind : List Order
+  behind = orders_after i o fill.before fill.behind
+
+  without : 0 < leaves (incoming_after i o) → length behind + 1 ≡ length orders
+  without some =
+      let alone = ap (λ xs. length (fill.before ++ (xs ++ fill.behind))) (gone some) in
+      let more = length-without fill.before fill.behind o in
+      let all = ap (length {A = Order}) fill.split in
+      omega (arith, alone, more, all)
+
+  module _ (c : Cause) (some : 0 < leaves i) (told : List Output) where
+    its-passed : Passed c (matching i orders told) (matching (incoming_after i o) behind (told ++ reports c i o))
+    its-passed = record {
+      left = ap (rest i) fill.split ∙ rest-step i o fill.before fill.behind fill.first (ahead-self o);
+      filled = ap (done i) fill.split ∙ done-step i o fill.before fill.behind fill.first (ahead-self o);
+      said =
+          ap (λ os. told ++ trades c i os) fill.split
+          ∙ ap (λ ts. told ++ ts) (told-step i o fill.before fill.behind fill.first (ahead-self o) c (omega (arith, some, some-resting)))
+          ∙ sym (append_assoc told (reports c i o) (trades c (incoming_after i o) behind));
+    }
+
+    its-fill : Filled c (matching i orders told) (matching (incoming_after i o) behind (told ++ reports c i o))
+    its-fill = record {
+      passed = its-passed;
+      less = let after = leaves-filled i (traded i o) o.price in omega (arith, after, some, some-resting);
+      standing = standing-instead o (resting_after i o) fill.before fill.behind refl
+          (filled-range o (traded i o) first-rests.in_range (omega arith)) whole;
+      below = λ sequence below. below-instead o (resting_after i o) fill.before fill.behind sequence refl
+          (subst (Below sequence) fill.split below);
+      some =
+          let one = length-without fill.before fill.behind o in
+          let all = ap (length {A = Order}) fill.split in
+          omega (arith, one, all);
+      no_longer =
+          let fewer = length-instead o (resting_after i o) fill.before fill.behind in
+          let all = ap (length {A = Order}) fill.split in
+          omega (arith, fewer, all);
+      shorter = without;
+      one_less =
+          let one = gets-one i o fill.before fill.behind fill.first (ahead-self o) (omega (arith, some, some-resting)) in
+          let all = ap (fills i) fill.split in
+          omega (arith, one, all);
+    }
+
+    -- the same of what the code has made
+    pub fill-is : (next : Order) (more : List Output) → next ≡ incoming_after i o → more ≡ told ++ reports c i o →
+        Filled c (matching i orders told) (matching next new more)
+    fill-is next more next_is more_is = rw (next_is, more_is, fill.after) its-fill
 
 -- one part of a match, and then the next
 pub passed-trans : (c : Cause) (first second third : Matching) → Passed c first second → Passed c second third → Passed c first third

@@ -4,12 +4,11 @@ mod Sides
 mod Priority
 mod Fills
 mod Passes
-mod BestLemmas
-mod Places
 mod StandingLemmas
 mod FillLemmas
 mod Overs
 mod NameLemmas
+mod CountLemmas
 mod BookLemmas
 mod RequestLemmas
 mod AmendLemmas
@@ -24,6 +23,7 @@ mod LawOrderly
 mod LawTotals
 mod LawTraded
 pub mod LawStamps
+mod GroupLemmas
 mod NextLemmas
 mod ListingLemmas
 mod ListedLemmas

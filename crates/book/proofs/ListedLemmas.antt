@@ -1,5 +1,5 @@
--- Every resting order is listed, each once; so what the scan finds behind an order is what follows it in the listing.
-use Rattle.std.proofs.Common.{◌≡◌, ℕ, Bool, true, false, ◌&&◌, ◌||◌, List, [], ◌∷◌, ◌++◌, slice_get, refl, ap, sym, subst, ◌∙◌, append_assoc, length-append, length, arith, Option, Some, None}
+-- Every resting order is listed, each once; so the next order behind one is what follows it in the listing.
+use Rattle.std.proofs.Common.{◌≡◌, ℕ, Bool, true, false, ◌&&◌, ◌||◌, List, [], ◌∷◌, ◌++◌, slice_get, refl, ap, sym, subst, ◌∙◌, append_assoc, Option, Some, None}
 use Rattle.std.specs.Prelude.{filter, if◌then◌else◌}
 use Rattle.std.specs.List.{AllByRecursion, Contains, list_any}
 use Rattle.std.specs.List.Sorted.{IsPermutation}
@@ -18,11 +18,11 @@ use Rattle.book.specs.Books.{Belongs, IsBook}
 use Rattle.book.specs.Listing.{is_of, queue, listing}
 use Rattle.book.specs.Next.{comes_before, comes_behind, NextOf}
 use Rattle.book.proofs.Lists.{each-append, each-map, each-of, each-back}
-use Rattle.book.proofs.BestLemmas.{get_or-middle}
 use Rattle.book.proofs.LawOrder.{insert-same}
 use Rattle.book.proofs.LawPriority.{Split, split-at}
-use Rattle.book.proofs.NextLemmas.{before-self, before-not}
-use Rattle.book.proofs.ListingLemmas.{Before, differ-parts, listing-in_order}
+use Rattle.book.proofs.GroupLemmas.{differ-parts}
+use Rattle.book.proofs.NextLemmas.{before-self, before-not, stands-in}
+use Rattle.book.proofs.ListingLemmas.{Before, listing-in_order}
 
 -- ONE ORDER MORE
 
@@ -115,30 +115,27 @@ each-at P xs x there all =
     let split : Split xs x = split-at xs x there in
     (each-back P split.before (x ∷ split.behind) (subst (AllByRecursion P) split.whole all)).0
 
-there : (xs ys : List Order) (x : Order) → Contains (xs ++ x ∷ ys) x
-there xs ys x = (length xs, omega (arith, length-append xs (x ∷ ys)), get_or-middle xs ys x x)
-
--- the scan finds the first of the part of the listing that comes behind
+-- the next is the first of the part of the listing that comes behind
 module _ (symbols : Symbols) (from : Option Order) (orders : List Order) where
   abbrev Skipped : Order → Type 0
   Skipped x = comes_behind symbols from x ≡ false
 
   next-first : (front back : List Order) → IsPermutation orders (front ++ back) → AllByRecursion Skipped front →
       AllByRecursion (λ x. comes_behind symbols from x ≡ true) back → Pairwise (Before symbols) back →
-      (next : Option Order) → NextOf symbols from orders orders next → next ≡ slice_get back 0
+      (next : Option Order) → NextOf symbols from orders next → next ≡ slice_get back 0
   next-first front [] same skipped behind pairs None found = refl
   next-first front [] same skipped behind pairs (Some x) found =
       let passed = found.behind in
       let none = each-at Skipped (front ++ []) x (Contains-permutation orders (front ++ []) x same found.there) (each-append Skipped front [] skipped tt) in
       cc
   next-first front (y ∷ ys) same skipped behind pairs None found =
-      let none = each-at Skipped orders y (Contains-permutation (front ++ y ∷ ys) orders y (IsPermutation-sym orders (front ++ y ∷ ys) same) (there front ys y)) found in
+      let none = each-at Skipped orders y (Contains-permutation (front ++ y ∷ ys) orders y (IsPermutation-sym orders (front ++ y ∷ ys) same) (stands-in front ys y)) found in
       let passed = behind.0 in
       cc
   next-first front (y ∷ ys) same skipped behind pairs (Some x) found =
       let not_before : comes_before symbols y x ≡ false =
       each-at (λ z. comes_behind symbols from z ≡ true → comes_before symbols z x ≡ false) orders y
-      (Contains-permutation (front ++ y ∷ ys) orders y (IsPermutation-sym orders (front ++ y ∷ ys) same) (there front ys y)) found.first behind.0 in
+      (Contains-permutation (front ++ y ∷ ys) orders y (IsPermutation-sym orders (front ++ y ∷ ys) same) (stands-in front ys y)) found.first behind.0 in
       each-at Found (front ++ y ∷ ys) x (Contains-permutation orders (front ++ y ∷ ys) x same found.there)
       (each-append Found front (y ∷ ys) (each-map Skipped Found (λ z f t h. cc) front skipped)
       ((λ t h. refl), each-map (Before symbols y) Found (λ z b t h. cc) ys pairs.0))
@@ -164,16 +161,19 @@ module _ (symbols : Symbols) (orders : List Order) (greatest : List ℕ) (table 
   in_order : Pairwise (Before symbols) (listing symbols orders)
   in_order = listing-in_order orders book.standing.rising symbols table.differ
 
-  -- from none the scan finds the first order of the listing
-  pub first-listed : (next : Option Order) → NextOf symbols None orders orders next → next ≡ slice_get (listing symbols orders) 0
+  -- from none the next is the first order of the listing
+  pub first-listed : (next : Option Order) → NextOf symbols None orders next → next ≡ slice_get (listing symbols orders) 0
   first-listed next found = next-first symbols None orders [] (listing symbols orders) book-listed tt
       (each-of (λ x. comes_behind symbols None x ≡ true) (λ x. refl) (listing symbols orders)) in_order next found
 
   -- from an order of the listing, the one behind it
   pub next-listed : (before behind : List Order) (o : Order) → listing symbols orders ≡ before ++ o ∷ behind →
-      (next : Option Order) → NextOf symbols (Some o) orders orders next → next ≡ slice_get behind 0
+      (next : Option Order) → (Contains orders o → NextOf symbols (Some o) orders next) → next ≡ slice_get behind 0
   next-listed before behind o split next found =
+      let is_listed : Contains (listing symbols orders) o = subst (λ os. Contains os o) (sym split) (stands-in before behind o) in
+      let rests : Contains orders o = Contains-permutation (listing symbols orders) orders o
+      (IsPermutation-sym orders (listing symbols orders) book-listed) is_listed in
       let around = pairs-around symbols before behind o (subst (Pairwise (Before symbols)) split in_order) in
       next-first symbols (Some o) orders (before ++ o ∷ []) behind
       (subst (IsPermutation orders) (split ∙ sym (append_assoc before (o ∷ []) behind)) book-listed)
-      (each-append (λ x. comes_before symbols o x ≡ false) before (o ∷ []) around.0 (before-self symbols o, tt)) around.1 around.2 next found
+      (each-append (λ x. comes_before symbols o x ≡ false) before (o ∷ []) around.0 (before-self symbols o, tt)) around.1 around.2 next (found rests)

@@ -1,44 +1,27 @@
--- The listing stands in the order of numbers, sides and priority: each order comes before all that follow.
-use Rattle.std.proofs.Common.{◌≡◌, ℕ, ◌+◌, ◌<◌, ◌≤◌, Bool, true, false, not, cond, ◌&&◌, ◌||◌, nat_eq, nat_lt, List, [], ◌∷◌, ◌++◌, length, refl, ap, sym, ◌∙◌, arith, Some, None}
-use Rattle.std.specs.Prelude.{filter, position}
-use Rattle.std.specs.Option.{unwrap_or}
-use Rattle.std.specs.List.{AllByRecursion, list_any, position_or_len}
+-- The listing stands in the order of groups and priority: each order comes before all that follow.
+use Rattle.std.proofs.Common.{◌≡◌, ℕ, ◌+◌, Bool, true, false, ◌&&◌, ◌||◌, nat_eq, nat_lt, List, [], ◌∷◌, ◌++◌, refl, ap, sym, ◌∙◌, arith}
+use Rattle.std.specs.Prelude.{filter}
+use Rattle.std.specs.List.{AllByRecursion, list_any}
 use Rattle.std.specs.Str.{bytes_eq}
-use Rattle.std.proofs.lemmas.List.Sums.{prefix_len-le-length}
-use Rattle.std.proofs.lemmas.Bool.{and_parts}
 use Rattle.std.proofs.lemmas.Bool.Decides.{nat_tests}
 use Rattle.std.proofs.lemmas.Slice.Eq.{bytes_eq-Decides}
 use Rattle.venue_model.specs.declared.orders.Side.{Side}
 use Rattle.venue_model.specs.declared.orders.Side.TheVariants.{Buy, Sell}
 use Rattle.venue_model.specs.declared.orders.Order.{Order}
-use Rattle.venue_model.specs.Orders.{same_side, ahead}
+use Rattle.venue_model.specs.Orders.{ahead}
 use Rattle.venue_model.specs.Requests.{Symbols}
 use Rattle.venue_model.specs.Spelling.{all_differ}
 use Rattle.book.specs.Standing.{Rising}
 use Rattle.book.specs.Laws.{Pairwise}
 use Rattle.book.specs.Listing.{is_of, queue, listing}
-use Rattle.book.specs.Next.{number_of, by_side, stands_before, comes_before}
+use Rattle.book.specs.Next.{side_number, group_of, comes_before}
 use Rattle.book.proofs.Lists.{each-append, each-map, each-of, each-passes}
 use Rattle.book.proofs.Priority.{each-by_priority}
 use Rattle.book.proofs.LawPairs.{each-both}
 use Rattle.book.proofs.LawSums.{IsOf, rising-filter}
 use Rattle.book.proofs.LawOrder.{Ahead, in_order}
-
--- NUMBERS OF SYMBOLS
-
-place-cases : {X : Type 0} (xs : List X) (n : ℕ) → n ≤ length xs → (b : Bool) → nat_lt n (length xs) ≡ b → unwrap_or (cond b (Some n) None) (length xs) ≡ n
-place-cases xs n within true h = refl
-place-cases xs n within false h = grind (arith, nat_tests)
-
-pub place-or-length : {X : Type 0} (xs : List X) (p : X → Bool) → unwrap_or (position p xs) (length xs) ≡ position_or_len p xs
-place-or-length xs p = place-cases xs (position_or_len p xs) (prefix_len-le-length (λ x. not (p x)) xs) (nat_lt (position_or_len p xs) (length xs)) refl
-
-module _ (s : List ℕ) (ss : Symbols) (symbol : List ℕ) where
-  number-first : bytes_eq symbol s ≡ true → number_of (s ∷ ss) symbol ≡ 0
-  number-first h = ap (λ b. cond (not b) (1 + number_of ss symbol) 0) h
-
-  number-later : bytes_eq symbol s ≡ false → number_of (s ∷ ss) symbol ≡ 1 + number_of ss symbol
-  number-later h = ap (λ b. cond (not b) (1 + number_of ss symbol) 0) h
+use Rattle.book.proofs.GroupLemmas.{Of, of-test, differ-parts, side-below, group-first, group-later}
+use Rattle.book.proofs.NextLemmas.{listed-less, listed-tie}
 
 pub same-bytes : (a b c : List ℕ) → bytes_eq a b ≡ true → bytes_eq b c ≡ false → bytes_eq a c ≡ false
 same-bytes a b c h k = ap (λ x. bytes_eq x c) ((bytes_eq-Decides a b).0 h) ∙ k
@@ -63,21 +46,6 @@ each-each : (R : Order → Order → Type 0) (P Q : Order → Type 0) → ((a b 
 each-each R P Q f xs ys all also = each-map P (λ x. AllByRecursion (R x) ys) (λ x p. each-map Q (R x) (λ y q. f x y p q) ys also) xs all
 
 -- ONE QUEUE
-
-record Of (s : List ℕ) (t : Side) (o : Order) : Type 0 where
-  symbol : bytes_eq o.symbol s ≡ true
-  side : o.side ≡ t
-
-one_side : (a b : Side) → same_side a b ≡ true → a ≡ b
-one_side Buy Buy h = refl
-one_side Sell Sell h = refl
-one_side Buy Sell h = cc
-one_side Sell Buy h = cc
-
-of-test : (symbol : List ℕ) (side : Side) (o : Order) → is_of symbol side o ≡ true → Of symbol side o
-of-test symbol side o h =
-    let both = and_parts (bytes_eq o.symbol symbol) (same_side o.side side) h in
-    record { symbol = both.0; side = one_side o.side side both.1 }
 
 module _ (orders : List Order) where
   each-test : (symbol : List ℕ) (side : Side) → AllByRecursion (Of symbol side) (filter (is_of symbol side) orders)
@@ -115,54 +83,39 @@ module _ (orders : List Order) where
 abbrev pub Before : Symbols → Order → Order → Type 0
 Before ss a b = comes_before ss a b ≡ true
 
-listed-tie : (n m : ℕ) (b : Bool) → n ≡ m → b ≡ true → (nat_lt n m || (nat_eq n m && b)) ≡ true
-listed-tie n m b same h = grind (arith, nat_tests)
-
-listed-less : (n m : ℕ) (b : Bool) → n < m → (nat_lt n m || (nat_eq n m && b)) ≡ true
-listed-less n m b less = grind (arith, nat_tests)
-
-listed-more : (n m k l : ℕ) (b : Bool) → k ≡ 1 + n → l ≡ 1 + m → (nat_lt n m || (nat_eq n m && b)) ≡ true → (nat_lt k l || (nat_eq k l && b)) ≡ true
+listed-more : (n m k l : ℕ) (b : Bool) → k ≡ 2 + n → l ≡ 2 + m →
+    (nat_lt n m || (nat_eq n m && b)) ≡ true → (nat_lt k l || (nat_eq k l && b)) ≡ true
 listed-more n m k l b up also h = grind (arith, nat_tests)
 
 module _ (s : List ℕ) (ss : Symbols) where
-  abbrev number : Order → ℕ
-  number o = number_of (s ∷ ss) o.symbol
+  abbrev group : Order → ℕ
+  group o = group_of (s ∷ ss) o
+
+  of-first : (side : Side) (o : Order) → Of s side o → group o ≡ side_number side
+  of-first side o its = group-first s ss o its.symbol ∙ ap side_number its.side
 
   -- of the first symbol, by side and priority
   before-ahead : (side : Side) (a b : Order) → Of s side a → Of s side b → Ahead a b → Before (s ∷ ss) a b
-  before-ahead side a b p q h = listed-tie (number a) (number b) (stands_before a b)
-      (number-first s ss a.symbol p.symbol ∙ sym (number-first s ss b.symbol q.symbol))
-      (ap (λ t. by_side t b.side (ahead a b)) p.side ∙ ap (λ t. by_side side t (ahead a b)) q.side ∙ one side ∙ h)
-    where
-      one : (t : Side) → by_side t t (ahead a b) ≡ ahead a b
-      one Buy = refl
-      one Sell = refl
+  before-ahead side a b p q h = listed-tie (group a) (group b) (ahead a b) (of-first side a p ∙ sym (of-first side b q)) h
 
   before-sides : (a b : Order) → Of s Buy a → Of s Sell b → Before (s ∷ ss) a b
-  before-sides a b p q = listed-tie (number a) (number b) (stands_before a b)
-      (number-first s ss a.symbol p.symbol ∙ sym (number-first s ss b.symbol q.symbol))
-      (ap (λ t. by_side t b.side (ahead a b)) p.side ∙ ap (λ t. by_side Buy t (ahead a b)) q.side)
+  before-sides a b p q =
+      let buys = of-first Buy a p in
+      let sells = of-first Sell b q in
+      listed-less (group a) (group b) (ahead a b) (omega (arith, buys, sells))
 
   -- before those of later symbols
   before-later : (a b : Order) → bytes_eq a.symbol s ≡ true → bytes_eq b.symbol s ≡ false → Before (s ∷ ss) a b
   before-later a b p q =
-      let first = number-first s ss a.symbol p in
-      let later = number-later s ss b.symbol q in
-      listed-less (number a) (number b) (stands_before a b) (omega (arith, first, later))
+      let first = group-first s ss a p in
+      let side = side-below a.side in
+      let later = group-later s ss b q in
+      listed-less (group a) (group b) (ahead a b) (omega (arith, first, side, later))
 
   -- of later symbols, as without the first
   before-more : (a b : Order) → bytes_eq a.symbol s ≡ false → bytes_eq b.symbol s ≡ false → Before ss a b → Before (s ∷ ss) a b
-  before-more a b p q h = listed-more (number_of ss a.symbol) (number_of ss b.symbol) (number a) (number b) (stands_before a b)
-      (number-later s ss a.symbol p) (number-later s ss b.symbol q) h
-
-pub differ-parts : (s : List ℕ) (ss : Symbols) → all_differ (s ∷ ss) ≡ true → (list_any (λ other. bytes_eq other s) ss ≡ false) × (all_differ ss ≡ true)
-differ-parts s ss differ =
-    let both = and_parts (not (list_any (λ other. bytes_eq other s) ss)) (all_differ ss) differ in
-    (no (list_any (λ other. bytes_eq other s) ss) both.0, both.1)
-  where
-    no : (b : Bool) → not b ≡ true → b ≡ false
-    no true h = cc
-    no false h = refl
+  before-more a b p q h = listed-more (group_of ss a) (group_of ss b) (group a) (group b) (ahead a b)
+      (group-later s ss a p) (group-later s ss b q) h
 
 -- each order comes before all that follow
 pub listing-in_order : (orders : List Order) → Rising orders → (ss : Symbols) → all_differ ss ≡ true →

@@ -1,6 +1,6 @@
 -- Lists whose elements a function treats alike, and lists with one element in the middle.
-use Rattle.std.proofs.Common.{◌≡◌, ℕ, zero, suc, ◌+◌, Bool, true, false, List, [], ◌∷◌, ◌++◌, length, map, refl, ap, sym, ◌∙◌, arith}
-use Rattle.std.specs.Prelude.{slice_set, sum_by, filter, if◌then◌else◌}
+use Rattle.std.proofs.Common.{◌≡◌, ℕ, suc, ◌+◌, Bool, true, false, List, [], ◌∷◌, ◌++◌, length, get_or, map, refl, ap, sym, ◌∙◌, arith}
+use Rattle.std.specs.Prelude.{sum_by, filter, if◌then◌else◌}
 use Rattle.std.specs.List.{flat_map, AllByRecursion}
 use Rattle.std.proofs.lemmas.List.Elements.{filter-append}
 use Rattle.std.proofs.lemmas.List.Sums.{sum_by-append, sum_by-cons}
@@ -93,8 +93,7 @@ module _ {X : Type 0} where
   length-without [] ys x = refl
   length-without (y ∷ xs) ys x = ap suc (length-without xs ys x)
 
-  -- one set
-  pub each-set : (P : X → Type 0) (xs : List X) (k : ℕ) (y : X) → AllByRecursion P xs → P y → AllByRecursion P (slice_set xs k y)
-  each-set P [] k y all this = tt
-  each-set P (x ∷ xs) zero y all this = (this, all.1)
-  each-set P (x ∷ xs) (suc k) y all this = (all.0, each-set P xs k y all.1 this)
+  -- what stands in the middle
+  pub get_or-middle : (xs ys : List X) (x d : X) → get_or (xs ++ x ∷ ys) (length xs) d ≡ x
+  get_or-middle [] ys x d = refl
+  get_or-middle (y ∷ xs) ys x d = get_or-middle xs ys x d

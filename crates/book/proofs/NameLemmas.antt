@@ -1,100 +1,95 @@
 -- Orders under the names that their clients gave them.
-use Rattle.std.proofs.Common.{◌≡◌, ℕ, suc, ◌+◌, ◌<◌, Bool, true, false, not, List, [], ◌∷◌, ◌++◌, length, take, drop, get_or, map, refl, ap, sym, subst, ◌∙◌, arith, take-append-drop, drop-cons, length-take-le, Some, None}
+use Rattle.std.proofs.Common.{◌≡◌, ℕ, Bool, true, false, not, List, [], ◌∷◌, ◌++◌, map, refl, ap, sym, ◌∙◌, arith, Some, None}
 use Rattle.std.specs.Prelude.{filter, find, if◌then◌else◌}
 use Rattle.std.specs.List.{AllByRecursion}
 use Rattle.std.proofs.lemmas.Bool.Decides.{nat_tests}
-use Rattle.venue_model.specs.declared.orders.Order.{Order}
-use Rattle.venue_model.specs.Requests.{is_named}
-use Rattle.book.specs.Books.{NamedApart, NamedAt, NoneNamed}
 use Rattle.std.proofs.lemmas.List.{map-append}
 use Rattle.std.proofs.lemmas.List.Elements.{filter-append}
-use Rattle.book.proofs.Places.{before-is, behind-is, order-is}
+use Rattle.venue_model.specs.declared.orders.Order.{Order}
+use Rattle.venue_model.specs.declared.commands.OrderCancelReplaceRequest.{OrderCancelReplaceRequest}
+use Rattle.venue_model.specs.Requests.{is_named, amended}
+use Rattle.book.specs.Books.{NamedApart}
 use Rattle.book.proofs.Lists.{each-map, filter-all, filter-out, same_map, same-self}
+
+-- the client's order of this name, between those before it and those behind it, none of which has the name
+pub record IsAmong (client name : ℕ) (orders : List Order) (o : Order) : Type 0 where
+  pub before : List Order
+  pub behind : List Order
+  pub split : orders ≡ before ++ o ∷ behind
+  pub is_it : is_named client name o ≡ true
+  pub not_before : AllByRecursion (λ x. is_named client name x ≡ false) before
+  pub not_behind : AllByRecursion (λ x. is_named client name x ≡ false) behind
 
 -- one name is one order's
 same-name : (client name : ℕ) (o x : Order) → is_named client name o ≡ true → is_named o.client o.cl_ord_id x ≡ false → is_named client name x ≡ false
 same-name client name o x is_it apart = grind (arith, nat_tests)
 
-apart-back : (xs ys : List Order) → NamedApart (xs ++ ys) → NamedApart ys
-apart-back [] ys apart = apart
-apart-back (x ∷ xs) ys apart = apart-back xs ys apart.1
+-- an order that is found by its name is the only one that has it
+pub found : (client name : ℕ) (orders : List Order) (o : Order) → NamedApart orders → find (is_named client name) orders ≡ Some o
+    → IsAmong client name orders o
+found client name [] o apart is = absurd (let e : None ≡ Some o = is in cc)
+found client name (x ∷ orders) o apart is = here (is_named client name x) refl is (λ later. found client name orders o apart.1 later)
+  where
+    here : (b : Bool) → is_named client name x ≡ b → (if b then Some x else find (is_named client name) orders) ≡ Some o
+        → (find (is_named client name) orders ≡ Some o → IsAmong client name orders o) → IsAmong client name (x ∷ orders) o
+    here true is_it first behind =
+        let same : x ≡ o = cc in
+        record {
+          before = [];
+          behind = orders;
+          split = ap (λ y. y ∷ orders) same;
+          is_it = ap (is_named client name) (sym same) ∙ is_it;
+          not_before = tt;
+          not_behind = each-map (λ y. is_named x.client x.cl_ord_id y ≡ false) (λ y. is_named client name y ≡ false)
+              (λ y h. same-name client name x y is_it h) orders apart.0;
+        }
+    here false isnt later behind =
+        let rest = behind later in
+        record {
+          before = x ∷ rest.before;
+          behind = rest.behind;
+          split = ap (λ zs. x ∷ zs) rest.split;
+          is_it = rest.is_it;
+          not_before = (isnt, rest.not_before);
+          not_behind = rest.not_behind;
+        }
 
--- the search has found it at this place
-pub found : (client name : ℕ) (orders : List Order) (place : ℕ) (o : Order) → o ≡ get_or orders place o → place < length orders →
-    NamedApart orders → NoneNamed client name (take place orders) → is_named client name o ≡ true → NamedAt client name orders place
-found client name orders place o is within apart none is_it =
-    let split : orders ≡ take place orders ++ o ∷ drop (suc place) orders =
-    sym (take-append-drop place orders) ∙ ap (λ zs. take place orders ++ zs) (drop-cons orders place o within ∙ ap (λ y. y ∷ drop (suc place) orders) (sym is)) in
-    record {
-      order = o;
-      before = take place orders;
-      behind = drop (suc place) orders;
-      split = split;
-      place_is = length-take-le place orders (omega (arith, within));
-      is_it = is_it;
-      not_before = none;
-      not_behind = each-map (λ x. is_named o.client o.cl_ord_id x ≡ false) (λ x. is_named client name x ≡ false)
-          (λ x h. same-name client name o x is_it h) (drop (suc place) orders)
-          (apart-back (take place orders) (o ∷ drop (suc place) orders) (subst NamedApart split apart)).0;
-    }
+-- what the definitions say of a name that an order has
+module _ (client name : ℕ) (orders : List Order) (o : Order) (its : IsAmong client name orders o) where
+  abbrev p : Order → Bool
+  p x = is_named client name x
 
--- a search, over orders of which none passes, or one in the middle does
-find-none : (p : Order → Bool) (xs : List Order) → AllByRecursion (λ x. p x ≡ false) xs → find p xs ≡ None
-find-none p [] none = refl
-find-none p (x ∷ xs) none = ap (λ b. if b then Some x else find p xs) none.0 ∙ find-none p xs none.1
+  not-named : (xs : List Order) → AllByRecursion (λ x. p x ≡ false) xs → filter (λ x. not (p x)) xs ≡ xs
+  not-named xs none = filter-all (λ x. not (p x)) xs (each-map (λ x. p x ≡ false) (λ x. not (p x) ≡ true) (λ x h. ap not h) xs none)
 
-find-middle : (p : Order → Bool) (xs ys : List Order) (o : Order) → p o ≡ true → AllByRecursion (λ x. p x ≡ false) xs → find p (xs ++ o ∷ ys) ≡ Some o
-find-middle p [] ys o passes none = ap (λ b. if b then Some o else find p ys) passes
-find-middle p (x ∷ xs) ys o passes none = ap (λ b. if b then Some x else find p (xs ++ o ∷ ys)) none.0 ∙ find-middle p xs ys o passes none.1
+  pub others-are : filter (λ x. not (is_named client name x)) orders ≡ its.before ++ its.behind
+  others-are =
+      ap (filter (λ x. not (p x))) its.split
+      ∙ filter-out (λ x. not (p x)) its.before its.behind o (ap not its.is_it)
+      ∙ filter-append (λ x. not (p x)) its.before its.behind
+      ∙ ap (λ zs. zs ++ filter (λ x. not (p x)) its.behind) (not-named its.before its.not_before)
+      ∙ ap (λ zs. its.before ++ zs) (not-named its.behind its.not_behind)
 
--- what the definitions say of a name, where its order stands at a place, and where none has it
-module _ (client name : ℕ) (orders : List Order) where
-  pub named-none : NoneNamed client name orders → find (is_named client name) orders ≡ None
-  named-none none = find-none (is_named client name) orders none
+  module _ (f : Order → Order) where
+    abbrev g : Order → Order
+    g x = if p x then f x else x
 
-  module _ (place : ℕ) (at : NamedAt client name orders place) where
-    abbrev p : Order → Bool
-    p x = is_named client name x
+    same : (xs : List Order) → AllByRecursion (λ x. p x ≡ false) xs → map g xs ≡ xs
+    same xs none = same_map g (λ x. x) xs (each-map (λ x. p x ≡ false) (λ x. g x ≡ x) (λ x h. ap (λ b. if b then f x else x) h) xs none) ∙ same-self xs
 
-    pub named-at : find (is_named client name) orders ≡ Some at.order
-    named-at = ap (find p) at.split ∙ find-middle p at.before at.behind at.order at.is_it at.not_before
+    pub amended-are : map (λ x. if is_named client name x then f x else x) orders ≡ its.before ++ f o ∷ its.behind
+    amended-are =
+        ap (map g) its.split
+        ∙ map-append g its.before (o ∷ its.behind)
+        ∙ ap (λ zs. zs ++ g o ∷ map g its.behind) (same its.before its.not_before)
+        ∙ ap (λ b. its.before ++ (if b then f o else o) ∷ map g its.behind) its.is_it
+        ∙ ap (λ zs. its.before ++ f o ∷ zs) (same its.behind its.not_behind)
 
-    not-named : (xs : List Order) → AllByRecursion (λ x. p x ≡ false) xs → filter (λ x. not (p x)) xs ≡ xs
-    not-named xs none = filter-all (λ x. not (p x)) xs (each-map (λ x. p x ≡ false) (λ x. not (p x) ≡ true) (λ x h. ap not h) xs none)
-
-    pub others-at : filter (λ o. not (is_named client name o)) orders ≡ at.before ++ at.behind
-    others-at =
-        ap (filter (λ x. not (p x))) at.split
-        ∙ filter-out (λ x. not (p x)) at.before at.behind at.order (ap not at.is_it)
-        ∙ filter-append (λ x. not (p x)) at.before at.behind
-        ∙ ap (λ zs. zs ++ filter (λ x. not (p x)) at.behind) (not-named at.before at.not_before)
-        ∙ ap (λ zs. at.before ++ zs) (not-named at.behind at.not_behind)
-
-    module _ (f : Order → Order) where
-      abbrev g : Order → Order
-      g x = if p x then f x else x
-
-      same : (xs : List Order) → AllByRecursion (λ x. p x ≡ false) xs → map g xs ≡ xs
-      same xs none = same_map g (λ x. x) xs (each-map (λ x. p x ≡ false) (λ x. g x ≡ x) (λ x h. ap (λ b. if b then f x else x) h) xs none) ∙ same-self xs
-
-      pub amended-at : map (λ o. if is_named client name o then f o else o) orders ≡ at.before ++ f at.order ∷ at.behind
-      amended-at =
-          ap (map g) at.split
-          ∙ map-append g at.before (at.order ∷ at.behind)
-          ∙ ap (λ zs. zs ++ g at.order ∷ map g at.behind) (same at.before at.not_before)
-          ∙ ap (λ b. at.before ++ (if b then f at.order else at.order) ∷ map g at.behind) at.is_it
-          ∙ ap (λ zs. at.before ++ f at.order ∷ zs) (same at.behind at.not_behind)
-
--- the order that stands at the place taken out
-pub removed : (client name : ℕ) (orders new : List Order) (place : ℕ) → NamedAt client name orders place →
-    new ≡ take place orders ++ drop (place + 1) orders → new ≡ filter (λ o. not (is_named client name o)) orders
-removed client name orders new place at new_is =
-    new_is ∙ ap (λ xs. xs ++ drop (place + 1) orders) (before-is orders at.before at.behind at.order place at.split at.place_is)
-    ∙ ap (λ ys. at.before ++ ys) (behind-is orders at.before at.behind at.order place at.split at.place_is)
-    ∙ sym (others-at client name orders place at)
-
--- the order that was read there
-pub named-is : (client name : ℕ) (orders : List Order) (place : ℕ) (o : Order) → NamedAt client name orders place → o ≡ get_or orders place o →
-    find (is_named client name) orders ≡ Some o
-named-is client name orders place o at is =
-    named-at client name orders place at ∙ ap (λ x. Some x) (sym (order-is orders at.before at.behind at.order place at.split at.place_is o is))
+  -- where its price stays, name and total alone are amended
+  pub amended-kept : (r : OrderCancelReplaceRequest) → r.price ≡ o.price →
+      map (λ x. if is_named client name x then record x { cl_ord_id = r.cl_ord_id; total = r.quantity } else x) orders
+      ≡ map (λ x. if is_named client name x then amended r x else x) orders
+  amended-kept r price =
+      amended-are (λ x. record x { cl_ord_id = r.cl_ord_id; total = r.quantity })
+      ∙ ap (λ p. its.before ++ (record o { cl_ord_id = r.cl_ord_id; price = p; total = r.quantity }) ∷ its.behind) (sym price)
+      ∙ sym (amended-are (amended r))

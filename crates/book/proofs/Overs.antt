@@ -1,5 +1,5 @@
 -- A match that is over: nothing is left of the incoming order, or it crosses none.
-use Rattle.std.proofs.Common.{◌≡◌, inl, inr, ℕ, ◌+◌, ◌*◌, true, false, nat_lt, List, [], refl, ap, ◌∙◌, arith}
+use Rattle.std.proofs.Common.{◌≡◌, inl, inr, ℕ, ◌+◌, ◌*◌, true, false, nat_lt, List, [], length, refl, ap, ◌∙◌, arith}
 use Rattle.std.specs.Prelude.{sum_by, filter, if◌then◌else◌}
 use Rattle.std.specs.List.{AllByRecursion, flat_map}
 use Rattle.venue_model.specs.declared.orders.Order.{Order}
@@ -7,7 +7,8 @@ use Rattle.venue_model.specs.declared.outputs.Cause.{Cause}
 use Rattle.venue_model.specs.Orders.{leaves, is_live, crosses}
 use Rattle.venue_model.specs.Match.{crossing, fill, after_fill, after_fills, settled, done, rest, by_priority, filled_orders, trade, trades}
 use Rattle.book.specs.Standing.{Rests}
-use Rattle.book.specs.Best.{Over}
+use Rattle.book.specs.Passes.{Over}
+use Rattle.book.specs.Reads.{fills}
 use Rattle.book.proofs.Lists.{same-self, same_map, same_sum, filter-all, filter-none, each-of, each-map}
 use Rattle.book.proofs.Fills.{live-true}
 use Rattle.book.proofs.Passes.{filled-none, sum-zeros, product, counted, counted-none}
@@ -50,3 +51,11 @@ module _ (i : Order) (orders : List Order) where
       (each-of (λ x. nat_lt 0 (fill (leaves i) (crossing i orders) x) ≡ false)
       (λ x. ap (nat_lt 0) (nothing (leaves i) (crossing i orders) x none)) (crossing i orders)))
   told-over c (inr none) = ap (λ q. flat_map (trade c i q) (filled_orders (leaves i) q)) (filter-none (crosses i) orders none)
+
+  pub fills-over : Over i orders → fills i orders ≡ 0
+  fills-over (inl none) =
+      ap (λ zs. length (by_priority zs))
+      (filter-none (λ x. nat_lt 0 (fill (leaves i) (crossing i orders) x)) (crossing i orders)
+      (each-of (λ x. nat_lt 0 (fill (leaves i) (crossing i orders) x) ≡ false)
+      (λ x. ap (nat_lt 0) (nothing (leaves i) (crossing i orders) x none)) (crossing i orders)))
+  fills-over (inr none) = ap (λ q. length (filled_orders (leaves i) q)) (filter-none (crosses i) orders none)

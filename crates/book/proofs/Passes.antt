@@ -1,6 +1,6 @@
 -- One fill of a match: what the definitions say of the orders before it is what they say of the orders behind it,
 -- with the fill itself in front.
-use Rattle.std.proofs.Common.{◌≡◌, ℕ, ◌+◌, ◌*◌, ◌<◌, Bool, true, false, not, nat_lt, List, [], ◌∷◌, ◌++◌, map, refl, ap, sym, ◌∙◌, arith, add-zero}
+use Rattle.std.proofs.Common.{◌≡◌, ℕ, suc, ◌+◌, ◌*◌, ◌<◌, Bool, true, false, not, nat_lt, List, [], ◌∷◌, ◌++◌, length, map, refl, ap, sym, ◌∙◌, arith, add-zero}
 use Rattle.std.specs.Prelude.{sum_by, filter, if◌then◌else◌}
 use Rattle.std.specs.List.{AllByRecursion, flat_map}
 use Rattle.std.proofs.lemmas.List.{map-append}
@@ -285,3 +285,12 @@ module _ (i o : Order) (us vs : List Order) (first : First i o us vs) (apart : a
       (each-map (Leads o) (λ x. trade c i before x ≡ trade c (incoming_after i o) behind x) (told-x c) others leads-others)))
       ∙ ap (λ zs. reports c i o ++ flat_map (trade c (incoming_after i o) behind) (by_priority zs)) (sym others-behind)
       ∙ ap (λ q. reports c i o ++ flat_map (trade c (incoming_after i o) q) (filled_orders (leaves (incoming_after i o)) q)) (sym crossing-behind)
+
+  -- one order less gets something
+  pub gets-one : 0 < traded i o → length (filled_orders (leaves i) (crossing i (us ++ o ∷ vs)))
+      ≡ suc (length (filled_orders (leaves (incoming_after i o)) (crossing (incoming_after i o) (orders_after i o us vs))))
+  gets-one some =
+      ap (λ q. length (filled_orders (leaves i) q)) crossing-before
+      ∙ ap (λ zs. length zs) (filled-before some)
+      ∙ ap (λ zs. suc (length (by_priority zs))) (sym others-behind)
+      ∙ ap (λ q. suc (length (filled_orders (leaves (incoming_after i o)) q))) (sym crossing-behind)

@@ -1,55 +1,42 @@
 -- The definitions of requests, where it is known why they are refused, or that they aren't.
-use Rattle.std.proofs.Common.{◌≡◌, ℕ, ◌<◌, nat_le, true, false, List, refl, ap, sym, subst, ◌∙◌, arith, Option, Some, None}
+use Rattle.std.proofs.Common.{◌≡◌, ℕ, ◌<◌, nat_le, Bool, true, false, refl, sym, ◌∙◌, arith, Option, Some, None}
 use Rattle.std.proofs.lemmas.Bool.Decides.{nat_tests}
-use Rattle.std.specs.Option.{MatchOption}
-use Rattle.std.specs.Prelude.{if◌then◌else◌, find}
+use Rattle.std.specs.Prelude.{if◌then◌else◌}
 use Rattle.venue_model.specs.declared.orders.Order.{Order}
-use Rattle.venue_model.specs.declared.commands.OrderCancelRequest.{OrderCancelRequest}
-use Rattle.venue_model.specs.declared.commands.OrderCancelReplaceRequest.{OrderCancelReplaceRequest}
-use Rattle.venue_model.specs.declared.outputs.Cause.{Cause}
 use Rattle.venue_model.specs.declared.outputs.CxlRejReason.{CxlRejReason}
-use Rattle.venue_model.specs.declared.outputs.CxlRejReason.TheVariants.{DuplicateClOrdId}
+use Rattle.venue_model.specs.declared.outputs.CxlRejReason.TheVariants.{DuplicateClOrdId, UnknownOrder, BrokerOption}
 use Rattle.std.proofs.Common.{◌&&◌, not, length}
 use Rattle.std.specs.List.{list_any}
 use Rattle.std.specs.Str.{bytes_eq}
 use Rattle.venue_model.specs.declared.commands.NewOrderSingle.{NewOrderSingle}
 use Rattle.venue_model.specs.declared.outputs.OrdRejReason.TheVariants.{BookFull, UnknownSymbol, DuplicateOrder}
 use Rattle.venue_model.specs.Requests.{Symbols, new_refusal, is_day, most_resting}
-use Rattle.venue_model.specs.Requests.{State, is_named, greatest_of, named, unfit, cancel_fits, cancel_answered, order_canceled, on_cancel, replace_fits, replace_answered, order_replaced, on_replace}
-use Rattle.book.specs.Books.{NamedAt, NoneNamed}
-use Rattle.book.proofs.NameLemmas.{named-none}
+use Rattle.venue_model.specs.Requests.{State, greatest_of, unfit}
 
 above : (n m : ℕ) → nat_le n m ≡ false → m < n
 above n m h = grind (arith, nat_tests)
 
--- what is answered, for the reason that the code has found
-module _ (s : State) (c : Cause) (r : OrderCancelRequest) (found : Option Order) (greatest : ℕ) (found_is : found ≡ named s c.gateway r.orig_cl_ord_id)
-    (greatest_is : greatest ≡ greatest_of s c.gateway) (reason : Option CxlRejReason)
-    (why : reason ≡ (if nat_le r.cl_ord_id greatest then Some DuplicateClOrdId else unfit (cancel_fits r) found)) where
-  cancel-reason : on_cancel s c r ≡ cancel_answered s c r reason
-  cancel-reason =
-      ap (λ g. cancel_answered s c r (if nat_le r.cl_ord_id g then Some DuplicateClOrdId else unfit (cancel_fits r) (named s c.gateway r.orig_cl_ord_id))) (sym greatest_is)
-      ∙ ap (λ n. cancel_answered s c r (if nat_le r.cl_ord_id greatest then Some DuplicateClOrdId else unfit (cancel_fits r) n)) (sym found_is)
-      ∙ ap (cancel_answered s c r) (sym why)
+-- a request that isn't refused names an order that it fits, and has a later name
+pub record Goes (name greatest : ℕ) (fits : Order → Bool) (found : Option Order) : Type 0 where
+  pub later : greatest < name
+  pub order : Order
+  pub is : found ≡ Some order
+  pub fit : fits order ≡ true
 
-  pub cancel-nothing : reason ≡ None → found ≡ None → on_cancel s c r ≡ order_canceled s c r None
-  cancel-nothing is found_none = cancel-reason ∙ ap (cancel_answered s c r) is ∙ ap (order_canceled s c r) (sym found_is ∙ found_none)
+fit-of : (name greatest : ℕ) (fits : Order → Bool) (found : Option Order) → greatest < name → unfit fits found ≡ None → Goes name greatest fits found
+fit-of name greatest fits None later none = absurd (let e : Some UnknownOrder ≡ None = none in cc)
+fit-of name greatest fits (Some o) later none = record {
+  later = later;
+  order = o;
+  is = refl;
+  fit = elim (fits o) as (λ b. (if b then None else Some BrokerOption) ≡ None → b ≡ true) [ true ↦ λ e. refl | false ↦ λ e. cc ] none;
+}
 
--- the same of a replace
-module _ (s : State) (c : Cause) (r : OrderCancelReplaceRequest) (found : Option Order) (greatest : ℕ) (found_is : found ≡ named s c.gateway r.orig_cl_ord_id)
-    (greatest_is : greatest ≡ greatest_of s c.gateway) (reason : Option CxlRejReason)
-    (why : reason ≡ (if nat_le r.cl_ord_id greatest then Some DuplicateClOrdId else unfit (replace_fits r) found)) where
-  replace-reason : on_replace s c r ≡ replace_answered s c r reason
-  replace-reason =
-      ap (λ g. replace_answered s c r (if nat_le r.cl_ord_id g then Some DuplicateClOrdId else unfit (replace_fits r) (named s c.gateway r.orig_cl_ord_id))) (sym greatest_is)
-      ∙ ap (λ n. replace_answered s c r (if nat_le r.cl_ord_id greatest then Some DuplicateClOrdId else unfit (replace_fits r) n)) (sym found_is)
-      ∙ ap (replace_answered s c r) (sym why)
-
-  pub replace-goes : reason ≡ None → on_replace s c r ≡ order_replaced s c r (named s c.gateway r.orig_cl_ord_id)
-  replace-goes is = replace-reason ∙ ap (replace_answered s c r) is
-
-  pub replace-nothing : reason ≡ None → found ≡ None → on_replace s c r ≡ order_replaced s c r None
-  replace-nothing is found_none = replace-goes is ∙ ap (order_replaced s c r) (sym found_is ∙ found_none)
+pub goes : (name greatest : ℕ) (fits : Order → Bool) (found : Option Order) (reason : Option CxlRejReason) →
+    reason ≡ (if nat_le name greatest then Some DuplicateClOrdId else unfit fits found) → reason ≡ None → Goes name greatest fits found
+goes name greatest fits found reason why none =
+    elim (nat_le name greatest) as (λ b. nat_le name greatest ≡ b → (if b then Some DuplicateClOrdId else unfit fits found) ≡ None → Goes name greatest fits found)
+    [ true ↦ λ h e. absurd cc | false ↦ λ h e. fit-of name greatest fits found (above name greatest h) e ] refl (sym why ∙ none)
 
 -- a new order that isn't refused is in a symbol of the venue
 pub known-new : (symbols : Symbols) (s : State) (client : ℕ) (n : NewOrderSingle) → new_refusal symbols s client n ≡ None → list_any (bytes_eq n.symbol) symbols ≡ true
@@ -61,9 +48,3 @@ known-new symbols s client n none = elim (nat_le n.cl_ord_id (greatest_of s clie
           (λ b. (if not b then Some UnknownSymbol else (if is_day n.time_in_force && nat_le most_resting (length s.orders) then Some BookFull else None)) ≡ None → b ≡ true)
           [ true ↦ λ e. refl | false ↦ λ e. cc ]
     ] none
-
-pub nothing-is : (client name : ℕ) (orders : List Order) (place : Option ℕ) (found : Option Order) →
-    MatchOption place (NoneNamed client name orders) (NamedAt client name orders) → found ≡ find (is_named client name) orders → place ≡ None → found ≡ None
-nothing-is client name orders place found none is_found is =
-    let here : NoneNamed client name orders = subst (λ q. MatchOption q (NoneNamed client name orders) (NamedAt client name orders)) is none in
-    is_found ∙ named-none client name orders here

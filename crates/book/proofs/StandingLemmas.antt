@@ -8,7 +8,7 @@ use Rattle.venue_model.specs.Orders.{leaves, is_live}
 use Rattle.venue_model.specs.Match.{live_alone}
 use Rattle.venue_model.specs.Requests.{most_resting}
 use Rattle.book.specs.Standing.{InRange, Rests, Rising, Below, Standing}
-use Rattle.book.proofs.Lists.{each-append, each-map, each-filter, each-without, length-without}
+use Rattle.book.proofs.Lists.{each-append, each-map, each-filter}
 
 -- rising stamps, in two parts
 pub rising-append : (xs ys : List Order) → Rising xs → Rising ys → AllByRecursion (λ x. AllByRecursion (λ y. x.stamp < y.stamp) ys) xs → Rising (xs ++ ys)
@@ -37,7 +37,7 @@ module _ (o o' : Order) where
   rising-instead (x ∷ xs) ys stamp rising =
       (each-instead (λ y. x.stamp < y.stamp) xs ys (λ live h. subst (λ s. x.stamp < s) (sym stamp) h) rising.0, rising-instead xs ys stamp rising.1)
 
-  length-instead : (xs ys : List Order) → length (xs ++ (live_alone o' ++ ys)) ≤ length (xs ++ o ∷ ys)
+  pub length-instead : (xs ys : List Order) → length (xs ++ (live_alone o' ++ ys)) ≤ length (xs ++ o ∷ ys)
   length-instead xs ys =
       let whole = length-append xs (o ∷ ys) in
       let after = length-append xs (live_alone o' ++ ys) in
@@ -79,7 +79,7 @@ rising-filter p [] rising = tt
 rising-filter p (x ∷ xs) rising = elim (p x) as (λ b. Rising (if b then x ∷ filter p xs else filter p xs))
     [ true ↦ (below-filter x.stamp p xs rising.0, rising-filter p xs rising.1) | false ↦ rising-filter p xs rising.1 ]
 
-length-filter-le : (p : Order → Bool) (xs : List Order) → length (filter p xs) ≤ length xs
+pub length-filter-le : (p : Order → Bool) (xs : List Order) → length (filter p xs) ≤ length xs
 length-filter-le p [] = omega arith
 length-filter-le p (x ∷ xs) =
     let shorter = length-filter-le p xs in
@@ -90,18 +90,6 @@ standing-filter p xs standing = record {
   rising = rising-filter p xs standing.rising;
   each = each-filter Rests p xs standing.each;
   few = let shorter = length-filter-le p xs in let few = standing.few in omega (arith, shorter, few);
-}
-
--- one less
-rising-without : (xs ys : List Order) (o : Order) → Rising (xs ++ o ∷ ys) → Rising (xs ++ ys)
-rising-without [] ys o rising = rising.1
-rising-without (x ∷ xs) ys o rising = (each-without (λ y. x.stamp < y.stamp) xs ys o rising.0, rising-without xs ys o rising.1)
-
-pub standing-without : (xs ys : List Order) (o : Order) → Standing (xs ++ o ∷ ys) → Standing (xs ++ ys)
-standing-without xs ys o standing = record {
-  rising = rising-without xs ys o standing.rising;
-  each = each-without Rests xs ys o standing.each;
-  few = let more = length-without xs ys o in let few = standing.few in omega (arith, more, few);
 }
 
 -- what is below a sequence is below the next

@@ -1,16 +1,20 @@
 -- The book as contracts see it, and what stands in it at any time.
-use Rattle.std.specs.Prelude.{◌≡◌, ⊤, ℕ, ◌+◌, ◌-◌, ◌≤◌, true, false, List, [], ◌∷◌, ◌++◌, length, slice_index, Some}
+use Rattle.std.specs.Prelude.{◌≡◌, ⊤, ℕ, ◌+◌, ◌-◌, ◌≤◌, true, false, List, [], ◌∷◌, length, slice_index, Some}
 use Rattle.std.specs.List.{AllByRecursion, list_any}
 use Rattle.std.specs.Str.{bytes_eq}
 use Rattle.venue_model.specs.declared.orders.Order.{Order}
-use Rattle.venue_model.specs.Requests.{Symbols, State, is_named, named, others}
+use Rattle.venue_model.specs.declared.commands.OrderCancelReplaceRequest.{OrderCancelReplaceRequest}
+use Rattle.venue_model.specs.Requests.{Symbols, State, is_named, named, others, replace_fits, keeps_place}
 use Rattle.venue_model.specs.Step.{Request, step}
-use Rattle.book.specs.Standing.{Standing, Below}
+use Rattle.book.specs.Standing.{Rests, Standing, Below}
+use Rattle.book.specs.Reads.{Reads}
+pub use Rattle.resting.specs.Standing.{NoneNamed}
 
--- the venue's symbols, and the state
+-- the venue's symbols, the state, and how many resting orders the last command read
 pub record Book : Type 0 where
   pub symbols : Symbols
   pub state : State
+  pub reads : ℕ
 
 -- no two orders of one client have one ClOrdID
 abbrev pub NamedApart : List Order → Type 0
@@ -31,27 +35,26 @@ pub record IsBook (symbols : Symbols) (orders : List Order) (greatest : List ℕ
   pub each : AllByRecursion (Belongs symbols greatest) orders
   pub clients : length greatest ≡ 8
 
--- the client's order of this name stands at this place, and no other has it
-pub record NamedAt (client name : ℕ) (orders : List Order) (place : ℕ) : Type 0 where
-  pub order : Order
-  pub before : List Order
-  pub behind : List Order
-  pub split : orders ≡ before ++ order ∷ behind
-  pub place_is : length before ≡ place
-  pub is_it : is_named client name order ≡ true
-  pub not_before : AllByRecursion (λ x. is_named client name x ≡ false) before
-  pub not_behind : AllByRecursion (λ x. is_named client name x ≡ false) behind
+-- an order of this client that stands in the book
+pub record Stands (book : Book) (client : ℕ) (o : Order) : Type 0 where
+  pub rests : Rests o
+  pub belongs : Belongs book.symbols book.state.greatest o
+  pub its_client : o.client ≡ client
 
--- none has it
-abbrev pub NoneNamed : ℕ → ℕ → List Order → Type 0
-NoneNamed client name orders = AllByRecursion (λ x. is_named client name x ≡ false) orders
+-- a replace that fits an order amends it where it stands
+pub record StaysInPlace (r : OrderCancelReplaceRequest) (o : Order) : Type 0 where
+  pub fits : replace_fits r o ≡ true
+  pub keeps : keeps_place r o ≡ true
 
 -- the client's order of this name has left the book
 pub record TakesOut (client name : ℕ) (old new : Book) (o : Order) : Type 0 where
   pub order : named old.state client name ≡ Some o
   pub book : new ≡ record old { state = record old.state { orders = others old.state client name } }
 
--- what the request at this sequence asks is done in the book, whose orders all came before the next sequence
+-- What the request at this sequence asks is done in the book, whose orders all came before the next sequence, and few of
+-- them were read.
 pub record Follows (old new : Book) (sequence : ℕ) (request : Request) : Type 0 where
-  pub state : new ≡ record old { state = (step old.symbols old.state sequence request).state }
+  pub symbols : new.symbols ≡ old.symbols
+  pub state : new.state ≡ (step old.symbols old.state sequence request).state
   pub below : Below (sequence + 1) new.state.orders
+  pub reads : Reads old.symbols old.state sequence request new.reads

@@ -1,6 +1,6 @@
 pub mod Standing
 pub mod Passes
-pub mod Best
+pub mod Reads
 pub mod Tables
 pub mod Books
 pub mod Laws

@@ -1,17 +1,12 @@
 -- The resting orders in one list, as `Book::after` gives them one by one.
-use Rattle.std.specs.Prelude.{ℕ, ◌&&◌, Bool, List, ◌++◌, filter}
+use Rattle.std.specs.Prelude.{ℕ, List, ◌++◌, filter}
 use Rattle.std.specs.List.{flat_map}
-use Rattle.std.specs.Str.{bytes_eq}
 use Rattle.venue_model.specs.declared.orders.Side.{Side}
 use Rattle.venue_model.specs.declared.orders.Side.TheVariants.{Buy, Sell}
 use Rattle.venue_model.specs.declared.orders.Order.{Order}
-use Rattle.venue_model.specs.Orders.{same_side}
 use Rattle.venue_model.specs.Match.{by_priority}
 use Rattle.venue_model.specs.Requests.{Symbols}
-
--- it is an order of this symbol and side
-abbrev pub is_of : List ℕ → Side → Order → Bool
-is_of symbol side o = bytes_eq o.symbol symbol && same_side o.side side
+pub use Rattle.resting.specs.Queues.{is_of}
 
 -- the orders of a symbol and a side, each ahead of the next
 abbrev pub queue : List ℕ → Side → List Order → List Order

@@ -1,38 +1,17 @@
 -- One fill of a match: which order comes first, and what is left of both sides behind it.
-use Rattle.std.specs.Prelude.{◌≡◌, ℕ, min, true, false, List, [], ◌∷◌, ◌++◌}
-use Rattle.std.specs.List.{AllByRecursion}
+use Rattle.std.specs.Prelude.{◌≡◌, ◌⊎◌, List, [], ◌∷◌, ◌++◌}
 use Rattle.venue_model.specs.declared.orders.Order.{Order}
 use Rattle.venue_model.specs.declared.outputs.Cause.{Cause}
 use Rattle.venue_model.specs.declared.outputs.ExecType.TheVariants.{Trade}
 use Rattle.venue_model.specs.declared.outputs.Output.{Output}
-use Rattle.venue_model.specs.Orders.{leaves, crosses, ahead}
-use Rattle.venue_model.specs.Match.{filled, exec, live_alone, rest, done, trades}
+pub use Rattle.price_levels.specs.Places.{Leads}
+pub use Rattle.resting.specs.Firsts.{NoneCrossed, First, traded, resting_after, orders_after}
+use Rattle.venue_model.specs.Orders.{leaves}
+use Rattle.venue_model.specs.Match.{filled, exec, rest, done, trades}
 
--- it stands ahead of the other, and not the other way round
-pub record Leads (o x : Order) : Type 0 where
-  pub ahead_of : ahead o x ≡ true
-  pub not_behind : ahead x o ≡ false
-
--- of these orders, the incoming one fills this one first: all others that it crosses stand behind
-pub record First (incoming o : Order) (before behind : List Order) : Type 0 where
-  pub is_crossed : crosses incoming o ≡ true
-  pub leads_before : AllByRecursion (λ x. crosses incoming x ≡ true → Leads o x) before
-  pub leads_behind : AllByRecursion (λ x. crosses incoming x ≡ true → Leads o x) behind
-
--- how much they trade
-abbrev pub traded : Order → Order → ℕ
-traded incoming o = min (leaves o) (leaves incoming)
-
--- each of them after the trade, at the resting order's price
-abbrev pub resting_after : Order → Order → Order
-resting_after incoming o = filled o (traded incoming o) o.price
-
+-- the incoming order after the trade, at the resting order's price
 abbrev pub incoming_after : Order → Order → Order
 incoming_after incoming o = filled incoming (traded incoming o) o.price
-
--- the resting orders after the trade: where nothing is left of it, the order is gone
-abbrev pub orders_after : Order → Order → List Order → List Order → List Order
-orders_after incoming o before behind = before ++ (live_alone (resting_after incoming o) ++ behind)
 
 -- the two reports of the trade
 abbrev pub reports : Cause → Order → Order → List Output
@@ -56,3 +35,7 @@ pub record Passed (c : Cause) (old new : Matching) : Type 0 where
   pub left : rest old.incoming old.orders ≡ rest new.incoming new.orders
   pub filled : done old.incoming old.orders ≡ done new.incoming new.orders
   pub said : old.told ++ trades c old.incoming old.orders ≡ new.told ++ trades c new.incoming new.orders
+
+-- the match is over: nothing is left of the incoming order, or it crosses none
+abbrev pub Over : Order → List Order → Type 0
+Over incoming orders = (leaves incoming ≡ 0) ⊎ NoneCrossed incoming orders

@@ -1,29 +1,14 @@
 -- The resting orders as the book keeps them: one list, in the order of their stamps.
-use Rattle.std.specs.Prelude.{⊤, ℕ, ◌*◌, ◌≤◌, ◌<◌, List, [], ◌∷◌, length}
+use Rattle.std.specs.Prelude.{⊤, ◌≤◌, ◌<◌, List, [], ◌∷◌, length}
 use Rattle.std.specs.List.{AllByRecursion}
 use Rattle.venue_model.specs.declared.orders.Order.{Order}
 use Rattle.venue_model.specs.Requests.{most_resting}
-
--- an order whose numbers are in the ranges of the venue, so that no sum of its fills passes 10 ^ 12
-pub record InRange (o : Order) : Type 0 where
-  pub cum : o.cum ≤ o.total
-  pub total : o.total ≤ 1000000
-  pub price : o.price ≤ 1000000
-  pub notional : o.notional ≤ o.cum * 1000000
-
--- an order that rests: something is left of it
-pub record Rests (o : Order) : Type 0 where
-  pub live : o.cum < o.total
-  pub in_range : InRange o
+pub use Rattle.resting.specs.Standing.{InRange, Rests, Below}
 
 -- each stamp is below those behind it
 abbrev pub Rising : List Order → Type 0
 Rising [] = ⊤
 Rising (o ∷ os) = AllByRecursion (λ x. o.stamp < x.stamp) os × Rising os
-
--- all stamps are below a sequence
-abbrev pub Below : ℕ → List Order → Type 0
-Below sequence orders = AllByRecursion (λ x. x.stamp < sequence) orders
 
 -- the book's list
 pub record Standing (orders : List Order) : Type 0 where

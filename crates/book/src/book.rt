@@ -1,58 +1,71 @@
 //! The book: what rests, and each client's greatest accepted ClOrdID.
-ghost use Rattle.std.specs.Prelude.{◌≡◌, ◌+◌, ◌*◌, ◌^◌, ◌<◌, ◌≤◌, [], ◌∷◌, ◌++◌, length, IfOk, OnOk, OnErr};
+ghost use Rattle.std.specs.Prelude.{◌≡◌, ◌+◌, ◌*◌, ◌^◌, ◌<◌, ◌≤◌, [], ◌∷◌, ◌++◌, IfOk, IsOk};
 ghost use Rattle.std.specs.Vec.{vec_len, vec_capacity};
 ghost use Rattle.venue_model.specs.Match.{output};
 ghost use Rattle.venue_model.specs.Step.{empty, cause, step, IsCommand};
 ghost use Rattle.book.specs.Books.{Follows};
+ghost use Rattle.book.specs.Reads.{Reads};
 ghost use Rattle.book.specs.Standing.{Below};
 
 use crate::logic::BookLogic;
 use crate::reports::{output, put};
+use resting::RestingOrders;
 use std::alloc::{AllocError, Global};
 use std::marker::Model;
-use venue_model::{Cause, Command, Limits, Malformed, Order, Output, Report};
+use venue_model::{Cause, Command, Limits, Malformed, Output, Report};
 
 /// How many orders rest at most.
 pub const MOST_RESTING: usize = 4096;
 
-/// The resting orders, in the order of their stamps, and each client's greatest accepted ClOrdID. Contracts see the
-/// venue's symbols and the state.
+/// How many outputs a command has at most: that it was accepted, two for a fill with each order that rests, and that
+/// what is left was canceled.
+pub const MOST_OUTPUTS: usize = 8194;
+
+/// The resting orders, each client's greatest accepted ClOrdID, and how many resting orders the last command read.
+/// Contracts see the venue's symbols, the state, in which the orders stand in the order of their stamps, and that number.
 #[derive(Drop)]
 pub struct Book {
     pub(crate) logic: BookLogic,
-    pub(crate) orders: Vec<Order>,
+    pub(crate) orders: RestingOrders,
     pub(crate) greatest: [u64; 8],
+    pub(crate) reads: u64,
 }
 
 impl Model for Book {
-    ghost use Rattle.std.specs.Prelude.{◌≤◌};
-    ghost use Rattle.std.specs.Vec.{vec_capacity};
-    ghost use Rattle.venue_model.specs.Requests.{most_resting};
     ghost use Rattle.book.specs.Books.{Book, IsBook};
 
     ghost Value = { Book };
 
-    ghost view = { λ b. record { symbols = b.logic; state = record { orders = b.orders.items; greatest = b.greatest } } };
+    ghost view = { λ b. record { symbols = b.logic; state = record { orders = b.orders; greatest = b.greatest }; reads = b.reads } };
 
-    ghost invariant = { λ b. IsBook b.logic b.orders.items b.greatest × (most_resting ≤ vec_capacity b.orders) };
+    ghost invariant = { λ b. IsBook b.logic b.orders b.greatest };
 }
 
 impl Book {
-    /// The empty book of a venue with these symbols. Room for all orders that can rest is made here.
+    /// The empty book of a venue with these symbols. Room for all orders that can rest is made here, and no other call
+    /// asks for memory.
     pub fn new(alloc: Global, limits: &Limits) -> Result<Book, AllocError>
-        ensures { IfOk result (λ b. b ≡ record { symbols = limits.now; state = empty }) }
+        ensures { IfOk result (λ b. b ≡ record { symbols = limits.now; state = empty; reads = 0 }) }
     {
-        let orders = Vec::with_capacity(alloc, MOST_RESTING)?;
+        let orders = RestingOrders::new(alloc)?;
         Ok(Book {
             logic: BookLogic::of(limits),
             orders,
             greatest: [0; 8],
+            reads: 0,
         })
     }
 
-    /// Does what the command at this sequence asks, and puts its outputs behind those in `out`. The room for them, two
-    /// for each resting order and two more (8,194 at most), is made first: where it is missing and refused (12, no
-    /// memory), book and `out` are as before, and the command can be tried again. `out` keeps the room that it has.
+    /// How many resting orders the last command read, of those that it matched or named. Prices and sums that the levels
+    /// keep aren't counted.
+    pub fn reads(&self) -> u64
+        ensures { result ≡ self.now.reads }
+    {
+        self.reads
+    }
+
+    /// Does what the command at this sequence asks, and puts its outputs into `out`, which is empty and has room for the
+    /// 8,194 that a command has at most. It always succeeds: no memory is asked for.
     pub fn apply(
         &mut self,
         sequence: u64,
@@ -64,34 +77,60 @@ impl Book {
         requires behind { Below sequence self.old.state.orders }
         requires gateway { (1 ≤ gateway) × (gateway ≤ 8) }
         requires command { IsCommand command.now }
-        ensures state { OnOk result (Follows self.old self.new sequence (record { gateway = gateway; command = command.now })) }
-        ensures told { OnOk result (out.new.items ≡ out.old.items
-            ++ (step self.old.symbols self.old.state sequence (record { gateway = gateway; command = command.now })).outputs) }
-        ensures refused { OnErr result ((self.new ≡ self.old) × (out.new.items ≡ out.old.items)
-            × (vec_capacity out.old < vec_len out.old + (2 * length self.old.state.orders + 2))) }
-        ensures room { vec_capacity out.old ≤ vec_capacity out.new }
+        requires room { (out.old.items ≡ []) × (8194 ≤ vec_capacity out.old) }
+        ensures succeeds { IsOk result × (vec_capacity out.new ≡ vec_capacity out.old) }
+        ensures state { Follows self.old self.new sequence (record { gateway = gateway; command = command.now }) }
+        ensures told { out.new.items ≡ (step self.old.symbols self.old.state sequence (record { gateway = gateway; command = command.now })).outputs }
     {
-        out.reserve(2 * self.orders.len() + 2)?;
+        let mut reads = 0;
+        self.obey(sequence, gateway, command, out, &mut reads);
+        self.reads = reads;
+        Ok(())
+    }
+
+    /// Does what the command asks, and counts what it reads.
+    fn obey(
+        &mut self,
+        sequence: u64,
+        gateway: u8,
+        command: &Command,
+        out: &mut Vec<Output>,
+        reads: &mut u64,
+    )
+        requires sequence { sequence < 2 ^ 48 }
+        requires behind { Below sequence self.old.state.orders }
+        requires from { 1 ≤ gateway }
+        requires to { gateway ≤ 8 }
+        requires command { IsCommand command.now }
+        requires empty { out.old.items ≡ [] }
+        requires room { 8194 ≤ vec_capacity out.old }
+        requires reads { reads.old ≡ 0 }
+        ensures symbols { self.new.symbols ≡ self.old.symbols }
+        ensures state { self.new.state ≡ (step self.old.symbols self.old.state sequence (record { gateway = gateway; command = command.now })).state }
+        ensures below { Below (sequence + 1) self.new.state.orders }
+        ensures told { out.new.items ≡ (step self.old.symbols self.old.state sequence (record { gateway = gateway; command = command.now })).outputs }
+        ensures reads { Reads self.old.symbols self.old.state sequence (record { gateway = gateway; command = command.now }) reads.new }
+        ensures room { vec_capacity out.new ≡ vec_capacity out.old }
+    {
         match command {
             Command::New {
                 sending_time,
                 order,
-            } => self.new_order(cause(gateway, sequence, *sending_time), order, out),
+            } => self.new_order(cause(gateway, sequence, *sending_time), order, out, reads),
             Command::Cancel {
                 sending_time,
                 request,
-            } => self.cancel(cause(gateway, sequence, *sending_time), request, out),
+            } => self.cancel(cause(gateway, sequence, *sending_time), request, out, reads),
             Command::Replace {
                 sending_time,
                 request,
-            } => self.replace(cause(gateway, sequence, *sending_time), request, out),
+            } => self.replace(cause(gateway, sequence, *sending_time), request, out, reads),
             Command::Malformed {
                 sending_time,
                 fault,
             } => reject(cause(gateway, sequence, *sending_time), fault, out),
             Command::Void => {}
         }
-        Ok(())
     }
 }
 

@@ -1,20 +1,18 @@
-//! The book over a plain list: price-time matching, one command after another, behind the input ring's stages.
-//! It keeps its resting orders in one list in the order of their stamps and searches it.
+//! The book: price-time matching, one command after another, behind the input ring's stages. Its orders rest in price
+//! levels, and each is found by its client and ClOrdID; contracts see them as one list in the order of their stamps.
 #![tactic(auto)]
 
-mod best;
 mod book;
 mod laws;
 mod listing;
 mod logic;
 mod matching;
-mod names;
 mod orders;
 mod refusals;
 mod reports;
 mod requests;
 
-pub use book::{Book, MOST_RESTING};
+pub use book::{Book, MOST_OUTPUTS, MOST_RESTING};
 pub use laws::{
     both_sides_trade_the_same, fill_or_kill_is_whole, fills_come_in_order, no_order_is_overfilled,
     outputs_only_grow, priority_holds, stamps_are_sequences, the_book_is_bounded,

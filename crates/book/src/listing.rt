@@ -1,24 +1,25 @@
 //! The resting orders one by one, as the book is shown: symbol by symbol, buys before sells, each ahead of the next.
-ghost use Rattle.std.specs.Prelude.{◌≡◌, ◌&&◌, ℕ, List, [], ◌∷◌, ◌++◌, None, Some, position, slice_get};
+ghost use Rattle.std.specs.Prelude.{◌≡◌, ◌≤◌, ◌%◌, ℕ, List, [], ◌∷◌, ◌++◌, None, Some, length, find, position, slice_get};
+ghost use Rattle.std.specs.List.{Contains};
 ghost use Rattle.std.specs.List.Sorted.{IsPermutation};
 ghost use Rattle.std.specs.Str.{bytes_eq};
 ghost use Rattle.venue_model.specs.declared.orders.Order.{Order};
-ghost use Rattle.venue_model.specs.Requests.{Symbols};
+ghost use Rattle.venue_model.specs.Requests.{Symbols, is_named};
 ghost use Rattle.venue_model.specs.Spelling.{AreSymbols};
-ghost use Rattle.book.specs.Books.{IsBook};
+ghost use Rattle.book.specs.Books.{NamedApart, IsBook};
 ghost use Rattle.book.specs.Listing.{listing};
-ghost use Rattle.book.specs.Next.{number_of, stands_before, comes_before, comes_behind, comes_ahead, NextOf};
+ghost use Rattle.book.specs.Next.{number_of, side_number, group_of, InTable, NextOf, FirstFrom};
 
 use crate::book::Book;
-use crate::orders::is_ahead;
+use resting::RestingOrders;
 use venue_model::{Order, Side, Symbol};
 
 impl Book {
     /// The resting orders one by one: from `None` the first, from an order that rests the one behind it, and `None`
     /// behind the last. They stand by symbol in the order of the command line, buys before sells, each ahead of the
-    /// next. It takes no memory, and each call looks at all orders. An order that doesn't rest has a place among them
-    /// too, by its symbol, side, price and stamp, and the answer is the first order behind that place; a symbol that
-    /// the venue doesn't trade stands behind all others.
+    /// next. An order is known by its client and ClOrdID; behind one that doesn't rest comes `None`. It takes no memory.
+    /// A call looks the order's name up and, behind the last order of a price, searches the price levels once for that
+    /// order and once for each later symbol and side (at most 16 in all), until an order is there.
     pub fn after(&self, from: Option<Order>) -> Option<Order>
         ensures first { from ≡ None → result ≡ slice_get (listing self.now.symbols self.now.state.orders) 0 }
         ensures next { (before behind : List Order) (o : Order) → from ≡ Some o →
@@ -37,62 +38,75 @@ pub fn every_order_is_listed_once()
 {}
 
 /// The order that is listed next behind this one, or first.
-fn next(symbols: &[Symbol], orders: &[Order], from: &Option<Order>) -> Option<Order>
-    ensures { NextOf symbols.now from.now orders.now orders.now result }
-{
-    let mut next = None;
-    for order in orders {
-        if comes_between(symbols, from, order, &next) {
-            next = Some(*order);
-        }
-    }
-    next
-}
-
-/// Whether it comes behind the one order and before the other, where they are given.
-fn comes_between(
-    symbols: &[Symbol],
-    from: &Option<Order>,
-    order: &Order,
-    to: &Option<Order>,
-) -> bool
-    ensures { result ≡ comes_behind symbols.now from.now order.now && comes_ahead symbols.now to.now order.now }
-{
-    comes_behind(symbols, from, order) && comes_ahead(symbols, to, order)
-}
-
-/// Whether it comes behind this order, if there is one.
-fn comes_behind(symbols: &[Symbol], from: &Option<Order>, order: &Order) -> bool
-    ensures { result ≡ comes_behind symbols.now from.now order.now }
+fn next(symbols: &[Symbol], orders: &RestingOrders, from: &Option<Order>) -> Option<Order>
+    requires table { AreSymbols symbols.now }
+    requires known { InTable symbols.now orders.now }
+    requires apart { NamedApart orders.now }
+    ensures first { from.now ≡ None → NextOf symbols.now None orders.now result }
+    ensures next { (o : Order) → from.now ≡ Some o → Contains orders.now o
+        → NextOf symbols.now (Some o) orders.now result }
 {
     match from {
-        Some(from) => comes_before(symbols, from, order),
-        None => true,
+        None => first_from(symbols, orders, 0),
+        Some(from) => next_behind(symbols, orders, from.client, from.cl_ord_id),
     }
 }
 
-/// Whether it comes before this order, if there is one.
-fn comes_ahead(symbols: &[Symbol], to: &Option<Order>, order: &Order) -> bool
-    ensures { result ≡ comes_ahead symbols.now to.now order.now }
+/// The order that is listed next behind the client's one of this name: of its group, or else of the later ones.
+fn next_behind(symbols: &[Symbol], orders: &RestingOrders, client: u8, name: u64) -> Option<Order>
+    requires table { AreSymbols symbols.now }
+    requires known { InTable symbols.now orders.now }
+    ensures { (o : Order) → find (is_named client name) orders.now ≡ Some o
+        → NextOf symbols.now (Some o) orders.now result }
 {
-    match to {
-        Some(to) => comes_before(symbols, order, to),
-        None => true,
+    let order = orders.named(client, name, &mut 0)?;
+    if let Some(next) = orders.behind(client, name) {
+        return Some(next);
+    }
+    first_from(symbols, orders, group_of(symbols, &order) + 1)
+}
+
+/// The first order of this group and the later ones.
+fn first_from(symbols: &[Symbol], orders: &RestingOrders, from: usize) -> Option<Order>
+    requires table { AreSymbols symbols.now }
+    requires known { InTable symbols.now orders.now }
+    ensures { FirstFrom symbols.now from orders.now result }
+{
+    for group in from..2 * symbols.len() {
+        if let Some(first) = orders.first_of(&symbols[group / 2], side_of(group)) {
+            return Some(first);
+        }
+    }
+    None
+}
+
+/// The side of a group: buys have even numbers, sells odd ones.
+fn side_of(group: usize) -> Side
+    ensures { side_number result ≡ group % 2 }
+{
+    if group % 2 == 0 {
+        Side::Buy
+    } else {
+        Side::Sell
     }
 }
 
-/// Whether an order is listed before another.
-fn comes_before(symbols: &[Symbol], order: &Order, other: &Order) -> bool
-    ensures { result ≡ comes_before symbols.now order.now other.now }
+/// The group of an order: two for each symbol before its own, and one more before a sell.
+fn group_of(symbols: &[Symbol], order: &Order) -> usize
+    requires { AreSymbols symbols.now }
+    ensures { result ≡ group_of symbols.now order.now }
 {
     let number = number_of(symbols, &order.symbol);
-    let other_number = number_of(symbols, &other.symbol);
-    number < other_number || number == other_number && stands_before(order, other)
+    match order.side {
+        Side::Buy => 2 * number,
+        Side::Sell => 2 * number + 1,
+    }
 }
 
 /// The number of a symbol: its place in the table, or the table's length.
 fn number_of(symbols: &[Symbol], symbol: &Symbol) -> usize
-    ensures { result ≡ number_of symbols.now symbol.now }
+    ensures value { result ≡ number_of symbols.now symbol.now }
+    ensures within { result ≤ length symbols.now }
 {
     place_of(symbols, symbol).unwrap_or(symbols.len())
 }
@@ -102,15 +116,4 @@ fn place_of(symbols: &[Symbol], symbol: &Symbol) -> Option<usize>
     ensures { result ≡ position (bytes_eq symbol.now) symbols.now }
 {
     symbols.iter().position(|known| symbol.is(known))
-}
-
-/// Whether an order is listed before another of its symbol: a buy before a sell, and of one side the one ahead.
-fn stands_before(order: &Order, other: &Order) -> bool
-    ensures { result ≡ stands_before order.now other.now }
-{
-    match (order.side, other.side) {
-        (Side::Buy, Side::Sell) => true,
-        (Side::Sell, Side::Buy) => false,
-        _ => is_ahead(order, other),
-    }
 }

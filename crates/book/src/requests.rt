@@ -1,14 +1,14 @@
 //! What each request does to the book, and what it tells: the refusals in their order, or the match.
-ghost use Rattle.std.specs.Prelude.{◌≡◌, ℕ, ◌+◌, ◌*◌, ◌<◌, ◌≤◌, ◌^◌, [], ◌∷◌, ◌++◌, length, MatchOption, None};
+ghost use Rattle.std.specs.Prelude.{◌≡◌, ◌≢◌, ⊤, ℕ, ◌+◌, ◌*◌, ◌<◌, ◌≤◌, ◌^◌, true, [], ◌∷◌, ◌++◌, length, MatchOption, None, Some};
 ghost use Rattle.std.specs.Vec.{vec_len, vec_capacity};
-ghost use Rattle.venue_model.specs.Requests.{new_refusal, entering, greatest_of, accepted, State, named, on_new, on_cancel, on_replace, cancel_reject, replace_reject, order_replaced, replace_fits, unfit, canceled, amended, restamped, keeps_place};
+ghost use Rattle.venue_model.specs.Requests.{new_refusal, entering, greatest_of, accepted, State, named, others, on_new, on_cancel, on_replace, cancel_reject, replace_reject, order_replaced, replace_fits, canceled, amended, restamped, keeps_place, amended_in_place, most_resting};
 ghost use Rattle.venue_model.specs.Step.{IsAmount};
 ghost use Rattle.book.specs.Standing.{Below};
-ghost use Rattle.book.specs.Books.{NamedAt, NoneNamed, IsBook, TakesOut};
+ghost use Rattle.book.specs.Books.{NoneNamed, IsBook, Stands, StaysInPlace, TakesOut};
+ghost use Rattle.book.specs.Reads.{fills, named_reads, NewReads, ReplaceReads};
 
 use crate::book::{Book, MOST_RESTING};
 use crate::matching::enter;
-use crate::names::{Found, find};
 use crate::orders::is_day;
 use crate::refusals::{cancel_refusal, replace_refusal};
 use crate::reports::{output, put, tell};
@@ -27,13 +27,14 @@ impl Book {
         self.greatest[client as usize - 1]
     }
 
-    /// What the book has under a client's name.
-    fn find(&self, client: u8, name: u64) -> Found
-        ensures place { MatchOption result.place (NoneNamed client name self.now.state.orders)
-            (NamedAt client name self.now.state.orders) }
-        ensures order { result.order ≡ named self.now.state client name }
+    /// The client's resting order of this name. `reads` counts the read of it.
+    fn named(&self, client: u8, name: u64, reads: &mut u64) -> Option<Order>
+        requires { reads.old < 2 ^ 32 }
+        ensures order { result ≡ named self.now.state client name }
+        ensures stands { MatchOption result ⊤ (Stands self.now client) }
+        ensures reads { reads.new ≡ reads.old + named_reads result }
     {
-        find(&self.orders, client, name)
+        self.orders.named(client, name, reads)
     }
 
     /// Why a new order is refused: the first reason that holds.
@@ -66,15 +67,14 @@ impl Book {
         self.greatest[client as usize - 1] = name;
     }
 
-    /// Takes the order at a place out of the book.
-    fn take_out(&mut self, place: usize) -> Order
-        requires { place < length self.old.state.orders }
-        ensures takes { (client name : ℕ) → NamedAt client name self.old.state.orders place →
-            TakesOut client name self.old self.new result }
+    /// Takes the client's order of this name out of the book.
+    fn take_out(&mut self, client: u8, name: u64) -> Order
+        requires { named self.old.state client name ≢ None }
+        ensures takes { TakesOut client name self.old self.new result }
         ensures below { (sequence : ℕ) → Below sequence self.old.state.orders → Below sequence self.new.state.orders }
-        ensures shorter { length self.new.state.orders + 1 ≡ length self.old.state.orders }
+        ensures room { length self.new.state.orders < most_resting }
     {
-        self.orders.remove(place)
+        self.orders.take_out(client, name)
     }
 
     /// NewOrderSingle: it is refused, or it is acknowledged and matched.
@@ -83,6 +83,7 @@ impl Book {
         cause: Cause,
         request: &NewOrderSingle,
         out: &mut Vec<Output>,
+        reads: &mut u64,
     )
         requires from { 1 ≤ cause.gateway }
         requires to { cause.gateway ≤ 8 }
@@ -90,11 +91,13 @@ impl Book {
         requires behind { Below cause.sequence self.old.state.orders }
         requires price { IsAmount request.now.price }
         requires quantity { IsAmount request.now.quantity }
-        requires room { vec_len out.old + (2 * length self.old.state.orders + 2) ≤ vec_capacity out.old }
+        requires room { vec_len out.old + 8194 ≤ vec_capacity out.old }
+        requires reads { reads.old ≡ 0 }
         ensures state { self.new ≡ record self.old { state = (on_new self.old.symbols self.old.state cause request.now).state } }
         ensures told { out.new.items ≡ out.old.items ++ (on_new self.old.symbols self.old.state cause request.now).outputs }
         ensures behind { Below (cause.sequence + 1) self.new.state.orders }
         ensures room { vec_capacity out.new ≡ vec_capacity out.old }
+        ensures reads { NewReads self.old.symbols self.old.state cause request.now reads.new }
     {
         let order = entering(cause, request);
         if let Some(reason) = self.new_refusal(cause.gateway, request) {
@@ -103,7 +106,14 @@ impl Book {
         }
         self.accept(cause.gateway, request.cl_ord_id);
         tell(out, cause, ExecType::New, &order);
-        enter(&mut self.orders, &order, request.time_in_force, cause, out);
+        enter(
+            &mut self.orders,
+            &order,
+            request.time_in_force,
+            cause,
+            out,
+            reads,
+        );
     }
 
     /// OrderCancelRequest: it is refused, or the order that it names leaves the book.
@@ -112,30 +122,31 @@ impl Book {
         cause: Cause,
         request: &OrderCancelRequest,
         out: &mut Vec<Output>,
+        reads: &mut u64,
     )
         requires from { 1 ≤ cause.gateway }
         requires to { cause.gateway ≤ 8 }
         requires behind { Below cause.sequence self.old.state.orders }
         requires room { vec_len out.old + 1 ≤ vec_capacity out.old }
+        requires reads { reads.old ≡ 0 }
         ensures state { self.new ≡ record self.old { state = (on_cancel self.old.state cause request.now).state } }
         ensures told { out.new.items ≡ out.old.items ++ (on_cancel self.old.state cause request.now).outputs }
         ensures behind { Below (cause.sequence + 1) self.new.state.orders }
         ensures room { vec_capacity out.new ≡ vec_capacity out.old }
+        ensures reads { reads.new ≡ named_reads (named self.old.state cause.gateway request.now.orig_cl_ord_id) }
     {
-        let found = self.find(cause.gateway, request.orig_cl_ord_id);
+        let named = self.named(cause.gateway, request.orig_cl_ord_id, reads);
         let greatest = self.greatest_of(cause.gateway);
-        if let Some(reason) = cancel_refusal(greatest, request, &found.order) {
-            put(out, &cancel_reject(cause, request, found.order, reason));
+        if let Some(reason) = cancel_refusal(greatest, request, &named) {
+            put(out, &cancel_reject(cause, request, named, reason));
             return;
         }
-        if let Some(place) = found.place {
-            let order = self.take_out(place);
-            self.accept(cause.gateway, request.cl_ord_id);
-            let exec_type = ExecType::Canceled {
-                orig_cl_ord_id: Some(request.orig_cl_ord_id),
-            };
-            tell(out, cause, exec_type, &canceled(request, order));
-        }
+        let order = self.take_out(cause.gateway, request.orig_cl_ord_id);
+        self.accept(cause.gateway, request.cl_ord_id);
+        let exec_type = ExecType::Canceled {
+            orig_cl_ord_id: Some(request.orig_cl_ord_id),
+        };
+        tell(out, cause, exec_type, &canceled(request, order));
     }
 
     /// OrderCancelReplaceRequest: it is refused, or the order that it names is amended.
@@ -144,72 +155,98 @@ impl Book {
         cause: Cause,
         request: &OrderCancelReplaceRequest,
         out: &mut Vec<Output>,
+        reads: &mut u64,
     )
         requires from { 1 ≤ cause.gateway }
         requires to { cause.gateway ≤ 8 }
         requires behind { Below cause.sequence self.old.state.orders }
         requires price { IsAmount request.now.price }
         requires quantity { IsAmount request.now.quantity }
-        requires room { vec_len out.old + (2 * length self.old.state.orders + 2) ≤ vec_capacity out.old }
+        requires room { vec_len out.old + 8194 ≤ vec_capacity out.old }
+        requires reads { reads.old ≡ 0 }
         ensures state { self.new ≡ record self.old { state = (on_replace self.old.state cause request.now).state } }
         ensures told { out.new.items ≡ out.old.items ++ (on_replace self.old.state cause request.now).outputs }
         ensures behind { Below (cause.sequence + 1) self.new.state.orders }
         ensures room { vec_capacity out.new ≡ vec_capacity out.old }
+        ensures reads { ReplaceReads self.old.state cause request.now reads.new }
     {
-        let found = self.find(cause.gateway, request.orig_cl_ord_id);
+        let named = self.named(cause.gateway, request.orig_cl_ord_id, reads);
         let greatest = self.greatest_of(cause.gateway);
-        if let Some(reason) = replace_refusal(greatest, request, &found.order) {
-            put(out, &replace_reject(cause, request, found.order, reason));
+        if let Some(reason) = replace_refusal(greatest, request, &named) {
+            put(out, &replace_reject(cause, request, named, reason));
             return;
         }
-        if let Some(place) = found.place {
-            self.amend(cause, request, place, out);
-        }
+        self.amend(cause, request, &named.unwrap(), out, reads);
     }
 
-    /// Amends the order at this place: it stays there, or it comes in again behind all others.
+    /// Amends this order, which the request names: it stays where it is, or it comes in again behind all others.
     fn amend(
         &mut self,
         cause: Cause,
         request: &OrderCancelReplaceRequest,
-        place: usize,
+        order: &Order,
         out: &mut Vec<Output>,
+        reads: &mut u64,
     )
         requires from { 1 ≤ cause.gateway }
         requires to { cause.gateway ≤ 8 }
-        requires named { NamedAt cause.gateway request.now.orig_cl_ord_id self.old.state.orders place }
-        requires fits { unfit (replace_fits request.now)
-            (named self.old.state cause.gateway request.now.orig_cl_ord_id) ≡ None }
+        requires named { named self.old.state cause.gateway request.now.orig_cl_ord_id ≡ Some order.now }
+        requires stands { Stands self.old cause.gateway order.now }
+        requires fits { replace_fits request.now order.now ≡ true }
         requires later { greatest_of self.old.state cause.gateway < request.now.cl_ord_id }
         requires behind { Below cause.sequence self.old.state.orders }
         requires price { request.now.price ≤ 1000000 }
         requires quantity { request.now.quantity ≤ 1000000 }
-        requires room { vec_len out.old + (2 * length self.old.state.orders + 2) ≤ vec_capacity out.old }
-        ensures state { self.new ≡ record self.old {
-          state = (order_replaced self.old.state cause request.now
-              (named self.old.state cause.gateway request.now.orig_cl_ord_id)).state;
-        } }
-        ensures told { out.new.items ≡ out.old.items ++ (order_replaced self.old.state cause request.now
-            (named self.old.state cause.gateway request.now.orig_cl_ord_id)).outputs }
+        requires room { vec_len out.old + 8194 ≤ vec_capacity out.old }
+        requires reads { reads.old ≡ 1 }
+        ensures state { self.new ≡ record self.old { state = (order_replaced self.old.state cause request.now (Some order.now)).state } }
+        ensures told { out.new.items ≡ out.old.items ++ (order_replaced self.old.state cause request.now (Some order.now)).outputs }
         ensures behind { Below (cause.sequence + 1) self.new.state.orders }
         ensures room { vec_capacity out.new ≡ vec_capacity out.old }
+        ensures reads { (1 ≤ reads.new) × (reads.new ≤ 1
+            + fills (restamped cause (amended request.now order.now)) (others self.old.state cause.gateway request.now.orig_cl_ord_id) + 1) }
+        ensures stays { keeps_place request.now order.now ≡ true → reads.new ≡ 1 }
     {
-        let order = self.orders[place];
         let exec_type = ExecType::Replaced {
             orig_cl_ord_id: request.orig_cl_ord_id,
         };
-        if keeps_place(request, &order) {
-            let order = amended(request, &order);
+        let amended = amended(request, order);
+        if keeps_place(request, order) {
             self.accept(cause.gateway, request.cl_ord_id);
-            self.orders[place] = order;
-            tell(out, cause, exec_type, &order);
+            self.amend_in_place(cause.gateway, request);
+            tell(out, cause, exec_type, &amended);
         } else {
-            let order = restamped(cause, amended(request, &order));
-            self.take_out(place);
+            let order = restamped(cause, amended);
+            self.take_out(cause.gateway, request.orig_cl_ord_id);
             self.accept(cause.gateway, request.cl_ord_id);
             tell(out, cause, exec_type, &order);
-            enter(&mut self.orders, &order, TimeInForce::Day, cause, out);
+            enter(
+                &mut self.orders,
+                &order,
+                TimeInForce::Day,
+                cause,
+                out,
+                reads,
+            );
         }
+    }
+
+    /// Amends the client's order that the request names where it stands, under its new name, which was accepted.
+    fn amend_in_place(&mut self, client: u8, request: &OrderCancelReplaceRequest)
+        requires named { MatchOption (named self.old.state client request.now.orig_cl_ord_id) ⊥ (StaysInPlace request.now) }
+        requires name { request.now.cl_ord_id ≤ greatest_of self.old.state client }
+        requires fresh { NoneNamed client request.now.cl_ord_id self.old.state.orders }
+        ensures orders { self.new ≡ record self.old {
+          state = record self.old.state { orders = amended_in_place self.old.state client request.now };
+        } }
+        ensures below { (sequence : ℕ) → Below sequence self.old.state.orders → Below sequence self.new.state.orders }
+    {
+        self.orders.amend(
+            client,
+            request.orig_cl_ord_id,
+            request.cl_ord_id,
+            request.quantity,
+        );
     }
 }
 

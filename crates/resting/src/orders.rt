@@ -66,7 +66,7 @@ impl RestingOrders {
     pub fn named(&self, client: u8, name: u64, reads: &mut u64) -> Option<Order>
         requires { reads.old < 2 ^ 64 - 1 }
         ensures order { result ≡ find (is_named client name) self.now }
-        ensures reads { reads.new ≤ reads.old + 1 }
+        ensures reads { MatchOption result (reads.new ≡ reads.old) (λ o. reads.new ≡ reads.old + 1) }
     {
         let number = self.index.find(client, name)?;
         Some(self.levels.get(Place::at(number), reads))
@@ -116,7 +116,7 @@ impl RestingOrders {
         requires reads { reads.old < 2 ^ 64 - 1 }
         requires some { 0 < leaves incoming.now }
         ensures first { MatchOption result (FillsNone incoming.now self.old self.new) (FillsFirst incoming.now self.old self.new) }
-        ensures reads { reads.new ≤ reads.old + 1 }
+        ensures reads { MatchOption result ((reads.old ≤ reads.new) × (reads.new ≤ reads.old + 1)) (λ o. reads.new ≡ reads.old + 1) }
     {
         let place = self.levels.best(&incoming.symbol, opposite(incoming.side))?;
         let order = self.levels.get(place, reads);

@@ -4,8 +4,7 @@ use mathlib.Core.Option.{some, some-ne-none}
 use lib.ListN.{get_elem?}
 use Rattle.venue_model.specs.History.{Message}
 use Rattle.venue_model.specs.ListLaws.{at_end}
-use Rattle.ring_words.specs.declared.view.Person.{Person}
-use Rattle.ring_words.specs.At.{Opened, At, at, IsAt, Steps, number}
+use Rattle.ring_words.specs.At.{Opened, At, at, Steps, number}
 use Rattle.ring_words.specs.declared.view.Role.TheVariants.{Gateway}
 use Rattle.ring_words.specs.Rule.{newcomer}
 use Rattle.ring_words.specs.Crew.{AreGateways, AreNewGateways}

@@ -1,7 +1,6 @@
 //! On one thread small rings and all stages, on threads of their own gateways and stages all at once; and the wires.
 
 mod crew;
-mod four_gateways;
 mod gateways_meet;
 mod member;
 mod messages;
@@ -10,5 +9,6 @@ mod orders;
 mod output_ring_of_two;
 mod ring_of_two;
 mod sessions;
+mod small_rings;
 mod venue;
 mod wires;

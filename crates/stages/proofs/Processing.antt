@@ -1,5 +1,5 @@
 -- One command through the processor: it is read at the own word and done in the book, and its outputs are put behind those before.
-use Rattle.std.proofs.Common.{◌≡◌, ℕ, zero, suc, ◌+◌, ◌*◌, ◌<◌, ◌≤◌, List, [], ◌∷◌, ◌++◌, length, take, drop, ap, refl, sym, subst, ◌∙◌, length-append, arith}
+use Rattle.std.proofs.Common.{◌≡◌, ℕ, zero, suc, ◌+◌, ◌<◌, ◌≤◌, List, [], ◌∷◌, ◌++◌, length, take, drop, ap, refl, sym, subst, ◌∙◌, length-append, arith, Some}
 use Rattle.std.proofs.lemmas.List.{length-take-le}
 use mathlib.Core.Option.{some, some-injective, some-ne-none}
 use lib.ListN.{get_elem?}
@@ -8,7 +8,7 @@ use Rattle.venue_model.specs.declared.commands.Command.{Command}
 use Rattle.venue_model.specs.declared.outputs.Output.{Output}
 use Rattle.venue_model.specs.Requests.{Symbols, State, Stepped}
 use Rattle.venue_model.specs.Step.{Request, IsCommand, requests, state, outputs, step}
-use Rattle.venue_model.specs.HistoryLaws.{requests_from-more, state-more, outputs-one, few-resting}
+use Rattle.venue_model.specs.HistoryLaws.{requests_from-more, state-more, outputs-one}
 use Rattle.fix_orders.specs.Reading.{reads}
 use Rattle.fix_orders.specs.RangeLaws.{reads_within}
 use Rattle.ring_words.specs.declared.view.Person.{Person}
@@ -73,10 +73,6 @@ pub behind : (symbols : Symbols) (k : ℕ) (h : List Message) (s : State) → s 
 behind symbols k h s is = subst (λ (z : State). Below k z.orders) (sym is)
     (history-behind (λ sequence m. reads m.bytes) symbols (take k h) k (length-first k h))
 
--- and there is room for the outputs of one command more
-pub has_room : (symbols : Symbols) (h : List Message) (s : State) → s ≡ state_of symbols h → 2 * length s.orders + 2 ≤ 8194
-has_room symbols h s is = let few = few-resting symbols (asked h) in let same = ap (λ (z : State). length z.orders) is in omega (arith, few, same)
-
 -- A COMMAND THAT WAS READ
 
 -- it is that of the next entry
@@ -139,10 +135,6 @@ left_to_put v book applied left follows one =
 abbrev pub HasRead : ℕ → Person → Person → Type 0
 HasRead n v w = (e : Message) × (get_elem? v.seen v.own ≡ some e) × (w ≡ after_reading n v e)
 
--- what is put behind nothing is all
-pub all_new : (out before more : List Output) → out ≡ before ++ more → before ≡ [] → out ≡ more
-all_new out before more told none = told ∙ ap (λ (l : List Output). l ++ more) none
-
 -- where no outputs are left of them
 pub at_rest : (v : At Symbols) (book : Book) (applied s : ℕ) (left : List Output) → Follows v book applied left → applied ≡ s → left ≡ [] → Follows v book s []
 at_rest v book applied s left follows at none = subst (λ (k : ℕ). Follows v book k []) at (subst (Follows v book applied) none follows)
@@ -175,12 +167,21 @@ module _ (n : ℕ) (v r : At Symbols) (s gateway : ℕ) (command : Command) (too
   all_out : length (outputs_of book.symbols (entries_done v.who)) ≡ v.who.part.sequence
   all_out = let all = before.published in omega (arith, all)
 
+  -- whatever else is said of a book, of these symbols and in this state it follows
+  same_book : {w : At Symbols} {k : ℕ} {left : List Output} (book' : Book) → book'.symbols ≡ book.symbols → book'.state ≡ this_step.state
+      → Follows w (record book { state = this_step.state }) k left → Follows w book' k left
+  same_book book' symbols stepped f = record {
+    logic = f.logic ∙ ap Some (sym symbols);
+    state = rw (symbols, stepped) f.state;
+    rest = rw symbols f.rest;
+    published = rw symbols f.published;
+  }
+
   -- the book follows with one entry more, and its outputs are left
-  pub follows_on : (book' : Book) (left : List Output) (k : ℕ) → k ≡ suc s → book' ≡ record book { state = this_step.state } → left ≡ this_step.outputs
-      → Follows r book' k left
-  follows_on book' left k k_is stepped told =
-      subst (λ (z : At Symbols). Follows z book' k left) (sym took.view)
-      (subst (λ (b : Book). Follows (seated v (after_reading n v.who took.entry)) b k left) (sym stepped)
+  pub follows_on : (book' : Book) (left : List Output) (k : ℕ) → k ≡ suc s → book'.symbols ≡ book.symbols → book'.state ≡ this_step.state
+      → left ≡ this_step.outputs → Follows r book' k left
+  follows_on book' left k k_is symbols stepped told =
+      subst (λ (z : At Symbols). Follows z book' k left) (sym took.view) (same_book book' symbols stepped
       (subst (λ (i : ℕ). Follows (seated v (after_reading n v.who took.entry)) (record book { state = this_step.state }) i left)
       (sym (k_is ∙ ap suc took.place)) (record {
         logic = follows.logic;

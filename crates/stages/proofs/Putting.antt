@@ -86,16 +86,16 @@ read_leaves n v r s gateway command took above =
 -- the processor with that command taken up, done in the book, and its outputs left
 pub works_on : (n : ℕ) (p : AtBook) (r : At Symbols) (s gateway : ℕ) (command : Command) → IsWorking p → MayTake p s
     → Took n p.seat r s gateway command → (book : Book) (left : List Output)
-    → book ≡ record p.book { state = (step p.book.symbols p.book.state s (record { gateway = gateway; command = command })).state }
+    → book.symbols ≡ p.book.symbols → book.state ≡ (step p.book.symbols p.book.state s (record { gateway = gateway; command = command })).state
     → left ≡ (step p.book.symbols p.book.state s (record { gateway = gateway; command = command })).outputs
     → IsWorking (record { seat = r; book = book; applied = s + 1; left = left })
-works_on n p r s gateway command working may took book left stepped told =
+works_on n p r s gateway command working may took book left symbols stepped told =
     let follows = at_rest p.seat p.book p.applied s p.left working.follows may.all (working.whole (may.all ∙ may.next)) in
     let place = took.place in let known = took.known in
     let own : r.who.own ≡ p.seat.who.own = ap (λ (z : At Symbols). z.who.own) took.view in
     let seen : length r.who.seen ≡ length p.seat.who.seen = ap (λ (z : At Symbols). length z.who.seen) took.view in
     record {
-      follows = follows_on n p.seat r s gateway command took p.book follows book left (s + 1) (add-one s) stepped told;
+      follows = follows_on n p.seat r s gateway command took p.book follows book left (s + 1) (add-one s) symbols stepped told;
       counts = (omega (arith, place, own), omega (arith, place, own), omega (arith, place, known, seen));
       whole = λ is. absurd (omega (arith, is, place, own));
       synced = λ _. read_leaves n p.seat r s gateway command took may.synced;

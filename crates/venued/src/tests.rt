@@ -1,5 +1,7 @@
 //! A venue of two members: each of its six workers has a thread of its own, so that all of them are at their first turns together.
 
+mod failing_sync;
+
 use journal::{MemDisk, format};
 use listening::{StopSign, listen};
 use std::alloc::Global;

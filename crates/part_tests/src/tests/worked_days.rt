@@ -4,7 +4,7 @@ ghost use Rattle.std.specs.Prelude.{◌≡◌, ◌+◌, IfOk, OnOk};
 ghost use Rattle.venue_model.specs.Step.{empty};
 ghost use Rattle.book.specs.Standing.{Below};
 
-use book::Book;
+use book::{Book, MOST_OUTPUTS};
 use fix_orders::body_of;
 use std::alloc::{AllocError, Global};
 use std::test::Fail;
@@ -131,26 +131,8 @@ fn book(alloc: Global) -> Result<Book, Fail>
     Ok(Book::new(alloc, &limits)?)
 }
 
-/// What the book tells of these requests, one after another. Where memory is refused, nothing is told, and the request
-/// is tried again.
-fn told(alloc: Global, asks: &[Ask]) -> Result<Vec<Output>, Fail> {
-    let symbol = Symbol::new(b"ABC").ok_or("no symbol")?;
-    let mut book = book(alloc)?;
-    let mut out = Vec::new(alloc);
-    for place in 0..asks.len() {
-        try_twice(
-            &mut book,
-            place as u64,
-            asks[place].0,
-            &command(symbol, &asks[place]),
-            &mut out,
-        )?;
-    }
-    Ok(out)
-}
-
-/// Applies a command, at the second attempt if memory is refused at the first.
-fn try_twice(
+/// Does what a request asks, and puts what it is told into `out`.
+fn apply(
     book: &mut Book,
     sequence: u64,
     gateway: u8,
@@ -160,17 +142,34 @@ fn try_twice(
     requires { Below sequence book.old.state.orders }
     ensures { OnOk result (Below (sequence + 1) book.new.state.orders) }
 {
-    if gateway < 1 || 8 < gateway || 1 << 48 <= sequence || !command.is_in_range() {
+    if gateway < 1 || 8 < gateway || 1 << 48 <= sequence || out.capacity() < MOST_OUTPUTS {
         Err("no request")?;
     }
-    let before = out.len();
-    if book.apply(sequence, gateway, command, out).is_err() {
-        if out.len() != before {
-            Err("a refused command has told something")?;
-        }
-        book.apply(sequence, gateway, command, out)?;
+    if !command.is_in_range() {
+        Err("no command")?;
     }
+    out.clear();
+    book.apply(sequence, gateway, command, out)?;
     Ok(())
+}
+
+/// What the book tells of these requests, one after another.
+fn told(alloc: Global, asks: &[Ask]) -> Result<Vec<Output>, Fail> {
+    let symbol = Symbol::new(b"ABC").ok_or("no symbol")?;
+    let mut book = book(alloc)?;
+    let mut told = Vec::with_capacity(alloc, MOST_OUTPUTS)?;
+    let mut out = Vec::new(alloc);
+    for place in 0..asks.len() {
+        apply(
+            &mut book,
+            place as u64,
+            asks[place].0,
+            &command(symbol, &asks[place]),
+            &mut told,
+        )?;
+        out.extend_from_slice(&told)?;
+    }
+    Ok(out)
 }
 
 /// The requests of a day that begins with so many orders of C1 to buy 1 at 1.

@@ -9,7 +9,7 @@ ghost use Rattle.ring_tests.specs.Seats.{StaysSpent};
 
 use super::crew::{Stages, close, marshalled, open_venue, poll};
 use super::member::{Member, next_two};
-use super::orders::{Count, acknowledgement_of, next, order_of};
+use super::orders::{order_of, report_of};
 use super::venue::TestRings;
 use book::BookLogic;
 use ring_words::{GatewaySeat, Summary};
@@ -22,19 +22,19 @@ use std::thread::{Threads, join};
 /// How often in a row a thread tries before it gives up: long enough for any machine, and no hang.
 const TRIES: u64 = 100_000_000;
 
-/// What all gateways do: the count up to which each publishes its orders, and the number of all their outputs.
+/// What all gateways do: how many orders each publishes, and how many outputs there are of all.
 #[derive(Clone, Copy)]
 pub struct Day {
-    pub each: Count,
+    pub each: u64,
     pub outputs: u64,
 }
 
-/// Takes or passes over the next output, if there is one, and says whether that was right: one of its own acknowledges its next order, and
-/// with the last one all of these are acknowledged.
+/// Takes or passes over the next output, if there is one, and says whether that was right: one of its own is its next report, and the last
+/// of all comes with both reports of each of its orders taken.
 fn take_next<const N: usize, const M: usize, const G: usize>(
     gateway: &mut Member<'_, N, M, G>,
     client: u8,
-    told: &mut Count,
+    told: &mut u64,
     day: Day,
 ) -> bool
     ensures { StaysSpent gateway.old.seat gateway.new.seat }
@@ -42,8 +42,8 @@ fn take_next<const N: usize, const M: usize, const G: usize>(
     let mut buf = [0; 320];
     let right = match gateway.take(&mut buf) {
         Take::Mine(head) => {
-            let due = acknowledgement_of(client, *told);
-            *told = next(*told);
+            let due = report_of(client, *told);
+            *told = told.wrapping_add(1);
             head.len <= 320 && buf[..head.len].ends_with(&due)
         }
         Take::Passed => true,
@@ -52,7 +52,7 @@ fn take_next<const N: usize, const M: usize, const G: usize>(
             true
         }
     };
-    right && (gateway.seat.taken() != day.outputs || *told == day.each)
+    right && (gateway.seat.taken() != day.outputs || *told / 2 == day.each && *told % 2 == 0)
 }
 
 /// Publishes the client's orders, and takes or passes over all outputs. Gives the seat back, where that was soon done and right.
@@ -66,15 +66,15 @@ fn trade<const N: usize, const M: usize, const G: usize>(
     ensures { IfSome result (StaysSpent seat) }
 {
     let mut gateway = Member { rings, seat };
-    let mut sent = *b"000";
-    let mut told = *b"000";
+    let mut sent = 0;
+    let mut told = 0;
     for _ in 0..TRIES {
         if gateway.seat.taken() == day.outputs {
             let Member { seat, .. } = gateway;
             return Some(seat);
         }
         if sent != day.each && gateway.publish(&order_of(client, sent)).is_ok() {
-            sent = next(sent);
+            sent = sent.wrapping_add(1);
         }
         if !take_next(&mut gateway, client, &mut told, day) {
             return None;
@@ -182,8 +182,8 @@ fn close_behind<R: Threads + Sync, const N: usize, const M: usize, const G: usiz
     let Member { seat: one, .. } = one;
     let Member { seat: other, .. } = other;
     let day = Day {
-        each: *b"020",
-        outputs: 40,
+        each: 20,
+        outputs: 80,
     };
     let Some((mut one, mut other, stages)) = run(rt, &rings, (one, other, stages), *b"12", day)
     else {
@@ -201,7 +201,7 @@ fn gateways_meet(rt: HostRuntime) -> Result<(), Fail> {
         close_behind::<HostRuntime, 4, 2, 2>(&rt, rt.alloc())?,
         Some(Summary {
             commands: 40,
-            outputs: 40
+            outputs: 80
         })
     );
     Ok(())

@@ -1,61 +1,72 @@
-//! Orders that tell their client and their count, and what acknowledges them.
+//! Orders that tell their client and their number, and what is reported of them: each is accepted and then cancelled, since nobody sells.
 
-/// A number of three digits.
-pub type Count = [u8; 3];
+/// The first order of C1: to buy 1 at 1 immediately, or to cancel.
+const ORDER: &[u8; 130] =
+    b"8=FIX.4.4\x019=107\x0135=D\x0149=C1\x0156=VENUE\x0134=2\x0152=20250102-09:30:00\x01\
+    11=1000\x0155=ABC\x0154=1\x0160=20250102-09:30:00\x0138=1\x0140=2\x0144=1\x0159=3\x0110=000\x01";
 
-/// An order of C1 to buy 8999 at 50, its first.
-const ORDER: &[u8; 129] =
-    b"8=FIX.4.4\x019=106\x0135=D\x0149=C1\x0156=VENUE\x0134=2\x0152=20250102-09:30:00\x01\
-    11=1000\x0155=ABC\x0154=1\x0160=20250102-09:30:00\x0138=8999\x0140=2\x0144=50\x0110=072\x01";
+/// Where its CheckSum field begins.
+const SUMMED: usize = 123;
 
-/// What its acknowledgement says behind OrderID and ExecID.
-const ACKNOWLEDGEMENT: &[u8; 63] =
-    b"150=0\x0139=0\x0111=1000\x0155=ABC\x0154=1\x0138=8999\x0144=50\x01151=8999\x0114=0\x016=0\x01";
+/// What is reported of it behind OrderID and ExecID: that it is accepted, and that it is cancelled.
+const ACCEPTED: &[u8; 56] =
+    b"150=0\x0139=0\x0111=1000\x0155=ABC\x0154=1\x0138=1\x0144=1\x01151=1\x0114=0\x016=0\x01";
 
-/// The count behind this one.
-pub fn next(count: Count) -> Count {
-    let [hundreds, tens, ones] = count;
-    if ones < b'9' {
-        return [hundreds, tens, ones + 1];
-    }
-    if tens < b'9' {
-        return [hundreds, tens + 1, b'0'];
-    }
-    [hundreds.wrapping_add(1), b'0', b'0']
+const CANCELLED: &[u8; 56] =
+    b"150=4\x0139=4\x0111=1000\x0155=ABC\x0154=1\x0138=1\x0144=1\x01151=0\x0114=0\x016=0\x01";
+
+/// The last digit of a number.
+fn last_digit(number: u64) -> u8 {
+    b'0' + (number % 10) as u8
 }
 
-/// The digit that makes nine with this one.
-fn opposite(digit: u8) -> u8 {
-    (b'0' + b'9').wrapping_sub(digit)
+/// The three last digits of a number.
+fn digits(number: u64) -> [u8; 3] {
+    [
+        last_digit(number / 100),
+        last_digit(number / 10),
+        last_digit(number),
+    ]
 }
 
-/// The order of a client's digit and a count: they stand in its name, and their opposites in its quantity. So all have one sum.
-pub fn order_of(client: u8, count: Count) -> [u8; 129] {
-    let [hundreds, tens, ones] = count;
+/// The ClOrdID of an order: its client's digit, and its number below 1,000.
+fn name(client: u8, number: u64) -> [u8; 4] {
+    let [hundreds, tens, ones] = digits(number);
+    [client, hundreds, tens, ones]
+}
+
+/// The sum of these bytes, as CheckSum has it.
+fn sum_of(bytes: &[u8]) -> u8 {
+    let mut sum = 0_u8;
+    for byte in bytes {
+        sum = sum.wrapping_add(*byte);
+    }
+    sum
+}
+
+/// The order of this number, of the client with this digit.
+pub fn order_of(client: u8, number: u64) -> [u8; 130] {
+    let [hundreds, tens, ones] = digits(number);
     let mut order = *ORDER;
     order[25] = client;
+    order[65] = client;
     order[66] = hundreds;
     order[67] = tens;
     order[68] = ones;
-    order[106] = opposite(client);
-    order[107] = opposite(hundreds);
-    order[108] = opposite(tens);
-    order[109] = opposite(ones);
+    let [hundreds, tens, ones] = digits(u64::from(sum_of(&order[..SUMMED])));
+    order[126] = hundreds;
+    order[127] = tens;
+    order[128] = ones;
     order
 }
 
-/// What the acknowledgement of that order says behind OrderID and ExecID.
-pub fn acknowledgement_of(client: u8, count: Count) -> [u8; 63] {
-    let [hundreds, tens, ones] = count;
-    let mut text = *ACKNOWLEDGEMENT;
-    text[15] = hundreds;
-    text[16] = tens;
-    text[17] = ones;
-    for at in [34, 49] {
-        text[at] = opposite(client);
-        text[at + 1] = opposite(hundreds);
-        text[at + 2] = opposite(tens);
-        text[at + 3] = opposite(ones);
-    }
-    text
+/// What the report of this number to that client, from 0 on, says behind OrderID and ExecID.
+pub fn report_of(client: u8, number: u64) -> [u8; 56] {
+    let mut report = if number % 2 == 0 {
+        *ACCEPTED
+    } else {
+        *CANCELLED
+    };
+    report[14..18].copy_from_slice(&name(client, number / 2));
+    report
 }

@@ -1,5 +1,5 @@
 //! Two clients' sessions, one behind the other: the first orders and leaves, and what the second's order brings it is passed over by its gateway,
-//! and counted.
+//! and counted. And sessions of a client that breaks, is deaf or has closed, each with another session of that client behind it.
 ghost use Rattle.std.specs.Prelude.{None, ◌≡◌, ◌≤◌, true, false, [], IfOk, IsSome};
 ghost use Rattle.ring_words.specs.declared.view.Role.TheVariants as role;
 ghost use Rattle.ring_words.specs.Rule.{newcomer};
@@ -16,6 +16,10 @@ use ring_words::GatewaySeat;
 use std::alloc::{AllocError, Global};
 use std::test::Fail;
 use venue_model::Limits;
+
+/// The first client's Logon.
+const LOGON: &str = "8=FIX.4.4|9=63|35=A|49=C1|56=VENUE|34=1|\
+    52=20250102-09:30:00|98=0|108=0|141=Y|10=026|";
 
 /// The first client's Logon and order to buy 100 at 50.
 const BUYER: &str = "8=FIX.4.4|9=63|35=A|49=C1|56=VENUE|34=1|\
@@ -34,6 +38,10 @@ const BUYER_IS_TOLD: &str = "8=FIX.4.4|9=63|35=A|49=VENUE|56=C1|34=1|\
     9=114|35=8|49=VENUE|56=C1|34=2|52=20250102-09:30:00|37=1|\
     17=1|150=0|39=0|11=1|55=ABC|54=1|38=100|44=50|\
     151=100|14=0|6=0|10=243|";
+
+/// The Logon's answer.
+const LOGON_IS_TOLD: &str = "8=FIX.4.4|9=63|35=A|49=VENUE|56=C1|34=1|\
+    52=20250102-09:30:00|98=0|108=0|141=Y|10=026|";
 
 /// The Logout's answer.
 const BUYER_LEFT: &str = "8=FIX.4.4|9=46|35=5|49=VENUE|56=C1|34=3|\
@@ -73,11 +81,12 @@ fn gateway_at<const N: usize, const M: usize, const G: usize>(
     }
 }
 
-/// Takes one turn of a session, and says why it ended, where it did.
+/// Takes one turn of a session, and says why it ended, where it did. Counts the turns in a row in which nothing moved.
 fn turn<const N: usize, const M: usize, const G: usize>(
     rings: &TestRings<N, M, G>,
     gateway: &mut Gateway,
     wire: &mut MemWire,
+    still: &mut u32,
 ) -> Option<Reason>
     requires live { gateway.old.front.live ≡ true }
     requires at { IsAt rings.now gateway.old.seat }
@@ -85,20 +94,26 @@ fn turn<const N: usize, const M: usize, const G: usize>(
     ensures over { IsSome result → gateway.new.front.live ≡ false }
     ensures alive { result ≡ None → gateway.new.front.live ≡ true }
 {
+    *still = still.wrapping_add(1);
     match gateway.turn(rings, wire) {
         Turned::Ended(reason) => Some(reason),
-        Turned::Worked | Turned::Quiet => None,
+        Turned::Worked => {
+            *still = 0;
+            None
+        }
+        Turned::Quiet => None,
     }
 }
 
-/// Serves a session for so many turns at most, with a poll of each stage behind each turn. Says why it ended, where it did.
+/// Serves a session for so many turns at most, with a poll of each stage behind each turn. Where it ended, says why, and in which turn of
+/// those in a row in which nothing moved.
 fn serve<const N: usize, const M: usize, const G: usize>(
     rings: &TestRings<N, M, G>,
     stages: &mut Stages,
     gateway: &mut Gateway,
     wire: &mut MemWire,
     turns: usize,
-) -> Option<Reason>
+) -> Option<(Reason, u32)>
     requires live { gateway.old.front.live ≡ true }
     requires at { IsAt rings.now gateway.old.seat }
     requires stages { AreAt rings.now stages.old }
@@ -107,9 +122,10 @@ fn serve<const N: usize, const M: usize, const G: usize>(
     ensures over { IsSome result → gateway.new.front.live ≡ false }
     ensures alive { result ≡ None → gateway.new.front.live ≡ true }
 {
+    let mut still = 0;
     for _ in 0..turns {
-        if let Some(reason) = turn(rings, gateway, wire) {
-            return Some(reason);
+        if let Some(reason) = turn(rings, gateway, wire, &mut still) {
+            return Some((reason, still));
         }
         poll(rings, stages);
     }
@@ -180,11 +196,11 @@ fn serve_both<const N: usize, const M: usize, const G: usize>(
     let None = serve(rings, stages, buyer, &mut wires.buying, 16) else {
         return false;
     };
-    let Some(Reason::LoggedOut) = serve(rings, stages, buyer, &mut wires.leaving, 16) else {
+    let Some((Reason::LoggedOut, _)) = serve(rings, stages, buyer, &mut wires.leaving, 16) else {
         return false;
     };
     seller.begin();
-    let Some(Reason::Closed) = serve(rings, stages, seller, &mut wires.selling, 4_000) else {
+    let Some((Reason::Closed, _)) = serve(rings, stages, seller, &mut wires.selling, 4_000) else {
         return false;
     };
     idle(rings, buyer);
@@ -221,6 +237,62 @@ fn reports_without_session_are_passed_over(rt: HostRuntime) -> Result<(), Fail> 
         (&wires.selling, SELLER_IS_TOLD),
     ] {
         assert_eq!(rt; wire.taken(), bytes_of(rt.alloc(), told)?.as_slice());
+    }
+    Ok(())
+}
+
+/// Serves a client over this wire until its session ends, and then, over another one, a Logon. Says how the first session ended; how many
+/// reports were passed over so far; and what the other wire took.
+fn serve_again<const N: usize, const M: usize, const G: usize>(
+    alloc: Global,
+    limits: &Limits,
+    wire: &mut MemWire,
+    next: &mut MemWire,
+) -> Result<Option<(Reason, u32, u64)>, Fail>
+    requires { (1 ≤ G) × (G ≤ 8) }
+{
+    let (rings, seats) = open::<N, M, G>(alloc, limits)?;
+    let (mut stages, gateways) = stages_of(alloc, &rings, seats, limits)?;
+    let (_, mut gateway) = pair(alloc, &rings, limits, gateways)?;
+    gateway.begin();
+    let Some((reason, still)) = serve(&rings, &mut stages, &mut gateway, wire, 200_000) else {
+        return Ok(None);
+    };
+    gateway.begin();
+    let Some((Reason::Closed, _)) = serve(&rings, &mut stages, &mut gateway, next, 4_000) else {
+        return Ok(None);
+    };
+    Ok(Some((reason, still, gateway.passed())))
+}
+
+#[test]
+fn broken_deaf_or_closed(rt: HostRuntime) -> Result<(), Fail> {
+    let limits = abc(rt.alloc()).ok_or("no memory")?;
+    let told = bytes_of(rt.alloc(), BUYER_IS_TOLD)?;
+    let logged_on = bytes_of(rt.alloc(), LOGON_IS_TOLD)?;
+    let rows = [
+        (
+            wire_of(rt.alloc(), BUYER)?.breaking_after(100),
+            Reason::WireFailed,
+            1,
+            100,
+        ),
+        (
+            wire_of(rt.alloc(), LOGON)?.full_after(0),
+            Reason::Stalled,
+            100_000,
+            0,
+        ),
+        (wire_of(rt.alloc(), BUYER)?, Reason::Closed, 1_000, 222),
+    ];
+    for (mut wire, reason, still, taken) in rows {
+        let mut next = wire_of(rt.alloc(), LOGON)?;
+        assert_eq!(rt;
+            serve_again::<4, 4, 2>(rt.alloc(), &limits, &mut wire, &mut next)?,
+            Some((reason, still, 0))
+        );
+        assert_eq!(rt; Some(wire.taken()), told.get(..taken));
+        assert_eq!(rt; next.taken(), logged_on.as_slice());
     }
     Ok(())
 }

@@ -1,10 +1,10 @@
 -- The command that was read is that of the next entry: the book follows when it is done, and its outputs are left.
-use Rattle.std.proofs.Common.{ℕ, ◌<◌, length, take, ap, subst, sym, ◌∙◌, arith}
+use Rattle.std.proofs.Common.{ℕ, ◌<◌, length, ap, subst, sym, ◌∙◌, arith}
 use Rattle.ring_words.specs.At.{At}
 use Rattle.book.specs.Standing.{Below}
 use Rattle.stages.specs.Stations.{AtBook}
 use Rattle.stages.proofs.Polls.{has_person}
-use Rattle.stages.proofs.Processing.{MayTake, HasRead, behind, has_room, took, may_apply, all_new}
+use Rattle.stages.proofs.Processing.{MayTake, HasRead, behind, took, may_apply}
 use Rattle.stages.proofs.Putting.{works_on}
 use Rattle.stages.proofs.processor.Processor.apply.Goals as goal
 
@@ -24,21 +24,14 @@ apply-requires-clause-command g c = let p = c.self.inside in
     let known = subst (λ (w : AtBook). c.args.next < length w.seat.who.seen) (sym c.self.view_is) c.requires.known in
     (may_apply p.seat _ _ _ known c.read_command-gateway.ensures.command).2
 
-pub unreachable-requires : goal.unreachable-requires
-unreachable-requires g c = let p = c.self.inside in
-    let enough = has_room p.book.symbols (take p.applied p.seat.who.seen) p.book.state c.self.invariant.0.follows.state in
-    let full = c.in-Err.ensures.refused.2 in let none = c.clear.ensures.len in let same = c.clear.ensures.capacity in let room = c.self.invariant.2 in
-    omega (arith, enough, full, none, same, room)
-
 pub invariant_of-self : goal.invariant_of-self
 invariant_of-self g c = let p = c.self.inside in let read = c.read_command-gateway.ensures in
     let may = subst (λ (w : AtBook). MayTake w c.args.next) (sym c.self.view_is)
     (record { next = c.requires.next; all = c.requires.all; known = c.requires.known; synced = c.requires.synced }) in
     let took = took p.seat c.args.next _ _ may.known read.command g.row.N c.read_command-gateway.new.seat may.next read.step in
-    let told = all_new _ _ _ c.in-Ok.ensures.told c.clear.ensures.items in
     let working = works_on g.row.N _ c.read_command-gateway.new.seat c.args.next _ _ c.self.invariant.0 may took c.apply.new.self c.apply.new.out.items
-    c.in-Ok.ensures.state.state told in
-    let kept = c.apply.ensures.room in let same = c.clear.ensures.capacity in let room = c.self.invariant.2 in
+    c.apply.ensures.state.symbols c.apply.ensures.state.state c.apply.ensures.told in
+    let kept = c.apply.ensures.succeeds.1 in let same = c.clear.ensures.capacity in let room = c.self.invariant.2 in
     (working, omega arith, omega (arith, kept, same, room))
 
 pub returns-clause-working : goal.returns-clause-working
@@ -46,9 +39,8 @@ returns-clause-working g c = let p = c.self.inside in let read = c.read_command-
     let may = subst (λ (w : AtBook). MayTake w c.args.next) (sym c.self.view_is)
     (record { next = c.requires.next; all = c.requires.all; known = c.requires.known; synced = c.requires.synced }) in
     let took = took p.seat c.args.next _ _ may.known read.command g.row.N c.read_command-gateway.new.seat may.next read.step in
-    let told = all_new _ _ _ c.in-Ok.ensures.told c.clear.ensures.items in
     let working = works_on g.row.N _ c.read_command-gateway.new.seat c.args.next _ _ c.self.invariant.0 may took c.apply.new.self c.apply.new.out.items
-    c.in-Ok.ensures.state.state told in
+    c.apply.ensures.state.symbols c.apply.ensures.state.state c.apply.ensures.told in
     working
 
 pub returns-clause-step : goal.returns-clause-step

@@ -1,0 +1,262 @@
+//! Journals on a disk of which one call fails, or behind one of whose calls the program stops: what `open` finds behind a crash.
+ghost use Rattle.std.specs.Prelude.{◌≡◌, ◌≤◌, length};
+
+use super::journals::{FRESH, ONE_ENTRY};
+use journal::{Call, Journal, JournalDisk, JournalFault, MemDisk, entries};
+use std::alloc::{AllocError, Global};
+use std::process::Abort;
+use std::test::Fail;
+use venue_model::Entry;
+
+/// What stands after a crash where bytes weren't synced: those that were written, or this one.
+const FILLS: [Option<u8>; 4] = [None, Some(0x00), Some(0x01), Some(0xff)];
+
+/// At which of the four device calls of the first append it is cut short, how many bytes that one puts if it fails, and whether `open` then
+/// finds the block, by what stands after a crash.
+type Cut = (usize, usize, [bool; 4]);
+
+const NONE: [bool; 4] = [false; 4];
+
+/// The gate's byte isn't synced: the block counts where that is `01`.
+const BY_GATE: [bool; 4] = [true, false, true, false];
+
+/// The call that fails.
+const FAILS: [Cut; 7] = [
+    (1, 0, NONE),
+    (1, 3, NONE),
+    (1, 100, NONE),
+    (2, 0, NONE),
+    (3, 0, [false, false, true, false]),
+    (3, 1, BY_GATE),
+    (4, 0, BY_GATE),
+];
+
+/// The call behind which the program stops.
+const STOPS: [Cut; 4] = [
+    (1, 0, NONE),
+    (2, 0, NONE),
+    (3, 0, BY_GATE),
+    (4, 0, [true; 4]),
+];
+
+/// Adds these entries to a journal without any, in blocks of this size, until one fails; behind that each answers 41. Gives the number of
+/// entries that were answered, and the disk.
+fn add_blocks(
+    mut journal: Journal<MemDisk>,
+    all: &[Entry],
+    size: usize,
+) -> Result<(usize, MemDisk), Fail>
+    requires empty { journal.count ≡ 0 }
+    requires size { (1 ≤ size) × (size ≤ 100) }
+    requires few { length all.now ≤ 100 }
+{
+    let mut rest = all;
+    for number in 0..all.len() {
+        let (block, others) = rest.split_at(size.min(rest.len()));
+        if block.is_empty() {
+            break;
+        }
+        if let Err(fault) = journal.append(block) {
+            let again = journal.append(block);
+            if (fault, again) != (JournalFault::Device, Err(JournalFault::Device)) {
+                return Err(Fail::from("not 41"));
+            }
+            break;
+        }
+        rest = others;
+    }
+    Ok((all.len().wrapping_sub(rest.len()), journal.end()))
+}
+
+/// Adds them to a fresh journal, on a disk whose call of this number fails.
+fn add_all(
+    alloc: Global,
+    all: &[Entry],
+    size: usize,
+    call: usize,
+    part: usize,
+) -> Result<(usize, MemDisk), Fail> {
+    if size < 1 || 100 < size || 100 < all.len() {
+        return Err(Fail::from("too many"));
+    }
+    let mut disk = MemDisk::new(alloc, FRESH)?;
+    disk.fail_at(call as u64, part);
+    match Journal::open(alloc, disk) {
+        Ok((journal, base)) if base.is_empty() => add_blocks(journal, all, size),
+        Ok(_) => Err(Fail::from("entries in a fresh journal")),
+        Err((JournalFault::Device, disk)) => Ok((0, disk)),
+        Err((fault, _)) => Err(fault)?,
+    }
+}
+
+/// The disk of a fresh journal behind these calls.
+fn behind(alloc: Global, calls: &[Call]) -> Result<MemDisk, Fail> {
+    let mut disk = MemDisk::new(alloc, FRESH)?;
+    for call in calls {
+        match call {
+            Call::Read { .. } => {}
+            Call::Write { at, bytes, .. } => disk.write_at(*at, bytes)?,
+            Call::Sync { .. } => disk.sync()?,
+        }
+    }
+    Ok(disk)
+}
+
+/// Whether these entries are the first of those.
+fn begin(some: &[Entry], all: &[Entry]) -> bool {
+    some.len() <= all.len()
+        && some.iter().zip(all).all(|(one, other)| one.gateway() == other.gateway()
+            && one.bytes() == other.bytes())
+}
+
+/// How many of these entries `open` finds after a crash: they are the first ones. Another one can be added to them.
+fn found(alloc: Global, disk: &MemDisk, fill: Option<u8>, all: &[Entry]) -> Result<usize, Fail> {
+    let Ok((mut journal, found)) = Journal::open(alloc, disk.crash(fill)?) else {
+        return Err(Fail::from("not opened"));
+    };
+    if all.len() < found.len() || 100 < all.len() {
+        return Err(Fail::from("too many"));
+    }
+    journal.append(&[Entry::new(8, b"another")])?;
+    let more = entries(alloc, &mut journal.end())?;
+    if !begin(&found, all) || !begin(&found, &more) || more.len() != found.len() + 1 {
+        return Err(Fail::from("not a beginning"));
+    }
+    Ok(found.len())
+}
+
+/// So many entries `AB` of gateway 1.
+fn alike(alloc: Global, count: usize) -> Result<Vec<Entry>, AllocError> {
+    let mut all = Vec::new(alloc);
+    for _ in 0..count {
+        all.push(Entry::new(1, b"AB"))?;
+    }
+    Ok(all)
+}
+
+/// Whether `open` finds the block, and not just no entries, by what stands after a crash.
+fn finds(alloc: Global, disk: &MemDisk, block: &[Entry]) -> Result<[bool; 4], Fail> {
+    let mut finds = NONE;
+    for (place, fill) in finds.iter_mut().zip(FILLS) {
+        let count = found(alloc, disk, fill, block)?;
+        if count != 0 && count != block.len() {
+            return Err(Fail::from("a part of the block"));
+        }
+        *place = count != 0;
+    }
+    Ok(finds)
+}
+
+/// Looks behind each cut of the first append, of so many entries as one block.
+fn cut_short<A: Abort>(rt: &A, alloc: Global, count: usize) -> Result<(), Fail> {
+    let block = alike(alloc, count)?;
+    let (_, whole) = add_all(alloc, &block, count, 0, 0)?;
+    let opening = whole.calls().len().wrapping_sub(4);
+    for (call, part, found) in FAILS {
+        let last = opening.wrapping_add(call);
+        let (answered, disk) = add_all(alloc, &block, count, last, part)?;
+        assert_eq!(rt; (answered, disk.calls().len()), (0, last));
+        assert_eq!(rt; finds(alloc, &disk, &block)?, found, "{call} failed");
+    }
+    for (call, _, found) in STOPS {
+        let last = opening.wrapping_add(call);
+        let disk = behind(alloc, whole.calls().get(..last).ok_or("calls")?)?;
+        assert_eq!(rt; finds(alloc, &disk, &block)?, found, "behind {call}");
+    }
+    Ok(())
+}
+
+#[test]
+fn first_append_cut_short(rt: HostRuntime) -> Result<(), Fail> {
+    for count in [1, 5] {
+        cut_short(&rt, rt.alloc(), count)?;
+    }
+    Ok(())
+}
+
+/// A disk on which nothing is synced from the first gate on, and a read gives the journal of one entry.
+fn half_synced(alloc: Global) -> Result<MemDisk, Fail> {
+    let mut disk = MemDisk::new(alloc, FRESH)?;
+    let file = ONE_ENTRY.as_slice();
+    disk.write_at(8, &file[8..])?;
+    Ok(disk)
+}
+
+/// What a crash leaves of it, by what stands there then.
+fn left(alloc: Global, fill: Option<u8>) -> Result<Vec<u8>, AllocError> {
+    let mut bytes = Vec::from_slice(alloc, ONE_ENTRY)?;
+    if let Some(byte) = fill {
+        bytes.truncate(8);
+        bytes.resize(ONE_ENTRY.len(), byte)?;
+    }
+    Ok(bytes)
+}
+
+#[test]
+fn opening_fails(rt: HostRuntime) -> Result<(), Fail> {
+    let mut disk = half_synced(rt.alloc())?;
+    assert!(rt; entries(rt.alloc(), &mut disk).is_ok());
+    let last = disk.calls().len();
+    assert!(rt; last >= 3);
+    for call in 2..=last {
+        let mut disk = half_synced(rt.alloc())?;
+        disk.fail_at(call as u64 - 1, 0);
+        let Err((fault, disk)) = Journal::open(rt.alloc(), disk) else {
+            return Err(Fail::from("opened"));
+        };
+        assert_eq!(rt; (fault, disk.calls().len()), (JournalFault::Device, call));
+        assert_eq!(rt; disk.bytes(), ONE_ENTRY.as_slice());
+        for fill in FILLS {
+            let unsynced = if call == 2 { fill } else { None };
+            assert_eq!(rt;
+                disk.crash(fill)?.bytes(),
+                left(rt.alloc(), unsynced)?.as_slice(),
+                "call {call}"
+            );
+        }
+    }
+    Ok(())
+}
+
+/// Twenty blocks of two entries each.
+const BLOCKS: usize = 20;
+
+/// Whether a crash leaves a beginning of whole blocks with all entries that were answered, whatever it fills: at most one block more.
+fn are_kept(alloc: Global, disk: &MemDisk, answered: usize, all: &[Entry]) -> Result<bool, Fail> {
+    for fill in FILLS {
+        let found = found(alloc, disk, fill, all)?;
+        if found != answered && found != answered.wrapping_add(2) {
+            return Ok(false);
+        }
+    }
+    Ok(true)
+}
+
+#[test]
+fn answered_blocks_are_kept(rt: HostRuntime) -> Result<(), Fail> {
+    let mut all = Vec::new(rt.alloc());
+    for number in 0..2 * BLOCKS as u8 {
+        all.push(Entry::new(1 + number % 8, &[number]))?;
+    }
+    let (answered, whole) = add_all(rt.alloc(), &all, 2, 0, 0)?;
+    assert_eq!(rt; answered, 2 * BLOCKS);
+    let opening = whole.calls().len().wrapping_sub(4 * BLOCKS);
+    for call in 1..=whole.calls().len() {
+        let before = (call - 1).saturating_sub(opening) / 4;
+        for part in [0, 1, 8] {
+            let (answered, disk) = add_all(rt.alloc(), &all, 2, call, part)?;
+            assert_eq!(rt; (answered, disk.calls().len()), (2 * before, call));
+            assert!(rt;
+                are_kept(rt.alloc(), &disk, answered, &all)?,
+                "{call} failed"
+            );
+        }
+        let answered = 2 * (call.saturating_sub(opening) / 4);
+        let disk = behind(rt.alloc(), &whole.calls()[..call])?;
+        assert!(rt;
+            are_kept(rt.alloc(), &disk, answered, &all)?,
+            "behind {call}"
+        );
+    }
+    Ok(())
+}
