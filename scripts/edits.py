@@ -17,8 +17,9 @@ Where no edit of the code leaves a proof its shape, the edit mends the proof as 
 it is about is open.
 
 Of an edit that changes a constant, the functions that name it are asked for. A check needs the libraries below its
-crate: one that is older than its sources is made first, by `rt lib`. Work that `rt check` left in a crate's folder
-out is used. RT_JOBS says how many crates are worked on side by side, 1 if it isn't set.
+crate: `rt lib` makes those that have changed first. After `rt ci`, which leaves no mark of what it made a library of,
+--as-made takes them as they stand. Work that `rt check` left in a crate's folder out is used. RT_JOBS says how many
+crates are worked on side by side, 1 if it isn't set.
 """
 import argparse
 import glob
@@ -90,7 +91,8 @@ def functions_of(texts):
                 owner = None
             elif name := FUNCTION.match(line):
                 first, end = at, line[:len(line) - len(line.lstrip())] + "}"
-                while not line.endswith("}") and at + 1 < len(lines) and lines[at] != end:
+                ends = (end, end[:-1] + "{}")
+                while not line.endswith("}") and at + 1 < len(lines) and lines[at] not in ends:
                     at += 1
                 found.append(Function(module, owner, name[1], file, first + 1, at + 1, "\n".join(lines[first:at + 1])))
             at += 1
@@ -141,12 +143,6 @@ class Crate:
 
     def edits(self, place):
         return [Edit(it) for it in sorted(glob.glob(f"{self.folder}/{place}/*.edit"))]
-
-    def is_made(self):
-        """Whether the library is newer than its sources and those below."""
-        made = f"{crates.library(self.name)}/format"
-        files = [f"{it.folder}/{file}" for it in [*self.below, self] for file in it.texts]
-        return os.path.isfile(made) and max(map(os.path.getmtime, files)) <= os.path.getmtime(made)
 
     def called(self, function):
         """The functions that this one may call, going by the names in its body."""
@@ -408,11 +404,6 @@ def drawn(chosen):
 
 def tried(chosen, budget, log):
     """Tries the edits, some crates side by side, and gives the status."""
-    for library in {it.name: it for crate in chosen for it in crate.below}.values():
-        if not library.is_made():
-            said, status = budget.run(["rt", "lib", "--jobs", "1"], library.folder)
-            if status:
-                sys.exit(f"{said[-2000:]}\nedits.py: the library {library.name} isn't proved")
     works = [Work(crate, edits, budget, log) for crate, edits in chosen.items()]
     left, lock = iter(works), threading.Lock()
 
@@ -433,6 +424,15 @@ def tried(chosen, budget, log):
     print(f"{sum(map(len, chosen.values())) - passed - failed} not tried, {budget.spent:.0f} processor seconds")
     print(f"{passed} passed, {failed} failed")
     return 1 if failed else 0
+
+
+def make(libraries):
+    """Makes the libraries of the repository that have changed, lowest first."""
+    for library in libraries:
+        words = {"stdout": subprocess.PIPE, "stderr": subprocess.STDOUT, "text": True}
+        made = subprocess.run(["rt", "lib", "--jobs", "1"], cwd=library.folder, stdin=subprocess.DEVNULL, **words)
+        if made.returncode:
+            sys.exit(f"{made.stdout[-2000:]}\nedits.py: the library {library.name} isn't proved")
 
 
 def listed(chosen):
@@ -476,6 +476,7 @@ def arguments():
     parser.add_argument("--must-fail", action="store_true", help="the edits in must-fail, and not those in edits")
     parser.add_argument("--minutes", type=float, metavar="N",
                         help="start no check once N processor minutes are spent; the commit says what comes first")
+    parser.add_argument("--as-made", action="store_true", help="take the libraries as they stand, as they do after rt ci")
     parser.add_argument("--list", action="store_true", help="print each edit with its file and functions, and try none")
     parser.add_argument("--promises", action="store_true", help="print all edits as Markdown, by crate and function")
     parser.add_argument("--log", metavar="FOLDER", help="write there what each check said")
@@ -495,6 +496,8 @@ def main():
         return listed(chosen)
     if asked.minutes:
         chosen = drawn(chosen)
+    if not asked.as_made:
+        make({it.name: it for crate in chosen for it in crate.below}.values())
     return tried(chosen, Budget(asked.minutes or float("inf")), asked.log)
 
 
