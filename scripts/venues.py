@@ -57,14 +57,14 @@ def printed(data):
 
 def parted(data):
     """The whole messages at the front of these bytes, as texts, and the bytes behind them."""
-    found = []
-    while head := HEAD.match(data):
+    found, at = [], 0
+    while head := HEAD.match(data, at):
         end = head.end() + int(head[1]) + len("10=000|")
         if len(data) < end:
             break
-        found.append(printed(data[:end]))
-        data = data[end:]
-    return found, data
+        found.append(printed(data[at:end]))
+        at = end
+    return found, data[at:]
 
 
 def value(text, tag):
@@ -114,10 +114,10 @@ class Lines:
 class Venue:
     """A venued that listens, or was told to."""
 
-    def __init__(self, port, journal, gateways, symbols=("ABC",)):
+    def __init__(self, port, journal, gateways, symbols=("ABC",), env=None):
         self.port, self.journal = port, journal
         words = [VENUED, str(port), journal, str(gateways), *symbols]
-        self.process = subprocess.Popen(words, stdout=subprocess.PIPE, stderr=subprocess.PIPE, text=True)
+        self.process = subprocess.Popen(words, stdout=subprocess.PIPE, stderr=subprocess.PIPE, text=True, env=env)
         running.append(self)
         self.out, self.err = Lines(self.process.stdout), Lines(self.process.stderr)
 

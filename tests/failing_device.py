@@ -1,0 +1,168 @@
+#!/usr/bin/env python3
+"""Lets each call to the journal's device fail, or kills the program at it, and looks at what the file holds then.
+
+    tests/failing_device.py
+
+The calls are those that open, lock, read, write, sync, cut and rename files. A session of some orders is played again and
+again: the first call fails, then the second, and so on until none is left; alone, or with all that come behind it. Or it
+moves half of its bytes, which is no failure; or the program is killed in its place, or right behind it. Each time
+
+- a program that hadn't begun says `venued: journal fault 41` with status 1, writes nothing else, and leaves the journal
+  as it was; one that served says `venued: journal failed` with status 2, or, killed, nothing;
+- what came out is a beginning of what the member is to be told;
+- venue-replay finds a beginning of the orders that has each of which anything was told;
+- a new start on that journal goes on behind it, with the next OrderID and ExecID.
+
+The same for a venue that listens, and for venue-replay. Calls are refused by tests/refusals.c, which cc compiles into a
+folder of its own; without cc nothing is tried, and a line says so. A killed program leaves what it wrote: that an unsynced
+write may be lost is a matter of the proofs. The last line is `N passed, M failed`, and the status is 1 where one failed.
+It takes some ten seconds. Build both programs first, by scripts/build; others are taken by the environment's VENUED and
+VENUE_REPLAY.
+"""
+import collections
+import signal
+
+from refusals import FRESH, LOGON, answered, answers, check_history, contents, journal_of, listens, orders, printed_report
+from refusals import put, ran, run_tests, standard
+from venues import REPLAY, Client, Trouble, printed
+
+ORDERS = 4
+KILLED = -signal.SIGKILL
+NOT_BEGUN = (1, b"", "venued: journal fault 41\n")
+FAILED = (2, "venued: journal failed\n")
+
+
+def check_goes_on(journal, kept):
+    """A new start serves one more order behind those that are kept."""
+    came = ran(standard(journal), LOGON + b"".join(orders(kept + 1, 1)))
+    wanted = (0, b"".join(answers(kept + 1, 1)), "")
+    if came != wanted:
+        raise Trouble(f"expected, at the next start, {printed(wanted[1])} came {printed(came[1])} {came}")
+    check_history(journal, kept + 1, kept + 1)
+
+
+def check_ended(how, came, journal, before, first):
+    """How a session with a refused call ended: how many of its orders were answered."""
+    status, out, error = came
+    told = answered(out, first, ORDERS)
+    if (status, error) == (0, ""):
+        if out != b"".join(answers(first, ORDERS)):
+            raise Trouble(f"expected {ORDERS} orders answered came {told}")
+        return told
+    if how in ("before", "after") and (status, error) == (KILLED, ""):
+        return told
+    if came == NOT_BEGUN and contents(journal) in (before, FRESH if before is None else before):
+        return told
+    if (status, error) != FAILED:
+        raise Trouble(f"expected one of {NOT_BEGUN} {FAILED} came status {status} {error!r} {printed(out)}")
+    return told
+
+
+def check_session(refusal, before):
+    """Plays a session in which a call is refused, and checks what came of it: its status."""
+    first = 1 if before is None else 2
+    put(refusal.journal, before)
+    came = refusal.serve(LOGON + b"".join(orders(first, ORDERS)))
+    name = refusal.came()
+    told = check_ended(refusal.how, came, refusal.journal, before, first)
+    if came[0] == 0 and name and refusal.how in ("once", "on"):
+        raise Trouble(f"expected status 1 or 2 behind a failed {name} came 0")
+    kept = check_history(refusal.journal, first - 1 + told, first - 1 + ORDERS)
+    check_goes_on(refusal.journal, kept)
+    return came[0]
+
+
+def standard_session(sweeps):
+    """`venued -`, on a missing journal and on one with an order in it."""
+    statuses = collections.Counter()
+    for before in (None, journal_of(orders(1, 1))):
+        for how in ("once", "on", "short", "before", "after"):
+            sweeps.sweep(lambda it: statuses.update([check_session(it, before)]), "device", how)
+    if not all(statuses[it] for it in (0, 1, 2, KILLED)):
+        raise Trouble(f"expected ends of all kinds came {dict(statuses)}")
+    return f"{sweeps.said()}; {statuses[1]} times not begun, {statuses[2]} times failed, {statuses[KILLED]} times killed"
+
+
+def first_sync(sweeps):
+    """Where the first sync of the first append fails, the Logon's answer alone was written, and the status is 2."""
+    found = []
+
+    def check(refusal):
+        put(refusal.journal, FRESH)
+        came = refusal.serve(LOGON + b"".join(orders(1, 1)))
+        if came[0] == 2 and refusal.came() == "fdatasync":
+            found.append((came, check_history(refusal.journal, 0, 1)))
+
+    sweeps.sweep(check, "device", "once", together=1)
+    wanted = (2, answers(1, 1)[0], FAILED[1])
+    if not found or found[0][0] != wanted:
+        raise Trouble(f"expected {wanted} came {found[:1]}")
+    return f"{printed(wanted[1])} and status 2"
+
+
+def heard(port):
+    """What one member hears that sends an order, waits for its report, and so on, until the venue is gone."""
+    client, out = Client(port, 1), []
+    try:
+        client.send_bytes(LOGON)
+        out.append(client.next())
+        for it in orders(2, ORDERS):
+            client.send_bytes(it)
+            out.append(client.next())
+            if int(it.partition(b"\x0111=")[2].partition(b"\x01")[0]) % 2 == 0:
+                continue
+            out += [client.next(), client.next()]  # A sell, behind a buy at its price: both are filled.
+    except OSError:
+        pass
+    client.close()
+    return "".join(it for it in out if it).replace("|", "\x01").encode()
+
+
+def check_listening(refusal, before):
+    """Lets a member trade with a venue to which a call is refused: its status."""
+    put(refusal.journal, before)
+    venue, line = listens(refusal, 1)
+    if not venue:
+        if line != NOT_BEGUN or contents(refusal.journal) != before:
+            raise Trouble(f"expected {NOT_BEGUN} came {line}")
+        return 1
+    told = answered(heard(venue.port), 2, ORDERS)
+    if refusal.came():
+        came = (f"{venue.err.next()}\n", venue.status())
+        if came != FAILED[::-1]:
+            raise Trouble(f"expected {FAILED} came {came}")
+    elif told != ORDERS or venue.stop()[0] != 1 + ORDERS:
+        raise Trouble(f"expected {ORDERS} orders answered came {told}")
+    check_goes_on(refusal.journal, check_history(refusal.journal, 1 + told, 1 + ORDERS))
+    return venue.process.returncode
+
+
+def listening(sweeps):
+    """A venue that listens: its journal fails while it serves, and it ends by itself, with the line and status 2."""
+    statuses = collections.Counter()
+    sweeps.sweep(lambda it: statuses.update([check_listening(it, journal_of(orders(1, 1)))]), "device", "once")
+    if not statuses[1] or not statuses[2]:
+        raise Trouble(f"expected ends of both kinds came {dict(statuses)}")
+    return f"{sweeps.said()}; {statuses[1]} times not begun, {statuses[2]} times failed"
+
+
+def replays(sweeps):
+    """`venue-replay`: where a call fails it prints no report, and a read of half the bytes is none that fails."""
+    before = journal_of(orders(1, ORDERS))
+
+    def check(refusal):
+        put(refusal.journal, before)
+        check_history(refusal.journal, ORDERS, ORDERS)
+        came = refusal.ran([REPLAY, refusal.journal, "C1", "ABC"])
+        fails = refusal.came() and refusal.how != "short"
+        wanted = (1, b"", "venue-replay: journal fault 41\n") if fails else (0, printed_report(refusal.journal, "C1"), "")
+        if came != wanted or contents(refusal.journal) != before:
+            raise Trouble(f"expected {wanted} came {came}")
+
+    for how in ("once", "on", "short"):
+        sweeps.sweep(check, "device", how)
+    return sweeps.said()
+
+
+if __name__ == "__main__":
+    run_tests("failing_device", [standard_session, first_sync, listening, replays])

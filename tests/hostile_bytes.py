@@ -1,0 +1,353 @@
+#!/usr/bin/env python3
+"""Feeds bytes of all kinds to `venued -`, and compares what comes out with the rules of docs/PROFILE.md in plain Python.
+
+    tests/hostile_bytes.py                              the sample that the gate takes, half a minute
+    tests/hostile_bytes.py --messages 1000000           as many mutated messages, however long that takes
+    tests/hostile_bytes.py --messages N --seconds S     the same, for so long at most
+    tests/hostile_bytes.py --seed N                     the same messages again
+
+Three tests. `cuts`: the bytes of the first order in two pieces, cut at each place, are answered as in one.
+`replaced_bytes`: each of them is replaced by 00 and by other values. `mutated_sessions`: sessions of up to a hundred
+messages, right ones and wrong ones, many on one journal, so that later ones find a book. tests/rules.py says which bytes
+may come out: the venue's own answers in their order, the reports in theirs, numbered together, nothing behind a Logout;
+where a Logout ended the session, reports that were due may be missing at the end. Behind every journal venue-replay has
+to print each report that the rules know of.
+
+What differs is shown with its input as a line of hex digits. The last line is `N passed, M failed`, and the status is 1
+where one failed. Build both programs first, by scripts/build; others are taken by the environment's VENUED and
+VENUE_REPLAY.
+"""
+import argparse
+import collections
+import concurrent.futures
+import fcntl
+import itertools
+import os
+import random
+import struct
+import subprocess
+import sys
+import tempfile
+import termios
+import time
+
+ROOT = os.path.dirname(os.path.dirname(os.path.abspath(__file__)))
+sys.path.insert(0, os.path.join(ROOT, "scripts"))
+
+from rules import Book, Judged, Session, sealed
+from venues import PATIENCE, REPLAY, TIME, VENUED, Trouble, message, need_programs, order, printed
+
+SYMBOLS = ("ABC", "XYZ")
+FIRST = message(1, 1, "A", "98=0|108=0|141=Y|") + message(1, 2, "D", order(1, 1, 100, 50))
+OTHERS = b"\x00\x01\x30\x7f\x80\xff"
+SESSIONS = 16     # Sessions of one journal.
+WANTED = [*(f"58={it}" for it in ("bad begin", "bad length", "bad checksum", "too long", "bad field", "bad header",
+                                  "wrong party", "wrong number", "no logon", "bad logon", "bad test", "bad type")),
+          *(f"373={it}" for it in (13, 2, 1, 6, 5)), *(f"150={it}" for it in "0F458"), *(f"103={it}" for it in (1, 6)),
+          *(f"102={it}" for it in (1, 2, 6))]
+
+NUMBERS = ["0", "00", "01", "-1", "+1", " 1", "1 ", "1.0", "1e3", "2", "7", "50", "999999", "1000000", "1000001",
+           "4294967297", "999999999999999", "1000000000000000", "18446744073709551616", "9" * 40]
+VALUES = NUMBERS + ["A", "abc", "ABC", "XYZ", "NONE", "ABCDEFGH", "ABCDEFGHI", "=", "1=2", "x" * 32, "x" * 33, "\0", "\x7f",
+                    "\xff", "20250102-09:30:00", "20250102-09:30:0", "20250102 09:30:00", "2025x102-09:30:00",
+                    "99999999-99:99:99", "20250102-09:30:00.000", "1", "3", "4", "12", "D", "Y"]
+TAGS = ["1", "7", "8", "9", "10", "11", "21", "34", "35", "38", "40", "41", "43", "44", "49", "50", "52", "54", "55", "56",
+        "58", "59", "60", "98", "108", "112", "141", "369", "99999"]
+SIZES = [5, 6, 99, 100, 101, 295, 296, 297, 298, 299, 300, 999, 1000]  # Of a body, round the bounds.
+NO_TAGS = ["100000", "0", "01", "011", "x", "", "-1", "1 "]
+
+
+def coded(fields):
+    """The frame round these fields, each a tag and a value."""
+    return sealed("".join(f"{tag}={value}\x01" for tag, value in fields).encode("latin-1"))
+
+
+def check_end(process, out, err, judged):
+    """The difference of a run from the rules, or None."""
+    if (process.returncode, err) != (0, b""):
+        return f"expected status 0 came status {process.returncode} {err.decode('latin-1')!r}"
+    return judged.difference(out)
+
+
+def ran(journal, data, judged):
+    """Plays a session to its end: how it differs from the rules, or None."""
+    process = subprocess.Popen([VENUED, "-", journal, "1", *SYMBOLS], stdin=subprocess.PIPE, stdout=subprocess.PIPE,
+                               stderr=subprocess.PIPE)
+    try:
+        out, err = process.communicate(data, PATIENCE)
+    except subprocess.TimeoutExpired:
+        process.kill()
+        process.communicate()
+        return f"expected an end came none within {PATIENCE} seconds"
+    return check_end(process, out, err, judged)
+
+
+def in_pieces(journal, pieces, judged):
+    """The same, where each piece is sent once the one before was read."""
+    process = subprocess.Popen([VENUED, "-", journal, "1", *SYMBOLS], stdin=subprocess.PIPE, stdout=subprocess.PIPE,
+                               stderr=subprocess.PIPE, bufsize=0)
+    end = time.monotonic() + PATIENCE
+    for piece in pieces:
+        process.stdin.write(piece)
+        while struct.unpack("i", fcntl.ioctl(process.stdin, termios.FIONREAD, b"\0" * 4))[0] and process.poll() is None:
+            if time.monotonic() > end:
+                process.kill()
+            time.sleep(0.0002)
+    out, err = process.communicate()
+    return check_end(process, out, err, judged)
+
+
+def tried(cases, together):
+    """Runs these, each a name and what runs it on a journal, so many at a time: how many ran, and what differed."""
+    with tempfile.TemporaryDirectory(prefix="hostile-bytes-") as folder:
+        with concurrent.futures.ThreadPoolExecutor(together) as pool:
+            runs = [(name, pool.submit(case, os.path.join(folder, f"{at}.journal"))) for at, (name, case) in enumerate(cases)]
+            return len(runs), [f"{name}: {why}" for name, run in runs if (why := run.result())]
+
+
+def cuts(together):
+    """Each cut of the first order's bytes into two pieces."""
+
+    def case(at):
+        return lambda journal: in_pieces(journal, (FIRST[:at], FIRST[at:]), Judged(FIRST, Book(SYMBOLS)))
+
+    return tried([(f"cut behind byte {at}", case(at)) for at in range(1, len(FIRST))], together)
+
+
+def replaced_bytes(together):
+    """Each byte of the first order replaced by others."""
+
+    def case(data):
+        return lambda journal: ran(journal, data, Judged(data, Book(SYMBOLS)))
+
+    changed = [(at, byte, FIRST[:at] + bytes([byte]) + FIRST[at + 1:]) for at in range(len(FIRST)) for byte in OTHERS
+               if FIRST[at] != byte]
+    return tried([(f"byte {at} replaced by {byte:02x}", case(data)) for at, byte, data in changed], together)
+
+
+def padded(fields, size):
+    """These fields, with a Text behind them that makes the body so long, where that can be."""
+    room = size - sum(len(tag) + len(value) + 2 for tag, value in fields) - 4
+    return fields + [("58", "x" * room)] * (room > 0)
+
+
+class Writer:
+    """The bytes of sessions, chosen by chance."""
+
+    def __init__(self, chance):
+        self.chance, self.name = chance, 0
+
+    def header(self, kind, number):
+        return [("35", kind), ("49", "C1"), ("56", "VENUE"), ("34", str(number)), ("52", f"20250102-09:{number % 60:02}:00")]
+
+    def body(self, kind):
+        """A right body of an order message."""
+        chance = self.chance
+        self.name += chance.choice((1, 1, 1, 1, 2, 0, -1))
+        fields = [("11", max(1, self.name)), ("55", chance.choice(("ABC", "ABC", "ABC", "XYZ", "QQQ"))),
+                  ("54", chance.choice("12")), ("60", TIME), ("38", chance.choice((1, 2, 5, 10, 10, 100, 1_000_000)))]
+        if kind != "D":
+            fields.insert(0, ("41", max(1, self.name - chance.randint(0, 6))))
+        if kind != "F":
+            fields += [("40", "2"), ("44", chance.choice((1, 48, 49, 50, 50, 50, 51, 52, 1_000_000)))]
+            fields += [("59", chance.choice("0034"))] * chance.choice((0, 0, 1))
+        return [(tag, str(value)) for tag, value in fields]
+
+    def changed(self, fields, tags=TAGS):
+        """These fields with one to three changes."""
+        chance, fields = self.chance, list(fields)
+        for _ in range(chance.choice((1, 1, 1, 2, 3))):
+            at = chance.randrange(len(fields) + 1)
+            tag, value = fields[at] if at < len(fields) else ("58", "x")
+            other = chance.choice(("drop", "twice", "swap", "value", "value", "value", "tag", "more"))
+            if other == "more" or at == len(fields):
+                fields.insert(at, (chance.choice(tags), chance.choice(VALUES)))
+            elif other == "drop" and len(fields) > 1:
+                del fields[at]
+            elif other == "twice":
+                fields.insert(chance.randrange(len(fields)), (tag, value))
+            elif other == "swap":
+                to = chance.randrange(len(fields))
+                fields[at], fields[to] = fields[to], fields[at]
+            elif other == "tag":
+                fields[at] = (chance.choice(tags), value)
+            else:
+                fields[at] = (tag, chance.choice(VALUES))
+        return fields
+
+    def right(self, number):
+        """A message that a session takes: an order message, or one of the session's own."""
+        kind = self.chance.choice("DDDDDDDDFFGGG013")
+        if kind in "DFG":
+            body = self.body(kind)
+            if self.chance.random() < 0.3:
+                self.chance.shuffle(body)
+        else:
+            text = ("112", "x" * self.chance.choice((1, 5, 32)))
+            body = [text] if kind == "1" else [("58", "x")] * self.chance.randint(0, 2)
+        return coded(self.header(kind, number) + body)
+
+    def faulty(self, number):
+        """An order message whose body was changed, in a right frame."""
+        kind = self.chance.choice("DDFG")
+        if self.chance.random() < 0.05:
+            return coded(padded(self.header(kind, number) + self.body(kind), self.chance.choice((295, 296, 297))))
+        return coded(self.header(kind, number) + self.changed(self.body(kind)))
+
+    def misheaded(self, number):
+        """The header's fields with another number, another party or another time."""
+        at, value = self.chance.choice((
+            (3, number + 1), (3, number - 1), (3, 2 * number + 1), (3, f"0{number}"), (3, 10 ** 9 + number), (1, "C2"),
+            (1, "c1"), (1, "C11"), (2, "VENUE2"), (2, "C1"), (4, "20250102-09:30:00.000"), (4, "20250102-9:30:000"),
+            (4, "x" * 17)))
+        fields = self.header(self.chance.choice("A01D"), number)
+        fields[at] = (fields[at][0], str(value))
+        return fields
+
+    def resealed(self, data):
+        """These bytes with the length and the sum that they would have to have, where they look like a frame."""
+        parts = data.split(b"\x01")
+        if self.chance.random() < 0.5 and len(parts) > 4:
+            body = b"\x01".join(parts[2:-2]) + b"\x01"
+            data = b"\x01".join([parts[0], b"9=%d" % len(body)]) + b"\x01" + body + b"10=000\x01"
+        end = data.rfind(b"10=")
+        return data if end < 0 else data[:end] + b"10=%03d\x01" % (sum(data[:end]) % 256)
+
+    def spoiled(self, data):
+        """These bytes with some of them replaced, left out, repeated or added."""
+        chance, data = self.chance, bytearray(data)
+        for _ in range(chance.choice((1, 1, 1, 2, 4))):
+            at = chance.randrange(len(data) + 1)
+            size = chance.choice((1, 1, 1, 2, 8))
+            new = chance.choice((b"", bytes([chance.randrange(256)]), chance.choice((b"\x01", b"=", b"0", b"9", b"\x00")),
+                                 bytes(data[at: at + size]) * 2, chance.randbytes(size)))
+            data[at: at + (0 if chance.random() < 0.2 else size)] = new
+        return self.resealed(bytes(data)) if chance.random() < 0.6 else bytes(data)
+
+    def hostile(self, number):
+        """Bytes that most likely end the session."""
+        chance = self.chance
+        kind = chance.choice("AAD01135FG2JZ")
+        body = {"A": [("98", "0"), ("108", "0"), ("141", "Y")], "1": [("112", "hi")]}.get(kind, [])
+        whole = self.header(kind, number) + (self.body(kind) if kind in "DFG" else body)
+        form = chance.randrange(12)
+        if form == 0:
+            return chance.randbytes(chance.choice((1, 9, 30, 400)))
+        if form == 1:
+            return b"8=FIX.4.4\x019=" + chance.choice(VALUES + NO_TAGS).encode("latin-1") + b"\x01" + chance.randbytes(320)
+        if form < 4:
+            return coded(self.misheaded(number) + whole[5:])
+        if form == 4:
+            return coded(self.changed(self.header(kind, number)) + whole[5:])
+        if form == 5:
+            return coded(self.changed(whole, TAGS + NO_TAGS))
+        if form == 6:
+            return coded(self.header(kind, number) + self.changed(body or [("112", "hi")]))
+        if form == 7:
+            return coded(padded(whole, chance.choice(SIZES)))
+        if form == 8:
+            return coded(whole).replace(b"\x019=", b"\x019=%d" % chance.choice(SIZES), 1)
+        if form == 9:
+            return coded(whole)[:-4] + b"%03d\x01" % chance.randrange(256)
+        return self.spoiled(coded(whole))
+
+    def session(self):
+        """A whole session's bytes, and how many messages they are."""
+        chance, told, data, rest = self.chance, Session(), b"", b""
+        for count in itertools.count(1):
+            number, luck = told.accepted + 1, chance.random()
+            if count == 1 and luck < 0.95:
+                piece = message(1, 1, "A", "98=0|108=0|141=Y|")
+            elif luck < 0.02 or count == 1:
+                piece = self.hostile(number)
+            else:
+                piece = self.faulty(number) if luck < 0.5 else self.right(number)
+            data += piece
+            rest = told.feed(rest + piece)
+            if told.has_ended or rest or count == 100:
+                break
+        if told.has_ended:
+            return data + chance.choice((b"", b"", piece, chance.randbytes(50))), count
+        return data + chance.choice((b"", coded(self.header("5", told.accepted + 1))) if not rest else (b"", piece)), count
+
+
+def kept(journal):
+    """What venue-replay prints of C1."""
+    ran_ = subprocess.run([REPLAY, journal, "C1", *SYMBOLS], capture_output=True, timeout=PATIENCE)
+    return ran_.stdout.decode("latin-1").splitlines()
+
+
+def batch(number, seed, journal):
+    """Sessions on one journal: how many messages, what they met, and what differed."""
+    writer, book = Writer(random.Random(f"{seed} {number}")), Book(SYMBOLS)
+    met, messages, lines = collections.Counter(), 0, []
+    for at in range(SESSIONS):
+        data, count = writer.session()
+        judged = Judged(data, book)
+        if why := ran(journal, data, judged):
+            return messages, met, f"batch {number}, session {at}: {why}; its bytes: {data.hex()}"
+        messages += count
+        ends = [f"|{printed(body)}" for _, _, body, _ in judged.session.answers[-1:]]
+        met.update(it for text in judged.lines() + ends for it in WANTED if f"|{it}|" in text)
+        lines += judged.lines()
+    lines.append(f"commands {book.commands} outputs {book.outputs}")
+    if (came := kept(journal)) != lines:
+        at = next(at for at, (one, two) in enumerate(itertools.zip_longest(lines, came)) if one != two)
+        why = f"venue-replay, line {at + 1}: expected {lines[at:at + 1]} came {came[at:at + 1]}"
+        return messages, met, f"batch {number}: {why}"
+    return messages, met, None
+
+
+def mutated_sessions(messages, seconds, seed, together):
+    """Batches of sessions until there were so many messages, or the time is over."""
+    print(f"mutated_sessions: seed {seed}", flush=True)
+    end, total, batches, met, faults = time.monotonic() + seconds, 0, 0, collections.Counter(), []
+    with tempfile.TemporaryDirectory(prefix="hostile-bytes-") as folder:
+        with concurrent.futures.ThreadPoolExecutor(together) as pool:
+            while total < messages and time.monotonic() < end and len(faults) < 3:
+                names = range(batches, batches + together)
+                for count, some, why in pool.map(lambda it: batch(it, seed, os.path.join(folder, f"{it}.journal")), names):
+                    total, batches, met = total + count, batches + 1, met + some
+                    faults += [why] if why else []
+                for name in os.listdir(folder):
+                    os.remove(os.path.join(folder, name))
+    print("    " + ", ".join(f"{it}: {met[it]}" for it in WANTED))
+    faults += [f"no session met {it}" for it in WANTED if not met[it] and total > 50_000]
+    print(f"    {batches * SESSIONS} sessions on {batches} journals")
+    return total, faults
+
+
+def positive(word):
+    if not word.isdecimal() or not int(word):
+        raise argparse.ArgumentTypeError(f"not a number above 0: {word}")
+    return int(word)
+
+
+def main():
+    parser = argparse.ArgumentParser(description=__doc__, formatter_class=argparse.RawDescriptionHelpFormatter)
+    parser.add_argument("--messages", type=positive, help="mutated messages; 100,000, if left out")
+    parser.add_argument("--seconds", type=positive, help="how long they may take; 15, or any time with --messages")
+    parser.add_argument("--together", type=positive, default=2, metavar="N", help="programs side by side; 2, if left out")
+    parser.add_argument("--seed", default=str(random.randrange(10 ** 9)), help="what the choice begins with")
+    given = parser.parse_args()
+    seconds = given.seconds or (10 ** 6 if given.messages else 15)
+    try:
+        need_programs()
+    except Trouble as why:
+        sys.exit(f"hostile_bytes: {why}")
+    failed = 0
+    tests = [("cuts", cuts), ("replaced_bytes", replaced_bytes),
+             ("mutated_sessions", lambda it: mutated_sessions(given.messages or 100_000, seconds, given.seed, it))]
+    for name, test in tests:
+        begun = time.monotonic()
+        count, faults = test(given.together)
+        for fault in faults[:5]:
+            print(f"{name}: {fault}")
+        print(f"{name}: {count} tried in {time.monotonic() - begun:.0f} s, {len(faults)} differ", flush=True)
+        failed += bool(faults)
+    print(f"{len(tests) - failed} passed, {failed} failed")
+    sys.exit(1 if failed else 0)
+
+
+if __name__ == "__main__":
+    main()

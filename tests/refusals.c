@@ -1,0 +1,183 @@
+// Refuses calls of the system to a program that it is loaded into by LD_PRELOAD. tests/refusals.py builds and sets it:
+//
+//   REFUSE       which calls are counted: memory, threads or device
+//   REFUSE_AT    the number of the call that is refused, from 1
+//   REFUSE_HOW   once: that call fails; on: and so do all behind it; short: it moves half of its bytes;
+//                before: the program is killed in its place; after: the program is killed behind it
+//   REFUSE_TOLD  a file that is made where the call came, with its name
+//
+// Requests for memory are answered with none; a thread by EAGAIN; the calls of the journal's device by EIO.
+#define _GNU_SOURCE
+#include <dlfcn.h>
+#include <errno.h>
+#include <fcntl.h>
+#include <pthread.h>
+#include <signal.h>
+#include <stdarg.h>
+#include <stdatomic.h>
+#include <stdlib.h>
+#include <string.h>
+#include <sys/file.h>
+#include <sys/stat.h>
+#include <sys/syscall.h>
+#include <unistd.h>
+
+extern void *__libc_malloc(size_t), *__libc_calloc(size_t, size_t), *__libc_realloc(void *, size_t);
+extern void *__libc_memalign(size_t, size_t);
+
+enum how { ONCE, ON, SHORT, BEFORE, AFTER, PASSES };
+
+static const char *group, *told;
+static long refused_at;
+static enum how how = PASSES;
+static atomic_long calls;
+
+__attribute__((constructor)) static void begin(void) {
+    static const char *const names[] = {"once", "on", "short", "before", "after"};
+    const char *at = getenv("REFUSE_AT"), *word = getenv("REFUSE_HOW");
+    group = getenv("REFUSE");
+    told = getenv("REFUSE_TOLD");
+    if (!group || !at || !word || !told)
+        return;
+    refused_at = atol(at);
+    for (int i = 0; i < PASSES; i++)
+        if (!strcmp(word, names[i]))
+            how = i;
+}
+
+static void say(const char *name) {
+    int file = (int)syscall(SYS_open, told, O_WRONLY | O_CREAT | O_APPEND, 0600);
+    if (file >= 0) {
+        syscall(SYS_write, file, name, strlen(name));
+        syscall(SYS_close, file);
+    }
+}
+
+// What is done about this call.
+static enum how decided(const char *of, const char *name) {
+    if (how == PASSES || strcmp(of, group))
+        return PASSES;
+    long number = atomic_fetch_add(&calls, 1) + 1;
+    if (number == refused_at)
+        say(name);
+    if (how == ON && number > refused_at)
+        return ON;
+    if (number != refused_at)
+        return PASSES;
+    if (how == BEFORE)
+        syscall(SYS_kill, syscall(SYS_getpid), SIGKILL);
+    return how;
+}
+
+// Whether this call fails.
+static int fails(enum how what) { return what == ONCE || what == ON; }
+
+static void end(enum how what) {
+    if (what == AFTER)
+        syscall(SYS_kill, syscall(SYS_getpid), SIGKILL);
+}
+
+// Finds the function that this one stands before.
+#define REAL(result, name, ...) \
+    static result (*real)(__VA_ARGS__); \
+    if (!real) \
+        real = (result(*)(__VA_ARGS__))dlsym(RTLD_NEXT, #name)
+
+// Does the call, or what is to be done in its place. `whole` and `half` are the words of the whole call and of its half.
+#define DEVICE(name, whole, half) \
+    enum how what = decided("device", #name); \
+    if (fails(what)) { \
+        errno = EIO; \
+        return -1; \
+    } \
+    int saved_errno; \
+    __typeof__(real whole) got = what == SHORT ? real half : real whole; \
+    saved_errno = errno; \
+    end(what); \
+    errno = saved_errno; \
+    return got
+
+void *malloc(size_t size) { return fails(decided("memory", "malloc")) ? (errno = ENOMEM, NULL) : __libc_malloc(size); }
+
+void *calloc(size_t count, size_t size) {
+    return fails(decided("memory", "calloc")) ? (errno = ENOMEM, NULL) : __libc_calloc(count, size);
+}
+
+void *realloc(void *old, size_t size) {
+    return fails(decided("memory", "realloc")) ? (errno = ENOMEM, NULL) : __libc_realloc(old, size);
+}
+
+void *aligned_alloc(size_t alignment, size_t size) {
+    return fails(decided("memory", "aligned_alloc")) ? (errno = ENOMEM, NULL) : __libc_memalign(alignment, size);
+}
+
+int posix_memalign(void **out, size_t alignment, size_t size) {
+    if (fails(decided("memory", "posix_memalign")))
+        return ENOMEM;
+    *out = __libc_memalign(alignment, size);
+    return *out ? 0 : ENOMEM;
+}
+
+int pthread_create(pthread_t *thread, const pthread_attr_t *attributes, void *(*body)(void *), void *given) {
+    REAL(int, pthread_create, pthread_t *, const pthread_attr_t *, void *(*)(void *), void *);
+    return fails(decided("threads", "pthread_create")) ? EAGAIN : real(thread, attributes, body, given);
+}
+
+#define OPENS(name) \
+    int name(const char *path, int flags, ...) { \
+        REAL(int, name, const char *, int, ...); \
+        va_list more; \
+        va_start(more, flags); \
+        mode_t mode = flags & O_CREAT ? va_arg(more, mode_t) : 0; \
+        va_end(more); \
+        DEVICE(name, (path, flags, mode), (path, flags, mode)); \
+    }
+OPENS(open)
+OPENS(open64)
+
+int flock(int file, int operation) {
+    REAL(int, flock, int, int);
+    DEVICE(flock, (file, operation), (file, operation));
+}
+
+int statx(int folder, const char *path, int flags, unsigned mask, struct statx *out) {
+    REAL(int, statx, int, const char *, int, unsigned, struct statx *);
+    const char *end_of_name = path ? strrchr(path, '.') : NULL;
+    if (end_of_name && !strcmp(end_of_name, ".stop"))  // The stop file is no part of the journal.
+        return real(folder, path, flags, mask, out);
+    DEVICE(statx, (folder, path, flags, mask, out), (folder, path, flags, mask, out));
+}
+
+#define WRITES(name) \
+    ssize_t name(int file, const void *data, size_t size, off_t at) { \
+        REAL(ssize_t, name, int, const void *, size_t, off_t); \
+        DEVICE(name, (file, data, size, at), (file, data, (size + 1) / 2, at)); \
+    }
+WRITES(pwrite)
+WRITES(pwrite64)
+
+#define READS(name) \
+    ssize_t name(int file, void *data, size_t size, off_t at) { \
+        REAL(ssize_t, name, int, void *, size_t, off_t); \
+        DEVICE(name, (file, data, size, at), (file, data, (size + 1) / 2, at)); \
+    }
+READS(pread)
+READS(pread64)
+
+#define SYNCS(name) \
+    int name(int file) { \
+        REAL(int, name, int); \
+        DEVICE(name, (file), (file)); \
+    }
+SYNCS(fsync)
+SYNCS(fdatasync)
+
+int ftruncate(int file, off_t size) {
+    REAL(int, ftruncate, int, off_t);
+    DEVICE(ftruncate, (file, size), (file, size));
+}
+
+int rename(const char *from, const char *to) {
+    REAL(int, rename, const char *, const char *);
+    DEVICE(rename, (from, to), (from, to));
+}

@@ -1,0 +1,210 @@
+"""The built programs with a call of the system refused to them, by tests/refusals.c. Not a test: tests import it."""
+import collections
+import concurrent.futures
+import os
+import shutil
+import subprocess
+import sys
+import tempfile
+
+ROOT = os.path.dirname(os.path.dirname(os.path.abspath(__file__)))
+sys.path.insert(0, os.path.join(ROOT, "scripts"))
+
+from rules import Book, Judged, told
+from venues import COUNTS, PATIENCE, TRIES, VENUED, Trouble, Venue, free_port, kill_all, message, need_programs, order
+from venues import printed, replay
+
+FRESH = b"VNJL\0\0\0\1\0"
+LOGON = message(1, 1, "A", "98=0|108=0|141=Y|")
+MOST_CALLS = 10_000  # A bound for a test that goes wrong.
+
+
+def orders(first, count):
+    """Messages of so many orders of C1 behind a Logon, by turns a buy and a sell at one price."""
+    return [message(1, 2 + at, "D", order(first + at, 1 + (first + at) % 2, 10, 50)) for at in range(count)]
+
+
+class Refusal:
+    """A call that is refused to a program, and the journal of that program, in a folder of their own."""
+
+    def __init__(self, library, folder, group, at, how):
+        self.journal, self.told, self.how = os.path.join(folder, "venue.journal"), os.path.join(folder, "told"), how
+        self.set = {"LD_PRELOAD": library, "REFUSE": group, "REFUSE_AT": str(at), "REFUSE_HOW": how, "REFUSE_TOLD": self.told}
+
+    def environment(self):
+        """The environment of a program to which it is refused."""
+        if os.path.exists(self.told):
+            os.remove(self.told)
+        return {**os.environ, **self.set}
+
+    def came(self):
+        """The name of the call that was refused, or None where the program made fewer."""
+        name = contents(self.told)
+        return name and name.decode()
+
+    def ran(self, words, data=b""):
+        """Runs a program with it to its end: its status, and what it wrote."""
+        return ran(words, data, self.environment())
+
+    def serve(self, data):
+        """The same of `venued -` with this input."""
+        return self.ran(standard(self.journal), data)
+
+
+def ran(words, data, environment=None):
+    """Runs a program to its end: its status, and what it wrote."""
+    try:
+        it = subprocess.run(words, input=data, env=environment, capture_output=True, timeout=PATIENCE)
+    except subprocess.TimeoutExpired:
+        raise Trouble(f"expected an end came none within {PATIENCE} seconds") from None
+    return it.returncode, it.stdout, it.stderr.decode()
+
+
+def standard(journal):
+    """The words of `venued -` on this journal."""
+    return [VENUED, "-", journal, "1", "ABC"]
+
+
+class Sweeps:
+    """What refuses calls, compiled into this folder, and which calls were refused so far, with how many of each name."""
+
+    def __init__(self, folder):
+        self.folder, self.library = folder, os.path.join(folder, "refusals.so")
+        self.met = collections.Counter()
+        words = ["cc", "-O1", "-shared", "-fPIC", "-o", self.library, os.path.join(ROOT, "tests/refusals.c"), "-ldl"]
+        built = subprocess.run(words, capture_output=True, text=True)
+        if built.returncode:
+            raise Trouble(f"cc can't compile tests/refusals.c: {built.stderr.strip()}")
+
+    def refused(self, check, group, at, how):
+        """Lets a check run with this call refused: its name, or None where the program made fewer."""
+        with tempfile.TemporaryDirectory(dir=self.folder) as folder:
+            refusal = Refusal(self.library, folder, group, at, how)
+            try:
+                check(refusal)
+            except (Trouble, OSError) as why:
+                raise Trouble(f"{group} {how}, call {at} ({refusal.came() or 'not made'}): {why}") from why
+            return refusal.came()
+
+    def sweep(self, check, group, how, together=4):
+        """Refuses the first call, the second, and so on until none is left; so many programs run side by side."""
+        with concurrent.futures.ThreadPoolExecutor(together) as pool:
+            for first in range(1, MOST_CALLS, together):
+                calls = range(first, first + together)
+                names = list(pool.map(lambda at: self.refused(check, group, at, how), calls))
+                self.met.update(it for it in names if it)
+                if None in names:
+                    return
+        raise Trouble(f"expected an end of the calls came more than {MOST_CALLS}")
+
+    def said(self):
+        """The calls that were refused, in words."""
+        names = ", ".join(f"{count} {name}" for name, count in sorted(self.met.items()))
+        return f"{sum(self.met.values())} calls refused ({names})"
+
+
+def contents(name):
+    """The bytes of a file, or None where there is none."""
+    if not os.path.exists(name):
+        return None
+    with open(name, "rb") as file:
+        return file.read()
+
+
+def put(name, data):
+    """Makes a file of these bytes in the place of what was there; of None, none."""
+    for other in (name, f"{name}.new", f"{name}.stop"):
+        if os.path.exists(other):
+            os.remove(other)
+    if data is not None:
+        with open(name, "wb") as file:
+            file.write(data)
+
+
+def journal_of(messages):
+    """The bytes of a journal of these messages of C1, each in a block of its own."""
+    data = FRESH[:-1]
+    for it in messages:
+        data += b"\1" + (len(it) + 3).to_bytes(4, "big") + b"\1" + len(it).to_bytes(2, "big") + it
+    return data + b"\0"
+
+
+def after(count):
+    """The book behind so many of the orders."""
+    book = Book()
+    Judged(LOGON + b"".join(orders(1, count)), book)
+    return book
+
+
+def answers(first, count):
+    """What a session is told of so many orders, from the one of this number on: its Logon's answer, and each order's."""
+    judged = Judged(LOGON + b"".join(orders(first, count)), after(first - 1))
+    whole = [b"".join(told(kind, 1, when, own) for kind, when, own, _ in judged.session.answers)]
+    whole += [b""] * count
+    for number, (kind, when, own, place) in enumerate(judged.reports, 2):
+        whole[1 + place] += told(kind, number, when, own)
+    return whole
+
+
+def answered(out, first, count):
+    """How many of these orders a session was told of, in whole or in part, by what came out; nothing else may have."""
+    whole = answers(first, count)
+    if not b"".join(whole).startswith(out):
+        raise Trouble(f"expected a beginning of {printed(b''.join(whole))} came {printed(out)}")
+    found = 0
+    while len(out) > sum(map(len, whole[:found + 1])):
+        found += 1
+    return found
+
+
+def check_history(journal, least, most):
+    """The journal holds a beginning of the orders, no less and no more than so many: how many."""
+    lines, (commands, _) = replay(journal, "C1") if os.path.exists(journal) else ([], (0, 0))
+    if not least <= commands <= most:
+        raise Trouble(f"expected {least} to {most} orders kept came {commands}")
+    wanted = Judged(LOGON + b"".join(orders(1, commands)), Book()).lines()
+    if lines != wanted:
+        raise Trouble(f"expected {wanted} kept came {lines}")
+    return commands
+
+
+def printed_report(journal, what):
+    """The bytes of what venue-replay prints with ample memory and a device that works."""
+    lines, (commands, outputs) = replay(journal, what)
+    return "".join(f"{line}\n" for line in [*lines, f"commands {commands} outputs {outputs}"]).encode()
+
+
+def listens(refusal, gateways):
+    """A venue to which a call is refused, and its first line, if it is ready; else None, and how it ended."""
+    for _ in range(TRIES):
+        venue = Venue(free_port(gateways), refusal.journal, gateways, env=refusal.environment())
+        line = venue.out.next()
+        if COUNTS.fullmatch(line or ""):
+            return venue, line
+        fault = venue.err.next() or ""
+        if not fault.startswith("venued: cannot listen"):
+            return None, (venue.process.wait(PATIENCE), (line or "").encode(), f"{fault}\n")
+    raise Trouble(f"in {TRIES} tries no {gateways} ports stayed free")
+
+
+def run_tests(name, tests):
+    """Runs these tests, each in a folder of its own, and prints what they came to; the status is 1 where one failed."""
+    if not shutil.which("cc"):
+        print(f"{name}: cc isn't installed, which compiles tests/refusals.c: nothing was tried\n0 passed, 0 failed")
+        sys.exit()
+    try:
+        need_programs()
+    except Trouble as why:
+        sys.exit(f"{name}: {why}")
+    failed = 0
+    for test in tests:
+        with tempfile.TemporaryDirectory(prefix="refusals-") as folder:
+            try:
+                print(f"{test.__name__}: {test(Sweeps(folder))}", flush=True)
+            except (Trouble, OSError) as why:
+                print(f"{test.__name__}: {why}", flush=True)
+                failed += 1
+            finally:
+                kill_all()
+    print(f"{len(tests) - failed} passed, {failed} failed")
+    sys.exit(1 if failed else 0)

@@ -1,0 +1,128 @@
+#!/usr/bin/env python3
+"""Refuses memory, or a thread, to the built programs: the first request, the second, and so on until none is left.
+
+    tests/refused_memory.py
+
+Each program either does what it does with ample memory, or says that it has none: `venued: no memory` on standard
+error, nothing on standard output, status 1, and the journal as it was. Each request is refused alone, and then with all
+that come behind it. A venue that listens prints no `ready` line where it has no memory; one that is ready lets a client
+go that it has no room for, serves the next, and stops in order.
+
+Requests are refused by tests/refusals.c, which cc compiles into a folder of its own; without cc nothing is tried, and a
+line says so. The last line is `N passed, M failed`, and the status is 1 where one failed. It takes some ten seconds. Build
+both programs first, by scripts/build; others are taken by the environment's VENUED and VENUE_REPLAY.
+"""
+import collections
+import concurrent.futures
+
+from refusals import FRESH, LOGON, answers, check_history, contents, journal_of, listens, orders, printed_report, put
+from refusals import run_tests
+from venues import REPLAY, Client, Trouble, printed
+
+ORDERS = 3
+MANY = 48  # Venues side by side that wait for threads that can't be started, which takes them ten seconds each.
+
+
+def check_no_memory(program, came, journal, before):
+    """A program that has no memory says so, and leaves the journal as it was; a missing one may have been made by then."""
+    wanted = (1, b"", f"{program}: no memory\n")
+    if came != wanted:
+        raise Trouble(f"expected {wanted} came {came}")
+    now = contents(journal)
+    if now != before and (before is not None or now != FRESH):
+        raise Trouble(f"expected the journal {before} came {now}")
+
+
+def said(sweeps, ends):
+    """What sweeps came to, in words. They tell nothing where no refusal was noticed."""
+    if not ends["no memory"] or not ends["went on"]:
+        raise Trouble(f"expected ends of both kinds came {dict(ends)}")
+    return f"{sweeps.said()}, {ends['no memory']} times 'no memory'"
+
+
+def standard_session(sweeps):
+    """`venued -` with orders as its input, on a missing journal and on one with an order in it."""
+    ends = collections.Counter()
+
+    def check(refusal, before, first):
+        put(refusal.journal, before)
+        came = refusal.serve(LOGON + b"".join(orders(first, ORDERS)))
+        if came[0]:
+            check_no_memory("venued", came, refusal.journal, before)
+            return "no memory"
+        if came[1:] != (b"".join(answers(first, ORDERS)), ""):
+            raise Trouble(f"expected {printed(b''.join(answers(first, ORDERS)))} came {printed(came[1])} {came[2]!r}")
+        check_history(refusal.journal, first + ORDERS - 1, first + ORDERS - 1)
+        return "went on"
+
+    for before, first in ((None, 1), (journal_of(orders(1, 1)), 2)):
+        for how in ("once", "on"):
+            sweeps.sweep(lambda it: ends.update([check(it, before, first)]), "memory", how)
+    return said(sweeps, ends)
+
+
+def is_served(port, number):
+    """Whether the member is served: its Logon is answered and its order acknowledged. One that isn't is let go."""
+    client = Client(port, 1)
+    try:
+        client.send_bytes(LOGON + b"".join(orders(number, 1)))
+        heard = [client.next(), client.next()]
+    except OSError:
+        heard = [None]
+    client.close()
+    if heard[0] is None:
+        return False
+    if f"|11={number}|" not in (heard[1] or ""):
+        raise Trouble(f"expected the report of order {number} came {heard}")
+    return True
+
+
+def check_listening(refusal):
+    """Starts a venue that is refused something, and lets three clients of one member come to it, if it is ready."""
+    before = journal_of(orders(1, 1))
+    put(refusal.journal, before)
+    venue, line = listens(refusal, 1)
+    if not venue:
+        check_no_memory("venued", line, refusal.journal, before)
+        return "no memory"
+    if line != "venued: ready, 1 commands, 1 outputs":
+        raise Trouble(f"expected the counts of the journal came {line}")
+    served = sum(is_served(venue.port, number) for number in (2, 3, 4))
+    if refusal.how == "once" and served < 2:
+        raise Trouble(f"expected two of three clients served came {served}")
+    if (commands := venue.stop()[0]) != 1 + served:
+        raise Trouble(f"expected {1 + served} commands at the stop came {commands}")
+    return "went on"
+
+
+def listening(sweeps):
+    """A venue that listens, and the clients of one member."""
+    ends = collections.Counter()
+    kinds = [(group, how) for group in ("memory", "threads") for how in ("once", "on")]
+    with concurrent.futures.ThreadPoolExecutor(len(kinds)) as pool:
+        done = [pool.submit(sweeps.sweep, lambda it: ends.update([check_listening(it)]), *kind, MANY) for kind in kinds]
+        for it in done:
+            it.result()
+    return said(sweeps, ends)
+
+
+def replays(sweeps):
+    """`venue-replay` on a journal of three orders."""
+    before, ends = journal_of(orders(1, ORDERS)), collections.Counter()
+
+    def check(refusal, what):
+        put(refusal.journal, before)
+        came = refusal.ran([REPLAY, refusal.journal, what, "ABC"])
+        if came == (0, printed_report(refusal.journal, what), ""):
+            return "went on"
+        check_no_memory("venue-replay", came, refusal.journal, before)
+        return "no memory"
+
+    for what in ("book", "C1"):
+        for how in ("once", "on"):
+            sweeps.sweep(lambda it: ends.update([check(it, what)]), "memory", how)
+    return said(sweeps, ends)
+
+
+if __name__ == "__main__":
+    run_tests("refused_memory", [standard_session, listening, replays])
