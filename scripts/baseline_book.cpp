@@ -6,12 +6,14 @@
 //
 // Orders lie in an array with a list of free places; each symbol and side has its levels in a sorted array, the best one
 // last, and each level a doubly linked list in the order of time. A table with open addressing finds an order by client
-// and ClOrdID. It checks what the venue's book checks: names that rise, who asks, symbol and side.
+// and ClOrdID. It checks what the venue's book checks: names that rise, who asks, symbol and side. As there, commands and
+// orders carry a symbol's bytes, which lead to its levels by a look through the table of the eight.
 #include <algorithm>
 #include <chrono>
 #include <cstdint>
 #include <cstdio>
 #include <cstdlib>
+#include <cstring>
 #include <vector>
 
 using u64 = uint64_t;
@@ -21,15 +23,25 @@ using u8 = uint8_t;
 enum Kind : u8 { NEW, CANCEL, REPLACE };
 enum What : u8 { ACKNOWLEDGED, TRADED, CANCELED, REPLACED, REFUSED };
 
+struct Symbol {
+    char bytes[8];
+    u8 length;
+    bool operator==(const Symbol &other) const { return !memcmp(bytes, other.bytes, 8) && length == other.length; }
+};
+
+static const Symbol SYMBOLS[8] = {{"A", 1}, {"BB", 2}, {"CCC", 3}, {"DDDD", 4}, {"EEEEE", 5}, {"F6", 2}, {"G77", 3}, {"H888", 4}};
+
 struct Command {
     Kind kind;
-    u8 client, symbol, side, is_day;
+    u8 client, side, is_day;
+    Symbol symbol;
     u64 name, orig, price, quantity;
 };
 
 struct Order {
     u64 id, name, price, total, cum, notional, stamp;
-    u8 client, symbol, side;
+    Symbol symbol;
+    u8 client, side;
 };
 
 struct Output {
@@ -41,7 +53,7 @@ struct Output {
 
 constexpr int MOST = 4096, TABLE = 8192, NONE = -1;
 
-struct Node { Order order; int prev, next; };
+struct Node { Order order; int prev, next; u8 symbol; };
 struct Level { u64 price; int first, last; };
 
 struct Book {
@@ -85,21 +97,27 @@ struct Book {
         table[hole] = NONE;
     }
 
+    static int index_of(const Symbol &symbol) {
+        for (int index = 0; index < 8; index++)
+            if (SYMBOLS[index] == symbol) return index;
+        return NONE;
+    }
+
     // Where a price's level stands, or would stand: behind it are those ahead of it.
     static int level_at(const std::vector<Level> &all, u8 side, u64 price) {
         return (int)(std::partition_point(all.begin(), all.end(), [&](const Level &l) { return ahead(side, price, l.price); }) - all.begin());
     }
 
-    void rest(const Order &order) {
+    void rest(const Order &order, u8 symbol) {
         int place = free_places.back();
         free_places.pop_back();
-        auto &all = levels[order.symbol][order.side];
+        auto &all = levels[symbol][order.side];
         int at = level_at(all, order.side, order.price);
         if (at == (int)all.size() || all[at].price != order.price) {
             all.insert(all.begin() + at, Level{order.price, place, place});
-            nodes[place] = Node{order, NONE, NONE};
+            nodes[place] = Node{order, NONE, NONE, symbol};
         } else {
-            nodes[place] = Node{order, all[at].last, NONE};
+            nodes[place] = Node{order, all[at].last, NONE, symbol};
             nodes[all[at].last].next = place;
             all[at].last = place;
         }
@@ -109,7 +127,7 @@ struct Book {
     void leave(int place) {
         Node &node = nodes[place];
         drop_name(place);
-        auto &all = levels[node.order.symbol][node.order.side];
+        auto &all = levels[node.symbol][node.order.side];
         if (node.prev == NONE || node.next == NONE) {
             int at = level_at(all, node.order.side, node.order.price);
             if (node.prev == NONE && node.next == NONE) all.erase(all.begin() + at);
@@ -125,8 +143,8 @@ struct Book {
         out.push_back(Output{to, what, cause, qty, px, orig, o});
     }
 
-    void match(Order &order, u64 sequence, std::vector<Output> &out) {
-        auto &other = levels[order.symbol][1 - order.side];
+    void match(Order &order, u8 symbol, u64 sequence, std::vector<Output> &out) {
+        auto &other = levels[symbol][1 - order.side];
         while (order.cum < order.total && !other.empty()) {
             Level &best = other.back();
             if (ahead(order.side, best.price, order.price)) return;
@@ -143,18 +161,19 @@ struct Book {
 
     void apply(u64 sequence, const Command &c, std::vector<Output> &out) {
         if (c.kind == NEW) {
-            Order order{sequence + 1, c.name, c.price, c.quantity, 0, 0, sequence, c.client, c.symbol, c.side};
-            if (c.name <= greatest[c.client]) return say(out, c.client, REFUSED, sequence, order);
+            Order order{sequence + 1, c.name, c.price, c.quantity, 0, 0, sequence, c.symbol, c.client, c.side};
+            int symbol = index_of(c.symbol);
+            if (c.name <= greatest[c.client] || symbol == NONE) return say(out, c.client, REFUSED, sequence, order);
             greatest[c.client] = c.name;
             say(out, c.client, ACKNOWLEDGED, sequence, order);
-            match(order, sequence, out);
+            match(order, symbol, sequence, out);
             if (order.cum == order.total) return;
-            if (c.is_day && !free_places.empty()) rest(order);
+            if (c.is_day && !free_places.empty()) rest(order, symbol);
             else say(out, c.client, CANCELED, sequence, order);
             return;
         }
         int place = find(c.client, c.orig);
-        if (c.name <= greatest[c.client] || place == NONE || nodes[place].order.symbol != c.symbol || nodes[place].order.side != c.side)
+        if (c.name <= greatest[c.client] || place == NONE || !(nodes[place].order.symbol == c.symbol) || nodes[place].order.side != c.side)
             return say(out, c.client, REFUSED, sequence, Order{});
         greatest[c.client] = c.name;
         Order order = nodes[place].order;
@@ -171,17 +190,18 @@ struct Book {
             put_name(place);
             return say(out, c.client, REPLACED, sequence, order, 0, 0, c.orig);
         }
+        u8 symbol = nodes[place].symbol;
         leave(place);
         order.stamp = sequence;
         say(out, c.client, REPLACED, sequence, order, 0, 0, c.orig);
-        match(order, sequence, out);
-        if (order.cum < order.total) rest(order);
+        match(order, symbol, sequence, out);
+        if (order.cum < order.total) rest(order, symbol);
     }
 };
 
 // The flow of bench_book, number by number.
 constexpr u64 PLACES = 4096, NO_PLACE = 4095, MIDDLE = 10000, PRICES = 32;
-struct Resting { bool is; u8 client, symbol, side; u64 name; };
+struct Resting { bool is; u8 client, side; Symbol symbol; u64 name; };
 static u64 state = 1;
 static u64 chance() { return (state = state * 6364136223846793005ull + 1442695040888963407ull) >> 33; }
 static u64 resting_price(u8 side, u64 n) { return side == 0 ? MIDDLE - 1 - n % PRICES : MIDDLE + n % PRICES; }
@@ -191,20 +211,20 @@ static Command choose(const std::vector<Resting> &known, u32 resting, u32 turn, 
     u64 place = chance() % wanted, kind = chance() % 100;
     const Resting &order = known[place];
     if (order.is && turn >= wanted && kind < 25)
-        return {CANCEL, order.client, order.symbol, order.side, 0, name_of(turn, place), order.name, 0, 0};
+        return {CANCEL, order.client, order.side, 0, order.symbol, name_of(turn, place), order.name, 0, 0};
     if (order.is && turn >= wanted && kind < 40)
-        return {REPLACE, order.client, order.symbol, order.side, 1, name_of(turn, place), order.name, resting_price(order.side, chance()), 100};
+        return {REPLACE, order.client, order.side, 1, order.symbol, name_of(turn, place), order.name, resting_price(order.side, chance()), 100};
     u8 symbol = chance() % 8, side = chance() % 2;
     if (resting >= wanted) {
         u64 price = side == 0 ? 2 * MIDDLE : 1;
         u8 client = 1 + chance() % 8;
-        return {NEW, client, symbol, side, 0, name_of(turn, NO_PLACE), 0, price, 100};
+        return {NEW, client, side, 0, SYMBOLS[symbol], name_of(turn, NO_PLACE), 0, price, 100};
     }
     place = 0;
     while (known[place].is) place++;
     u64 price = resting_price(side, chance());
     u8 client = 1 + chance() % 8;
-    return {NEW, client, symbol, side, 1, name_of(turn, place), 0, price, 100};
+    return {NEW, client, side, 1, SYMBOLS[symbol], name_of(turn, place), 0, price, 100};
 }
 
 int main(int words, char **word) {
@@ -227,7 +247,7 @@ int main(int words, char **word) {
             Resting &there = known[place];
             bool rests = o.what == ACKNOWLEDGED || o.what == REPLACED;
             resting += rests - there.is;
-            there = {rests, o.order.client, o.order.symbol, o.order.side, o.order.name};
+            there = {rests, o.order.client, o.order.side, o.order.symbol, o.order.name};
         }
     }
     Book book;

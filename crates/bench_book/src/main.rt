@@ -8,10 +8,9 @@ mod rate;
 mod running;
 mod words;
 
-use crate::choosing::choose;
+use crate::choosing::{Chosen, choose};
 use crate::fault::Fault;
 use crate::rate::Rate;
-use crate::running::run;
 use crate::words::Task;
 use book::{Book, MOST_OUTPUTS};
 use std::alloc::Global;
@@ -37,43 +36,37 @@ fn limits(alloc: Global) -> Result<Limits, Fault> {
     Ok(limits)
 }
 
-/// Measures what the words ask for. The commands are chosen first, by a book of their own; a second book is filled, and
-/// then the clock runs. How many outputs there were goes to standard error; where they aren't those of the first book,
-/// there is no figure.
+/// Measures what the words ask for. The commands are chosen first, by a book of their own. How many outputs there were
+/// goes to standard error.
 fn measure<R: Env + Clock + Print + Eprint + AllocGlobal>(rt: &R) -> Result<(), Fault> {
     let words: Vec<String> = env::args(rt)?.skip(1).collect(rt.alloc())?;
     let task = Task::read(&words)?;
     let limits = limits(rt.alloc())?;
     let chosen = choose(rt.alloc(), &limits, &task)?;
-
-    let mut book = Book::new(rt.alloc(), &limits)?;
-    let mut out = Vec::with_capacity(rt.alloc(), MOST_OUTPUTS)?;
-    let filled = run(
-        &mut book,
-        0,
-        task.resting,
-        &chosen.clients,
-        &chosen.commands,
-        &mut out,
-    )?;
-    let begun = Instant::now(rt)?;
-    let all = task.all();
-    let outputs = run(
-        &mut book,
-        task.resting,
-        all,
-        &chosen.clients,
-        &chosen.commands,
-        &mut out,
-    )?;
-    let rate = Rate::of(task.commands, begun.elapsed(rt)?);
-
-    if filled.wrapping_add(outputs) != chosen.outputs {
-        return Err(Fault::Wrong);
-    }
+    let (outputs, rate) = timed(rt, &limits, &task, &chosen)?;
     println!(rt; "book.{}.project: {rate}", task.resting)?;
     eprintln!(rt; "{outputs} outputs")?;
     Ok(())
+}
+
+/// Fills a second book, and then does the commands that are measured, by the clock. It answers how many outputs they had,
+/// and their rate; where all outputs aren't as many as those of the first book, there is none.
+fn timed<R: Clock + AllocGlobal>(
+    rt: &R,
+    limits: &Limits,
+    task: &Task,
+    chosen: &Chosen,
+) -> Result<(u64, Rate), Fault> {
+    let mut book = Book::new(rt.alloc(), limits)?;
+    let mut out = Vec::with_capacity(rt.alloc(), MOST_OUTPUTS)?;
+    let filled = chosen.run(&mut book, 0, task.resting, &mut out)?;
+    let begun = Instant::now(rt)?;
+    let outputs = chosen.run(&mut book, task.resting, task.all(), &mut out)?;
+    let rate = Rate::of(task.commands, begun.elapsed(rt)?);
+    if filled.wrapping_add(outputs) != chosen.outputs {
+        return Err(Fault::Wrong);
+    }
+    Ok((outputs, rate))
 }
 
 fn main(rt: HostRuntime) -> ExitCode {

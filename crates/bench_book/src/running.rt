@@ -2,6 +2,7 @@
 ghost use Rattle.std.specs.Prelude.{◌+◌, ◌^◌, ◌≤◌, length, OnOk};
 ghost use Rattle.book.specs.Standing.{Below};
 
+use crate::choosing::Chosen;
 use crate::fault::Fault;
 use book::{Book, MOST_OUTPUTS};
 use venue_model::{Command, Output};
@@ -25,28 +26,29 @@ pub fn apply(
     Ok(())
 }
 
-/// Does what these commands of these clients ask, from this place of theirs on, which is the first one's sequence, and
-/// answers how many outputs they have. `out` has room for those of one of them, and only they are kept.
-pub fn run(
-    book: &mut Book,
-    from: u32,
-    upto: u32,
-    clients: &[u8],
-    commands: &[Command],
-    out: &mut Vec<Output>,
-) -> Result<u64, Fault>
-    requires behind { Below from book.old.state.orders }
-    requires order { from ≤ upto }
-    ensures { OnOk result (Below upto book.new.state.orders) }
-{
-    let mut outputs = 0u64;
-    for sequence in from..upto {
-        let at = sequence as usize;
-        let (Some(client), Some(command)) = (clients.get(at), commands.get(at)) else {
-            return Err(Fault::Wrong);
-        };
-        apply(book, sequence, *client, command, out)?;
-        outputs = outputs.wrapping_add(out.len() as u64);
+impl Chosen {
+    /// Does the commands from this place of theirs on, which is the first one's sequence, and answers how many outputs they
+    /// have. `out` has room for those of one of them, and only they are kept.
+    pub fn run(
+        &self,
+        book: &mut Book,
+        from: u32,
+        upto: u32,
+        out: &mut Vec<Output>,
+    ) -> Result<u64, Fault>
+        requires behind { Below from book.old.state.orders }
+        requires order { from ≤ upto }
+        ensures { OnOk result (Below upto book.new.state.orders) }
+    {
+        let mut outputs = 0u64;
+        for sequence in from..upto {
+            let at = sequence as usize;
+            let (Some(client), Some(command)) = (self.clients.get(at), self.commands.get(at)) else {
+                return Err(Fault::Wrong);
+            };
+            apply(book, sequence, *client, command, out)?;
+            outputs = outputs.wrapping_add(out.len() as u64);
+        }
+        Ok(outputs)
     }
-    Ok(outputs)
 }

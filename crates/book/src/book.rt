@@ -47,7 +47,7 @@ impl Book {
     pub fn new(alloc: Global, limits: &Limits) -> Result<Book, AllocError>
         ensures { IfOk result (λ b. b ≡ record { symbols = limits.now; state = empty; reads = 0 }) }
     {
-        let orders = RestingOrders::new(alloc)?;
+        let orders = RestingOrders::new(alloc, limits.symbols())?;
         Ok(Book {
             logic: BookLogic::of(limits),
             orders,

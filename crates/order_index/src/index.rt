@@ -2,7 +2,7 @@
 ghost use Rattle.std.specs.Prelude.{◌≡◌, ◌≢◌, ◌<◌, ◌+◌, [], None, length, IfOk};
 ghost use Rattle.order_index.specs.Names.{most_entries, place_of, with_name, without_name};
 
-use crate::slots::{Entry, SLOTS, close, reach};
+use crate::slots::{Entry, FREE, SLOTS, Slot, close, reach};
 use std::alloc::{AllocError, Global};
 use std::marker::Model;
 
@@ -10,7 +10,7 @@ use std::marker::Model;
 /// which they say nothing.
 #[derive(Drop)]
 pub struct OrderIndex {
-    slots: Vec<Option<Entry>>,
+    slots: Vec<Slot>,
 }
 
 impl Model for OrderIndex {
@@ -30,28 +30,28 @@ impl OrderIndex {
     pub fn new(alloc: Global) -> Result<OrderIndex, AllocError>
         ensures { IfOk result (λ index. index ≡ []) }
     {
-        let slots = vec![in alloc; None; SLOTS]?;
+        let slots = vec![in alloc; FREE; SLOTS]?;
         Ok(OrderIndex { slots })
     }
 
     /// The place under a client's name, or `None` where it has none.
-    pub fn find(&self, client: u8, name: u64) -> Option<usize>
+    pub fn find(&self, client: u8, name: u64) -> Option<u32>
         ensures { result ≡ place_of self.now client name }
     {
         let at = reach(&self.slots, client, name);
-        let entry = self.slots[at]?;
+        let entry = self.slots[at].entry()?;
         Some(entry.place)
     }
 
     /// Gives a name that has none a place. It may be the last of 4,096.
-    pub fn insert(&mut self, client: u8, name: u64, place: usize)
+    pub fn insert(&mut self, client: u8, name: u64, place: u32)
         requires fresh { place_of self.old client name ≡ None }
         requires room { length self.old < most_entries }
         ensures places { place_of self.new ≡ with_name client name place (place_of self.old) }
         ensures entries { length self.new ≡ length self.old + 1 }
     {
         let at = reach(&self.slots, client, name);
-        self.slots[at] = Some(Entry {
+        self.slots[at] = Slot::of(Entry {
             client,
             name,
             place,
@@ -65,7 +65,7 @@ impl OrderIndex {
         ensures entries { length self.new + 1 ≡ length self.old }
     {
         let at = reach(&self.slots, client, name);
-        self.slots[at] = None;
+        self.slots[at] = FREE;
         close(&mut self.slots, at);
     }
 }

@@ -6,3 +6,4 @@ mod index;
 mod slots;
 
 pub use index::OrderIndex;
+pub use slots::Entry;

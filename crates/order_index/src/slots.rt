@@ -1,7 +1,9 @@
 //! The slots of the table: the way from a name's home to its entry, and the closing of the gap that an entry leaves.
-ghost use Rattle.std.specs.Prelude.{◌≡◌, ◌<◌, ◌≤◌, length, true, false};
+ghost use Rattle.std.specs.Prelude.{◌≡◌, ◌<◌, ◌≤◌, Some, length, true, false};
 ghost use Rattle.order_index.specs.Names.{place_of};
 ghost use Rattle.order_index.specs.Slots.{at, ends_way, home, home_of, slot_from, steps_to, entries_of, IsTable, HasGap, WayEnds};
+
+use std::marker::Model;
 
 /// How many slots there are: twice as many as entries at most.
 pub(crate) const SLOTS: usize = 8192;
@@ -12,12 +14,80 @@ const SPREAD: u64 = 0x9E37_79B9_7F4A_7C15;
 /// The slots' number is 2 to the 13: a product of 64 bits has its upper 13 left when these are gone.
 const LOWER: u64 = 1 << 51;
 
-/// A name and its place.
+/// A client's name for one of its orders (ClOrdID), and the place where the order rests. Contracts see an index as a list
+/// of these.
 #[derive(Clone, Copy)]
-pub(crate) struct Entry {
+pub struct Entry {
     pub(crate) client: u8,
     pub(crate) name: u64,
-    pub(crate) place: usize,
+    pub(crate) place: u32,
+}
+
+/// What stands in a slot, in sixteen bytes: an entry, or nothing. Contracts see an option.
+#[derive(Clone, Copy)]
+pub(crate) struct Slot {
+    name: u64,
+    place: u32,
+    client: u8,
+    is_taken: bool,
+}
+
+impl Model for Slot {
+    ghost use Rattle.std.specs.Prelude.{Option};
+    ghost use Rattle.order_index.specs.declared.slots.Entry.{Entry};
+    ghost use Rattle.order_index.specs.Kept.{entry_in, IsKept, name_of, place_in, client_of, some_in, name-back, place-back, client-back, taken-back};
+
+    ghost Value = { Option Entry };
+
+    ghost view = { λ s. entry_in s.is_taken s.client s.name s.place };
+
+    ghost invariant = { λ s. IsKept s.is_taken s.client s.name s.place };
+
+    ghost inverse = { λ e. record { name = name_of e; place = place_in e; client = client_of e; is_taken = some_in e } };
+
+    ghost inverse_ok = { λ s keeps i. record {
+      name = name-back s.is_taken s.client s.name s.place keeps i;
+      place = place-back s.is_taken s.client s.name s.place keeps i;
+      client = client-back s.is_taken s.client s.name s.place keeps i;
+      is_taken = taken-back s.is_taken s.client s.name s.place i;
+    } };
+}
+
+/// A slot where nothing stands.
+pub(crate) const FREE: Slot = Slot {
+    name: 0,
+    place: 0,
+    client: 0,
+    is_taken: false,
+};
+
+impl Slot {
+    /// The slot where an entry stands.
+    pub(crate) fn of(entry: Entry) -> Slot
+        ensures { result ≡ Some entry }
+    {
+        Slot {
+            name: entry.name,
+            place: entry.place,
+            client: entry.client,
+            is_taken: true,
+        }
+    }
+
+    /// What stands there.
+    pub(crate) fn entry(&self) -> Option<Entry>
+        ensures { result ≡ self.now }
+    {
+        if self.is_taken {
+            Some(Entry {
+                client: self.client,
+                name: self.name,
+                place: self.place,
+            })
+        } else {
+            None
+        }
+    }
 }
 
 /// Where the way to a name begins.
@@ -52,17 +122,17 @@ fn steps_to(slot: usize, other: usize) -> usize
 }
 
 /// Whether the way to a name ends here: at a slot that is free, or has the name's entry.
-fn ends_way(slot: &Option<Entry>, client: u8, name: u64) -> bool
+fn ends_way(slot: &Slot, client: u8, name: u64) -> bool
     ensures { result ≡ ends_way client name slot.now }
 {
-    match slot {
+    match slot.entry() {
         Some(entry) => entry.client == client && entry.name == name,
         None => true,
     }
 }
 
 /// The slot of a name's entry, or else the free one where the way from its home ends.
-pub(crate) fn reach(slots: &[Option<Entry>], client: u8, name: u64) -> usize
+pub(crate) fn reach(slots: &[Slot], client: u8, name: u64) -> usize
     requires { IsTable slots.now }
     ensures within { result < length slots.now }
     ensures way { WayEnds (at slots.now) client name result }
@@ -79,7 +149,7 @@ pub(crate) fn reach(slots: &[Option<Entry>], client: u8, name: u64) -> usize
 
 /// Closes the gap that an entry left: entries farther on whose way leads over it move back into it, each with a gap of
 /// its own, up to a free slot.
-pub(crate) fn close(slots: &mut Vec<Option<Entry>>, start: usize)
+pub(crate) fn close(slots: &mut Vec<Slot>, start: usize)
     requires { HasGap slots.old.items start start 1 }
     ensures table { IsTable slots.new.items }
     ensures places { place_of (entries_of slots.new.items) ≡ place_of (entries_of slots.old.items) }
@@ -88,12 +158,12 @@ pub(crate) fn close(slots: &mut Vec<Option<Entry>>, start: usize)
     let mut gap = start;
     for steps in 1..SLOTS {
         let slot = slot_from(start, steps);
-        let Some(entry) = slots[slot] else {
+        let Some(entry) = slots[slot].entry() else {
             return;
         };
         if steps_to(gap, slot) <= steps_to(home(entry.client, entry.name), slot) {
-            slots[gap] = Some(entry);
-            slots[slot] = None;
+            slots[gap] = Slot::of(entry);
+            slots[slot] = FREE;
             gap = slot;
         }
     }

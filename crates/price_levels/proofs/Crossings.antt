@@ -1,8 +1,8 @@
 -- What an order would cross, by levels and by orders.
-use Rattle.std.proofs.Common.{◌≡◌, ℕ, suc, ◌+◌, ◌-◌, ◌*◌, ◌^◌, ◌<◌, ◌≤◌, Bool, true, false, List, [], ◌∷◌, length, take, drop, Option, Some, None, refl, ap, sym, subst, ◌∙◌, arith, take-append-drop, take_all}
+use Rattle.std.proofs.Common.{◌≡◌, ℕ, suc, ◌+◌, ◌*◌, ◌^◌, ◌<◌, ◌≤◌, Bool, true, false, List, [], ◌∷◌, take, drop, Option, Some, None, refl, ap, sym, subst, ◌∙◌, arith, take-append-drop}
 use Rattle.std.specs.Prelude.{sum_by, filter, is_some, if◌then◌else◌}
 use Rattle.std.specs.List.{AllByRecursion}
-use Rattle.std.proofs.lemmas.List.{length-map, length-drop}
+use Rattle.std.proofs.lemmas.List.{length-map}
 use Rattle.std.proofs.lemmas.List.Sums.{sum_by-cons, sum_by-append}
 use Rattle.venue_model.specs.declared.orders.Side.{Side}
 use Rattle.venue_model.specs.declared.orders.Order.{Order}
@@ -194,13 +194,9 @@ pub total-is : (symbol : List ℕ) (side other : Side) (price : ℕ) (nodes : Li
     AreLevels nodes levels → other ≡ opposite side →
     AllByRecursion (λ (l : Level). before_side symbol other l.key ≡ true) (take n levels) → AllByRecursion (λ
     (l : Level). before_side symbol other l.key ≡ false) (drop n levels) →
-    crossed_left symbol side price (take (length levels - n) (drop n levels)) ≡ crossing_leaves symbol side price (places_of nodes)
+    crossed_left symbol side price (drop n levels) ≡ crossing_leaves symbol side price (places_of nodes)
 total-is symbol side other price nodes levels n are is before behind =
-    let rest = length-drop n levels in
-    let all : take (length levels - n) (drop n levels) ≡ drop n levels = take_all (length levels - n) (drop n levels) (omega
-    (arith, rest)) in
-    ap (crossed_left symbol side price) all
-    ∙ from-there symbol side price levels n are.in_order
+    from-there symbol side price levels n are.in_order
     (subst (λ d. AllByRecursion (λ (l : Level). before_side symbol d l.key ≡ true) (take n levels)) is before)
     (subst (λ d. AllByRecursion (λ (l : Level). before_side symbol d l.key ≡ false) (drop n levels)) is behind)
     ∙ crossing-is symbol side price nodes levels are

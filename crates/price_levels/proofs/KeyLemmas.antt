@@ -91,7 +91,7 @@ by_ordering a b Less e = inl (ap is_lt e)
 by_ordering a b Equal e = inr (inl ((bytes_eq-Decides a b).0 (sym (is_eq-slice_cmp a b) ∙ ap is_eq e)))
 by_ordering a b Greater e = inr (inr (ap is_lt (nat_list_cmp_total.antisymm b a ∙ ap ordering_reverse e)))
 
-symbol-cases : (a b : List ℕ) → (symbol_before a b ≡ true) ⊎ ((a ≡ b) ⊎ (symbol_before b a ≡ true))
+pub symbol-cases : (a b : List ℕ) → (symbol_before a b ≡ true) ⊎ ((a ≡ b) ⊎ (symbol_before b a ≡ true))
 symbol-cases a b = by_ordering a b (slice_cmp nat_cmp a b) refl
 
 -- the order of the prices of a side
@@ -124,7 +124,7 @@ sides-before Sell Sell t h = inr (refl, h)
 sides-before Buy Sell t h = inl (refl, refl)
 sides-before Sell Buy t h = absurd (true≢false (sym h))
 
-sides-same : (d : Side) (t : Bool) → side_before d d t ≡ t
+pub sides-same : (d : Side) (t : Bool) → side_before d d t ≡ t
 sides-same Buy t = refl
 sides-same Sell t = refl
 

@@ -65,6 +65,10 @@ pub order-back : (xs ys : List Level) → InOrder (xs ++ ys) → InOrder ys
 order-back [] ys order = order
 order-back (x ∷ xs) ys order = order-back xs ys order.1
 
+pub order-front : (xs ys : List Level) → InOrder (xs ++ ys) → InOrder xs
+order-front [] ys order = tt
+order-front (x ∷ xs) ys order = (all-front (λ m. key_before x.key m.key ≡ true) xs ys order.0, order-front xs ys order.1)
+
 pub order-one-more : (xs ys : List Level) (l : Level) → InOrder (xs ++ ys) → AllByRecursion (λ x. key_before x.key l.key ≡ true) xs →
     AllByRecursion (λ y. key_before l.key y.key ≡ true) ys → InOrder (xs ++ l ∷ ys)
 order-one-more [] ys l order before behind = (behind, order)

@@ -19,3 +19,8 @@ mod Bests
 mod Nexts
 mod Crossings
 mod EmptyLemmas
+mod LadderLists
+mod LadderLemmas
+mod LadderCalls
+mod LadderSearches
+mod LadderEnds

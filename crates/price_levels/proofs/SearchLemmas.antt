@@ -11,15 +11,17 @@ use Rattle.venue_model.specs.declared.orders.Side.TheVariants.{Buy, Sell}
 use Rattle.price_levels.specs.declared.keys.Key.{Key}
 use Rattle.price_levels.specs.declared.keys.Level.{Level}
 use Rattle.price_levels.specs.Keys.{key_before, before_side, side_before, symbol_before, InOrder}
-use Rattle.price_levels.proofs.KeyLemmas.{before-means, Before, symbol-trans, symbol-apart, same-bytes, other-bytes}
+use Rattle.price_levels.specs.Arena.{of_side}
+use Rattle.venue_model.specs.Orders.{same_side, is_better}
+use Rattle.price_levels.proofs.KeyLemmas.{before-means, Before, both, side-is, sides-same, key-trans, symbol-trans, symbol-apart, same-bytes, other-bytes}
 
-all-at : {X : Type 0} (P : X → Type 0) (xs : List X) (j : ℕ) (d : X) → j < length xs → AllByRecursion P xs → P (get_or xs j d)
+pub all-at : {X : Type 0} (P : X → Type 0) (xs : List X) (j : ℕ) (d : X) → j < length xs → AllByRecursion P xs → P (get_or xs j d)
 all-at P [] j d within all = absurd (omega (arith, within))
 all-at P (x ∷ xs) zero d within all = all.0
 all-at P (x ∷ xs) (suc j) d within all = all-at P xs j d (omega (arith, within)) all.1
 
 -- of two levels in order, the one ahead stands before the other
-order-at : (ls : List Level) (i j : ℕ) (d : Level) → InOrder ls → i < j → j < length ls → key_before (get_or ls i d).key
+pub order-at : (ls : List Level) (i j : ℕ) (d : Level) → InOrder ls → i < j → j < length ls → key_before (get_or ls i d).key
     (get_or ls j d).key ≡ true
 order-at [] i j d order lt within = absurd (omega (arith, within))
 order-at (l ∷ ls) i zero d order lt within = absurd (omega (arith, lt))
@@ -91,3 +93,29 @@ pub side-down : (symbol : List ℕ) (side : Side) (a b : Key) → key_before a b
     before_side symbol side a ≡ true
 side-down symbol side a b before h = side-is-before symbol side a (down symbol side a b (before-means a b before)
     (side-means symbol side b h))
+
+-- among levels of one symbol and side, prices alone say which stands before which
+pub by-price : (a k : Key) → of_side k.symbol k.side a ≡ true → key_before a k ≡ is_better k.side a.price k.price
+by-price a k of =
+    let parts = both (bytes_eq a.symbol k.symbol) (same_side a.side k.side) of in
+    let sides = side-is a.side k.side parts.1 in
+    ap (λ t. if t then side_before a.side k.side (is_better a.side a.price k.price) else symbol_before a.symbol k.symbol) parts.0
+    ∙ ap (λ d. side_before d k.side (is_better d a.price k.price)) sides ∙ sides-same k.side (is_better k.side a.price k.price)
+
+module _ (k : Key) (p : Level → Bool) (levels : List Level) (order : InOrder levels)
+    (same : AllByRecursion (λ (l : Level). key_before l.key k ≡ p l) levels) where
+  same-at : (i : ℕ) (d : Level) → i < length levels → key_before (get_or levels i d).key k ≡ p (get_or levels i d)
+  same-at i d lt = all-at (λ (l : Level). key_before l.key k ≡ p l) levels i d lt same
+
+  pub parted-by : IsPartitionedBy p levels
+  parted-by = λ i j d le lt holds.
+      sym (same-at i d (omega (arith, le, lt)))
+      ∙ parted (λ j. key_before j k) (λ a b h g. key-trans a b k h g) levels order i j d le lt (same-at j d lt ∙ holds)
+
+  pub before-by : (n : ℕ) → n ≤ length levels → ((i : ℕ) (d : Level) → i < n → p (get_or levels i d) ≡ true) →
+      AllByRecursion (λ (l : Level). key_before l.key k ≡ true) (take n levels)
+  before-by n le each = all-take (λ (l : Level). key_before l.key k ≡ true) levels n le (λ i d lt. same-at i d (omega (arith, lt, le)) ∙ each i d lt)
+
+  pub behind-by : (n : ℕ) → ((i : ℕ) (d : Level) → n ≤ i → i < length levels → p (get_or levels i d) ≡ false) →
+      AllByRecursion (λ (l : Level). key_before l.key k ≡ false) (drop n levels)
+  behind-by n each = all-drop (λ (l : Level). key_before l.key k ≡ false) levels n (λ i d le lt. same-at i d lt ∙ each i d le lt)

@@ -3,21 +3,30 @@ ghost use Rattle.std.specs.Prelude.{◌≡◌, ◌≢◌, ◌<◌, ◌^◌, None
 ghost use Rattle.venue_model.specs.Orders.{meets};
 ghost use Rattle.price_levels.specs.Places.{NoneOf, BestOf, NoneBehind, NextBehind, crossing_leaves};
 ghost use Rattle.price_levels.specs.Keys.{key_crossed};
-ghost use Rattle.price_levels.specs.Arena.{AreLevels, crossed_left, of_side, first_in, places_of, order_at};
+ghost use Rattle.price_levels.specs.Arena.{AreLevels, crossed_left, of_side, first_in, holds, places_of, order_at};
+ghost use Rattle.price_levels.specs.Ladders.{all};
 
-use crate::keys::{Level, key_of, meets, opposite, same_side, search, search_side};
+use crate::keys::{Key, Level, key_of, meets, opposite, same_key, same_side};
+use crate::ladders::{Ladders, Rung};
 use crate::nodes::Node;
 use venue_model::{Order, Side, Symbol};
 
+/// Whether the level at this place is the key's.
+pub(crate) fn holds(levels: &[Level], at: usize, key: &Key) -> bool
+    ensures { result ≡ holds levels.now at key.now }
+{
+    at < levels.len() && same_key(&levels[at].key, key)
+}
+
 /// Whether a level is one of the symbol and side.
-fn is_of(level: &Level, symbol: &Symbol, side: Side) -> bool
+pub(crate) fn is_of(level: &Level, symbol: &Symbol, side: Side) -> bool
     ensures { result ≡ of_side symbol.now side level.now.key }
 {
     level.key.symbol.is(symbol) && same_side(level.key.side, side)
 }
 
 /// The place of the first order of the level at this place, if that is one of the symbol and side.
-fn first_in(levels: &[Level], at: usize, symbol: &Symbol, side: Side) -> Option<usize>
+pub(crate) fn first_in(levels: &[Level], at: usize, symbol: &Symbol, side: Side) -> Option<usize>
     ensures { result ≡ first_in symbol.now side levels.now at }
 {
     if levels.len() <= at {
@@ -34,20 +43,20 @@ fn first_in(levels: &[Level], at: usize, symbol: &Symbol, side: Side) -> Option<
 /// The place of the order of a symbol and side that is ahead of all others.
 pub(crate) fn best(
     nodes: &Vec<Node>,
-    levels: &[Level],
+    ladders: &Ladders,
     symbol: &Symbol,
     side: Side,
 ) -> Option<usize>
-    requires { AreLevels nodes.now.items levels.now }
+    requires { AreLevels nodes.now.items (all ladders.now) }
     ensures { MatchOption result (NoneOf symbol.now side (places_of nodes.now.items))
         (BestOf symbol.now side (places_of nodes.now.items)) }
 {
-    first_in(levels, search_side(levels, symbol, side), symbol, side)
+    ladders.first_in(ladders.search_side(symbol, side), symbol, side)
 }
 
 /// The place of the order that comes next behind the one at this place.
-pub(crate) fn after(nodes: &Vec<Node>, levels: &[Level], place: usize) -> Option<usize>
-    requires levels { AreLevels nodes.now.items levels.now }
+pub(crate) fn after(nodes: &Vec<Node>, ladders: &Ladders, place: usize) -> Option<usize>
+    requires levels { AreLevels nodes.now.items (all ladders.now) }
     requires stands { order_at nodes.now.items place ≢ None }
     ensures { MatchOption result (NoneBehind (places_of nodes.now.items) place)
         (NextBehind (places_of nodes.now.items) place) }
@@ -57,8 +66,12 @@ pub(crate) fn after(nodes: &Vec<Node>, levels: &[Level], place: usize) -> Option
         return Some(next);
     }
     let order = node.order.unwrap();
-    let at = search(levels, &key_of(&order));
-    first_in(levels, at + 1, &order.symbol, order.side)
+    let rung = ladders.search(&key_of(&order));
+    let next = Rung {
+        at: rung.at + 1,
+        ..rung
+    };
+    ladders.first_in(next, &order.symbol, order.side)
 }
 
 /// Whether an order of this symbol, side and price crosses those of a level.
@@ -69,7 +82,7 @@ fn is_crossed(level: &Level, symbol: &Symbol, side: Side, price: u64) -> bool
 }
 
 /// What the levels have left that it crosses, up to the first that it doesn't.
-fn crossed_left(levels: &[Level], symbol: &Symbol, side: Side, price: u64) -> u64
+pub(crate) fn crossed_left(levels: &[Level], symbol: &Symbol, side: Side, price: u64) -> u64
     requires { crossed_left symbol.now side price levels.now < 2 ^ 64 }
     ensures { result ≡ crossed_left symbol.now side price levels.now }
 {
@@ -86,14 +99,14 @@ fn crossed_left(levels: &[Level], symbol: &Symbol, side: Side, price: u64) -> u6
 /// What all orders have left that it crosses.
 pub(crate) fn crossing_total(
     nodes: &Vec<Node>,
-    levels: &[Level],
+    ladders: &Ladders,
     symbol: &Symbol,
     side: Side,
     price: u64,
 ) -> u64
-    requires { AreLevels nodes.now.items levels.now }
+    requires { AreLevels nodes.now.items (all ladders.now) }
     ensures { result ≡ crossing_leaves symbol.now side price (places_of nodes.now.items) }
 {
-    let from = search_side(levels, symbol, opposite(side));
-    crossed_left(&levels[from..], symbol, side, price)
+    let from = ladders.search_side(symbol, opposite(side));
+    ladders.crossed_left(from, symbol, side, price)
 }

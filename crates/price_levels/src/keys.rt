@@ -3,6 +3,7 @@
 ghost use Rattle.std.specs.Prelude.{◌≡◌, ◌<◌, ◌≤◌, ◌+◌, length, take, drop, true, false, if◌then◌else◌};
 ghost use Rattle.std.specs.List.{AllByRecursion};
 ghost use Rattle.venue_model.specs.Orders.{same_side, is_better, meets, leaves};
+ghost use Rattle.price_levels.specs.Arena.{of_side};
 ghost use Rattle.price_levels.specs.Keys.{key_of, same_key, key_before, opposite, symbol_before, before_side, InOrder};
 
 use std::cmp::Ordering;
@@ -102,7 +103,7 @@ fn price_before(side: Side, price: u64, other: u64) -> bool
 }
 
 /// Whether a level stands before another.
-fn comes_before(key: &Key, other: &Key) -> bool
+pub(crate) fn comes_before(key: &Key, other: &Key) -> bool
     ensures { result ≡ key_before key.now other.now }
 {
     if key.symbol.is(&other.symbol) {
@@ -126,8 +127,23 @@ pub(crate) fn search(levels: &[Level], key: &Key) -> usize
     levels.partition_point(|level| comes_before(&level.key, key))
 }
 
+/// The place of a key among levels of its symbol and side, by their prices alone.
+pub(crate) fn search_price(levels: &[Level], key: &Key) -> usize
+    requires order { InOrder levels.now }
+    requires one { AllByRecursion (λ l. of_side key.now.symbol key.now.side l.key ≡ true) levels.now }
+    ensures within { result ≤ length levels.now }
+    ensures before { AllByRecursion (λ l. key_before l.key key.now ≡ true) (take result levels.now) }
+    ensures behind { AllByRecursion (λ l. key_before l.key key.now ≡ false) (drop result levels.now) }
+{
+    let price = key.price;
+    match key.side {
+        Side::Buy => levels.partition_point(|level| price < level.key.price),
+        Side::Sell => levels.partition_point(|level| level.key.price < price),
+    }
+}
+
 /// Whether a level stands before all of a symbol and side.
-fn comes_before_side(key: &Key, symbol: &Symbol, side: Side) -> bool
+pub(crate) fn comes_before_side(key: &Key, symbol: &Symbol, side: Side) -> bool
     ensures { result ≡ before_side symbol.now side key.now }
 {
     if key.symbol.is(symbol) {

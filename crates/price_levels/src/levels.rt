@@ -4,7 +4,7 @@ ghost use Rattle.price_levels.specs.Places.{standing, ComesLater, IsAt, NoneOf, 
 
 use crate::changes::{change, push, take_out};
 use crate::finds::{after, best, crossing_total};
-use crate::keys::Level;
+use crate::ladders::Ladders;
 use crate::nodes::{Node, VACANT};
 use std::alloc::{AllocError, Global};
 use std::marker::Model;
@@ -37,7 +37,7 @@ impl Place {
 pub struct Levels {
     nodes: Vec<Node>,
     free: Vec<usize>,
-    levels: Vec<Level>,
+    ladders: Ladders,
 }
 
 impl Model for Levels {
@@ -45,19 +45,22 @@ impl Model for Levels {
     ghost use Rattle.std.specs.Vec.{vec_capacity};
     ghost use Rattle.price_levels.specs.Places.{Places};
     ghost use Rattle.price_levels.specs.Arena.{places_of, IsLevels};
+    ghost use Rattle.price_levels.specs.Ladders.{all};
 
     ghost Value = { Places };
 
     ghost view = { λ l. places_of l.nodes.items };
 
-    ghost invariant = { λ l. IsLevels l.nodes.items l.free.items l.levels.items
-        × (length l.nodes.items ≤ vec_capacity l.free) × (length l.nodes.items ≤ vec_capacity l.levels) };
+    ghost invariant = { λ l. IsLevels l.nodes.items l.free.items (all l.ladders)
+        × (length l.nodes.items ≤ vec_capacity l.free) × (length l.nodes.items ≤ l.ladders.room) };
 }
 
 impl Levels {
-    /// Room for this many orders, all places free. It is all made here; no other call asks for memory.
-    pub fn new(alloc: Global, cap: usize) -> Result<Levels, AllocError>
-        requires { cap * 1000000 < 2 ^ 64 }
+    /// Room for this many orders, all places free. It is all made here; no other call asks for memory. The orders of each
+    /// of these symbols, and of each side, are found without regard to those of the others.
+    pub fn new(alloc: Global, symbols: &[Symbol], cap: usize) -> Result<Levels, AllocError>
+        requires symbols { length symbols.now ≤ 8 }
+        requires quantities { cap * 1000000 < 2 ^ 64 }
         ensures { IfOk result (λ l. l ≡ replicate cap None) }
     {
         let nodes = vec![in alloc; VACANT; cap]?;
@@ -65,11 +68,11 @@ impl Levels {
         for place in 0..cap {
             free.push_reserved(place);
         }
-        let levels = Vec::with_capacity(alloc, cap)?;
+        let ladders = Ladders::new(alloc, symbols, cap)?;
         Ok(Levels {
             nodes,
             free,
-            levels,
+            ladders,
         })
     }
 
@@ -83,7 +86,7 @@ impl Levels {
         ensures places { self.new ≡ slice_set self.old result.number (Some order) }
     {
         Place {
-            number: push(&mut self.nodes, &mut self.free, &mut self.levels, &order),
+            number: push(&mut self.nodes, &mut self.free, &mut self.ladders, &order),
         }
     }
 
@@ -96,7 +99,7 @@ impl Levels {
         take_out(
             &mut self.nodes,
             &mut self.free,
-            &mut self.levels,
+            &mut self.ladders,
             place.number,
         )
     }
@@ -117,7 +120,7 @@ impl Levels {
     pub fn best(&self, symbol: &Symbol, side: Side) -> Option<Place>
         ensures { MatchOption result (NoneOf symbol.now side self.now) (λ p. BestOf symbol.now side self.now p.number) }
     {
-        let number = best(&self.nodes, &self.levels, symbol, side)?;
+        let number = best(&self.nodes, &self.ladders, symbol, side)?;
         Some(Place { number })
     }
 
@@ -127,7 +130,7 @@ impl Levels {
         requires { get_or self.now place.number None ≢ None }
         ensures { MatchOption result (NoneBehind self.now place.number) (λ p. NextBehind self.now place.number p.number) }
     {
-        let number = after(&self.nodes, &self.levels, place.number)?;
+        let number = after(&self.nodes, &self.ladders, place.number)?;
         Some(Place { number })
     }
 
@@ -142,7 +145,7 @@ impl Levels {
             notional: order.notional + by * order.price,
             ..order
         };
-        change(&mut self.nodes, &mut self.levels, place.number, &order);
+        change(&mut self.nodes, &mut self.ladders, place.number, &order);
     }
 
     /// Gives the order at a place another name and a total that is no more than it was, and more than what was filled of it.
@@ -157,13 +160,13 @@ impl Levels {
             total,
             ..order
         };
-        change(&mut self.nodes, &mut self.levels, place.number, &order);
+        change(&mut self.nodes, &mut self.ladders, place.number, &order);
     }
 
     /// What all resting orders have left that an order of this symbol, side and price would cross. It reads no order.
     pub fn crossing_total(&self, symbol: &Symbol, side: Side, price: u64) -> u64
         ensures { result ≡ crossing_leaves symbol.now side price self.now }
     {
-        crossing_total(&self.nodes, &self.levels, symbol, side, price)
+        crossing_total(&self.nodes, &self.ladders, symbol, side, price)
     }
 }

@@ -42,11 +42,13 @@ impl Model for RestingOrders {
 }
 
 impl RestingOrders {
-    /// No order rests. All room is made here; no other call asks for memory.
-    pub fn new(alloc: Global) -> Result<RestingOrders, AllocError>
+    /// No order rests. All room is made here, for the orders of these symbols apart from one another; no other call asks
+    /// for memory.
+    pub fn new(alloc: Global, symbols: &[Symbol]) -> Result<RestingOrders, AllocError>
+        requires { length symbols.now ≤ 8 }
         ensures { IfOk result (λ orders. orders ≡ []) }
     {
-        let levels = Levels::new(alloc, MOST_RESTING)?;
+        let levels = Levels::new(alloc, symbols, MOST_RESTING)?;
         let index = OrderIndex::new(alloc)?;
         Ok(RestingOrders {
             levels,
@@ -69,7 +71,7 @@ impl RestingOrders {
         ensures reads { MatchOption result (reads.new ≡ reads.old) (λ o. reads.new ≡ reads.old + 1) }
     {
         let number = self.index.find(client, name)?;
-        Some(self.levels.get(Place::at(number), reads))
+        Some(self.levels.get(Place::at(number as usize), reads))
     }
 
     /// An order comes behind all others.
@@ -81,7 +83,8 @@ impl RestingOrders {
         ensures { self.new ≡ self.old ++ order.now ∷ [] }
     {
         let number = self.levels.push_back(*order).number();
-        self.index.insert(order.client, order.cl_ord_id, number);
+        self.index
+            .insert(order.client, order.cl_ord_id, number as u32);
         self.count += 1;
     }
 
@@ -94,7 +97,7 @@ impl RestingOrders {
         let number = self.index.find(client, name).unwrap();
         self.index.remove(client, name);
         self.count -= 1;
-        self.levels.unlink(Place::at(number))
+        self.levels.unlink(Place::at(number as usize))
     }
 
     /// Gives the client's order of this name another name and a total that is no more than it was, and more than what was
@@ -105,7 +108,8 @@ impl RestingOrders {
         ensures { self.new ≡ map (λ o. if is_named client name o then amended new_name total o else o) self.old }
     {
         let number = self.index.find(client, name).unwrap();
-        self.levels.amend(Place::at(number), new_name, total);
+        self.levels
+            .amend(Place::at(number as usize), new_name, total);
         self.index.remove(client, name);
         self.index.insert(client, new_name, number);
     }
@@ -149,7 +153,7 @@ impl RestingOrders {
             → MatchOption result (NoneBehind self.now o) (IsNext self.now o) }
     {
         let number = self.index.find(client, name).unwrap();
-        let place = self.levels.after(Place::at(number))?;
+        let place = self.levels.after(Place::at(number as usize))?;
         Some(self.levels.get(place, &mut 0))
     }
 

@@ -1,12 +1,12 @@
 -- All slots are free.
-use Rattle.std.proofs.Common.{◌≡◌, Some, None, ap, sym, subst, ◌∙◌, refl}
+use Rattle.std.proofs.Common.{ap, sym, subst, ◌∙◌, refl}
 use Rattle.order_index.specs.Slots.{entries_of, IsTable}
 use Rattle.order_index.proofs.SlotLemmas.{all-free}
 use Rattle.order_index.proofs.Tables.{empty-table}
 use Rattle.order_index.proofs.index.OrderIndex.new.Goals as goal
 
 pub invariant_of-result : goal.invariant_of-result
-invariant_of-result c = subst IsTable (sym (c.in_ok-slots.ensures.items_if_clones_equal (λ y e. (elim y as (λ z. y ≡ z → y ≡ None) [ None ↦ λ h. h | Some x ↦ λ h. absurd (rw h at e) ]) refl))) (empty-table 8192 refl)
+invariant_of-result c = subst IsTable (sym (c.in_ok-slots.ensures.items_if_clones_equal (λ y e. e))) (empty-table 8192 refl)
 
 pub returns : goal.returns
-returns c = ap entries_of (c.in_ok-slots.ensures.items_if_clones_equal (λ y e. (elim y as (λ z. y ≡ z → y ≡ None) [ None ↦ λ h. h | Some x ↦ λ h. absurd (rw h at e) ]) refl)) ∙ all-free 8192
+returns c = ap entries_of (c.in_ok-slots.ensures.items_if_clones_equal (λ y e. e)) ∙ all-free 8192

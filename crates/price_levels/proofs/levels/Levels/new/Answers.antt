@@ -30,8 +30,8 @@ invariant_of-result c =
     let at_end : c.loop-place.place ≡ n = omega (arith, c.loop-place-test.false, c.loop-place.auto.place-end) in
     let first = subst (λ m. AreFirst c.loop-place.free.items m) at_end c.loop-place.invariant.0 in
     let long = c.in_ok-nodes.ensures.len in (
-      subst (λ ls. IsLevels c.in_ok-nodes.nodes.items c.loop-place.free.items ls) (sym c.in_ok-levels.ensures.items)
-          (empty c.in_ok-nodes.nodes.items c.loop-place.free.items n items c.requires first),
+      subst (λ ls. IsLevels c.in_ok-nodes.nodes.items c.loop-place.free.items ls) (sym c.in_ok-ladders.ensures.0)
+          (empty c.in_ok-nodes.nodes.items c.loop-place.free.items n items c.requires.quantities first),
       omega (arith, long, c.in_ok-nodes.nodes.ok.0, c.loop-place.invariant.1),
-      omega (arith, long, c.in_ok-nodes.nodes.ok.0, c.in_ok-levels.ensures.capacity),
+      (let room = c.in_ok-ladders.ensures.1 in omega (arith, long, c.in_ok-nodes.nodes.ok.0, room)),
     )

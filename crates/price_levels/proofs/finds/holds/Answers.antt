@@ -6,7 +6,7 @@ use Rattle.std.proofs.Common.{arith}
 use Rattle.price_levels.specs.declared.keys.Level.{Level}
 use Rattle.price_levels.specs.Keys.{same_key}
 use Rattle.price_levels.proofs.LevelLists.{holds-is, holds-beyond}
-use Rattle.price_levels.proofs.changes.holds.Goals as goal
+use Rattle.price_levels.proofs.finds.holds.Goals as goal
 
 pub returns-then-at-levels : goal.returns-then-at-levels
 returns-then-at-levels c =

@@ -1,5 +1,5 @@
 use Rattle.book.specs.Standing.{Below}
-use Rattle.bench_book.proofs.running.run.Given as goal
+use Rattle.bench_book.proofs.choosing.Chosen.run.Given as goal
 
 -- the book did what stands in front
 abbrev pub invariant-loop-sequence : goal.invariant-loop-sequence

@@ -1,0 +1,89 @@
+-- The levels in ladders: those of all symbols and sides between two fences are a list of their own.
+use Rattle.std.specs.Prelude.{◌≡◌, ⊤, ℕ, zero, suc, ◌+◌, ◌<◌, ◌≤◌, Bool, true, false, List, [], ◌∷◌, ◌++◌, length, map, get_or, take, drop, if◌then◌else◌}
+use Rattle.std.specs.List.{AllByRecursion}
+use Rattle.std.specs.Global.{Vec}
+use Rattle.std.specs.Vec.{vec_capacity}
+use Rattle.std.specs.Str.{bytes_eq}
+use Rattle.venue_model.specs.declared.orders.Side.{Side}
+use Rattle.venue_model.specs.declared.orders.Side.TheVariants.{Buy, Sell}
+use Rattle.price_levels.specs.declared.keys.Level.{Level}
+use Rattle.price_levels.specs.declared.ladders.Fence.{Fence}
+use Rattle.price_levels.specs.declared.ladders.Home.{Home}
+use Rattle.price_levels.specs.declared.ladders.Rung.{Rung}
+use Rattle.price_levels.specs.Keys.{symbol_before, side_before}
+use Rattle.price_levels.specs.Arena.{of_side}
+
+-- what contracts see: the fences, a ladder more than those, and how many levels each has room for
+pub record Laddered : Type 0 where
+  pub fences : List Fence
+  pub ladders : List (List Level)
+  pub room : ℕ
+
+-- ladder by ladder
+abbrev pub joined : List (List Level) → List Level
+joined [] = []
+joined (levels ∷ ladders) = levels ++ joined ladders
+
+-- all levels
+abbrev pub all : Laddered → List Level
+all l = joined l.ladders
+
+-- the place of a rung among all levels
+abbrev pub number : Laddered → Rung → ℕ
+number l r = length (joined (take r.ladder l.ladders)) + r.at
+
+-- the levels of the ladder that a rung is of
+abbrev pub around : Laddered → Rung → List Level
+around l r = get_or l.ladders r.ladder []
+
+-- the levels of the ladders behind it
+abbrev pub beyond : Laddered → Rung → List Level
+beyond l r = joined (drop (suc r.ladder) l.ladders)
+
+-- a place in a ladder, or the one behind its last
+pub record IsRung (l : Laddered) (r : Rung) : Type 0 where
+  pub ladder : r.ladder < length l.ladders
+  pub within : r.at ≤ length (around l r)
+
+-- a level stands there
+pub record IsOn (l : Laddered) (r : Rung) : Type 0 where
+  pub ladder : r.ladder < length l.ladders
+  pub on : r.at < length (around l r)
+
+-- a symbol and side stand before a fence
+abbrev pub is_before : Fence → List ℕ → Side → Bool
+is_before f symbol side = if bytes_eq symbol f.symbol then side_before side f.side false else symbol_before symbol f.symbol
+
+-- their levels stand in the ladder of this number: behind all fences ahead of it, and before the next
+abbrev pub Belongs : List Fence → ℕ → List ℕ → Side → Type 0
+Belongs [] zero symbol side = ⊤
+Belongs [] (suc i) symbol side = ⊥
+Belongs (f ∷ fences) zero symbol side = is_before f symbol side ≡ true
+Belongs (f ∷ fences) (suc i) symbol side = (is_before f symbol side ≡ false) × Belongs fences i symbol side
+
+-- the rung's ladder is theirs, and none of their levels stands farther on
+pub record IsHome (l : Laddered) (r : Rung) (symbol : List ℕ) (side : Side) : Type 0 where
+  pub belongs : Belongs l.fences r.ladder symbol side
+  pub alone : AllByRecursion (λ (m : Level). of_side symbol side m.key ≡ false) (beyond l r)
+
+-- each level stands where it belongs
+abbrev pub AreParted : List Fence → List (List Level) → Type 0
+AreParted fences ladders = (i : ℕ) → AllByRecursion (λ (m : Level). Belongs fences i m.key.symbol m.key.side) (get_or ladders i [])
+
+abbrev pub items_of : List (Vec Level) → List (List Level)
+items_of ladders = map (λ v. v.items) ladders
+
+-- a ladder without levels, with room for so many
+abbrev pub IsEmpty : ℕ → Vec Level → Type 0
+IsEmpty room v = (v.items ≡ []) × (room ≤ vec_capacity v)
+
+-- where a symbol's ladders are
+pub record IsHomeOf (fences : List Fence) (home : Home) : Type 0 where
+  pub buys : Belongs fences home.buys home.symbol Buy
+  pub sells : Belongs fences home.sells home.symbol Sell
+
+pub record AreLadders (fences : List Fence) (homes : List Home) (ladders : List (Vec Level)) (room : ℕ) : Type 0 where
+  pub count : length ladders ≡ suc (length fences)
+  pub parted : AreParted fences (items_of ladders)
+  pub roomy : AllByRecursion (λ v. room ≤ vec_capacity v) ladders
+  pub known : AllByRecursion (IsHomeOf fences) homes

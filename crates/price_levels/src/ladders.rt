@@ -1,0 +1,299 @@
+//! The levels in ladders: those of each symbol and side of the venue in a list of their own, which is searched and
+//! moved alone. Contracts see which level stands where, in the order of all.
+ghost use Rattle.std.specs.Prelude.{◌≡◌, ◌<◌, ◌≤◌, ◌+◌, ◌^◌, [], true, false, length, take, drop, get_or, slice_set, IfOk};
+ghost use Rattle.std.specs.List.{AllByRecursion, insert};
+ghost use Rattle.price_levels.specs.Keys.{key_before, before_side, opposite, InOrder};
+ghost use Rattle.price_levels.specs.Arena.{holds, of_side, first_in, crossed_left, levels_with};
+ghost use Rattle.price_levels.specs.Ladders.{Belongs, IsRung, IsOn, IsHome, IsHomeOf, IsEmpty, all, number};
+
+use crate::finds::{crossed_left, first_in, holds, is_of};
+use crate::keys::{Key, Level, comes_before, comes_before_side, search, search_price, search_side};
+use std::alloc::{AllocError, Global};
+use std::marker::Model;
+use venue_model::{Side, Symbol};
+
+/// Where a ladder begins: no level of the ladders ahead of it is this symbol's and side's, or behind them.
+#[derive(Clone, Copy)]
+pub(crate) struct Fence {
+    pub(crate) symbol: Symbol,
+    pub(crate) side: Side,
+}
+
+/// The ladders of a symbol of the venue: where they are is known, and isn't looked for among the fences.
+#[derive(Clone, Copy)]
+pub(crate) struct Home {
+    pub(crate) symbol: Symbol,
+    pub(crate) buys: usize,
+    pub(crate) sells: usize,
+}
+
+/// The place of a level: its ladder, and its place there.
+#[derive(Clone, Copy)]
+pub(crate) struct Rung {
+    pub(crate) ladder: usize,
+    pub(crate) at: usize,
+}
+
+/// All levels, in one ladder more than there are fences.
+#[derive(Drop)]
+pub(crate) struct Ladders {
+    fences: Vec<Fence>,
+    homes: Vec<Home>,
+    ladders: Vec<Vec<Level>>,
+    room: usize,
+}
+
+impl Model for Ladders {
+    ghost use Rattle.std.specs.Prelude.{map};
+    ghost use Rattle.price_levels.specs.Ladders.{Laddered, AreLadders, items_of};
+
+    ghost Value = { Laddered };
+
+    ghost view = { λ l. record { fences = l.fences.items; ladders = items_of l.ladders.items; room = l.room } };
+
+    ghost invariant = { λ l. AreLadders l.fences.items l.homes.items l.ladders.items l.room };
+}
+
+impl Ladders {
+    /// Ladders for these symbols, each with room for so many levels, and none yet. No other call asks for memory.
+    pub(crate) fn new(alloc: Global, symbols: &[Symbol], room: usize) -> Result<Ladders, AllocError>
+        requires { length symbols.now ≤ 8 }
+        ensures { IfOk result (λ l. (all l ≡ []) × (l.room ≡ room)) }
+    {
+        let fences = fences_of(alloc, symbols)?;
+        let homes = homes_of(alloc, symbols, &fences)?;
+        let ladders = empty_ladders(alloc, fences.len() + 1, room)?;
+        Ok(Ladders {
+            fences,
+            homes,
+            ladders,
+            room,
+        })
+    }
+
+    /// The ladder of a symbol and side.
+    fn ladder_of(&self, symbol: &Symbol, side: Side) -> usize
+        ensures { Belongs self.now.fences result symbol.now side }
+    {
+        'homes: for home in &self.homes {
+            if home.symbol.is(symbol) {
+                return match side {
+                    Side::Buy => home.buys,
+                    Side::Sell => home.sells,
+                };
+            }
+        }
+        fence_at(&self.fences, symbol, side)
+    }
+
+    /// The place of a key: all levels ahead of it stand before the key, and none from it on does.
+    pub(crate) fn search(&self, key: &Key) -> Rung
+        requires { InOrder (all self.now) }
+        ensures rung { IsRung self.now result }
+        ensures home { IsHome self.now result key.now.symbol key.now.side }
+        ensures before { AllByRecursion (λ l. key_before l.key key.now ≡ true) (take (number self.now result) (all self.now)) }
+        ensures behind { AllByRecursion (λ l. key_before l.key key.now ≡ false) (drop (number self.now result) (all self.now)) }
+    {
+        let ladder = self.ladder_of(&key.symbol, key.side);
+        let at = place_in(&self.ladders[ladder], key);
+        Rung { ladder, at }
+    }
+
+    /// The place of a symbol and side: all levels ahead of it stand before those, and none from it on does.
+    pub(crate) fn search_side(&self, symbol: &Symbol, side: Side) -> Rung
+        requires { InOrder (all self.now) }
+        ensures rung { IsRung self.now result }
+        ensures home { IsHome self.now result symbol.now side }
+        ensures before { AllByRecursion (λ l. before_side symbol.now side l.key ≡ true) (take (number self.now result) (all self.now)) }
+        ensures behind { AllByRecursion (λ l. before_side symbol.now side l.key ≡ false) (drop (number self.now result) (all self.now)) }
+    {
+        let ladder = self.ladder_of(symbol, side);
+        let at = start_of(&self.ladders[ladder], symbol, side);
+        Rung { ladder, at }
+    }
+
+    /// Whether the level at this place is the key's.
+    pub(crate) fn holds(&self, rung: Rung, key: &Key) -> bool
+        requires rung { IsRung self.now rung }
+        requires home { IsHome self.now rung key.now.symbol key.now.side }
+        ensures holds { result ≡ holds (all self.now) (number self.now rung) key.now }
+        ensures on { result ≡ true → IsOn self.now rung }
+    {
+        holds(&self.ladders[rung.ladder], rung.at, key)
+    }
+
+    /// The level at a place.
+    pub(crate) fn level(&self, rung: Rung) -> Level
+        requires { IsOn self.now rung }
+        ensures { result ≡ get_or (all self.now) (number self.now rung) result }
+    {
+        self.ladders[rung.ladder][rung.at]
+    }
+
+    /// The level at a place is another of its key now.
+    pub(crate) fn set(&mut self, rung: Rung, level: Level)
+        requires on { IsOn self.old rung }
+        requires key { level.key ≡ (get_or (all self.old) (number self.old rung) level).key }
+        ensures levels { all self.new ≡ slice_set (all self.old) (number self.old rung) level }
+        ensures room { self.new.room ≡ self.old.room }
+    {
+        self.ladders[rung.ladder][rung.at] = level;
+    }
+
+    /// A level comes, ahead of the one that stands there now.
+    pub(crate) fn insert(&mut self, rung: Rung, level: Level)
+        requires rung { IsRung self.old rung }
+        requires home { IsHome self.old rung level.key.symbol level.key.side }
+        requires room { length (all self.old) < self.old.room }
+        ensures levels { all self.new ≡ insert (all self.old) (number self.old rung) level }
+        ensures room { self.new.room ≡ self.old.room }
+    {
+        let _ = self.ladders[rung.ladder].insert(rung.at, level);
+    }
+
+    /// The level at a place goes.
+    pub(crate) fn remove(&mut self, rung: Rung)
+        requires { IsOn self.old rung }
+        ensures levels { all self.new ≡ levels_with (all self.old) (number self.old rung) [] }
+        ensures room { self.new.room ≡ self.old.room }
+    {
+        self.ladders[rung.ladder].remove(rung.at);
+    }
+
+    /// The place of the first order of the level at this place, if that is one of the symbol and side.
+    pub(crate) fn first_in(&self, rung: Rung, symbol: &Symbol, side: Side) -> Option<usize>
+        requires rung { IsRung self.now rung }
+        requires home { IsHome self.now rung symbol.now side }
+        ensures { result ≡ first_in symbol.now side (all self.now) (number self.now rung) }
+    {
+        first_in(&self.ladders[rung.ladder], rung.at, symbol, side)
+    }
+
+    /// What the levels from this place on have left that an order crosses, up to the first that it doesn't.
+    pub(crate) fn crossed_left(&self, rung: Rung, symbol: &Symbol, side: Side, price: u64) -> u64
+        requires rung { IsRung self.now rung }
+        requires home { IsHome self.now rung symbol.now (opposite side) }
+        requires fits { crossed_left symbol.now side price (drop (number self.now rung) (all self.now)) < 2 ^ 64 }
+        ensures { result ≡ crossed_left symbol.now side price (drop (number self.now rung) (all self.now)) }
+    {
+        crossed_left(&self.ladders[rung.ladder][rung.at..], symbol, side, price)
+    }
+}
+
+/// The fences of these symbols, two of each, each ahead of those that it is before.
+fn fences_of(alloc: Global, symbols: &[Symbol]) -> Result<Vec<Fence>, AllocError>
+    requires { length symbols.now ≤ 8 }
+    ensures { IfOk result (λ fences. length fences.items ≤ 16) }
+{
+    let mut fences = Vec::with_capacity(alloc, 2 * symbols.len())?;
+    'symbols: for symbol in symbols {
+        put(&mut fences, symbol, Side::Buy);
+        put(&mut fences, symbol, Side::Sell);
+    }
+    Ok(fences)
+}
+
+/// Puts a fence ahead of the first that its symbol and side are before.
+fn put(fences: &mut Vec<Fence>, symbol: &Symbol, side: Side)
+    ensures { length fences.new.items ≤ length fences.old.items + 1 }
+{
+    let at = fence_at(fences, symbol, side);
+    let fence = Fence {
+        symbol: *symbol,
+        side,
+    };
+    let _ = fences.insert(at, fence);
+}
+
+/// The number of the ladder where the levels of a symbol and side belong.
+fn fence_at(fences: &[Fence], symbol: &Symbol, side: Side) -> usize
+    ensures belongs { Belongs fences.now result symbol.now side }
+    ensures within { result ≤ length fences.now }
+{
+    let key = Key {
+        symbol: *symbol,
+        side,
+        price: 0,
+    };
+    'fences: for at in 0..fences.len() {
+        if comes_before_side(&key, &fences[at].symbol, fences[at].side) {
+            return at;
+        }
+    }
+    fences.len()
+}
+
+/// Where the ladders of these symbols are.
+fn homes_of(alloc: Global, symbols: &[Symbol], fences: &[Fence]) -> Result<Vec<Home>, AllocError>
+    ensures { IfOk result (λ homes. AllByRecursion (IsHomeOf fences.now) homes.items) }
+{
+    let mut homes = Vec::with_capacity(alloc, symbols.len())?;
+    'symbols: for symbol in symbols {
+        homes.push_reserved(Home {
+            symbol: *symbol,
+            buys: fence_at(fences, symbol, Side::Buy),
+            sells: fence_at(fences, symbol, Side::Sell),
+        });
+    }
+    Ok(homes)
+}
+
+/// So many ladders, each with room for so many levels.
+fn empty_ladders(alloc: Global, count: usize, room: usize) -> Result<Vec<Vec<Level>>, AllocError>
+    ensures { IfOk result (λ ladders. (length ladders.items ≡ count) × AllByRecursion (IsEmpty room) ladders.items) }
+{
+    let mut ladders = Vec::with_capacity(alloc, count)?;
+    'ladders: for _ in 0..count {
+        let ladder = Vec::with_capacity(alloc, room)?;
+        ladders.push_reserved(ladder);
+    }
+    Ok(ladders)
+}
+
+/// The place of a key in a ladder: the first one for the best price, and else by prices alone, where all its levels are of
+/// the key's symbol and side.
+fn place_in(levels: &[Level], key: &Key) -> usize
+    requires { InOrder levels.now }
+    ensures within { result ≤ length levels.now }
+    ensures before { AllByRecursion (λ l. key_before l.key key.now ≡ true) (take result levels.now) }
+    ensures behind { AllByRecursion (λ l. key_before l.key key.now ≡ false) (drop result levels.now) }
+{
+    if levels.is_empty() {
+        return 0;
+    }
+    if !comes_before(&levels[0].key, key) {
+        return 0;
+    }
+    if are_of(levels, &key.symbol, key.side) {
+        search_price(levels, key)
+    } else {
+        search(levels, key)
+    }
+}
+
+/// Whether the first and the last level are of the symbol and side: so are all between them.
+fn are_of(levels: &[Level], symbol: &Symbol, side: Side) -> bool
+    requires { InOrder levels.now }
+    ensures { result ≡ true → AllByRecursion (λ l. of_side symbol.now side l.key ≡ true) levels.now }
+{
+    if levels.is_empty() {
+        return true;
+    }
+    is_of(&levels[0], symbol, side) && is_of(&levels[levels.len() - 1], symbol, side)
+}
+
+/// The place of a symbol and side in a ladder: it begins with them, unless there are others.
+fn start_of(levels: &[Level], symbol: &Symbol, side: Side) -> usize
+    requires { InOrder levels.now }
+    ensures within { result ≤ length levels.now }
+    ensures before { AllByRecursion (λ l. before_side symbol.now side l.key ≡ true) (take result levels.now) }
+    ensures behind { AllByRecursion (λ l. before_side symbol.now side l.key ≡ false) (drop result levels.now) }
+{
+    if levels.is_empty() {
+        return 0;
+    }
+    if is_of(&levels[0], symbol, side) {
+        return 0;
+    }
+    search_side(levels, symbol, side)
+}
