@@ -1,5 +1,6 @@
 pub mod Windows
 pub mod Puts
+pub mod Homes
 pub mod Owners
 pub mod Keeps
 pub mod Outgoings
@@ -31,4 +32,3 @@ pub mod Opens
 pub mod Crews
 pub mod Endings
 pub mod Packings
-pub mod OutputPackings

@@ -1,4 +1,5 @@
 //! What those at the table know. No value of these types is ever made: they stand in views, which exist in proofs alone.
+use crate::report::Report;
 use std::collections::LinkedList;
 use venue_model::Entry;
 
@@ -49,6 +50,8 @@ pub struct Person {
     /// All its loads, in order.
     pub loads: LinkedList<Load>,
     pub part: Part,
+    /// The report that the processor puts, or that the marshaller took to copy it: the slot of its row is out.
+    pub out: Option<Report>,
 }
 
 /// The persons of one seat: one while it is in use, several while seats meet, all at the start, none when it is spent.
