@@ -16,7 +16,7 @@ use Rattle.ring_words.specs.declared.view.View.{View}
 use Rattle.ring_words.specs.Places.{processed, claim, unmarshalled, journalled, taken, published, first_row, in_row, out_row, place_of, number_of}
 use Rattle.ring_words.specs.Log.{IsEntry, Status, unclaimed, old, claimed, sent, Log, entry_of, sends_of, claims_of, sent_at, times}
 use Rattle.ring_words.specs.Raw.{raw_count, raw_word}
-use Rattle.ring_words.specs.Packing.{IsPackable}
+use Rattle.command_words.specs.Packing.{IsPackable}
 use Rattle.ring_words.specs.Terms.{Terms, commands_of, command_of}
 use Rattle.ring_words.specs.Rule.{IsGateway, IsRole, PartOf, Knows, words_of, Lawful}
 use Rattle.ring_words.specs.Seats.{person, IsAlone, alone, looked, with_claim}

@@ -31,4 +31,3 @@ pub mod Meetings
 pub mod Opens
 pub mod Crews
 pub mod Endings
-pub mod Packings

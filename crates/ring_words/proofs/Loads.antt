@@ -18,7 +18,7 @@ use Rattle.ring_words.specs.declared.view.Role.{Role}
 use Rattle.ring_words.specs.declared.view.Role.TheVariants.{Process}
 use Rattle.ring_words.specs.Places.{processed, claim, unmarshalled, journalled, in_row, place_of}
 use Rattle.ring_words.specs.Log.{Status, entry_of, IsFront}
-use Rattle.ring_words.specs.Packing.{command_words, IsPackable}
+use Rattle.command_words.specs.Packing.{command_words, IsPackable}
 use Rattle.ring_words.specs.Terms.{Terms, commands_of}
 use Rattle.ring_words.specs.Rule.{Depth, Knows, words_of, Lawful}
 use Rattle.ring_words.specs.Seats.{person, IsAlone, IsReader, alone, looked, saw, knowing, last_from}

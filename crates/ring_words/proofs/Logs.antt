@@ -19,7 +19,7 @@ use Rattle.std.specs.Prelude.{Option}
 use Rattle.ring_words.specs.declared.report.Report.{Report}
 use Rattle.ring_words.specs.Slots.{Slots, OutOf}
 use Rattle.ring_words.specs.Log.{Status, unclaimed, old, claimed, sent, Log, entry_of, IsFront}
-use Rattle.ring_words.specs.Packing.{command_words}
+use Rattle.command_words.specs.Packing.{command_words}
 use Rattle.ring_words.specs.Terms.{Terms}
 use Rattle.ring_words.specs.Rule.{Depth, Logged, Knows, PartOf, Written, WrittenTexts}
 use Rattle.ring_words.specs.Seats.{load_of, looked, saw, knowing, moved, with_out}

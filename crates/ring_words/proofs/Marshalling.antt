@@ -18,12 +18,12 @@ use Rattle.ring_words.specs.Slots.{Boxed, Slots, report_of, OutOf, Filled}
 use Rattle.ring_words.specs.declared.view.Role.{Role}
 use Rattle.ring_words.specs.declared.view.Role.TheVariants.{Marshal}
 use Rattle.ring_words.specs.declared.view.View.{View}
-use Rattle.ring_words.specs.Places.{journalled, marshalled, taken, published, first_row, out_row, place_of}
+use Rattle.ring_words.specs.Places.{journalled, marshalled, taken, published, out_row, place_of}
 use Rattle.ring_words.specs.Log.{IsFront}
 use Rattle.ring_words.specs.Terms.{Terms, outputs_of}
 use Rattle.ring_words.specs.Rule.{IsGateway, Depth, PartOf, WrittenTexts, words_of, Lawful}
 use Rattle.ring_words.specs.Seats.{person, IsAlone, alone, load_of, looked, looked_twice, knowing, moved, with_out}
-use Rattle.ring_words.specs.Steps.{Seated, Shows, WroteText, moves_own, takes_report, gives_report, sees_published}
+use Rattle.ring_words.specs.Steps.{Seated, Shows, WroteText, readable, moves_own, takes_report, gives_report, sees_published}
 use Rattle.ring_words.proofs.Windows.{one_window}
 use Rattle.ring_words.proofs.Puts.{word_here, word_else}
 use Rattle.ring_words.proofs.Homes.{no_row, reading_taken, reading_given}
@@ -102,7 +102,7 @@ module _ {L : Type 0} (terms : Terms L) where
 
   -- the marshaller loads the address of an output that is published and not released, and takes the slot of its row out: that has its report
   pub loads_taking : (slots id q : ℕ) (me : Seated Boxed L) → IsAlone me.0 → (person me.0).role ≡ Marshal → (person me.0).out ≡ None → (person me.0).own ≤ q → Shows published (person me.0) q
-      → Loads slots id me (out_row terms.rows terms.output_rows q 0) (takes_report terms.rows terms.output_rows terms.outputs (step slots (out_row terms.rows terms.output_rows q 0) 0 0 none) me)
+      → Loads slots id me (out_row terms.rows terms.output_rows q 0) (takes_report (readable terms.rows terms.output_rows published) terms.outputs (step slots (out_row terms.rows terms.output_rows q 0) 0 0 none) me)
   loads_taking slots id q me one role none_out from to s r wide at _ =
       let p = person me.0 in let m : ℕ = terms.output_rows in let w = words_of s in let k : ℕ = out_row terms.rows m q 0 in let reports = r.log.slots.reports in
       let knows = (mine terms s r id me.0 p at one).2 in let out = r.outgoing in
@@ -119,7 +119,7 @@ module _ {L : Type 0} (terms : Terms L) where
       let b : Boxed = there.0 in
       let is : b.value ≡ report_of stood.0 q = some-injective b.value (report_of stood.0 q) (sym there.2 ∙ out.reports 1 q stood.0 first lo above stood.1) in
       let place_is : b.value.place ≡ q = ap (λ (z : Report). z.place) is in
-      moves_slot s r k id me (Some b.value) (takes (q % m) b) (takes_report terms.rows m terms.outputs (step slots k 0 0 none) me) at one role there.1
+      moves_slot s r k id me (Some b.value) (takes (q % m) b) (takes_report (readable terms.rows m published) terms.outputs (step slots k 0 0 none) me) at one role there.1
       (reading_taken m r.log.slots s.homes r.filled b.value (q % m) (ap (λ (z : ℕ). z % m) place_is) home)
       (λ g same. subst (λ (z : Report). (reports (z.place % m) ≡ some z) × (w marshalled ≤ z.place) × (z.place < w published)) (same_Some b.value g same)
       (ap (λ (z : ℕ). reports (z % m)) place_is ∙ there.2, (omega arith), (omega arith)))
@@ -137,13 +137,13 @@ module _ {L : Type 0} (terms : Terms L) where
 
   -- the marshaller loads that address again, and brings the slot back with the report that it had
   pub loads_giving : (slots id q : ℕ) (me : Seated Boxed L) (b : Boxed) → IsAlone me.0 → (person me.0).role ≡ Marshal → (person me.0).out ≡ Some b.value → b.value.place ≡ q → me.1 ≡ (q % terms.output_rows, b) ∷ []
-      → (k : ℕ) → Loads slots id me k (gives_report terms.rows terms.output_rows terms.outputs (step slots k 0 0 none) me)
+      → (k : ℕ) → Loads slots id me k (gives_report (readable terms.rows terms.output_rows published) terms.outputs (step slots k 0 0 none) me)
   loads_giving slots id q me b one role out_is place_is carried k s r wide at _ =
       let p = person me.0 in let m : ℕ = terms.output_rows in let w = words_of s in let reports = r.log.slots.reports in
       let knows = (mine terms s r id me.0 p at one).2 in
       let reading_is : r.log.slots.reading ≡ Some b.value = sym (subst (λ (z : Role). OutOf r.log.slots z p.out) role knows.out) ∙ out_is in
       let h = r.outgoing.reading b.value reading_is in
-      moves_slot s r k id me None gives (gives_report terms.rows m terms.outputs (step slots k 0 0 none) me) at one role tt
+      moves_slot s r k id me None gives (gives_report (readable terms.rows m published) terms.outputs (step slots k 0 0 none) me) at one role tt
       (subst (λ (c : List (ℕ × Boxed)). Filled m (record r.log.slots { reading = None }) (put_back s.homes c)) (sym carried)
       (reading_given m r.log.slots s.homes r.filled b (q % m) (ap (λ (z : ℕ). z % m) place_is) (mod-lt q r.some_output_row) reading_is (ap (λ (z : ℕ). reports (z % m)) (sym place_is) ∙ h.0)))
       (λ g is. absurd (let none_is : None ≡ Some g = is in cc))
@@ -151,25 +151,25 @@ module _ {L : Type 0} (terms : Terms L) where
 
   -- the same, where the code's sizes are the key's
   pub loads_taking_in : (n m : ℕ) → terms.rows ≡ n → terms.output_rows ≡ m → (slots id q : ℕ) (me : Seated Boxed L) (place : ℕ) → IsAlone me.0 → (person me.0).role ≡ Marshal → (person me.0).out ≡ None
-      → (person me.0).own ≤ q → Shows published (person me.0) q → place ≡ out_row n m q 0 → Loads slots id me place (takes_report n m terms.outputs (step slots place 0 0 none) me)
+      → (person me.0).own ≤ q → Shows published (person me.0) q → place ≡ out_row n m q 0 → Loads slots id me place (takes_report (readable n m published) terms.outputs (step slots place 0 0 none) me)
   loads_taking_in n m rows output_rows slots id q me place one role none_out from to place_is =
-      subst (λ (y : ℕ). Loads slots id me y (takes_report n m terms.outputs (step slots y 0 0 none) me)) (sym place_is)
-      (subst (λ (j : ℕ). Loads slots id me (out_row n j q 0) (takes_report n j terms.outputs (step slots (out_row n j q 0) 0 0 none) me)) output_rows
-      (subst (λ (j : ℕ). Loads slots id me (out_row j terms.output_rows q 0) (takes_report j terms.output_rows terms.outputs (step slots (out_row j terms.output_rows q 0) 0 0 none) me)) rows
+      subst (λ (y : ℕ). Loads slots id me y (takes_report (readable n m published) terms.outputs (step slots y 0 0 none) me)) (sym place_is)
+      (subst (λ (j : ℕ). Loads slots id me (out_row n j q 0) (takes_report (readable n j published) terms.outputs (step slots (out_row n j q 0) 0 0 none) me)) output_rows
+      (subst (λ (j : ℕ). Loads slots id me (out_row j terms.output_rows q 0) (takes_report (readable j terms.output_rows published) terms.outputs (step slots (out_row j terms.output_rows q 0) 0 0 none) me)) rows
       (loads_taking slots id q me one role none_out from to)))
 
   pub loads_giving_in : (n m : ℕ) → terms.rows ≡ n → terms.output_rows ≡ m → (slots id q : ℕ) (me : Seated Boxed L) (b : Boxed) → IsAlone me.0 → (person me.0).role ≡ Marshal → (person me.0).out ≡ Some b.value
-      → b.value.place ≡ q → me.1 ≡ (q % m, b) ∷ [] → (k : ℕ) → Loads slots id me k (gives_report n m terms.outputs (step slots k 0 0 none) me)
+      → b.value.place ≡ q → me.1 ≡ (q % m, b) ∷ [] → (k : ℕ) → Loads slots id me k (gives_report (readable n m published) terms.outputs (step slots k 0 0 none) me)
   loads_giving_in n m rows output_rows slots id q me b one role out_is place_is carried k =
-      subst (λ (j : ℕ). Loads slots id me k (gives_report n j terms.outputs (step slots k 0 0 none) me)) output_rows
-      (subst (λ (j : ℕ). Loads slots id me k (gives_report j terms.output_rows terms.outputs (step slots k 0 0 none) me)) rows
+      subst (λ (j : ℕ). Loads slots id me k (gives_report (readable n j published) terms.outputs (step slots k 0 0 none) me)) output_rows
+      (subst (λ (j : ℕ). Loads slots id me k (gives_report (readable j terms.output_rows published) terms.outputs (step slots k 0 0 none) me)) rows
       (loads_giving slots id q me b one role out_is place_is (carried ∙ ap (λ (j : ℕ). (q % j, b) ∷ []) (sym output_rows)) k))
 
   -- behind the load that took the slot out, and two exchanges
   pub loads_giving_back : (n m : ℕ) → terms.rows ≡ n → terms.output_rows ≡ m → (slots id q : ℕ) (me me' : Seated Boxed L) (b : Boxed) (k x : ℕ) → (person me.0).role ≡ Marshal → b.value.place ≡ q
-      → me' ≡ (alone me.0 (with_out (looked (person me.0) k x) (Some b.value)), (q % m, b) ∷ []) → Loads slots id me' k (gives_report n m terms.outputs (step slots k 0 0 none) me')
+      → me' ≡ (alone me.0 (with_out (looked (person me.0) k x) (Some b.value)), (q % m, b) ∷ []) → Loads slots id me' k (gives_report (readable n m published) terms.outputs (step slots k 0 0 none) me')
   loads_giving_back n m rows output_rows slots id q me me' b k x role place_is me_is =
-      subst (λ (z : Seated Boxed L). Loads slots id z k (gives_report n m terms.outputs (step slots k 0 0 none) z)) (sym me_is)
+      subst (λ (z : Seated Boxed L). Loads slots id z k (gives_report (readable n m published) terms.outputs (step slots k 0 0 none) z)) (sym me_is)
       (loads_giving_in n m rows output_rows slots id q (alone me.0 (with_out (looked (person me.0) k x) (Some b.value)), (q % m, b) ∷ []) b refl role refl place_is refl k)
 
   -- the marshaller moves its word behind the row under way, whose text it wrote whole
@@ -232,12 +232,12 @@ exchanged_twice row j v b d spare one two three one_is found two_is three_is =
 
 -- the seat behind both loads of an address, by which an output was copied
 pub copied : {L : Type 0} (n m q slots : ℕ) (outputs : L → List Message → List Output) (me me' me'' : Seated Boxed L) (k x y : ℕ) (b : Boxed) (logic : L) (o : Output)
-    → me' ≡ (alone me.0 (with_out (looked (person me.0) k x) (Some b.value)), (q % m, b) ∷ []) → gives_report n m outputs (step slots k 0 0 none) me' y me''
+    → me' ≡ (alone me.0 (with_out (looked (person me.0) k x) (Some b.value)), (q % m, b) ∷ []) → gives_report (readable n m published) outputs (step slots k 0 0 none) me' y me''
     → (person me.0).out ≡ None → me.0.logic ≡ Some logic → get_elem? (outputs logic (person me.0).seen) q ≡ some o → (person me.0).own ≤ q → Shows published (person me.0) q → k ≡ out_row n m q 0 → x ≡ o.to
     → me'' ≡ (alone me.0 (looked_twice (person me.0) (out_row n m q 0) o.to), [])
 copied {L} n m q slots outputs me me' me'' k x y b logic o me_is given home view_is there from to k_is x_is =
     let p = person me.0 in let first : Person = with_out (looked p k x) (Some b.value) in
-    let gave : gives_report n m outputs (step slots k 0 0 none) (alone me.0 first, (q % m, b) ∷ []) y me'' = subst (λ (z : Seated Boxed L). gives_report n m outputs (step slots k 0 0 none) z y me'') me_is given in
+    let gave : gives_report (readable n m published) outputs (step slots k 0 0 none) (alone me.0 first, (q % m, b) ∷ []) y me'' = subst (λ (z : Seated Boxed L). gives_report (readable n m published) outputs (step slots k 0 0 none) z y me'') me_is given in
     let shown : Shows published first q = (to.0, (to.1.0, at_longer p.loads (load_of k x ∷ []) to.0 to.1.0 to.1.1, to.1.2, to.1.3)) in
     let y_is : y ≡ o.to = gave.1 logic q o view_is there from shown k_is in
     gave.0 ∙ (λ i. (alone me.0 (record p { loads = (p.loads ++ load_of (k_is i) (x_is i) ∷ []) ++ load_of (k_is i) (y_is i) ∷ []; out = sym home i }), []))

@@ -14,7 +14,7 @@ use Rattle.ring_words.specs.declared.view.Role.TheVariants.{Unmarshal, Journal}
 use Rattle.ring_words.specs.declared.view.View.{View}
 use Rattle.ring_words.specs.Places.{processed, claim, unmarshalled, journalled, marshalled, published, first_row, in_row, out_row, place_of}
 use Rattle.ring_words.specs.Log.{sent, entry_of}
-use Rattle.ring_words.specs.Packing.{IsPackable}
+use Rattle.command_words.specs.Packing.{IsPackable}
 use Rattle.ring_words.specs.Terms.{Terms, commands_of, command_of}
 use Rattle.ring_words.specs.Rule.{Ordered, PartOf, Written, Outgoing, words_of, Lawful}
 use Rattle.ring_words.specs.Seats.{person, IsAlone, alone, moved}

@@ -9,7 +9,7 @@ use Rattle.venue_model.specs.declared.outputs.Output.{Output}
 use Rattle.ring_words.specs.declared.view.Person.{Person}
 use Rattle.ring_words.specs.Places.{unmarshalled, journalled, marshalled, published, in_row}
 use Rattle.ring_words.specs.Log.{IsEntry}
-use Rattle.ring_words.specs.Packing.{command_words, IsPackable}
+use Rattle.command_words.specs.Packing.{command_words, IsPackable}
 use Rattle.ring_words.specs.Texts.{text_words, IsPackableText}
 use Rattle.ring_words.specs.Seats.{looked, knowing, saw, last_from}
 use Rattle.ring_words.specs.At.{At, Steps}

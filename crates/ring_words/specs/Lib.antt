@@ -2,7 +2,6 @@ pub mod Places
 pub mod Slots
 pub mod Log
 pub mod Raw
-pub mod Packing
 pub mod Texts
 pub mod Terms
 pub mod Rule

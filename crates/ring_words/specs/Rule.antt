@@ -17,7 +17,7 @@ use Rattle.ring_words.specs.declared.report.Report.{Report}
 use Rattle.ring_words.specs.Slots.{Boxed, report_of, OutOf, Filled}
 use Rattle.ring_words.specs.Log.{IsEntry, unclaimed, old, claimed, sent, Log, entry_of, sends_of, claims_of, sent_at, times, IsFront}
 use Rattle.ring_words.specs.Raw.{raw_word, raw_count}
-use Rattle.ring_words.specs.Packing.{IsPackable}
+use Rattle.command_words.specs.Packing.{IsPackable}
 use Rattle.ring_words.specs.Texts.{text_words, IsPackableText}
 use Rattle.ring_words.specs.Terms.{Terms, commands_of, command_of, outputs_of, text_of}
 

@@ -1,5 +1,5 @@
 -- The slots of the output ring, one for each row. Each holds a box with an output and its place, but while the processor or the marshaller has it out.
-use Rattle.std.specs.Prelude.{Option, Some, ◌≡◌, ◌≢◌, ℕ, ◌%◌, ◌<◌, List, [], ◌∷◌, length}
+use Rattle.std.specs.Prelude.{Option, Some, ◌≡◌, ℕ, ◌%◌, ◌<◌, List, [], ◌∷◌, length}
 use Rattle.std.specs.Global.{Box}
 use mathlib.Core.Option.{Option as Maybe, some}
 use lib.ListN.{get_elem?}

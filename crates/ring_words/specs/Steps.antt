@@ -16,7 +16,7 @@ use Rattle.ring_words.specs.declared.view.View.{View}
 use Rattle.ring_words.specs.Places.{processed, claim, unmarshalled, journalled, marshalled, taken, published, in_row, out_row, number_of}
 use Rattle.ring_words.specs.Log.{IsEntry, times, sent_at, published_at}
 use Rattle.ring_words.specs.Raw.{raw_word, raw_count, Spells}
-use Rattle.ring_words.specs.Packing.{command_words, IsPackable}
+use Rattle.command_words.specs.Packing.{command_words, IsPackable}
 use Rattle.ring_words.specs.Slots.{Boxed, report_of}
 use Rattle.ring_words.specs.Texts.{text_words, IsPackableText}
 use Rattle.ring_words.specs.Rule.{IsGateway, at_place}
@@ -218,15 +218,15 @@ module _ {S L : Type 0} where
 module _ {L : Type 0} where
   -- a load of the address of an output that is published and not released, which takes the slot of its row out: its report is that of the output in
   -- the history that is known
-  abbrev pub takes_report : ℕ → ℕ → (L → List Message → List Output) → Step Boxed → Seated Boxed L → ℕ → Seated Boxed L → Type 0
-  takes_report n rows outputs st m r after = (q : ℕ) → (person m.0).own ≤ q → Shows published (person m.0) q → st.word ≡ out_row n rows q 0
+  abbrev pub takes_report : Readable → (L → List Message → List Output) → Step Boxed → Seated Boxed L → ℕ → Seated Boxed L → Type 0
+  takes_report ring outputs st m r after = (q : ℕ) → (person m.0).own ≤ q → Shows ring.gate (person m.0) q → st.word ≡ out_row ring.rows ring.output_rows q 0
       → (b : Boxed) × (b.value.place ≡ q)
-      × (after ≡ (alone m.0 (with_out (looked (person m.0) st.word r) (Some b.value)), (q % rows, b) ∷ m.1))
+      × (after ≡ (alone m.0 (with_out (looked (person m.0) st.word r) (Some b.value)), (q % ring.output_rows, b) ∷ m.1))
       × ((logic : L) (o : Output) → m.0.logic ≡ Some logic → get_elem? (outputs logic (person m.0).seen) q ≡ some o
       → (r ≡ o.to) × (b.value ≡ report_of o q))
 
   -- a load of that address again, which brings the slot back
-  abbrev pub gives_report : ℕ → ℕ → (L → List Message → List Output) → Step Boxed → Seated Boxed L → ℕ → Seated Boxed L → Type 0
-  gives_report n rows outputs st m r after = (after ≡ (alone m.0 (with_out (looked (person m.0) st.word r) None), rest m.1))
+  abbrev pub gives_report : Readable → (L → List Message → List Output) → Step Boxed → Seated Boxed L → ℕ → Seated Boxed L → Type 0
+  gives_report ring outputs st m r after = (after ≡ (alone m.0 (with_out (looked (person m.0) st.word r) None), rest m.1))
       × ((logic : L) (q : ℕ) (o : Output) → m.0.logic ≡ Some logic → get_elem? (outputs logic (person m.0).seen) q ≡ some o
-      → (person m.0).own ≤ q → Shows published (person m.0) q → st.word ≡ out_row n rows q 0 → r ≡ o.to)
+      → (person m.0).own ≤ q → Shows ring.gate (person m.0) q → st.word ≡ out_row ring.rows ring.output_rows q 0 → r ≡ o.to)

@@ -1,6 +1,6 @@
 //! What each kind of step tells. These types are for the proofs alone.
 ghost use Rattle.ring_words.specs.Steps.{readable, meaning, sees_claim, sees_processed, claims_next, stores_raw, marks_sent, sees_mark, sees_raw, stores_command, sees_unmarshalled, sees_journalled, sees_command, moves_own, sees_taken, puts_address, publishes, sees_address, takes_report, gives_report, sees_published, stores_text, sees_marshalled, sees_text};
-ghost use Rattle.ring_words.specs.Places.{marshalled};
+ghost use Rattle.ring_words.specs.Places.{marshalled, published};
 
 use crate::report::Slot;
 use crate::view::View;
@@ -109,14 +109,14 @@ impl<L: Logic> Play<Slot, View<L>> for SeePublished {
 pub(crate) struct TakeReport<const N: usize, const M: usize>;
 
 impl<L: Logic, const N: usize, const M: usize> Play<Slot, View<L>> for TakeReport<N, M> {
-    ghost then = { takes_report N M L.outputs };
+    ghost then = { takes_report (readable N M published) L.outputs };
 }
 
 /// The slot comes back.
 pub(crate) struct GiveReport<const N: usize, const M: usize>;
 
 impl<L: Logic, const N: usize, const M: usize> Play<Slot, View<L>> for GiveReport<N, M> {
-    ghost then = { gives_report N M L.outputs };
+    ghost then = { gives_report (readable N M published) L.outputs };
 }
 
 pub(crate) struct StoreText<const N: usize, const M: usize>;

@@ -29,7 +29,7 @@ pub struct Load {
     pub value: u64,
 }
 
-/// The row under way: its sequence or place, and the words stored so far in it, in order, of the message, the command, the output or the text.
+/// The row under way: its sequence or place, and the words stored so far in it, in order, of the message, the command, the address or the text.
 /// Of the processor the place is always the published word.
 pub struct Part {
     pub sequence: u64,

@@ -1,4 +1,4 @@
-use Rattle.std.proofs.Common.{◌≡◌, ℕ, rules, refl, arith}
+use Rattle.std.proofs.Common.{◌≡◌, ℕ, rules, arith}
 use Rattle.ring_words.specs.Terms.{terms_of}
 use Rattle.ring_words.proofs.Reading.{loads_address_in}
 use Rattle.ring_words.specs.Places.{processed, out_row}

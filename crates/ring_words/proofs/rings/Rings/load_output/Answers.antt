@@ -1,4 +1,4 @@
-use Rattle.std.proofs.Common.{rules, ◌≡◌, ◌%◌, [], ◌∷◌, ◌++◌, ℕ, List, ap, sym, ◌∙◌, arith}
+use Rattle.std.proofs.Common.{rules, ◌%◌, [], ◌∷◌, ℕ, List, ap, ◌∙◌}
 use Rattle.std.specs.Prelude.{Some}
 use Rattle.ring_words.specs.declared.view.Person.{Person}
 use Rattle.ring_words.specs.Slots.{Boxed}
@@ -6,7 +6,6 @@ use Rattle.ring_words.specs.Places.{out_row}
 use Rattle.ring_words.specs.Terms.{terms_of}
 use Rattle.ring_words.specs.Seats.{person, alone, looked, looked_twice, with_out}
 use Rattle.ring_words.specs.At.{At, seated}
-use Rattle.ring_words.specs.Steps.{Seated}
 use Rattle.ring_words.proofs.Becomes.{steps}
 use Rattle.ring_words.proofs.Marshalling.{loads_taking_in, loads_giving_back, exchanged_twice, copied}
 use Rattle.ring_words.proofs.rings.Rings.load_output.Goals as goal

@@ -5,7 +5,7 @@ ghost use Rattle.venue_model.specs.declared.commands.NewOrderSingle.{NewOrderSin
 ghost use Rattle.venue_model.specs.declared.commands.OrderCancelRequest.{OrderCancelRequest};
 ghost use Rattle.venue_model.specs.declared.commands.OrderCancelReplaceRequest.{OrderCancelReplaceRequest};
 ghost use Rattle.venue_model.specs.declared.commands.Malformed.{Malformed};
-ghost use Rattle.ring_words.specs.Packing.{command_words, IsPackable};
+ghost use Rattle.command_words.specs.Packing.{command_words, IsPackable};
 
 use crate::packing::fields::{
     CANCEL, MALFORMED, NEW, REPLACE, gateway_in, kind_in, price_in, quantity_in, reason_in,

@@ -16,9 +16,9 @@ ghost use Rattle.std.specs.Prelude.{◌≡◌, ℕ, ◌^◌, ◌<◌, ◌≤◌,
 ghost use Rattle.venue_model.specs.Spelling.{IsSpelling};
 ghost use Rattle.venue_model.specs.Step.{IsCommand};
 ghost use Rattle.venue_model.specs.declared.commands.Command.{Command};
-ghost use Rattle.ring_words.specs.Packing.{order_fields, fault_fields, head_word, more_words, command_words, IsPackable};
+ghost use Rattle.command_words.specs.Packing.{order_fields, fault_fields, head_word, more_words, command_words, IsPackable};
 
-pub(crate) mod fields;
+mod fields;
 mod unpacking;
 
 use crate::packing::fields::{

@@ -2,7 +2,7 @@
 ghost use Rattle.std.specs.Prelude.{◌≡◌, ℕ, ◌/◌, ◌%◌, ◌<◌, ◌≤◌, List, not, nat_eq, Some};
 ghost use Rattle.std.specs.List.{prefix_len};
 ghost use Rattle.venue_model.specs.Spelling.{IsSpelling};
-ghost use Rattle.ring_words.specs.Packing.{side_number, time_in_force_number, reason_number, type_number, symbol_word};
+ghost use Rattle.command_words.specs.Packing.{side_number, time_in_force_number, reason_number, type_number, symbol_word};
 
 use venue_model::{RefMsgType, SessionRejectReason, Side, Symbol, TimeInForce};
 

@@ -15,7 +15,7 @@ use Rattle.venue_model.specs.declared.commands.TimeInForce.TheVariants.{FillOrKi
 use Rattle.venue_model.specs.declared.commands.SessionRejectReason.TheVariants.{TagAppearsMoreThanOnce}
 use Rattle.venue_model.specs.declared.commands.RefMsgType.TheVariants.{OrderCancelReplaceRequest}
 use Rattle.venue_model.specs.declared.orders.Side.TheVariants.{Sell}
-use Rattle.ring_words.specs.Packing.{symbol_word, command_words}
+use Rattle.command_words.specs.Packing.{symbol_word, command_words}
 
 -- a byte of a symbol
 symbol_byte : (b : ℕ) → IsTrue (is_symbol_byte b) → (0 < b) × (b < 256)

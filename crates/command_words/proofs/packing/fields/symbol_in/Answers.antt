@@ -1,5 +1,5 @@
-use Rattle.ring_words.proofs.Packings.{symbol_back}
-use Rattle.ring_words.proofs.packing.fields.symbol_in.Goals as goal
+use Rattle.command_words.proofs.Packings.{symbol_back}
+use Rattle.command_words.proofs.packing.fields.symbol_in.Goals as goal
 
 pub returns : goal.returns
 returns c = λ name spelling is.
