@@ -17,6 +17,7 @@
 #include <cstdio>
 #include <cstdlib>
 #include <cstring>
+#include <memory>
 #include <string>
 #include <thread>
 #include <utility>
@@ -175,11 +176,22 @@ static bool read_message(const u8 *bytes, u64 length, Command &c) {
     return goes_on(at, "52=") && read_time(at, tail, c.words[TIME]) && read_fields(at, tail, c);
 }
 
-// An output is an execution report, a word for each field. Its body is written with zeros behind it.
+// An output is an execution report. Its body is written with zeros behind it.
 enum Event : u64 { ACKNOWLEDGED = 0, CANCELED = 3 };
 struct Order { u64 id, client, name, symbol, side, price, total, cum, notional, stamp; };
 struct Output { u64 to, cause, time, kind, event, orig, none; Order order; };
-constexpr u64 REPORT_WORDS = sizeof(Output) / 8;
+
+// It lies with its place in a box, of which each output row has one in its slot; processor and marshaller have one to exchange.
+struct Report { Output output; u64 place; };
+using Box = std::unique_ptr<Report>;
+
+static std::vector<Box> boxes() {
+    std::vector<Box> made(ROWS);
+    for (Box &box : made) box = std::make_unique<Report>();
+    return made;
+}
+
+static std::vector<Box> slots = boxes();
 
 template <size_t N> inline char *put(char *at, const char (&text)[N]) { return (char *)memcpy(at, text, N - 1) + N - 1; }
 
@@ -289,6 +301,7 @@ struct alignas(128) Processor {
     bool is_applied = false;
     Book book;
     Output out;
+    Box spare = std::make_unique<Report>();
 
     // By the values loaded last, or, where these leave no room, by new ones.
     bool has_room(bool loads) {
@@ -311,7 +324,9 @@ struct alignas(128) Processor {
         }
         for (; left > 0; left--) {
             if (!has_room(false) && !has_room(true)) return false;
-            put_words(output_row(published), (const u64 *)&out, REPORT_WORDS);
+            *spare = Report{out, published};
+            put_word(output_row(published), out.to);
+            std::swap(slots[published % ROWS], spare);
             words[PUBLISHED].store(++published);
         }
         is_applied = false;
@@ -324,13 +339,17 @@ struct alignas(128) Processor {
 struct alignas(128) Marshaller {
     u64 own = 0;
     u8 body[MOST_BYTES + 8];
+    Box spare = std::make_unique<Report>();
 
     bool turn() {
         u64 upto = words[PUBLISHED].load();
         if (upto == own) return false;
         for (; own < upto; own++) {
-            Output out;
-            take_words(output_row(own), (u64 *)&out, REPORT_WORDS);
+            word(output_row(own));
+            std::swap(slots[own % ROWS], spare);
+            Output out = spare->output;
+            std::swap(slots[own % ROWS], spare);
+            word(output_row(own));
             u64 length = body_of(out, own + 1, body), text = output_row(own) + TEXT;
             put_word(text, 4 * length), put_word(text + 1, out.time);
             put_bytes(text + 2, body, length);

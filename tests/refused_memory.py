@@ -9,7 +9,7 @@ that come behind it. A venue that listens prints no `ready` line where it has no
 go that it has no room for, serves the next, and stops in order.
 
 Requests are refused by tests/refusals.c, which cc compiles into a folder of its own; without cc nothing is tried, and a
-line says so. The last line is `N passed, M failed`, and the status is 1 where one failed. It takes some ten seconds. Build
+line says so. The last line is `N passed, M failed`, and the status is 1 where one failed. It takes a minute or more. Build
 both programs first, by scripts/build; others are taken by the environment's VENUED and VENUE_REPLAY.
 """
 import collections

@@ -3,4 +3,3 @@ pub mod Gates
 pub mod Words
 pub mod CommandWords
 pub mod TextStores
-pub mod OutputReads

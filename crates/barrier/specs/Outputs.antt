@@ -10,6 +10,6 @@ abbrev pub output_loads : ℕ → ℕ → ℕ → ℕ → List ℕ → List Load
 output_loads n m q i [] = []
 output_loads n m q i (x ∷ xs) = load_of (out_row n m q i) x ∷ output_loads n m q (suc i) xs
 
--- the person loaded these words, and nothing else changed
+-- the person loaded these words twice, before and after the output was copied, and nothing else changed
 abbrev pub after_output : ℕ → ℕ → Person → ℕ → List ℕ → Person
-after_output n m p q ws = record p { loads = p.loads ++ output_loads n m q 0 ws }
+after_output n m p q ws = record p { loads = (p.loads ++ output_loads n m q 0 ws) ++ output_loads n m q 0 ws }

@@ -5,13 +5,14 @@ ghost use lib.ListN.{get_elem?};
 ghost use Rattle.venue_model.specs.History.{Message};
 ghost use Rattle.venue_model.specs.Step.{IsCommand};
 ghost use Rattle.ring_words.specs.Log.{IsEntry};
-ghost use Rattle.ring_words.specs.Packing.{command_words, IsPackable};
+ghost use Rattle.command_words.specs.Packing.{command_words, IsPackable};
 ghost use Rattle.ring_words.specs.Seats.{wrote};
 ghost use Rattle.ring_words.specs.At.{IsAt, Steps};
 ghost use Rattle.ring_words.specs.Steps.{MayWrite};
 ghost use Rattle.barrier.specs.Commands.{after_command};
 
-use ring_words::{COMMAND_WORDS, ProcessSeat, Rings, UnmarshalSeat, pack, unpack, words_of};
+use command_words::{COMMAND_WORDS, pack, unpack, words_of};
+use ring_words::{ProcessSeat, Rings, UnmarshalSeat};
 use venue_model::{Command, Logic};
 
 /// Writes the command of an entry that the unmarshaller knows and hasn't released, with the number of the entry's gateway, into the

@@ -3,7 +3,7 @@ ghost use Rattle.std.specs.Prelude.{◌≡◌, suc, ◌<◌, ◌≤◌, length};
 ghost use mathlib.Core.Option.{some};
 ghost use lib.ListN.{get_elem?};
 ghost use Rattle.venue_model.specs.declared.outputs.Output.{Output};
-ghost use Rattle.ring_words.specs.OutputPacking.{output_words};
+ghost use Rattle.ring_words.specs.Slots.{output_words};
 ghost use Rattle.ring_words.specs.Texts.{text_words, IsPackableText};
 ghost use Rattle.ring_words.specs.Places.{published};
 ghost use Rattle.ring_words.specs.Seats.{wrote, moved};
@@ -12,9 +12,7 @@ ghost use Rattle.ring_words.specs.Steps.{Shows, WroteText, MayWriteText};
 ghost use Rattle.ring_words.specs.Finds.{FindsPublished};
 ghost use Rattle.barrier.specs.Outputs.{after_output};
 
-use ring_words::{
-    MarshalSeat, OUTPUT_WORDS, Rings, TextHead, output_words_of, unpack_output, word_at,
-};
+use ring_words::{MarshalSeat, Rings, TextHead, word_at};
 use venue_model::{Logic, Output, OutputType};
 
 /// How many outputs are published: the marshaller may read those from its own word on. Loads published; the marshaller then knows a history that has
@@ -43,15 +41,7 @@ pub fn read_output<L: Logic, const N: usize, const M: usize, const G: usize>(
     ensures step { (o : Output) → get_elem? (L.outputs rings.now.logic seat.old.who.seen) place ≡ some o
         → Steps seat.old (after_output N M seat.old.who place (output_words o)) seat.new }
 {
-    let mut words = [0; OUTPUT_WORDS];
-    for index in 0..4 {
-        words[index] = rings.load_output(seat, place, index);
-    }
-    let count = output_words_of(words[3]);
-    for index in 4..count {
-        words[index] = rings.load_output(seat, place, index);
-    }
-    unpack_output(&words[..count])
+    rings.load_output(seat, place)
 }
 
 /// Writes the text of an output that is published and not released into its row: MsgType, SendingTime and the body, at most 320 bytes. Rows are

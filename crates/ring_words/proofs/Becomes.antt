@@ -22,6 +22,9 @@ module _ {S L : Type 0} (me me' : Seated S L) (q : Person) where
   pub still_role : Became me q me' → (role : Role) → q.role ≡ role → (person me'.0).role ≡ role
   still_role is role same = ap (λ (z : Seated S L). (person z.0).role) is ∙ same
 
+  pub still_home : Became me q me' → q.out ≡ None → (person me'.0).out ≡ None
+  still_home is home = ap (λ (z : Seated S L). (person z.0).out) is ∙ home
+
   -- and with the rest of what a seat keeps
   pub still_sits : {Rest : Type 0} → Became me q me' → me.1 ≡ [] → (role : Role) → q.role ≡ role → Rest → IsAlone me'.0 × ((me'.1 ≡ []) × (((person me'.0).role ≡ role) × Rest))
   still_sits is bare role same more = (still_alone is, (still_bare is bare, (still_role is role same, more)))

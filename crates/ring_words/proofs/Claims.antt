@@ -8,6 +8,7 @@ use Rattle.atomic_table.specs.Table.{State, step, keeps, Allows}
 use Rattle.atomic_table.proofs.Lists.{exchanged}
 use Rattle.venue_model.specs.History.{Message}
 use Rattle.venue_model.specs.ListLaws.{within}
+use Rattle.ring_words.specs.Slots.{Boxed}
 use Rattle.ring_words.specs.declared.view.Role.{Role}
 use Rattle.ring_words.specs.declared.view.Role.TheVariants.{Process, Unmarshal, Journal, Marshal, Gateway}
 use Rattle.ring_words.specs.declared.view.Person.{Person}
@@ -15,7 +16,7 @@ use Rattle.ring_words.specs.declared.view.View.{View}
 use Rattle.ring_words.specs.Places.{processed, claim, unmarshalled, journalled, taken, published, first_row, in_row, out_row, place_of, number_of}
 use Rattle.ring_words.specs.Log.{IsEntry, Status, unclaimed, old, claimed, sent, Log, entry_of, sends_of, claims_of, sent_at, times}
 use Rattle.ring_words.specs.Raw.{raw_count, raw_word}
-use Rattle.ring_words.specs.Packing.{IsPackable}
+use Rattle.command_words.specs.Packing.{IsPackable}
 use Rattle.ring_words.specs.Terms.{Terms, commands_of, command_of}
 use Rattle.ring_words.specs.Rule.{IsGateway, IsRole, PartOf, Knows, words_of, Lawful}
 use Rattle.ring_words.specs.Seats.{person, IsAlone, alone, looked, with_claim}
@@ -82,6 +83,7 @@ knows_claimed terms w w' log a k p free risen same outside published_is is claim
   part = part_stays p.role r.part;
   written = λ is_unmarshaller. written_on terms w w' p.seen p.own p.own p.part.sequence (le_refl p.own) (λ s i x e lo hi at. same s (i + 48)) (r.written is_unmarshaller);
   written_texts = λ is_marshaller. texts_on terms w w' p.seen p.own p.own p.part.sequence (le_refl p.own) (λ q i lo hi few. outside q (i + 64)) (r.written_texts is_marshaller);
+  out = r.out;
 } where
   part_stays : (role : Role) → PartOf terms.rows terms.output_rows w log role p.part → PartOf terms.rows terms.output_rows w' (record log { status = put log.status a (claimed k) }) role p.part
   part_stays Process h = (h.0 ∙ sym published_is, λ i x at. let t = h.1 i x at in (t.0, outside p.part.sequence i ∙ t.1))
@@ -90,14 +92,14 @@ knows_claimed terms w w' log a k p free risen same outside published_is is claim
   part_stays Marshal h = λ i x at. let t = h i x at in (t.0, outside p.part.sequence (i + 64) ∙ t.1)
   part_stays (Gateway j) h = λ i x at. let t = h i x at in (t.0, by_put log.status a p.part.sequence (claimed k) (λ (y : Status). y ≡ claimed j) (λ here. absurd (not_claimed j (sym t.1 ∙ ap log.status here ∙ free))) (λ _. t.1), same p.part.sequence (i + 1) ∙ t.2)
 
-module _ {L : Type 0} (S : Type 0) (terms : Terms L) where
+module _ {L : Type 0} (terms : Terms L) where
   -- claim goes from a to a + 1, and gateway k has a
-  claimed_now : (s : State S (View L)) (r : Lawful S terms s) (id k : ℕ) (me : Seated S L) → get_elem? s.views id ≡ some me.0 → IsAlone me.0 → (person me.0).role ≡ Gateway k
+  claimed_now : (s : State Boxed (View L)) (r : Lawful terms s) (id k : ℕ) (me : Seated Boxed L) → get_elem? s.views id ≡ some me.0 → IsAlone me.0 → (person me.0).role ≡ Gateway k
       → HasRoom terms.rows (person me.0) (words_of s claim) → words_of s claim < 2 ^ 48
-      → Lawful S terms record { words = set s.words claim (words_of s claim + 1); homes = s.homes; views = set s.views id (alone me.0 (with_claim (looked (person me.0) claim (words_of s claim)) (words_of s claim))) }
+      → Lawful terms record { words = set s.words claim (words_of s claim + 1); homes = s.homes; views = set s.views id (alone me.0 (with_claim (looked (person me.0) claim (words_of s claim)) (words_of s claim))) }
   claimed_now s r id k me at one role room small =
       let p = person me.0 in let ws = s.words in let w = words_of s in let a : ℕ = w claim in let ws' = set ws 8 (a + 1) in let w' : ℕ → ℕ = λ (i : ℕ). get_or ws' i 0 in
-      let knows = (mine S terms s r id me.0 p at one).2 in
+      let knows = (mine terms s r id me.0 p at one).2 in
       let known = knows_looked terms w r.log p claim a (λ _. le_refl a) knows in
       let inside : 8 < length ws = (let v = r.wide in omega arith) in
       let here : w' claim ≡ a + 1 = word_here ws 8 (a + 1) inside in let zero_is : w' processed ≡ w processed = word_else ws 8 0 (a + 1) (λ (e : 0 ≡ 8). omega arith) in
@@ -112,7 +114,7 @@ module _ {L : Type 0} (S : Type 0) (terms : Terms L) where
       let status : ℕ → Status = r.log.status in let free : status a ≡ unclaimed = r.logged.ahead a (le_refl a) in
       let log' : Log = record r.log { status = put status a (claimed k) } in
       let gateway : IsGateway terms.gateways k = subst (IsRole terms.gateways) role knows.role in let lo : 1 ≤ k = gateway.0 in
-      after S terms s r ws' id me.0 p (with_claim (looked p claim a) a) at one refl (length-set ws 8 (a + 1)) log'
+      after terms s r ws' id me.0 p (with_claim (looked p claim a) a) at one refl (length-set ws 8 (a + 1)) log'
       record { processed_unmarshalled = omega arith; processed_journalled = omega arith; unmarshalled_claimed = omega arith; journalled_claimed = omega arith; room = omega arith; most = omega arith }
       record {
         start = omega arith;
@@ -143,9 +145,10 @@ module _ {L : Type 0} (S : Type 0) (terms : Terms L) where
             (λ _ is below le i x there. same t (i + 48) ∙ r.rows.commands t e is (subst (λ (y : ℕ). t < y) unmarshalled_is below)
             (let reach : a + 1 ≤ t + terms.rows = subst (λ (y : ℕ). y ≤ t + terms.rows) here le in let g : a ≤ t + terms.rows = omega arith in g) i x there);
       }
-      (outgoing_stays terms w w' r.log log' r.few refl
+      (outgoing_stays terms w w' r.log log' r.few refl refl
       (λ t e at. ap entry_of (put_else status a t (claimed k) (λ (eq : t ≡ a). nothing_there (status t) e (ap status eq ∙ free) (r.outgoing.front t e at))) ∙ r.outgoing.front t e at)
       zero_is journalled_is (λ c from to. word_else ws 8 c (a + 1) (λ (e : c ≡ 8). omega arith)) (all_outputs terms w w' outside) r.outgoing)
+      s.homes r.filled
       (knows_claimed terms w w' r.log a k (looked p claim a) free rises same outside published_is (ap (λ (z : Role). w' (place_of z)) role ∙ word_else ws 8 (taken k) (a + 1) (λ (e : 32 + 8 * k ≡ 8). omega arith) ∙ sym (ap (λ (z : Role). w (place_of z)) role))
       (a ∷ p.claims)
       (λ t. by_put status a t (claimed k) (λ (x : Status). times t (a ∷ p.claims) ≡ claims_of (number_of p.role) x)
@@ -159,23 +162,23 @@ module _ {L : Type 0} (S : Type 0) (terms : Terms L) where
       ∙ sym (cond-false (eqb k (number_of o.role)) 1 0 (ne_eqb k (number_of o.role) (λ e. other_number o.role k lo (λ z. apart_from (z ∙ sym (ap place_of role))) (sym e)))))
       (λ _. kn.claims t)) kn)
 
-  pub claims_claim : (slots id k : ℕ) (me : Seated S L) (a b : ℕ) → IsAlone me.0 → (person me.0).role ≡ Gateway k → b ≡ a + 1 → HasRoom terms.rows (person me.0) a → a < 2 ^ 48
-      → Allows (Lawful S terms) slots id me claim (λ y. either (eqb y a) b y) (claims_next (step slots claim a b none) me)
+  pub claims_claim : (slots id k : ℕ) (me : Seated Boxed L) (a b : ℕ) → IsAlone me.0 → (person me.0).role ≡ Gateway k → b ≡ a + 1 → HasRoom terms.rows (person me.0) a → a < 2 ^ 48
+      → Allows (Lawful terms) slots id me claim (λ y. either (eqb y a) b y) (claims_next (step slots claim a b none) me)
   claims_claim slots id k me a b one role next room small s r wide at _ =
       let p = person me.0 in let w = words_of s in let y : ℕ = w claim in let then = claims_next (step slots claim a b none) me in
-      let knows = (mine S terms s r id me.0 p at one).2 in
+      let knows = (mine terms s r id me.0 p at one).2 in
       let up : ClaimsUpTo p y = λ i l there is. subst (λ (j : ℕ). l.value ≤ w j) is (knows.loads i l there (let j : ℕ = l.place in let j_is : j ≡ 8 = is in omega arith)) in
-      exchanged y a b (Goes S terms s claim id me then)
+      exchanged y a b (Goes terms s claim id me then)
       (λ hit. (
         alone me.0 (with_claim (looked p claim y) y),
         keeps,
         tt,
-        subst (λ (x : ℕ). Lawful S terms record { words = set s.words claim x; homes = s.homes; views = set s.views id (alone me.0 (with_claim (looked p claim y) y)) }) (ap (λ (x : ℕ). x + 1) hit ∙ sym next)
+        subst (λ (x : ℕ). Lawful terms record { words = set s.words claim x; homes = s.homes; views = set s.views id (alone me.0 (with_claim (looked p claim y) y)) }) (ap (λ (x : ℕ). x + 1) hit ∙ sym next)
             (claimed_now s r id k me at one role (subst (HasRoom terms.rows p) (sym hit) room) (subst (λ (x : ℕ). x < 2 ^ 48) (sym hit) small)),
         ((λ _. refl), (λ miss. absurd (miss hit)), up),
       ))
-      (λ miss. looks S terms s r claim id me (looked p claim y) then at one refl (knows_looked terms w r.log p claim y (λ _. le_refl y) knows) ((λ hit. absurd (miss hit)), (λ _. refl), up))
+      (λ miss. looks terms s r claim id me (looked p claim y) then at one refl (knows_looked terms w r.log p claim y (λ _. le_refl y) knows) ((λ hit. absurd (miss hit)), (λ _. refl), up))
 
-  pub claims_claim_in : (n : ℕ) → terms.rows ≡ n → (slots id k : ℕ) (me : Seated S L) (a b : ℕ) → IsAlone me.0 → (person me.0).role ≡ Gateway k → b ≡ a + 1 → HasRoom n (person me.0) a → a < 2 ^ 48
-      → Allows (Lawful S terms) slots id me claim (λ y. either (eqb y a) b y) (claims_next (step slots claim a b none) me)
+  pub claims_claim_in : (n : ℕ) → terms.rows ≡ n → (slots id k : ℕ) (me : Seated Boxed L) (a b : ℕ) → IsAlone me.0 → (person me.0).role ≡ Gateway k → b ≡ a + 1 → HasRoom n (person me.0) a → a < 2 ^ 48
+      → Allows (Lawful terms) slots id me claim (λ y. either (eqb y a) b y) (claims_next (step slots claim a b none) me)
   claims_claim_in n is slots id k me a b one role next room = claims_claim slots id k me a b one role next (subst (λ (j : ℕ). HasRoom j (person me.0) a) (sym is) room)

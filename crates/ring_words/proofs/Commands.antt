@@ -4,6 +4,7 @@ use mathlib.Core.Option.{none, some}
 use lib.ListN.{get_elem?}
 use Rattle.atomic_table.specs.Table.{State, step, keeps, Allows}
 use Rattle.venue_model.specs.ListLaws.{within}
+use Rattle.ring_words.specs.Slots.{Boxed}
 use Rattle.ring_words.specs.declared.view.Role.{Role}
 use Rattle.ring_words.specs.declared.view.Role.TheVariants.{Unmarshal}
 use Rattle.ring_words.specs.declared.view.View.{View}
@@ -21,14 +22,14 @@ use Rattle.ring_words.proofs.Outgoings.{all_outputs}
 use Rattle.ring_words.proofs.RowWords.{row_else, output_apart}
 use Rattle.ring_words.proofs.Stays.{one_word_more, word_stored}
 
-module _ {L : Type 0} (S : Type 0) (terms : Terms L) where
-  stored_now : (s : State S (View L)) (r : Lawful S terms s) (id a i x : ℕ) (me : Seated S L) → get_elem? s.views id ≡ some me.0 → IsAlone me.0 → (person me.0).role ≡ Unmarshal
+module _ {L : Type 0} (terms : Terms L) where
+  stored_now : (s : State Boxed (View L)) (r : Lawful terms s) (id a i x : ℕ) (me : Seated Boxed L) → get_elem? s.views id ≡ some me.0 → IsAlone me.0 → (person me.0).role ≡ Unmarshal
       → (person me.0).own ≤ a → a < length (person me.0).seen → i < 16 → GoesOn (person me.0).part a i → MayWrite (terms.reads terms.logic) (person me.0) a
-      → Lawful S terms record { words = set s.words (in_row terms.rows a (i + 48)) x; homes = s.homes; views = set s.views id (alone me.0 (stored (person me.0) a i x)) }
+      → Lawful terms record { words = set s.words (in_row terms.rows a (i + 48)) x; homes = s.homes; views = set s.views id (alone me.0 (stored (person me.0) a i x)) }
   stored_now s r id a i x me at one role from known small goes_on may =
       let p = person me.0 in let n : ℕ = terms.rows in let m : ℕ = terms.output_rows in let ws = s.words in let w = words_of s in
       let here : ℕ = in_row n a (i + 48) in let w' : ℕ → ℕ = λ (j : ℕ). get_or (set ws here x) j 0 in let low : i + 48 < 64 = omega arith in
-      let knows = (mine S terms s r id me.0 p at one).2 in
+      let knows = (mine terms s r id me.0 p at one).2 in
       let own_is : w unmarshalled ≡ p.own = subst (λ (z : Role). w (place_of z) ≡ p.own) role knows.own in
       let inside : here < length ws = subst (λ (y : ℕ). here < y) (sym r.wide) (row_inside n m a (i + 48) r.some_row low) in
       let stays : (t j : ℕ) → j < 64 → (t % n ≡ a % n → j ≢ i + 48) → w' (in_row n t j) ≡ w (in_row n t j) = λ t j few. row_else ws n t a j (i + 48) x few low in
@@ -36,7 +37,7 @@ module _ {L : Type 0} (S : Type 0) (terms : Terms L) where
       let raw_stays : (t j : ℕ) → j < 48 → w' (in_row n t j) ≡ w (in_row n t j) = λ t j few. stays t j (omega arith) (λ _. (λ (e : j ≡ i + 48). omega arith)) in
       let unmarshalled_is : w' unmarshalled ≡ w unmarshalled = word_else ws here 16 x (λ e. no_control n a (i + 48) 16 (omega arith) (sym e)) in
       let reach = reaches terms w r.log p.seen r.logged knows.front in let first = r.order.processed_unmarshalled in let room = r.order.room in
-      word_stored S terms s r id here a i x me at one (no_control n a (i + 48))
+      word_stored terms s r id here a i x me at one (no_control n a (i + 48))
       record {
         marks = λ t. raw_stays t 0 (omega arith);
         raw = λ t e is late j few. raw_stays t (j + 1) (omega arith);
@@ -63,11 +64,11 @@ module _ {L : Type 0} (S : Type 0) (terms : Terms L) where
       })
 
   -- the unmarshaller stores the next word of the command of a sequence that it knows and hasn't released
-  pub writes_command : (slots id a i x : ℕ) (me : Seated S L) → IsAlone me.0 → (person me.0).role ≡ Unmarshal → (person me.0).own ≤ a → a < length (person me.0).seen → i < 16 → GoesOn (person me.0).part a i
+  pub writes_command : (slots id a i x : ℕ) (me : Seated Boxed L) → IsAlone me.0 → (person me.0).role ≡ Unmarshal → (person me.0).own ≤ a → a < length (person me.0).seen → i < 16 → GoesOn (person me.0).part a i
       → MayWrite (terms.reads terms.logic) (person me.0) a
-      → Allows (Lawful S terms) slots id me (in_row terms.rows a (i + 48)) (λ _. x) (λ _. stores_command terms.rows (step slots (in_row terms.rows a (i + 48)) x 0 none) me x)
+      → Allows (Lawful terms) slots id me (in_row terms.rows a (i + 48)) (λ _. x) (λ _. stores_command terms.rows (step slots (in_row terms.rows a (i + 48)) x 0 none) me x)
   writes_command slots id a i x me one role from known small goes_on may s r wide at _ =
-      let p = person me.0 in let w = words_of s in let knows = (mine S terms s r id me.0 p at one).2 in
+      let p = person me.0 in let w = words_of s in let knows = (mine terms s r id me.0 p at one).2 in
       let own_is : w unmarshalled ≡ p.own = subst (λ (z : Role). w (place_of z) ≡ p.own) role knows.own in
       let reach = reaches terms w r.log p.seen r.logged knows.front in let order = r.order in let first = order.processed_unmarshalled in let room = order.room in (
         alone me.0 (stored p a i x),
@@ -81,8 +82,8 @@ module _ {L : Type 0} (S : Type 0) (terms : Terms L) where
             ap (λ (z : ℕ). (alone me.0 (stored p z i x), me.1)) eq ∙ ap (λ (z : ℕ). (alone me.0 (stored p t z x), me.1)) word_is),
       )
 
-  pub writes_command_in : (n : ℕ) → terms.rows ≡ n → (slots id a i x : ℕ) (me : Seated S L) (place : ℕ) → IsAlone me.0 → (person me.0).role ≡ Unmarshal → (person me.0).own ≤ a → a < length (person me.0).seen → i < 16
-      → GoesOn (person me.0).part a i → MayWrite (terms.reads terms.logic) (person me.0) a → place ≡ in_row n a (i + 48) → Allows (Lawful S terms) slots id me place (λ _. x) (λ _. stores_command n (step slots place x 0 none) me x)
+  pub writes_command_in : (n : ℕ) → terms.rows ≡ n → (slots id a i x : ℕ) (me : Seated Boxed L) (place : ℕ) → IsAlone me.0 → (person me.0).role ≡ Unmarshal → (person me.0).own ≤ a → a < length (person me.0).seen → i < 16
+      → GoesOn (person me.0).part a i → MayWrite (terms.reads terms.logic) (person me.0) a → place ≡ in_row n a (i + 48) → Allows (Lawful terms) slots id me place (λ _. x) (λ _. stores_command n (step slots place x 0 none) me x)
   writes_command_in n is slots id a i x me place one role from known small goes_on may place_is =
-      subst (λ (y : ℕ). Allows (Lawful S terms) slots id me y (λ _. x) (λ _. stores_command n (step slots y x 0 none) me x)) (sym place_is)
-      (subst (λ (j : ℕ). Allows (Lawful S terms) slots id me (in_row j a (i + 48)) (λ _. x) (λ _. stores_command j (step slots (in_row j a (i + 48)) x 0 none) me x)) is (writes_command slots id a i x me one role from known small goes_on may))
+      subst (λ (y : ℕ). Allows (Lawful terms) slots id me y (λ _. x) (λ _. stores_command n (step slots y x 0 none) me x)) (sym place_is)
+      (subst (λ (j : ℕ). Allows (Lawful terms) slots id me (in_row j a (i + 48)) (λ _. x) (λ _. stores_command j (step slots (in_row j a (i + 48)) x 0 none) me x)) is (writes_command slots id a i x me one role from known small goes_on may))

@@ -9,6 +9,7 @@ use Rattle.atomic_table.specs.Table.{State}
 use Rattle.atomic_table.proofs.Lists.{at_last}
 use Rattle.venue_model.specs.History.{Message}
 use Rattle.venue_model.specs.ListLaws.{at_longer, stands, within}
+use Rattle.ring_words.specs.Slots.{Boxed}
 use Rattle.ring_words.specs.declared.view.Role.{Role}
 use Rattle.ring_words.specs.declared.view.Role.TheVariants.{Process, Journal, Gateway}
 use Rattle.ring_words.specs.declared.view.Person.{Person}
@@ -63,7 +64,7 @@ pub begins_with : (ps : List Person) (p : Person) → get_elem? ps 0 ≡ some p 
 begins_with [] p at = absurd (some-ne-none p (sym at))
 begins_with (q ∷ ps) p at = ap (λ (x : Person). x ∷ ps) (some-injective q p at)
 
-module _ {L : Type 0} (S : Type 0) (terms : Terms L) (s : State S (View L)) (r : Lawful S terms s) (id : ℕ) (v : View L) (at : get_elem? s.views id ≡ some v)
+module _ {L : Type 0} (terms : Terms L) (s : State Boxed (View L)) (r : Lawful terms s) (id : ℕ) (v : View L) (at : get_elem? s.views id ≡ some v)
     (seats : Seats L) (all : Gathers seats.gateways.items (stages_of seats) v) (numbered : (i : ℕ) (g : At L) → get_elem? seats.gateways.items i ≡ some g → g.who.role ≡ Gateway (i + 1))
     (spent : AreSpent seats.gateways.items) (count : length seats.gateways.items ≡ terms.gateways) where
   knows_of : (i : ℕ) (g : At L) → get_elem? seats.gateways.items i ≡ some g → Knows terms (words_of s) r.log g.who

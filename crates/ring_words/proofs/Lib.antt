@@ -1,5 +1,6 @@
 pub mod Windows
 pub mod Puts
+pub mod Homes
 pub mod Owners
 pub mod Keeps
 pub mod Outgoings
@@ -30,5 +31,3 @@ pub mod Meetings
 pub mod Opens
 pub mod Crews
 pub mod Endings
-pub mod Packings
-pub mod OutputPackings

@@ -10,6 +10,7 @@ use lib.ListN.{get_elem?}
 use Rattle.atomic_table.specs.Table.{State, Act, step, keeps, Valid, carried_after, stepped, Allows}
 use Rattle.venue_model.specs.History.{Message}
 use Rattle.venue_model.specs.ListLaws.{within, at_end}
+use Rattle.ring_words.specs.Slots.{Boxed}
 use Rattle.ring_words.specs.declared.view.Load.{Load}
 use Rattle.ring_words.specs.declared.view.Person.{Person}
 use Rattle.ring_words.specs.declared.view.View.{View}
@@ -17,7 +18,7 @@ use Rattle.ring_words.specs.declared.view.Role.{Role}
 use Rattle.ring_words.specs.declared.view.Role.TheVariants.{Process}
 use Rattle.ring_words.specs.Places.{processed, claim, unmarshalled, journalled, in_row, place_of}
 use Rattle.ring_words.specs.Log.{Status, entry_of, IsFront}
-use Rattle.ring_words.specs.Packing.{command_words, IsPackable}
+use Rattle.command_words.specs.Packing.{command_words, IsPackable}
 use Rattle.ring_words.specs.Terms.{Terms, commands_of}
 use Rattle.ring_words.specs.Rule.{Depth, Knows, words_of, Lawful}
 use Rattle.ring_words.specs.Seats.{person, IsAlone, IsReader, alone, looked, saw, knowing, last_from}
@@ -65,35 +66,35 @@ goes_on status (suc k) h front all =
     let more = goes_on status k (h ++ e ∷ []) one_more (λ s lt. all s (omega arith)) in
     (e ∷ more.0, ap suc more.1, subst (IsFront status) (append_assoc h (e ∷ []) more.0) more.2)
 
-module _ {L : Type 0} (S : Type 0) (terms : Terms L) where
+module _ {L : Type 0} (terms : Terms L) where
   abbrev St : Type 0
-  St = State S (View L)
+  St = State Boxed (View L)
 
-  abbrev pub Goes : St → ℕ → ℕ → Seated S L → (ℕ → Seated S L → Type 0) → ℕ → Type 0
-  Goes s k id me then x = (w : View L) × (a : Act S) × Valid s.homes me.1 a × Lawful S terms (stepped s k x id me.1 w a) × then (get_or s.words k 0) (w, carried_after me.1 a)
+  abbrev pub Goes : St → ℕ → ℕ → Seated Boxed L → (ℕ → Seated Boxed L → Type 0) → ℕ → Type 0
+  Goes s k id me then x = (w : View L) × (a : Act Boxed) × Valid s.homes me.1 a × Lawful terms (stepped s k x id me.1 w a) × then (get_or s.words k 0) (w, carried_after me.1 a)
 
   -- a load after which the seat's one person is q
-  pub looks : (s : St) (r : Lawful S terms s) (k id : ℕ) (me : Seated S L) (q : Person) (then : ℕ → Seated S L → Type 0) → get_elem? s.views id ≡ some me.0 → IsAlone me.0 → q.role ≡ (person me.0).role
+  pub looks : (s : St) (r : Lawful terms s) (k id : ℕ) (me : Seated Boxed L) (q : Person) (then : ℕ → Seated Boxed L → Type 0) → get_elem? s.views id ≡ some me.0 → IsAlone me.0 → q.role ≡ (person me.0).role
       → Knows terms (words_of s) r.log q → then (get_or s.words k 0) (alone me.0 q, me.1) → Goes s k id me then (get_or s.words k 0)
   looks s r k id me q then at one role knows told = (
     alone me.0 q,
     keeps,
     tt,
-    subst (λ (ws : List ℕ). Lawful S terms record { words = ws; homes = s.homes; views = set s.views id (alone me.0 q) }) (sym (set-get_or s.words k 0))
-        (after S terms s r s.words id me.0 (person me.0) q at one role refl r.log r.order r.logged r.rows r.outgoing knows (λ o _ same. same)),
+    subst (λ (ws : List ℕ). Lawful terms record { words = ws; homes = s.homes; views = set s.views id (alone me.0 q) }) (sym (set-get_or s.words k 0))
+        (after terms s r s.words id me.0 (person me.0) q at one role refl r.log r.order r.logged r.rows r.outgoing s.homes r.filled knows (λ o _ same. same)),
     told,
   )
 
-  abbrev Loads : ℕ → ℕ → Seated S L → ℕ → (ℕ → Seated S L → Type 0) → Type 0
-  Loads slots id me k then = Allows (Lawful S terms) slots id me k (λ x. x) then
+  abbrev Loads : ℕ → ℕ → Seated Boxed L → ℕ → (ℕ → Seated Boxed L → Type 0) → Type 0
+  Loads slots id me k then = Allows (Lawful terms) slots id me k (λ x. x) then
 
-  pub loads_claim : (slots id : ℕ) (me : Seated S L) → IsAlone me.0 → Loads slots id me claim (sees_claim (step slots claim 0 0 none) me)
-  loads_claim slots id me one s r wide at _ = let p = person me.0 in let x : ℕ = words_of s claim in let knows = (mine S terms s r id me.0 p at one).2 in
+  pub loads_claim : (slots id : ℕ) (me : Seated Boxed L) → IsAlone me.0 → Loads slots id me claim (sees_claim (step slots claim 0 0 none) me)
+  loads_claim slots id me one s r wide at _ = let p = person me.0 in let x : ℕ = words_of s claim in let knows = (mine terms s r id me.0 p at one).2 in
       looks s r claim id me (looked p claim x) (sees_claim (step slots claim 0 0 none) me) at one refl (knows_looked terms (words_of s) r.log p claim x (λ _. le_refl x) knows)
       (refl, reaches terms (words_of s) r.log p.seen r.logged knows.front, r.order.most)
 
-  pub loads_processed : (slots id : ℕ) (me : Seated S L) → IsAlone me.0 → Loads slots id me processed (sees_processed terms.rows (step slots processed 0 0 none) me)
-  loads_processed slots id me one s r wide at _ = let p = person me.0 in let x : ℕ = words_of s processed in let knows = (mine S terms s r id me.0 p at one).2 in
+  pub loads_processed : (slots id : ℕ) (me : Seated Boxed L) → IsAlone me.0 → Loads slots id me processed (sees_processed terms.rows (step slots processed 0 0 none) me)
+  loads_processed slots id me one s r wide at _ = let p = person me.0 in let x : ℕ = words_of s processed in let knows = (mine terms s r id me.0 p at one).2 in
       looks s r processed id me (looked p processed x) (sees_processed terms.rows (step slots processed 0 0 none) me) at one refl (knows_looked terms (words_of s) r.log p processed x (λ _. le_refl x) knows) (
         refl,
         λ i l there is. let c : ℕ = words_of s claim in let below : c ≤ x + terms.rows = r.order.room in
@@ -101,13 +102,13 @@ module _ {L : Type 0} (S : Type 0) (terms : Terms L) where
       )
 
   -- the same, where the code's number of rows is the key's
-  pub loads_processed_in : (n : ℕ) → terms.rows ≡ n → (slots id : ℕ) (me : Seated S L) → IsAlone me.0 → Loads slots id me processed (sees_processed n (step slots processed 0 0 none) me)
+  pub loads_processed_in : (n : ℕ) → terms.rows ≡ n → (slots id : ℕ) (me : Seated Boxed L) → IsAlone me.0 → Loads slots id me processed (sees_processed n (step slots processed 0 0 none) me)
   loads_processed_in n is slots id me one = subst (λ (k : ℕ). Loads slots id me processed (sees_processed k (step slots processed 0 0 none) me)) is (loads_processed slots id me one)
 
   -- a row's availability word shows the next entry, or another number
-  pub loads_mark : (slots id : ℕ) (me : Seated S L) (k : ℕ) → IsAlone me.0 → IsReader (person me.0).role → k ≡ in_row terms.rows (length (person me.0).seen) 0 → Loads slots id me k (sees_mark (step slots k 0 0 none) me)
+  pub loads_mark : (slots id : ℕ) (me : Seated Boxed L) (k : ℕ) → IsAlone me.0 → IsReader (person me.0).role → k ≡ in_row terms.rows (length (person me.0).seen) 0 → Loads slots id me k (sees_mark (step slots k 0 0 none) me)
   loads_mark slots id me k one reader is s r wide at _ = let p = person me.0 in let next : ℕ = length p.seen in let x : ℕ = words_of s k in let then = sees_mark (step slots k 0 0 none) me in
-      let knows = (mine S terms s r id me.0 p at one).2 in let after_load = knows_looked terms (words_of s) r.log p k x (λ _. le_refl x) knows in
+      let knows = (mine terms s r id me.0 p at one).2 in let after_load = knows_looked terms (words_of s) r.log p k x (λ _. le_refl x) knows in
       dite (ℕ_discrete x (suc next))
       (λ fresh. let found = (r.rows.marks next next (ap (words_of s) (sym is) ∙ fresh)).1 in let e : Message = found.0 in
       let longer = knows_saw terms (words_of s) r.log (looked p k x) e (ap entry_of found.1) (any_depth (words_of s) p.role (length (p.seen ++ e ∷ [])) reader) after_load in
@@ -116,9 +117,9 @@ module _ {L : Type 0} (S : Type 0) (terms : Terms L) where
       (λ other. looks s r k id me (looked p k x) then at one refl after_load ((λ fresh. absurd (other fresh)), λ _. refl))
 
   -- a raw word of an entry that the stage knows and hasn't released is that of the entry
-  pub loads_raw : (slots id : ℕ) (me : Seated S L) (k : ℕ) → IsAlone me.0 → IsReader (person me.0).role → Loads slots id me k (sees_raw terms.rows (step slots k 0 0 none) me)
+  pub loads_raw : (slots id : ℕ) (me : Seated Boxed L) (k : ℕ) → IsAlone me.0 → IsReader (person me.0).role → Loads slots id me k (sees_raw terms.rows (step slots k 0 0 none) me)
   loads_raw slots id me k one reader s r wide at _ = let p = person me.0 in let w = words_of s in let x : ℕ = w k in let then = sees_raw terms.rows (step slots k 0 0 none) me in
-      let knows = (mine S terms s r id me.0 p at one).2 in
+      let knows = (mine terms s r id me.0 p at one).2 in
       let behind : w processed ≤ p.own = not_ahead w p.role p.own r.order.processed_unmarshalled r.order.processed_journalled reader knows.own in
       looks s r k id me (looked p k x) then at one refl (knows_looked terms w r.log p k x (λ _. le_refl x) knows) (
         refl,
@@ -128,21 +129,21 @@ module _ {L : Type 0} (S : Type 0) (terms : Terms L) where
             (ap w is ∙ r.rows.raw t e published (let room = r.order.room in omega arith) i few, (r.logged.sender t e published).0)),
       )
 
-  pub loads_raw_in : (n : ℕ) → terms.rows ≡ n → (slots id : ℕ) (me : Seated S L) (k : ℕ) → IsAlone me.0 → IsReader (person me.0).role → Loads slots id me k (sees_raw n (step slots k 0 0 none) me)
+  pub loads_raw_in : (n : ℕ) → terms.rows ≡ n → (slots id : ℕ) (me : Seated Boxed L) (k : ℕ) → IsAlone me.0 → IsReader (person me.0).role → Loads slots id me k (sees_raw n (step slots k 0 0 none) me)
   loads_raw_in n is slots id me k one reader = subst (λ (j : ℕ). Loads slots id me k (sees_raw j (step slots k 0 0 none) me)) is (loads_raw slots id me k one reader)
 
-  pub loads_mark_in : (n : ℕ) → terms.rows ≡ n → (slots id : ℕ) (me : Seated S L) (k : ℕ) → IsAlone me.0 → IsReader (person me.0).role → k ≡ in_row n (length (person me.0).seen) 0 → Loads slots id me k (sees_mark (step slots k 0 0 none) me)
+  pub loads_mark_in : (n : ℕ) → terms.rows ≡ n → (slots id : ℕ) (me : Seated Boxed L) (k : ℕ) → IsAlone me.0 → IsReader (person me.0).role → k ≡ in_row n (length (person me.0).seen) 0 → Loads slots id me k (sees_mark (step slots k 0 0 none) me)
   loads_mark_in n is slots id me k one reader at = loads_mark slots id me k one reader (at ∙ ap (λ (j : ℕ). in_row j (length (person me.0).seen) 0) (sym is))
 
   -- the processor loads unmarshalled
-  pub loads_unmarshalled : (slots id : ℕ) (me : Seated S L) → IsAlone me.0 → (person me.0).role ≡ Process → Loads slots id me unmarshalled (sees_unmarshalled (step slots unmarshalled 0 0 none) me)
-  loads_unmarshalled slots id me one role s r wide at _ = let p = person me.0 in let x : ℕ = words_of s unmarshalled in let knows = (mine S terms s r id me.0 p at one).2 in
+  pub loads_unmarshalled : (slots id : ℕ) (me : Seated Boxed L) → IsAlone me.0 → (person me.0).role ≡ Process → Loads slots id me unmarshalled (sees_unmarshalled (step slots unmarshalled 0 0 none) me)
+  loads_unmarshalled slots id me one role s r wide at _ = let p = person me.0 in let x : ℕ = words_of s unmarshalled in let knows = (mine terms s r id me.0 p at one).2 in
       looks s r unmarshalled id me (looked p unmarshalled x) (sees_unmarshalled (step slots unmarshalled 0 0 none) me) at one refl (knows_looked terms (words_of s) r.log p unmarshalled x (λ _. le_refl x) knows)
       (refl, (subst (λ (z : Role). Depth (words_of s) z (length p.seen)) role knows.depth).0)
 
   -- the processor loads journalled: it knows what lies below it and below the unmarshalled value that it loaded last
-  pub loads_journalled : (slots id : ℕ) (me : Seated S L) → IsAlone me.0 → (person me.0).role ≡ Process → Loads slots id me journalled (sees_journalled (step slots journalled 0 0 none) me)
-  loads_journalled slots id me one role s r wide at _ = let p = person me.0 in let w = words_of s in let x : ℕ = w journalled in let knows = (mine S terms s r id me.0 p at one).2 in
+  pub loads_journalled : (slots id : ℕ) (me : Seated Boxed L) → IsAlone me.0 → (person me.0).role ≡ Process → Loads slots id me journalled (sees_journalled (step slots journalled 0 0 none) me)
+  loads_journalled slots id me one role s r wide at _ = let p = person me.0 in let w = words_of s in let x : ℕ = w journalled in let knows = (mine terms s r id me.0 p at one).2 in
       let deep = subst (λ (z : Role). Depth w z (length p.seen)) role knows.depth in
       let u : ℕ = last_from unmarshalled 0 p.loads in
       let low : u ≤ w unmarshalled = last_low unmarshalled 0 (w unmarshalled) p.loads (omega arith) (λ i l there is. subst (λ (j : ℕ). l.value ≤ w j) is (knows.loads i l there (let j : ℕ = l.place in let j_is : j ≡ 16 = is in omega arith))) in
@@ -164,9 +165,9 @@ module _ {L : Type 0} (S : Type 0) (terms : Terms L) where
       (deep_x, most, (rest, inr ((omega arith), long), refl)))
 
   -- a command word of an entry that the processor knows and hasn't released is that of its command
-  pub loads_command : (slots id : ℕ) (me : Seated S L) (k : ℕ) → IsAlone me.0 → (person me.0).role ≡ Process → Loads slots id me k (sees_command terms.rows terms.reads (step slots k 0 0 none) me)
+  pub loads_command : (slots id : ℕ) (me : Seated Boxed L) (k : ℕ) → IsAlone me.0 → (person me.0).role ≡ Process → Loads slots id me k (sees_command terms.rows terms.reads (step slots k 0 0 none) me)
   loads_command slots id me k one role s r wide at _ = let p = person me.0 in let w = words_of s in let x : ℕ = w k in let then = sees_command terms.rows terms.reads (step slots k 0 0 none) me in
-      let own = mine S terms s r id me.0 p at one in let knows = own.2 in let deep = subst (λ (z : Role). Depth w z (length p.seen)) role knows.depth in
+      let own = mine terms s r id me.0 p at one in let knows = own.2 in let deep = subst (λ (z : Role). Depth w z (length p.seen)) role knows.depth in
       let own_is : w processed ≡ p.own = subst (λ (z : Role). w (place_of z) ≡ p.own) role knows.own in
       looks s r k id me (looked p k x) then at one refl (knows_looked terms w r.log p k x (λ _. le_refl x) knows) (
         refl,
@@ -182,5 +183,5 @@ module _ {L : Type 0} (S : Type 0) (terms : Terms L) where
             )),
       )
 
-  pub loads_command_in : (n : ℕ) → terms.rows ≡ n → (slots id : ℕ) (me : Seated S L) (k : ℕ) → IsAlone me.0 → (person me.0).role ≡ Process → Loads slots id me k (sees_command n terms.reads (step slots k 0 0 none) me)
+  pub loads_command_in : (n : ℕ) → terms.rows ≡ n → (slots id : ℕ) (me : Seated Boxed L) (k : ℕ) → IsAlone me.0 → (person me.0).role ≡ Process → Loads slots id me k (sees_command n terms.reads (step slots k 0 0 none) me)
   loads_command_in n is slots id me k one role = subst (λ (j : ℕ). Loads slots id me k (sees_command j terms.reads (step slots k 0 0 none) me)) is (loads_command slots id me k one role)

@@ -15,11 +15,14 @@ use Rattle.ring_words.specs.declared.view.Role.TheVariants.{Process, Unmarshal, 
 use Rattle.ring_words.specs.declared.view.Part.{Part}
 use Rattle.ring_words.specs.declared.view.Person.{Person}
 use Rattle.ring_words.specs.Places.{claim, published, first_row, in_row, out_row, place_of}
+use Rattle.std.specs.Prelude.{Option}
+use Rattle.ring_words.specs.declared.report.Report.{Report}
+use Rattle.ring_words.specs.Slots.{Slots, OutOf}
 use Rattle.ring_words.specs.Log.{Status, unclaimed, old, claimed, sent, Log, entry_of, IsFront}
-use Rattle.ring_words.specs.Packing.{command_words}
+use Rattle.command_words.specs.Packing.{command_words}
 use Rattle.ring_words.specs.Terms.{Terms}
 use Rattle.ring_words.specs.Rule.{Depth, Logged, Knows, PartOf, Written, WrittenTexts}
-use Rattle.ring_words.specs.Seats.{load_of, looked, saw, knowing, moved}
+use Rattle.ring_words.specs.Seats.{load_of, looked, saw, knowing, moved, with_out}
 use Rattle.ring_words.proofs.Written.{written_grows, written_on}
 use Rattle.ring_words.proofs.WrittenTexts.{texts_grow, texts_on}
 
@@ -93,6 +96,7 @@ module _ {L : Type 0} (terms : Terms L) (w : ℕ → ℕ) (log : Log) where
     part = r.part;
     written = r.written;
     written_texts = r.written_texts;
+    out = r.out;
     loads = λ i l at low. ⊎_elim (λ was. r.loads i l was low) (λ (is : load_of k x ≡ l). subst (λ (y : Load). y.place < first_row → y.value ≤ w y.place) is le low) (at_snoc p.loads (load_of k x) l i at);
   }
 
@@ -107,6 +111,7 @@ module _ {L : Type 0} (terms : Terms L) (w : ℕ → ℕ) (log : Log) where
     part = r.part;
     written = λ is. written_grows terms w p.seen (e ∷ []) p.own p.part.sequence (r.written is);
     written_texts = λ is. texts_grow terms w p.seen (e ∷ []) p.own p.part.sequence (r.written_texts is);
+    out = r.out;
     loads = r.loads;
     front = λ s d at. ⊎_elim (λ was. r.front s d was)
         (λ (t : (s ≡ length p.seen) × (e ≡ d)). ap (λ (i : ℕ). entry_of (log.status i)) t.0 ∙ next ∙ ap some t.1) (at_end p.seen e d s at);
@@ -123,6 +128,7 @@ module _ {L : Type 0} (terms : Terms L) (w : ℕ → ℕ) (log : Log) where
     part = r.part;
     written = λ is. written_grows terms w p.seen rest p.own p.part.sequence (r.written is);
     written_texts = λ is. texts_grow terms w p.seen rest p.own p.part.sequence (r.written_texts is);
+    out = r.out;
     loads = r.loads;
     front = front;
   }
@@ -142,6 +148,7 @@ module _ {L : Type 0} (terms : Terms L) (w : ℕ → ℕ) (log : Log) where
     part = part;
     written = written;
     written_texts = texts;
+    out = r.out;
   }
 
   -- what is known stays where no control word falls, no row word changes, published is as it was, and the own word is as it says
@@ -179,6 +186,7 @@ module _ {L : Type 0} (terms : Terms L) (w : ℕ → ℕ) (log : Log) where
     part = part_stays p.role r.part;
     written = r.written;
     written_texts = r.written_texts;
+    out = r.out;
   } where
     part_stays : (role : Role) → PartOf terms.rows terms.output_rows w log role p.part → PartOf terms.rows terms.output_rows w (record log { history = h }) role p.part
     part_stays Process t = t
@@ -186,3 +194,34 @@ module _ {L : Type 0} (terms : Terms L) (w : ℕ → ℕ) (log : Log) where
     part_stays Journal t = tt
     part_stays Marshal t = t
     part_stays (Gateway k) t = t
+
+  -- and of the slots by whose it has out
+  pub knows_out : (slots : Slots) (p : Person) (out : Option Report) → OutOf slots p.role out → Knows terms w log p → Knows terms w (record log { slots = slots }) (with_out p out)
+  knows_out slots p out is r = record {
+    role = r.role;
+    front = r.front;
+    depth = r.depth;
+    own = r.own;
+    mine = r.mine;
+    claims = r.claims;
+    loads = r.loads;
+    part = part_stays p.role r.part;
+    written = r.written;
+    written_texts = r.written_texts;
+    out = is;
+  } where
+    part_stays : (role : Role) → PartOf terms.rows terms.output_rows w log role p.part → PartOf terms.rows terms.output_rows w (record log { slots = slots }) role p.part
+    part_stays Process t = t
+    part_stays Unmarshal t = t
+    part_stays Journal t = tt
+    part_stays Marshal t = t
+    part_stays (Gateway k) t = t
+
+-- who has another role than one of whose slot is taken or brought back knows what it knew of the slots
+pub others_out : (slots slots' : Slots) (role : Role) (out : Option Report) → (role ≡ Process → slots'.filling ≡ slots.filling) → (role ≡ Marshal → slots'.reading ≡ slots.reading)
+    → OutOf slots role out → OutOf slots' role out
+others_out slots slots' Process out filling reading is = is ∙ sym (filling refl)
+others_out slots slots' Unmarshal out filling reading is = tt
+others_out slots slots' Journal out filling reading is = tt
+others_out slots slots' Marshal out filling reading is = is ∙ sym (reading refl)
+others_out slots slots' (Gateway k) out filling reading is = tt

@@ -9,6 +9,7 @@ use lib.ListN.{get_elem?}
 use Rattle.atomic_table.specs.Table.{State, step, keeps, Allows}
 use Rattle.venue_model.specs.History.{Message}
 use Rattle.venue_model.specs.ListLaws.{stands, within, read_at}
+use Rattle.ring_words.specs.Slots.{Boxed}
 use Rattle.ring_words.specs.declared.view.Role.{Role}
 use Rattle.ring_words.specs.declared.view.Role.TheVariants.{Gateway}
 use Rattle.ring_words.specs.declared.view.Sent.{Sent}
@@ -16,7 +17,7 @@ use Rattle.ring_words.specs.declared.view.View.{View}
 use Rattle.ring_words.specs.Places.{processed, claim, unmarshalled, journalled, taken, first_row, in_row, out_row, place_of, number_of}
 use Rattle.ring_words.specs.Log.{IsEntry, Status, unclaimed, old, claimed, sent, Log, entry_of, sends_of, claims_of, sent_at, times, without}
 use Rattle.ring_words.specs.Raw.{raw_count, raw_word, Spells}
-use Rattle.ring_words.specs.Packing.{IsPackable}
+use Rattle.command_words.specs.Packing.{IsPackable}
 use Rattle.ring_words.specs.Terms.{Terms, commands_of, command_of}
 use Rattle.ring_words.specs.Rule.{IsGateway, IsRole, PartOf, words_of, Lawful}
 use Rattle.ring_words.specs.Seats.{person, IsAlone, alone, sent_of, marked}
@@ -63,13 +64,13 @@ times_left s t (c ∷ l) ne = dite (ℕ_discrete c s)
     (λ e. ap (times t) (cond-true (eqb c s) (without s l) (c ∷ without s l) (eq-eqb c s e)) ∙ times_left s t l ne ∙ sym (cond-false (eqb c t) (suc (times t l)) (times t l) (ne_eqb c t (λ z. ne (sym z ∙ e)))))
     (λ other. ap (times t) (cond-false (eqb c s) (without s l) (c ∷ without s l) (ne_eqb c s other)) ∙ ap (λ (y : ℕ). cond (eqb c t) (suc y) y) (times_left s t l ne))
 
-module _ {L : Type 0} (S : Type 0) (terms : Terms L) where
-  marked_now : (s : State S (View L)) (r : Lawful S terms s) (id k a : ℕ) (e : Message) (me : Seated S L) → get_elem? s.views id ≡ some me.0 → IsAlone me.0 → (person me.0).role ≡ Gateway k
+module _ {L : Type 0} (terms : Terms L) where
+  marked_now : (s : State Boxed (View L)) (r : Lawful terms s) (id k a : ℕ) (e : Message) (me : Seated Boxed L) → get_elem? s.views id ≡ some me.0 → IsAlone me.0 → (person me.0).role ≡ Gateway k
       → r.log.status a ≡ claimed k → (person me.0).part.sequence ≡ a → Spells (person me.0).part.words e → IsEntry e → e.gateway ≡ k
-      → Lawful S terms record { words = set s.words (in_row terms.rows a 0) (suc a); homes = s.homes; views = set s.views id (alone me.0 (marked (person me.0) a e)) }
+      → Lawful terms record { words = set s.words (in_row terms.rows a 0) (suc a); homes = s.homes; views = set s.views id (alone me.0 (marked (person me.0) a e)) }
   marked_now s r id k a e me at one role is on_row spelled valid own_gateway =
       let p = person me.0 in let ws = s.words in let w = words_of s in let here : ℕ = in_row terms.rows a 0 in let ws' = set ws here (suc a) in let w' : ℕ → ℕ = λ (j : ℕ). get_or ws' j 0 in
-      let knows = (mine S terms s r id me.0 p at one).2 in
+      let knows = (mine terms s r id me.0 p at one).2 in
       let status : ℕ → Status = r.log.status in let status' : ℕ → Status = put status a (sent e) in let log' : Log = record r.log { status = status' } in
       let gateway : IsGateway terms.gateways k = subst (IsRole terms.gateways) role knows.role in
       let inside : here < length ws = subst (λ (y : ℕ). here < y) (sym r.wide) (row_inside terms.rows terms.output_rows a 0 r.some_row (let g : 0 < 64 = omega arith in g)) in
@@ -92,7 +93,7 @@ module _ {L : Type 0} (S : Type 0) (terms : Terms L) where
       let there = stands p.part.words j (subst (λ (y : ℕ). j < y) (sym spelled.long) few) in
       let h = subst (λ (z : Role). PartOf terms.rows terms.output_rows w r.log z p.part) role knows.part j there.0 there.1 in
       ap (λ (t : ℕ). w (in_row terms.rows t (j + 1))) (sym on_row) ∙ h.2 ∙ read_at p.part.words j there.0 there.1 ∙ spelled.each j few) in
-      after S terms s r ws' id me.0 p (marked p a e) at one refl (length-set ws here (suc a)) log'
+      after terms s r ws' id me.0 p (marked p a e) at one refl (length-set ws here (suc a)) log'
       (ordered_stays terms w w' r.log (λ c low. control c (omega arith)) order)
       record {
         start = omega arith;
@@ -127,7 +128,8 @@ module _ {L : Type 0} (S : Type 0) (terms : Terms L) where
             (λ _ z below le i y there. (let size = short_words d.gateway (command_of terms t d) in let few = within (commands_of terms t d) i y there in
             stays t (i + 48) (omega arith) (λ _. (λ (q : i + 48 ≡ 0). omega arith)) ∙ r.rows.commands t d z (subst (λ (q : ℕ). t < q) unmarshalled_is below) (subst (λ (q : ℕ). q ≤ t + terms.rows) claim_is' le) i y there));
       }
-      (outgoing_stays terms w w' r.log log' r.few refl (λ t d there. entries t d (r.outgoing.front t d there)) zero_is journalled_is (λ c _ low. control c low) (all_outputs terms w w' outside) r.outgoing)
+      (outgoing_stays terms w w' r.log log' r.few refl refl (λ t d there. entries t d (r.outgoing.front t d there)) zero_is journalled_is (λ c _ low. control c low) (all_outputs terms w w' outside) r.outgoing)
+      s.homes r.filled
       record {
         role = knows.role;
         front = λ t d there. entries t d (knows.front t d there);
@@ -144,9 +146,10 @@ module _ {L : Type 0} (S : Type 0) (terms : Terms L) where
         part = subst (λ (z : Role). PartOf terms.rows terms.output_rows w' log' z record { sequence = a; words = [] }) (sym role) (λ j y there. absurd (some-ne-none y (sym there)));
         written = λ is_unmarshaller. absurd (let z : 0 ≡ 1 = ap writes_rows (sym role ∙ is_unmarshaller) in omega arith);
         written_texts = λ is_marshaller. absurd (let z : 0 ≡ 1 = ap writes_rows (sym role ∙ is_marshaller) in omega arith);
+        out = knows.out;
       }
       (λ o apart_from kn. let differs : number_of o.role ≢ k = other_number o.role k gateway.0 (λ z. apart_from (z ∙ sym (ap place_of role))) in
-      others_know terms w w' r.log log' o r.few entries
+      others_know terms w w' r.log log' o r.few refl entries
       (λ t. by_put status a t (sent e) (λ (x : Status). sends_of (number_of o.role) (status t) ≡ sends_of (number_of o.role) x)
       (λ here_is. ap (sends_of (number_of o.role)) (ap status here_is ∙ is) ∙ sym (cond-false (eqb e.gateway (number_of o.role)) (e ∷ []) [] (ne_eqb e.gateway (number_of o.role) (λ z. differs (sym z ∙ own_gateway))))) (λ _. refl))
       (λ t. by_put status a t (sent e) (λ (x : Status). claims_of (number_of o.role) (status t) ≡ claims_of (number_of o.role) x)
@@ -160,10 +163,10 @@ module _ {L : Type 0} (S : Type 0) (terms : Terms L) where
       } kn)
 
   -- a gateway publishes what it stored in a row that it claimed
-  pub marks_row : (slots id k a : ℕ) (e : Message) (me : Seated S L) → IsAlone me.0 → (person me.0).role ≡ Gateway k → 0 < times a (person me.0).claims → (person me.0).part.sequence ≡ a → Spells (person me.0).part.words e → IsEntry e → e.gateway ≡ k
-      → Allows (Lawful S terms) slots id me (in_row terms.rows a 0) (λ _. suc a) (λ _. marks_sent (step slots (in_row terms.rows a 0) (suc a) 0 none) me (suc a))
+  pub marks_row : (slots id k a : ℕ) (e : Message) (me : Seated Boxed L) → IsAlone me.0 → (person me.0).role ≡ Gateway k → 0 < times a (person me.0).claims → (person me.0).part.sequence ≡ a → Spells (person me.0).part.words e → IsEntry e → e.gateway ≡ k
+      → Allows (Lawful terms) slots id me (in_row terms.rows a 0) (λ _. suc a) (λ _. marks_sent (step slots (in_row terms.rows a 0) (suc a) 0 none) me (suc a))
   marks_row slots id k a e me one role some_claim on_row spelled valid own_gateway s r wide at _ =
-      let p = person me.0 in let knows = (mine S terms s r id me.0 p at one).2 in
+      let p = person me.0 in let knows = (mine terms s r id me.0 p at one).2 in
       let is : r.log.status a ≡ claimed k = claim_is (r.log.status a) k (subst (λ (y : ℕ). 0 < y) (knows.claims a ∙ ap (λ (j : ℕ). claims_of j (r.log.status a)) (ap number_of role)) some_claim) in (
         alone me.0 (marked p a e),
         keeps,
@@ -173,8 +176,8 @@ module _ {L : Type 0} (S : Type 0) (terms : Terms L) where
             ap (λ (z : ℕ). (alone me.0 (marked p z e), me.1)) same ∙ ap (λ (z : Message). (alone me.0 (marked p t z), me.1)) (spelled_once p.part.words e d valid valid' spelled spelled')),
       )
 
-  pub marks_row_in : (n : ℕ) → terms.rows ≡ n → (slots id k a x : ℕ) (e : Message) (me : Seated S L) (place : ℕ) → IsAlone me.0 → (person me.0).role ≡ Gateway k → 0 < times a (person me.0).claims → (person me.0).part.sequence ≡ a
-      → Spells (person me.0).part.words e → IsEntry e → e.gateway ≡ k → place ≡ in_row n a 0 → x ≡ suc a → Allows (Lawful S terms) slots id me place (λ _. x) (λ _. marks_sent (step slots place x 0 none) me x)
+  pub marks_row_in : (n : ℕ) → terms.rows ≡ n → (slots id k a x : ℕ) (e : Message) (me : Seated Boxed L) (place : ℕ) → IsAlone me.0 → (person me.0).role ≡ Gateway k → 0 < times a (person me.0).claims → (person me.0).part.sequence ≡ a
+      → Spells (person me.0).part.words e → IsEntry e → e.gateway ≡ k → place ≡ in_row n a 0 → x ≡ suc a → Allows (Lawful terms) slots id me place (λ _. x) (λ _. marks_sent (step slots place x 0 none) me x)
   marks_row_in n is slots id k a x e me place one role some_claim on_row spelled valid own_gateway place_is next =
-      subst (λ (y : ℕ × ℕ). Allows (Lawful S terms) slots id me y.0 (λ _. y.1) (λ _. marks_sent (step slots y.0 y.1 0 none) me y.1))
+      subst (λ (y : ℕ × ℕ). Allows (Lawful terms) slots id me y.0 (λ _. y.1) (λ _. marks_sent (step slots y.0 y.1 0 none) me y.1))
       (λ i. (sym (place_is ∙ ap (λ (j : ℕ). in_row j a 0) (sym is)) i, sym next i)) (marks_row slots id k a e me one role some_claim on_row spelled valid own_gateway)

@@ -10,6 +10,7 @@ use mathlib.Core.Logic.{dite}
 use native.Mathlib.Decide.{ℕ_discrete, dec_le}
 use Rattle.atomic_table.proofs.Lists.{at_set}
 use Rattle.venue_model.specs.History.{Message}
+use Rattle.ring_words.specs.Slots.{Boxed}
 use Rattle.ring_words.specs.declared.view.Role.{Role}
 use Rattle.ring_words.specs.declared.view.Role.TheVariants.{Journal, Gateway}
 use Rattle.ring_words.specs.declared.view.Person.{Person}
@@ -36,16 +37,16 @@ in_two p q o ps zero is at = inl (some-injective p o (subst (λ (l : List Person
 in_two p q o ps (suc zero) is at = inr (some-injective q o (subst (λ (l : List Person). get_elem? l 1 ≡ some o) is at))
 in_two p q o ps (suc (suc j)) is at = absurd (some-ne-none o (sym (subst (λ (l : List Person). get_elem? l (suc (suc j)) ≡ some o) is at)))
 
-module _ {L : Type 0} (S : Type 0) (terms : Terms L) where
+module _ {L : Type 0} (terms : Terms L) where
   -- a load after which the seat's two persons are p' and q'
-  pub looks_two : (s : State S (View L)) (r : Lawful S terms s) (k id : ℕ) (me : Seated S L) (p q p' q' : Person) (then : ℕ → Seated S L → Type 0) → get_elem? s.views id ≡ some me.0
+  pub looks_two : (s : State Boxed (View L)) (r : Lawful terms s) (k id : ℕ) (me : Seated Boxed L) (p q p' q' : Person) (then : ℕ → Seated Boxed L → Type 0) → get_elem? s.views id ≡ some me.0
       → me.0.people ≡ p ∷ q ∷ [] → p'.role ≡ p.role → q'.role ≡ q.role → Knows terms (words_of s) r.log p' → Knows terms (words_of s) r.log q'
-      → then (get_or s.words k 0) (record me.0 { people = p' ∷ q' ∷ [] }, me.1) → Goes S terms s k id me then (get_or s.words k 0)
+      → then (get_or s.words k 0) (record me.0 { people = p' ∷ q' ∷ [] }, me.1) → Goes terms s k id me then (get_or s.words k 0)
   looks_two s r k id me p q p' q' then at two role_p role_q knows_p knows_q told = let w : View L = record me.0 { people = p' ∷ q' ∷ [] } in (
     w,
     keeps,
     tt,
-    subst (λ (ws : List ℕ). Lawful S terms record { words = ws; homes = s.homes; views = set s.views id w }) (sym (set-get_or s.words k 0)) (reseated S terms s r (set s.views id w)
+    subst (λ (ws : List ℕ). Lawful terms record { words = ws; homes = s.homes; views = set s.views id w }) (sym (set-get_or s.words k 0)) (reseated terms s r (set s.views id w)
         (λ i j u o there in_it. ⊎_elim
         (λ (t : (i ≡ id) × (w ≡ u)). let own = r.people id 0 me.0 p at (ap (λ (l : List Person). get_elem? l 0) two) in (
           ap (λ (x : View L). x.logic) (sym t.1) ∙ own.0,
@@ -62,9 +63,9 @@ module _ {L : Type 0} (S : Type 0) (terms : Terms L) where
   )
 
   -- two gateways have different numbers
-  pub two_numbers : (s : State S (View L)) (r : Lawful S terms s) (id : ℕ) (v : View L) (p q : Person) (j k : ℕ) → get_elem? s.views id ≡ some v → v.people ≡ p ∷ q ∷ [] → p.role ≡ Gateway j → q.role ≡ Gateway k → j ≢ k
+  pub two_numbers : (s : State Boxed (View L)) (r : Lawful terms s) (id : ℕ) (v : View L) (p q : Person) (j k : ℕ) → get_elem? s.views id ≡ some v → v.people ≡ p ∷ q ∷ [] → p.role ≡ Gateway j → q.role ≡ Gateway k → j ≢ k
   two_numbers s r id v p q j k at two role_p role_q same =
-      let few = one_owner_each S terms s r (taken j) in let there = one_of (taken j) s.views id v at in
+      let few = one_owner_each terms s r (taken j) in let there = one_of (taken j) s.views id v at in
       let all : owners (taken j) v.people ≡ owners (taken j) (p ∷ []) + owners (taken j) (q ∷ []) = ap (owners (taken j)) two ∙ owners_both (taken j) (p ∷ []) (q ∷ []) in
       let one : owners (taken j) (p ∷ []) ≡ 1 = cond-true (eqb (place_of p.role) (taken j)) 1 0 (eq-eqb (place_of p.role) (taken j) (ap place_of role_p)) in
       let other : owners (taken j) (q ∷ []) ≡ 1 = cond-true (eqb (place_of q.role) (taken j)) 1 0 (eq-eqb (place_of q.role) (taken j) (ap place_of role_q ∙ ap taken (sym same))) in
@@ -120,6 +121,7 @@ module _ {L : Type 0} (terms : Terms L) (w : ℕ → ℕ) (log : Log) where
     part = k.part;
     written = λ is. absurd (let z : 0 ≡ 1 = sym other ∙ ap writes_rows is in omega arith);
     written_texts = λ is. absurd (let z : 0 ≡ 1 = sym other ∙ ap writes_rows is in omega arith);
+    out = k.out;
   }
 
   -- two gateways published nothing at one sequence
@@ -129,10 +131,10 @@ module _ {L : Type 0} (terms : Terms L) (w : ℕ → ℕ) (log : Log) where
       (λ none. inr (knows_q.mine s ∙ ap (λ (z : Role). sends_of (number_of z) (log.status s)) role_q ∙ none))
       (apart_at j k (log.status s) ne)
 
-module _ {L : Type 0} (S : Type 0) (terms : Terms L) where
+module _ {L : Type 0} (terms : Terms L) where
   -- two gateways whose seats came together load processed: both then know the longer history
-  pub loads_meeting : (slots id : ℕ) (me : Seated S L) (p q : Person) (j k : ℕ) → me.0.people ≡ p ∷ q ∷ [] → p.role ≡ Gateway j → q.role ≡ Gateway k
-      → Allows (Lawful S terms) slots id me processed (λ x. x) (sees_meeting (step slots processed 0 0 none) me)
+  pub loads_meeting : (slots id : ℕ) (me : Seated Boxed L) (p q : Person) (j k : ℕ) → me.0.people ≡ p ∷ q ∷ [] → p.role ≡ Gateway j → q.role ≡ Gateway k
+      → Allows (Lawful terms) slots id me processed (λ x. x) (sees_meeting (step slots processed 0 0 none) me)
   loads_meeting slots id me p q j k two role_p role_q s r wide at _ =
       let w = words_of s in let x : ℕ = w processed in let status = r.log.status in
       let own_p = r.people id 0 me.0 p at (ap (λ (l : List Person). get_elem? l 0) two) in let own_q = r.people id 1 me.0 q at (ap (λ (l : List Person). get_elem? l 1) two) in
@@ -143,22 +145,22 @@ module _ {L : Type 0} (S : Type 0) (terms : Terms L) where
       let learned : AreMet (length terms.base) p q = record {
         one = is.0;
         other = is.1;
-        apart = mine_apart terms w r.log p q j k role_p role_q (two_numbers S terms s r id me.0 p q j k at two role_p role_q) knows_p knows_q;
+        apart = mine_apart terms w r.log p q j k role_p role_q (two_numbers terms s r id me.0 p q j k at two role_p role_q) knows_p knows_q;
         legal_one = legal_front terms w r.log p h r.logged knows_p is.2;
         legal_other = legal_front terms w r.log q h r.logged knows_q is.2;
       } in
-      looks_two S terms s r processed id me p q (met p x h) (met q x h) (sees_meeting (step slots processed 0 0 none) me) at two refl refl
+      looks_two terms s r processed id me p q (met p x h) (met q x h) (sees_meeting (step slots processed 0 0 none) me) at two refl refl
       (knows_met terms w r.log p x h (ap writes_rows role_p) (le_refl x) is.2 (subst (λ (z : Role). Depth w z (length h)) (sym role_p) low) knows_p)
       (knows_met terms w r.log q x h (ap writes_rows role_q) (le_refl x) is.2 (subst (λ (z : Role). Depth w z (length h)) (sym role_q) low) knows_q)
       (λ a b _ _ both _ _. (
       let a_is : p ≡ a = some-injective p a (ap (λ (l : List Person). get_elem? l 0) (sym two ∙ both)) in let b_is : q ≡ b = some-injective q b (ap (λ (l : List Person). get_elem? l 1) (sym two ∙ both)) in
-      let told : (z : Person × Person) → Type 0 = λ (z : Person × Person). (◌≡◌ {A = Seated S L} (record me.0 { people = met p x h ∷ met q x h ∷ [] }, me.1)
+      let told : (z : Person × Person) → Type 0 = λ (z : Person × Person). (◌≡◌ {A = Seated Boxed L} (record me.0 { people = met p x h ∷ met q x h ∷ [] }, me.1)
       (record me.0 { people = met z.0 x (longer z.0.seen z.1.seen) ∷ met z.1 x (longer z.0.seen z.1.seen) ∷ [] }, me.1)) × AreMet (length me.0.base) z.0 z.1 in
       subst told (λ i. (a_is i, b_is i)) (refl, subst (λ (l : List Message). AreMet (length l) p q) (sym own_p.1) learned)))
 
   -- a gateway and the journaller whose seats came together load processed: the gateway then knows all that the journaller has released
-  pub loads_journal : (slots id : ℕ) (me : Seated S L) (p q : Person) (j : ℕ) → me.0.people ≡ p ∷ q ∷ [] → p.role ≡ Gateway j → q.role ≡ Journal → q.own ≤ length q.seen
-      → Allows (Lawful S terms) slots id me processed (λ x. x) (sees_journal (step slots processed 0 0 none) me)
+  pub loads_journal : (slots id : ℕ) (me : Seated Boxed L) (p q : Person) (j : ℕ) → me.0.people ≡ p ∷ q ∷ [] → p.role ≡ Gateway j → q.role ≡ Journal → q.own ≤ length q.seen
+      → Allows (Lawful terms) slots id me processed (λ x. x) (sees_journal (step slots processed 0 0 none) me)
   loads_journal slots id me p q j two role_p role_q within_seen s r wide at _ =
       let w = words_of s in let x : ℕ = w processed in let status = r.log.status in
       let own_p = r.people id 0 me.0 p at (ap (λ (l : List Person). get_elem? l 0) two) in let own_q = r.people id 1 me.0 q at (ap (λ (l : List Person). get_elem? l 1) two) in
@@ -168,15 +170,15 @@ module _ {L : Type 0} (S : Type 0) (terms : Terms L) where
       let h : List Message = take q.own q.seen in let long : length h ≡ q.own = length-take-le q.own q.seen within_seen in
       let front : IsFront status h = front_taken status q.own q.seen knows_q.front in
       let learned : MeetsJournal (length terms.base) p q = record { begins = begun status p.seen h knows_p.front front (omega arith); legal = legal_front terms w r.log p h r.logged knows_p front } in
-      looks_two S terms s r processed id me p q (met p x h) (met q x q.seen) (sees_journal (step slots processed 0 0 none) me) at two refl refl
+      looks_two terms s r processed id me p q (met p x h) (met q x q.seen) (sees_journal (step slots processed 0 0 none) me) at two refl refl
       (knows_met terms w r.log p x h (ap writes_rows role_p) (le_refl x) front (subst (λ (z : Role). Depth w z (length h)) (sym role_p) (let low : length h ≤ w journalled = omega arith in low)) knows_p)
       (knows_met terms w r.log q x q.seen (ap writes_rows role_q) (le_refl x) knows_q.front knows_q.depth knows_q)
       (λ a b _ both _ _ _. (
       let a_is : p ≡ a = some-injective p a (ap (λ (l : List Person). get_elem? l 0) (sym two ∙ both)) in let b_is : q ≡ b = some-injective q b (ap (λ (l : List Person). get_elem? l 1) (sym two ∙ both)) in
-      let told : (z : Person × Person) → Type 0 = λ (z : Person × Person). (◌≡◌ {A = Seated S L} (record me.0 { people = met p x h ∷ met q x q.seen ∷ [] }, me.1)
+      let told : (z : Person × Person) → Type 0 = λ (z : Person × Person). (◌≡◌ {A = Seated Boxed L} (record me.0 { people = met p x h ∷ met q x q.seen ∷ [] }, me.1)
       (record me.0 { people = met z.0 x (take z.1.own z.1.seen) ∷ met z.1 x z.1.seen ∷ [] }, me.1)) × MeetsJournal (length me.0.base) z.0 z.1 in
       subst told (λ i. (a_is i, b_is i)) (refl, subst (λ (l : List Message). MeetsJournal (length l) p q) (sym own_p.1) learned)))
 
 -- the seat that took in another has both persons
-pub both_people : {S L : Type 0} (v w : View L) (both : Seated S L) → v.people ≡ person v ∷ [] → w.people ≡ person w ∷ [] → both ≡ (together v w, []) → both.0.people ≡ person v ∷ person w ∷ []
-both_people v w both one other is = ap (λ (z : Seated _ _). z.0.people) is ∙ ap (λ (ps : List Person). ps ++ w.people) one ∙ ap (λ (ps : List Person). person v ∷ ps) other
+pub both_people : {L : Type 0} (v w : View L) (both : Seated Boxed L) → v.people ≡ person v ∷ [] → w.people ≡ person w ∷ [] → both ≡ (together v w, []) → both.0.people ≡ person v ∷ person w ∷ []
+both_people v w both one other is = ap (λ (z : Seated Boxed _). z.0.people) is ∙ ap (λ (ps : List Person). ps ++ w.people) one ∙ ap (λ (ps : List Person). person v ∷ ps) other

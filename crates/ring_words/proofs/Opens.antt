@@ -1,12 +1,16 @@
 -- The rule holds of the table at the start.
 use Rattle.std.proofs.Common.{◌≡◌, ◌≢◌, ℕ, zero, suc, ◌+◌, ◌*◌, ◌^◌, ◌<◌, ◌≤◌, Bool, true, false, List, [], ◌∷◌, cond, ltb, length, get_or, take, refl, ap, sym, subst, ◌∙◌, arith, le_refl}
 use Rattle.std.proofs.lemmas.Bool.{lt-ltb, ltb-true, cond-true, cond-false}
-use Rattle.std.proofs.lemmas.List.{take_all}
+use Rattle.std.proofs.lemmas.List.{take_all, length-map}
 use mathlib.Core.Option.{Option, none, some, some-injective, some-ne-none}
 use lib.ListN.{get_elem?}
+use Rattle.std.specs.Prelude.{None, Some}
 use Rattle.atomic_table.specs.Table.{opening}
+use Rattle.atomic_table.proofs.Lists.{at_map}
 use Rattle.venue_model.specs.History.{Message}
 use Rattle.venue_model.specs.ListLaws.{stands, within}
+use Rattle.ring_words.specs.declared.report.Report.{Report}
+use Rattle.ring_words.specs.Slots.{Boxed, OutOf}
 use Rattle.ring_words.specs.declared.view.Role.{Role}
 use Rattle.ring_words.specs.declared.view.Role.TheVariants.{Process, Unmarshal, Journal, Marshal, Gateway}
 use Rattle.ring_words.specs.declared.view.Person.{Person}
@@ -24,8 +28,17 @@ abbrev as_status : Option Message → Status
 as_status none = unclaimed
 as_status (some e) = old e
 
-abbrev start_log : List Message → Log
-start_log base = record { status = λ s. as_status (get_elem? base s); history = base }
+-- what a box holds, if there is one
+abbrev report_in : Option Boxed → Option Report
+report_in none = none
+report_in (some b) = some b.value
+
+abbrev start_log : List Message → List Boxed → Log
+start_log base boxes = record {
+  status = λ s. as_status (get_elem? base s);
+  history = base;
+  slots = record { reports = λ j. report_in (get_elem? boxes j); filling = None; reading = None };
+}
 
 not_old : (o : Option Message) (e : Message) → as_status o ≡ sent e → ⊥
 not_old none e is = let z : zero ≡ suc zero = cc in omega arith
@@ -76,10 +89,10 @@ module _ {L : Type 0} where
   only_view v zero u at = some-injective v u at
   only_view v (suc i) u at = absurd (some-ne-none u (sym at))
 
-module _ {L : Type 0} (S : Type 0) (terms : Terms L) where
+module _ {L : Type 0} (terms : Terms L) (boxes : List Boxed) where
   -- what someone who knows the history at the start knows, and nothing more: its row under way, at this place, has no word
   new_knows : (w : ℕ → ℕ) (role : Role) (own place : ℕ) → IsRole terms.gateways role → w (place_of role) ≡ own → length terms.base ≤ w unmarshalled → length terms.base ≤ w journalled
-      → (role ≡ Process → place ≡ w published) → (place_of role ≢ processed → place ≡ 0) → Knows terms w (start_log terms.base) (at_place (newcomer role terms.base own) place)
+      → (role ≡ Process → place ≡ w published) → (place_of role ≢ processed → place ≡ 0) → Knows terms w (start_log terms.base boxes) (at_place (newcomer role terms.base own) place)
   new_knows w role own place there is u j at_published at_none = record {
     role = there;
     front = λ s e at. ap (λ (o : Option Message). entry_of (as_status o)) at;
@@ -89,6 +102,7 @@ module _ {L : Type 0} (S : Type 0) (terms : Terms L) where
     claims = λ s. no_claims (number_of role) (get_elem? terms.base s);
     loads = λ i l at. absurd (some-ne-none l (sym at));
     part = nothing_stored role refl;
+    out = nothing_out role;
     written = λ e. (let none = at_none (λ z. (let y : 16 ≡ 0 = sym (ap place_of e) ∙ z in omega arith)) in none_written terms w terms.base own place (omega arith) (omega arith));
     written_texts = λ e. (let none = at_none (λ z. (let y : 32 ≡ 0 = sym (ap place_of e) ∙ z in omega arith)) in no_texts terms w terms.base own place (omega arith));
   } where
@@ -99,7 +113,14 @@ module _ {L : Type 0} (S : Type 0) (terms : Terms L) where
     deep Marshal = j
     deep (Gateway k) = j
 
-    nothing_stored : (other : Role) → role ≡ other → PartOf terms.rows terms.output_rows w (start_log terms.base) other record { sequence = place; words = [] }
+    nothing_out : (role : Role) → OutOf (start_log terms.base boxes).slots role None
+    nothing_out Process = refl
+    nothing_out Unmarshal = tt
+    nothing_out Journal = tt
+    nothing_out Marshal = refl
+    nothing_out (Gateway k) = tt
+
+    nothing_stored : (other : Role) → role ≡ other → PartOf terms.rows terms.output_rows w (start_log terms.base boxes) other record { sequence = place; words = [] }
     nothing_stored Process e = (at_published e, λ i x at. absurd (some-ne-none x (sym at)))
     nothing_stored Unmarshal e = λ i x at. absurd (some-ne-none x (sym at))
     nothing_stored Journal e = tt
@@ -108,7 +129,7 @@ module _ {L : Type 0} (S : Type 0) (terms : Terms L) where
 
   -- what a person of the first crew knows
   of_crew : (w : ℕ → ℕ) → terms.gateways ≤ 8 → w processed ≡ length terms.base → w unmarshalled ≡ length terms.base → w journalled ≡ length terms.base → w marshalled ≡ terms.given → w published ≡ terms.given → ((k : ℕ) → 1 ≤ k → k ≤ 8 → w (taken k) ≡ terms.given)
-      → (j : ℕ) (p : Person) → get_elem? (crew terms.gateways terms.base terms.given) j ≡ some p → Knows terms w (start_log terms.base) p
+      → (j : ℕ) (p : Person) → get_elem? (crew terms.gateways terms.base terms.given) j ≡ some p → Knows terms w (start_log terms.base boxes) p
   of_crew w few_gates first second third fourth last each j p at = by_place j at where
     n : ℕ
     n = length terms.base
@@ -119,25 +140,25 @@ module _ {L : Type 0} (S : Type 0) (terms : Terms L) where
     v : length terms.base ≤ w journalled
     v = omega arith
 
-    by_place : (j : ℕ) → get_elem? (crew terms.gateways terms.base terms.given) j ≡ some p → Knows terms w (start_log terms.base) p
-    by_place zero at = subst (Knows terms w (start_log terms.base)) (some-injective (processor terms.base terms.given) p at) (new_knows w Process n terms.given tt first u v (λ _. sym last) (λ ne. absurd (ne refl)))
-    by_place (suc zero) at = subst (Knows terms w (start_log terms.base)) (some-injective (newcomer Unmarshal terms.base n) p at) (new_knows w Unmarshal n 0 tt second u v (λ e. absurd (let z : 16 ≡ 0 = ap place_of e in omega arith)) (λ _. refl))
-    by_place (suc (suc zero)) at = subst (Knows terms w (start_log terms.base)) (some-injective (newcomer Journal terms.base n) p at) (new_knows w Journal n 0 tt third u v (λ e. absurd (let z : 24 ≡ 0 = ap place_of e in omega arith)) (λ _. refl))
-    by_place (suc (suc (suc zero))) at = subst (Knows terms w (start_log terms.base)) (some-injective (newcomer Marshal terms.base terms.given) p at) (new_knows w Marshal terms.given 0 tt fourth u v (λ e. absurd (let z : 32 ≡ 0 = ap place_of e in omega arith)) (λ _. refl))
+    by_place : (j : ℕ) → get_elem? (crew terms.gateways terms.base terms.given) j ≡ some p → Knows terms w (start_log terms.base boxes) p
+    by_place zero at = subst (Knows terms w (start_log terms.base boxes)) (some-injective (processor terms.base terms.given) p at) (new_knows w Process n terms.given tt first u v (λ _. sym last) (λ ne. absurd (ne refl)))
+    by_place (suc zero) at = subst (Knows terms w (start_log terms.base boxes)) (some-injective (newcomer Unmarshal terms.base n) p at) (new_knows w Unmarshal n 0 tt second u v (λ e. absurd (let z : 16 ≡ 0 = ap place_of e in omega arith)) (λ _. refl))
+    by_place (suc (suc zero)) at = subst (Knows terms w (start_log terms.base boxes)) (some-injective (newcomer Journal terms.base n) p at) (new_knows w Journal n 0 tt third u v (λ e. absurd (let z : 24 ≡ 0 = ap place_of e in omega arith)) (λ _. refl))
+    by_place (suc (suc (suc zero))) at = subst (Knows terms w (start_log terms.base boxes)) (some-injective (newcomer Marshal terms.base terms.given) p at) (new_knows w Marshal terms.given 0 tt fourth u v (λ e. absurd (let z : 32 ≡ 0 = ap place_of e in omega arith)) (λ _. refl))
     by_place (suc (suc (suc (suc j)))) at = let g : ℕ = terms.gateways in let t = each_of 1 g terms.base terms.given j p at in let k : ℕ = t.0 in let lo : 1 ≤ k = t.1 in let hi : k < 1 + g = t.2 in
         let few_g : g ≤ 8 = few_gates in let le : k ≤ 8 = omega arith in let inside : k ≤ g = omega arith in
-        subst (Knows terms w (start_log terms.base)) t.3 (new_knows w (Gateway k) terms.given 0 (lo, inside) (each k lo le) u v (λ e. absurd (let z : 32 + 8 * k ≡ 0 = ap place_of e in omega arith)) (λ _. refl))
+        subst (Knows terms w (start_log terms.base boxes)) t.3 (new_knows w (Gateway k) terms.given 0 (lo, inside) (each k lo le) u v (λ e. absurd (let z : 32 + 8 * k ≡ 0 = ap place_of e in omega arith)) (λ _. refl))
 
-  pub starts : (ws : List ℕ) → 0 < terms.rows → 0 < terms.output_rows → 1 ≤ terms.gateways → terms.gateways ≤ 8 → terms.given ≡ length (outputs_of terms terms.base) → length terms.base ≤ 2 ^ 48 → length ws ≡ table_words terms.rows terms.output_rows
-      → ((k : ℕ) → k < length ws → get_or ws k 0 ≡ opening_word (length terms.base) terms.given k) → Lawful S terms (opening {S = S} ws [] (first_view terms))
-  starts ws pos out_pos some_gates few_gates given_is small wide is = let b : ℕ = length terms.base in let w : ℕ → ℕ = λ (k : ℕ). get_or ws k 0 in
+  pub starts : (ws : List ℕ) → 0 < terms.rows → 0 < terms.output_rows → 1 ≤ terms.gateways → terms.gateways ≤ 8 → terms.given ≡ length (outputs_of terms terms.base) → length terms.base ≤ 2 ^ 48 → length boxes ≡ terms.output_rows → length ws ≡ table_words terms.rows terms.output_rows
+      → ((k : ℕ) → k < length ws → get_or ws k 0 ≡ opening_word (length terms.base) terms.given k) → Lawful terms (opening ws boxes (first_view terms))
+  starts ws pos out_pos some_gates few_gates given_is small count wide is = let b : ℕ = length terms.base in let w : ℕ → ℕ = λ (k : ℕ). get_or ws k 0 in
       let done_is : w 0 ≡ b = is 0 (omega arith) in let claim_is : w 8 ≡ b = is 8 (omega arith) in let unmarshalled_is : w 16 ≡ b = is 16 (omega arith) in let journalled_is : w 24 ≡ b = is 24 (omega arith) in
       let m_is : w 32 ≡ terms.given = is 32 (omega arith) in let p_is : w 104 ≡ terms.given = is 104 (omega arith) in
       let each : (k : ℕ) → 1 ≤ k → k ≤ 8 → w (taken k) ≡ terms.given = λ k lo hi. is (taken k) (let x : 32 + 8 * k < length ws = omega arith in x) ∙ taken_given b terms.given k lo hi in
       let gate : (k : ℕ) → IsGateway terms.gateways k → w (taken k) ≡ terms.given = λ k g. (let lo : 1 ≤ k = g.0 in let hi : k ≤ terms.gateways = g.1 in each k lo (omega arith)) in
       let none_left : (k q : ℕ) → IsGateway terms.gateways k → w (taken k) ≤ q → q < terms.given → ⊥ = λ k q g from to. (let e = gate k g in omega arith) in
       record {
-        log = start_log terms.base;
+        log = start_log terms.base boxes;
         some_row = pos;
         some_output_row = out_pos;
         some_gateway = some_gates;
@@ -172,10 +193,16 @@ module _ {L : Type 0} (S : Type 0) (terms : Terms L) where
               let long : length (outputs_of terms (take (w 0) terms.base)) ≡ length (outputs_of terms terms.base) = ap (λ (h : List Message). length (outputs_of terms h)) all in omega arith);
           most = (let all : take (suc (w 0)) terms.base ≡ terms.base = take_all (suc (w 0)) terms.base (omega arith) in
               let long : length (outputs_of terms (take (suc (w 0)) terms.base)) ≡ length (outputs_of terms terms.base) = ap (λ (h : List Message). length (outputs_of terms h)) all in omega arith);
-          outputs = λ k q o g from to. absurd (none_left k q g from (omega arith));
-          packable = λ k q o g from to. absurd (none_left k q g from (omega arith));
+          addresses = λ k q o g from to. absurd (none_left k q g from (omega arith));
+          reports = λ k q o g from to. absurd (none_left k q g from (omega arith));
+          filling = λ f is. absurd (let none_is : None ≡ Some f = is in cc);
+          reading = λ f is. absurd (let none_is : None ≡ Some f = is in cc);
           texts = λ k q o g from to. absurd (none_left k q g from (omega arith));
           readable = λ k q o g from to. absurd (none_left k q g from (omega arith));
+        };
+        filled = record {
+          wide = length-map boxes some ∙ count;
+          home = λ j low _ _. (let b = stands boxes j (omega arith) in (b.0, at_map some boxes j b.0 b.1, ap report_in b.1));
         };
         people = λ id j v p there in_it. (let first : View L = first_view terms in let is_first : first ≡ v = only_view first id v there in
             let at : get_elem? (crew terms.gateways terms.base terms.given) j ≡ some p = subst (λ (u : View L). get_elem? u.people j ≡ some p) (sym is_first) in_it in (

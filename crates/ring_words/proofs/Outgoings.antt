@@ -1,39 +1,41 @@
 -- The output ring's part of the rule: what follows from it, and that it stays where a step doesn't touch it.
 use Rattle.std.proofs.Common.{◌≡◌, ◌≢◌, ℕ, suc, ◌+◌, ◌*◌, ◌%◌, ◌<◌, ◌≤◌, List, ◌++◌, length, take, ap, sym, subst, ◌∙◌, arith, mod-lt}
 use Rattle.std.proofs.lemmas.List.{take-append-le}
-use mathlib.Core.Option.{some}
+use mathlib.Core.Option.{Option as Maybe, some}
 use lib.ListN.{get_elem?}
 use Rattle.venue_model.specs.History.{Message}
 use Rattle.venue_model.specs.declared.outputs.Output.{Output}
 use Rattle.venue_model.specs.ListLaws.{within}
 use Rattle.ring_words.specs.Places.{processed, journalled, marshalled, taken, published, first_row, in_row, out_row}
 use Rattle.ring_words.specs.Log.{Log, IsFront}
-use Rattle.ring_words.specs.OutputPacking.{output_words}
+use Rattle.std.specs.Prelude.{Some}
+use Rattle.ring_words.specs.declared.report.Report.{Report}
+use Rattle.ring_words.specs.Slots.{Slots}
 use Rattle.ring_words.specs.Texts.{text_words}
 use Rattle.ring_words.specs.Terms.{Terms, outputs_of, text_of}
 use Rattle.ring_words.specs.Steps.{Shows}
 use Rattle.ring_words.specs.declared.view.Person.{Person}
 use Rattle.ring_words.specs.Rule.{IsGateway, Outgoing, Knows}
-use Rattle.ring_words.proofs.OutputRows.{short_output, short_text}
+use Rattle.ring_words.proofs.OutputRows.{short_text}
 use Rattle.ring_words.proofs.Outputs.{in_front, begins, outputs_begin, output_stays, fewer_outputs, outputs_grow}
 
 module _ {L : Type 0} (terms : Terms L) where
   -- whoever may read a row of the output ring finds the same words there
   pub record SameOutputs (w w' : ℕ → ℕ) : Type 0 where
-    pub outputs : (k q : ℕ) → IsGateway terms.gateways k → w (taken k) ≤ q → q < w published
-        → (i : ℕ) → i < 64 → w' (out_row terms.rows terms.output_rows q i) ≡ w (out_row terms.rows terms.output_rows q i)
+    pub addresses : (k q : ℕ) → IsGateway terms.gateways k → w (taken k) ≤ q → q < w published
+        → w' (out_row terms.rows terms.output_rows q 0) ≡ w (out_row terms.rows terms.output_rows q 0)
     pub texts : (k q : ℕ) → IsGateway terms.gateways k → w (taken k) ≤ q → q < w marshalled
         → (i : ℕ) → i < 64 → w' (out_row terms.rows terms.output_rows q (i + 64)) ≡ w (out_row terms.rows terms.output_rows q (i + 64))
 
   -- as where no word of a row changed
   pub all_outputs : (w w' : ℕ → ℕ) → ((q i : ℕ) → w' (out_row terms.rows terms.output_rows q i) ≡ w (out_row terms.rows terms.output_rows q i)) → SameOutputs w w'
-  all_outputs w w' same = record { outputs = λ k q g from to i few. same q i; texts = λ k q g from to i few. same q (i + 64) }
+  all_outputs w w' same = record { addresses = λ k q g from to. same q 0; texts = λ k q g from to i few. same q (i + 64) }
 
   -- it stays where its words stay, and the history that is kept
-  pub outgoing_stays : (w w' : ℕ → ℕ) (log log' : Log) → terms.gateways ≤ 8 → log'.history ≡ log.history → IsFront log'.status log.history
+  pub outgoing_stays : (w w' : ℕ → ℕ) (log log' : Log) → terms.gateways ≤ 8 → log'.history ≡ log.history → log'.slots ≡ log.slots → IsFront log'.status log.history
       → w' processed ≡ w processed → w' journalled ≡ w journalled → ((k : ℕ) → marshalled ≤ k → k < first_row → w' k ≡ w k)
       → SameOutputs w w' → Outgoing terms w log → Outgoing terms w' log'
-  outgoing_stays w w' log log' few same front zero kept_is control rows r =
+  outgoing_stays w w' log log' few same slots_are front zero kept_is control rows r =
       let m : w' 32 ≡ w 32 = control 32 (omega arith) (omega arith) in let p : w' 104 ≡ w 104 = control 104 (omega arith) (omega arith) in
       let gate : (k : ℕ) → IsGateway terms.gateways k → w' (taken k) ≡ w (taken k) = λ k g. (let lo : 1 ≤ k = g.0 in let hi : k ≤ terms.gateways = g.1 in control (taken k) (omega arith) (omega arith)) in
       let history_is : (q : ℕ) (o : Output) → get_elem? (outputs_of terms log'.history) q ≡ some o → get_elem? (outputs_of terms log.history) q ≡ some o =
@@ -49,10 +51,13 @@ module _ {L : Type 0} (terms : Terms L) where
         most = (let is : length (outputs_of terms (take (suc (w' 0)) log'.history)) ≡ length (outputs_of terms (take (suc (w 0)) log.history)) =
             ap (λ (h : List Message). length (outputs_of terms (take (suc (w' 0)) h))) same ∙ ap (λ (x : ℕ). length (outputs_of terms (take (suc x) log.history))) zero in
             let a : w 104 ≤ length (outputs_of terms (take (suc (w 0)) log.history)) = r.most in omega arith);
-        outputs = λ k q o g from to at i x there. (let e = gate k g in let lo : w (taken k) ≤ q = omega arith in let hi : q < w 104 = omega arith in
-            let size = short_output o in let few_words = within (output_words o) i x there in
-            rows.outputs k q g lo hi i (omega arith) ∙ r.outputs k q o g lo hi (history_is q o at) i x there);
-        packable = λ k q o g from to at. (let e = gate k g in let lo : w (taken k) ≤ q = omega arith in let hi : q < w 104 = omega arith in r.packable k q o g lo hi (history_is q o at));
+        addresses = λ k q o g from to at. (let e = gate k g in let lo : w (taken k) ≤ q = omega arith in let hi : q < w 104 = omega arith in
+            rows.addresses k q g lo hi ∙ r.addresses k q o g lo hi (history_is q o at));
+        reports = λ k q o g from to at. (let e = gate k g in let lo : w (taken k) ≤ q = omega arith in let hi : q < w 104 = omega arith in
+            ap (λ (x : Slots). x.reports (q % terms.output_rows)) slots_are ∙ r.reports k q o g lo hi (history_is q o at));
+        filling = λ f is. (let h = r.filling f (ap (λ (x : Slots). x.filling) (sym slots_are) ∙ is) in let a : f.place ≡ w 104 = h.0 in let b : w 104 < w 32 + terms.output_rows = h.1 in ((omega arith), (omega arith)));
+        reading = λ f is. (let h = r.reading f (ap (λ (x : Slots). x.reading) (sym slots_are) ∙ is) in let a : w 32 ≤ f.place = h.1 in let b : f.place < w 104 = h.2 in
+            (ap (λ (x : Slots). x.reports (f.place % terms.output_rows)) slots_are ∙ h.0, (omega arith), (omega arith)));
         texts = λ k q o g from to at i x there. (let e = gate k g in let lo : w (taken k) ≤ q = omega arith in let hi : q < w 32 = omega arith in
             let size = short_text (text_of terms o q) (r.readable k q o g lo hi (history_is q o at)) in let few_words = within (text_words (text_of terms o q)) i x there in
             rows.texts k q g lo hi i (omega arith) ∙ r.texts k q o g lo hi (history_is q o at) i x there);
@@ -82,14 +87,37 @@ module _ {L : Type 0} (terms : Terms L) where
             let is_long : length (outputs_of terms (take (suc (w' 0)) h)) ≡ length (outputs_of terms (take (suc (w 0)) (log.history ++ rest))) =
             ap (λ (x : ℕ). length (outputs_of terms (take (suc x) h))) zero ∙ ap (λ (l : List Message). length (outputs_of terms (take (suc (w 0)) l))) is in
             let a : w 104 ≤ length (outputs_of terms (take (suc (w 0)) log.history)) = r.most in omega arith);
-        outputs = λ k q o g from to at i x there. (let e = gate k g in let lo : w (taken k) ≤ q = omega arith in let hi : q < w 104 = omega arith in
-            rows q i ∙ r.outputs k q o g lo hi (was_there q o hi at) i x there);
-        packable = λ k q o g from to at. (let e = gate k g in let lo : w (taken k) ≤ q = omega arith in let hi : q < w 104 = omega arith in r.packable k q o g lo hi (was_there q o hi at));
+        addresses = λ k q o g from to at. (let e = gate k g in let lo : w (taken k) ≤ q = omega arith in let hi : q < w 104 = omega arith in
+            rows q 0 ∙ r.addresses k q o g lo hi (was_there q o hi at));
+        reports = λ k q o g from to at. (let e = gate k g in let lo : w (taken k) ≤ q = omega arith in let hi : q < w 104 = omega arith in r.reports k q o g lo hi (was_there q o hi at));
+        filling = λ f is. (let h = r.filling f is in let a : f.place ≡ w 104 = h.0 in let b : w 104 < w 32 + terms.output_rows = h.1 in ((omega arith), (omega arith)));
+        reading = λ f is. (let h = r.reading f is in let a : w 32 ≤ f.place = h.1 in let b : f.place < w 104 = h.2 in (h.0, (omega arith), (omega arith)));
         texts = λ k q o g from to at i x there. (let e = gate k g in let lo : w (taken k) ≤ q = omega arith in let hi : q < w 32 = omega arith in let a : w 32 ≤ w 104 = r.marshalled_published in
             rows q (i + 64) ∙ r.texts k q o g lo hi (was_there q o (omega arith) at) i x there);
         readable = λ k q o g from to at. (let e = gate k g in let lo : w (taken k) ≤ q = omega arith in let hi : q < w 32 = omega arith in let a : w 32 ≤ w 104 = r.marshalled_published in
             r.readable k q o g lo hi (was_there q o (omega arith) at));
       }
+
+  -- it stays where the same reports stand for the rows, and other slots are out
+  pub outgoing_out : (w : ℕ → ℕ) (log : Log) (slots : Slots) → slots.reports ≡ log.slots.reports
+      → ((f : Report) → slots.filling ≡ Some f → (f.place ≡ w published) × (w published < w marshalled + terms.output_rows))
+      → ((f : Report) → slots.reading ≡ Some f → (log.slots.reports (f.place % terms.output_rows) ≡ some f) × (w marshalled ≤ f.place) × (f.place < w published))
+      → Outgoing terms w log → Outgoing terms w (record log { slots = slots })
+  outgoing_out w log slots same filling reading r = record {
+    kept = r.kept;
+    front = r.front;
+    marshalled_published = r.marshalled_published;
+    taken_marshalled = r.taken_marshalled;
+    free = r.free;
+    least = r.least;
+    most = r.most;
+    addresses = r.addresses;
+    reports = λ k q o g from to at. ap (λ (x : ℕ → Maybe Report). x (q % terms.output_rows)) same ∙ r.reports k q o g from to at;
+    filling = filling;
+    reading = λ f is. (let h = reading f is in (ap (λ (x : ℕ → Maybe Report). x (f.place % terms.output_rows)) same ∙ h.0, h.1, h.2));
+    texts = r.texts;
+    readable = r.readable;
+  }
 
   -- the history that is kept goes on where a person's ends that is no longer than journalled
   pub rest_of : (w : ℕ → ℕ) (log : Log) (h : List Message) → Outgoing terms w log → IsFront log.status h → length h ≤ w journalled → (rest : List Message) × (log.history ≡ h ++ rest)

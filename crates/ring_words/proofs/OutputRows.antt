@@ -1,18 +1,10 @@
--- The rows of the output ring: where their words lie, and how many words an output and a text take.
+-- The rows of the output ring: where their words lie, and how many words a text takes.
 use Rattle.std.proofs.Common.{◌≡◌, ℕ, zero, suc, ◌+◌, ◌*◌, ◌/◌, ◌%◌, ◌<◌, ◌≤◌, List, [], ◌∷◌, length, length-append, refl, arith, mod-lt}
-use Rattle.std.specs.Prelude.{Option, Some, None}
 use Rattle.std.specs.Int.{from_be_bytes}
 use mir.Syntax.{w64}
 use Rattle.venue_model.specs.Texts.{Text}
-use Rattle.venue_model.specs.declared.orders.Order.{Order}
-use Rattle.venue_model.specs.declared.outputs.ExecType.{ExecType}
-use Rattle.venue_model.specs.declared.outputs.ExecType.TheVariants.{New, Trade, Canceled, Replaced, Rejected}
-use Rattle.venue_model.specs.declared.outputs.Output.{Output}
-use Rattle.venue_model.specs.declared.outputs.Report.{Report}
-use Rattle.venue_model.specs.declared.outputs.Report.TheVariants.{Exec, CancelReject, SessionReject}
 use Rattle.ring_words.specs.Places.{out_row, table_words}
 use Rattle.ring_words.specs.Raw.{eight}
-use Rattle.ring_words.specs.OutputPacking.{exec_words, order_words, named_words, report_words, output_words}
 use Rattle.ring_words.specs.Texts.{eights, text_words, IsPackableText}
 
 -- two places of output rows are one only where row and word are
@@ -22,30 +14,6 @@ same_out_row n m p q i k a b e = let x : ℕ = p % m in let y : ℕ = q % m in l
 -- a word of an output row lies in the table
 pub out_row_inside : (n m q i : ℕ) → 0 < m → i < 128 → out_row n m q i < table_words n m
 out_row_inside n m q i pos small = let x : ℕ = q % m in let lt : x < m = mod-lt q pos in omega arith
-
--- what belongs to ExecType takes three words
-three_words : (e : ExecType) → length (exec_words e) ≡ 3
-three_words New = refl
-three_words (Trade quantity price) = refl
-three_words (Canceled None) = refl
-three_words (Canceled (Some orig)) = refl
-three_words (Replaced orig) = refl
-three_words (Rejected reason) = refl
-
--- an order takes ten words, where one is named
-few_named : (o : Option Order) → length (named_words o) ≤ 10
-few_named None = omega arith
-few_named (Some o) = omega arith
-
--- a report takes at most 15 words
-few_reported : (r : Report) → length (report_words r) ≤ 15
-few_reported (Exec r) = let kind = three_words r.exec_type in let long = length-append (exec_words r.exec_type) (order_words r.order) in omega arith
-few_reported (CancelReject r) = let named = few_named r.order in omega arith
-few_reported (SessionReject fault) = omega arith
-
--- an output takes at most 18 words
-pub short_output : (o : Output) → length (output_words o) ≤ 18
-short_output o = let most = few_reported o.report in omega arith
 
 -- so many words are made of bytes as are asked for
 long_eights : (bs : List ℕ) (n : ℕ) → length (eights bs n) ≡ n

@@ -6,6 +6,7 @@ use Rattle.std.specs.Prelude.{Some}
 use Rattle.std.proofs.lemmas.Option.{same_Some}
 use Rattle.atomic_table.specs.Table.{step, keeps, Allows}
 use Rattle.venue_model.specs.History.{Message}
+use Rattle.ring_words.specs.Slots.{Boxed}
 use Rattle.ring_words.specs.declared.view.Role.{Role}
 use Rattle.ring_words.specs.declared.view.Role.TheVariants.{Process}
 use Rattle.ring_words.specs.Places.{processed, journalled, marshalled, taken, published, first_row, out_row, place_of}
@@ -41,20 +42,22 @@ module _ {L : Type 0} (terms : Terms L) where
             let a : length (outputs_of terms (take x log.history)) ≤ w 104 = all in omega arith);
         most = (let is : length (outputs_of terms (take (suc (w' 0)) log.history)) ≡ length (outputs_of terms (take (suc x) log.history)) = ap (λ (y : ℕ). length (outputs_of terms (take (suc y) log.history))) here in
             let a : w 104 ≤ length (outputs_of terms (take (suc (w 0)) log.history)) = r.most in let low : w 0 ≤ x = up in let b = more_outputs (suc (w 0)) (suc x) log.history (omega arith) in omega arith);
-        outputs = λ k q o g from to at i y there. (let e = gate k g in rows q i ∙ r.outputs k q o g (omega arith) (omega arith) at i y there);
-        packable = λ k q o g from to at. (let e = gate k g in r.packable k q o g (omega arith) (omega arith) at);
+        addresses = λ k q o g from to at. (let e = gate k g in rows q 0 ∙ r.addresses k q o g (omega arith) (omega arith) at);
+        reports = λ k q o g from to at. (let e = gate k g in r.reports k q o g (omega arith) (omega arith) at);
+        filling = λ f is. (let h = r.filling f is in let a : f.place ≡ w 104 = h.0 in let b : w 104 < w 32 + terms.output_rows = h.1 in ((omega arith), (omega arith)));
+        reading = λ f is. (let h = r.reading f is in let a : w 32 ≤ f.place = h.1 in let b : f.place < w 104 = h.2 in (h.0, (omega arith), (omega arith)));
         texts = λ k q o g from to at i y there. (let e = gate k g in rows q (i + 64) ∙ r.texts k q o g (omega arith) (omega arith) at i y there);
         readable = λ k q o g from to at. (let e = gate k g in r.readable k q o g (omega arith) (omega arith) at);
       }
 
-module _ {L : Type 0} (S : Type 0) (terms : Terms L) where
+module _ {L : Type 0} (terms : Terms L) where
   -- the processor moves its word to what it knows at most; all outputs of the entries below it are published
-  pub stores_processed : (slots id : ℕ) (me : Seated S L) (x : ℕ) (lg : L) → me.0.logic ≡ Some lg → IsAlone me.0 → (person me.0).role ≡ Process → (person me.0).own ≤ x → x ≤ length (person me.0).seen
+  pub stores_processed : (slots id : ℕ) (me : Seated Boxed L) (x : ℕ) (lg : L) → me.0.logic ≡ Some lg → IsAlone me.0 → (person me.0).role ≡ Process → (person me.0).own ≤ x → x ≤ length (person me.0).seen
       → length (terms.outputs lg (take x (person me.0).seen)) ≤ (person me.0).part.sequence
-      → Allows (Lawful S terms) slots id me processed (λ _. x) (λ _. moves_own (step slots processed x 0 none) me x)
+      → Allows (Lawful terms) slots id me processed (λ _. x) (λ _. moves_own (step slots processed x 0 none) me x)
   stores_processed slots id me x lg view_is one role low high all_by s r wide at _ =
       let p = person me.0 in let ws = s.words in let w = words_of s in let w' : ℕ → ℕ = λ (j : ℕ). get_or (set ws 0 x) j 0 in let h = r.log.history in
-      let own = mine S terms s r id me.0 p at one in let knows = own.2 in let own_is : w 0 ≡ p.own = subst (λ (z : Role). w (place_of z) ≡ p.own) role knows.own in
+      let own = mine terms s r id me.0 p at one in let knows = own.2 in let own_is : w 0 ≡ p.own = subst (λ (z : Role). w (place_of z) ≡ p.own) role knows.own in
       let deep = subst (λ (z : Role). Depth w z (length p.seen)) role knows.depth in let deep_0 : length p.seen ≤ w 16 = deep.0 in let deep_1 : length p.seen ≤ w 24 = deep.1 in
       let part = subst (λ (z : Role). PartOf terms.rows terms.output_rows w r.log z p.part) role knows.part in let place_is : p.part.sequence ≡ w 104 = part.0 in
       let logic_is : lg ≡ terms.logic = same_Some lg terms.logic (sym view_is ∙ own.0) in
@@ -69,7 +72,7 @@ module _ {L : Type 0} (S : Type 0) (terms : Terms L) where
         alone me.0 (moved p x),
         keeps,
         tt,
-        own_now S terms s r h id me 0 x at one (ap place_of role) (omega arith) (λ (e : 0 ≡ 8). omega arith) (λ (e : 0 ≡ 104). omega arith) low
+        own_now terms s r h id me 0 x at one (ap place_of role) (omega arith) (λ (e : 0 ≡ 8). omega arith) (λ (e : 0 ≡ 104). omega arith) low
             record {
               processed_unmarshalled = omega arith;
               processed_journalled = omega arith;

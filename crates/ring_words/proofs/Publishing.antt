@@ -1,33 +1,36 @@
 -- The store of published keeps the rule: the next output stands whole in its row, and it is one of the entries processed or of the next one.
-use Rattle.std.proofs.Common.{◌≡◌, ◌≢◌, ℕ, suc, ◌+◌, ◌*◌, ◌<◌, ◌≤◌, List, length, length-set, take, drop, get_or, set, refl, ap, sym, subst, ◌∙◌, arith, take-append-drop}
+use Rattle.std.proofs.Common.{◌≡◌, ◌≢◌, ℕ, suc, ◌+◌, ◌*◌, ◌%◌, ◌<◌, ◌≤◌, List, [], ◌∷◌, length, length-set, mod-lt, take, drop, get_or, set, refl, ap, sym, subst, ◌∙◌, arith, take-append-drop}
 use mathlib.Core.Option.{none, some, some-injective, some-ne-none}
 use mathlib.Core.Logic.{dite}
 use native.Mathlib.Decide.{ℕ_discrete}
 use lib.ListN.{get_elem?}
-use Rattle.std.specs.Prelude.{Some}
+use Rattle.std.specs.Prelude.{None, Some}
 use Rattle.std.proofs.lemmas.Option.{same_Some}
-use Rattle.atomic_table.specs.Table.{step, keeps, Allows}
+use Rattle.atomic_table.specs.Table.{step, gives, put_back, Allows}
 use Rattle.venue_model.specs.History.{Message}
 use Rattle.venue_model.specs.declared.outputs.Output.{Output}
 use Rattle.venue_model.specs.ListLaws.{within}
+use Rattle.ring_words.specs.Slots.{Boxed, Slots, report_of, OutOf}
 use Rattle.ring_words.specs.declared.view.Role.{Role}
 use Rattle.ring_words.specs.declared.view.Role.TheVariants.{Process, Unmarshal, Journal, Marshal, Gateway}
 use Rattle.ring_words.specs.Places.{processed, journalled, marshalled, taken, published, first_row, in_row, out_row, place_of}
 use Rattle.ring_words.specs.Log.{Log}
-use Rattle.ring_words.specs.OutputPacking.{output_words, IsPackableOutput}
+use Rattle.ring_words.specs.declared.report.Report.{Report}
+use Rattle.ring_words.specs.declared.view.Person.{Person}
 use Rattle.ring_words.specs.Terms.{Terms, outputs_of}
 use Rattle.ring_words.specs.Rule.{IsGateway, IsRole, Depth, PartOf, Outgoing, words_of, at_place, Lawful}
-use Rattle.ring_words.specs.Seats.{person, IsAlone, alone}
+use Rattle.ring_words.specs.Seats.{person, IsAlone, alone, wrote, with_out}
 use Rattle.ring_words.specs.Steps.{Seated, HasOutputRoom, publishes}
-use Rattle.ring_words.proofs.Windows.{no_control}
-use Rattle.ring_words.proofs.Puts.{word_here, word_else}
-use Rattle.ring_words.proofs.Logs.{knows_on, knows_risen}
+use Rattle.ring_words.proofs.Windows.{no_control, one_window}
+use Rattle.ring_words.proofs.Puts.{put, put_here, put_else, word_here, word_else}
+use Rattle.ring_words.proofs.Homes.{filling_given}
+use Rattle.ring_words.proofs.Logs.{knows_on, knows_risen, knows_out, others_out}
 use Rattle.ring_words.proofs.Keeps.{mine, after}
 use Rattle.ring_words.proofs.Outputs.{begins, take_longer, output_stays}
 use Rattle.ring_words.proofs.Outgoings.{no_output}
-use Rattle.ring_words.proofs.Stays.{all_rows, ordered_stays, logged_stays, rows_stay}
+use Rattle.ring_words.proofs.Stays.{all_rows, ordered_stays, logged_stays, rows_stay, logged_out, rows_out}
 use Rattle.ring_words.proofs.Stores.{risen}
-use Rattle.ring_words.proofs.Putting.{at_published, has_room}
+use Rattle.ring_words.proofs.Putting.{at_published, has_room, another_row}
 
 -- published is no role's own word
 pub not_published : (g : ℕ) (role : Role) → g ≤ 8 → IsRole g role → place_of role ≢ published
@@ -37,15 +40,20 @@ not_published g Journal few h e = omega arith
 not_published g Marshal few h e = omega arith
 not_published g (Gateway k) few h e = let is : 32 + 8 * k ≡ 104 = e in let most : k ≤ g = h.1 in omega arith
 
+-- this report stands for the row, and the processor has nothing out
+abbrev pub published_slots : Slots → ℕ → Report → Slots
+published_slots slots j x = record { reports = put slots.reports j (some x); filling = None; reading = slots.reading }
+
 module _ {L : Type 0} (terms : Terms L) where
-  -- the output ring's part of the rule stays where published rises by one: the output at its place, which is one of the entries processed or of the
-  -- next one, stands in its row, and every gateway has passed that row
+  -- the output ring's part of the rule stays where published rises by one: the address of the output at its place, which is one of the entries processed
+  -- or of the next one, stands in its row, its report now stands for the row, and every gateway has passed that row
   pub outgoing_published : (w w' : ℕ → ℕ) (log : Log) (o : Output) → terms.gateways ≤ 8 → w' published ≡ suc (w published) → ((k : ℕ) → k < published → w' k ≡ w k)
       → ((q i : ℕ) → w' (out_row terms.rows terms.output_rows q i) ≡ w (out_row terms.rows terms.output_rows q i))
       → ((k : ℕ) → IsGateway terms.gateways k → w published < w (taken k) + terms.output_rows)
       → get_elem? (outputs_of terms (take (suc (w processed)) log.history)) (w published) ≡ some o
-      → ((i y : ℕ) → get_elem? (output_words o) i ≡ some y → w (out_row terms.rows terms.output_rows (w published) i) ≡ y) → IsPackableOutput o → Outgoing terms w log → Outgoing terms w' log
-  outgoing_published w w' log o few next control rows room at words packed r =
+      → w (out_row terms.rows terms.output_rows (w published) 0) ≡ o.to → (x : Report) → x ≡ report_of o (w published) → w published < w marshalled + terms.output_rows
+      → Outgoing terms w log → Outgoing terms w' (record log { slots = published_slots log.slots (w published % terms.output_rows) x })
+  outgoing_published w w' log o few next control rows room at address x x_is behind r =
       let h = log.history in let zero_is : w' 0 ≡ w 0 = control 0 (omega arith) in let m : w' 32 ≡ w 32 = control 32 (omega arith) in
       let gate : (k : ℕ) → IsGateway terms.gateways k → w' (taken k) ≡ w (taken k) = λ k g. (let hi : k ≤ terms.gateways = g.1 in control (taken k) (omega arith)) in
       let below : w 32 ≤ w 104 = r.marshalled_published in
@@ -62,26 +70,34 @@ module _ {L : Type 0} (terms : Terms L) where
             let a : length (outputs_of terms (take (w 0) h)) ≤ w 104 = r.least in omega arith);
         most = (let is : length (outputs_of terms (take (suc (w' 0)) h)) ≡ length (outputs_of terms (take (suc (w 0)) h)) = ap (λ (y : ℕ). length (outputs_of terms (take (suc y) h))) zero_is in
             let a = within (outputs_of terms (take (suc (w 0)) h)) (w 104) o at in omega arith);
-        outputs = λ k q d g from to there i y word. (let e = gate k g in rows q i ∙ dite (ℕ_discrete q (w 104))
-            (λ here. ap (λ (j : ℕ). w (out_row terms.rows terms.output_rows j i)) here ∙ words i y (subst (λ (z : Output). get_elem? (output_words z) i ≡ some y) (sym (is_it q d here there)) word))
-            (λ ne. r.outputs k q d g (omega arith) (omega arith) there i y word));
-        packable = λ k q d g from to there. (let e = gate k g in dite (ℕ_discrete q (w 104)) (λ here. subst IsPackableOutput (is_it q d here there) packed) (λ ne. r.packable k q d g (omega arith) (omega arith) there));
+        addresses = λ k q d g from to there. (let e = gate k g in rows q 0 ∙ dite (ℕ_discrete q (w 104))
+            (λ here. ap (λ (j : ℕ). w (out_row terms.rows terms.output_rows j 0)) here ∙ address ∙ ap (λ (z : Output). z.to) (is_it q d here there))
+            (λ ne. r.addresses k q d g (omega arith) (omega arith) there));
+        reports = λ k q d g from to there. (let e = gate k g in let a : w 104 < w (taken k) + terms.output_rows = room k g in let b : w (taken k) ≤ w 32 = r.taken_marshalled k g in dite (ℕ_discrete q (w 104))
+            (λ here. ap (λ (j : ℕ). put log.slots.reports (w 104 % terms.output_rows) (some x) (j % terms.output_rows)) here ∙ put_here log.slots.reports (w 104 % terms.output_rows) (some x)
+            ∙ ap some (x_is ∙ ap (λ (z : Output). report_of z (w 104)) (is_it q d here there) ∙ ap (report_of d) (sym here)))
+            (λ ne. put_else log.slots.reports (w 104 % terms.output_rows) (q % terms.output_rows) (some x)
+            (λ same. ne (one_window (w (taken k)) q (w 104) terms.output_rows (omega arith) (omega arith) (omega arith) a same)) ∙ r.reports k q d g (omega arith) (omega arith) there));
+        filling = λ f is. absurd (let none_is : None ≡ Some f = is in cc);
+        reading = λ f is. (let h = r.reading f is in let lo : w 32 ≤ f.place = h.1 in let hi : f.place < w 104 = h.2 in
+            (put_else log.slots.reports (w 104 % terms.output_rows) (f.place % terms.output_rows) (some x) (another_row terms w f.place below behind lo hi) ∙ h.0, (omega arith), (omega arith)));
         texts = λ k q d g from to there i y word. (let e = gate k g in rows q (i + 64) ∙ r.texts k q d g (omega arith) (omega arith) there i y word);
         readable = λ k q d g from to there. (let e = gate k g in r.readable k q d g (omega arith) (omega arith) there);
       }
 
-module _ {L : Type 0} (S : Type 0) (terms : Terms L) where
-  -- the processor publishes the next output, which it wrote whole
-  pub stores_published : (slots id : ℕ) (me : Seated S L) (x : ℕ) (lg : L) (o : Output) → me.0.logic ≡ Some lg → IsAlone me.0 → (person me.0).role ≡ Process → x ≡ suc (person me.0).part.sequence
+module _ {L : Type 0} (terms : Terms L) where
+  -- the processor publishes the next output, whose address it stored, and brings the slot of its row back with its report
+  pub stores_published : (slots id : ℕ) (me : Seated Boxed L) (x : ℕ) (lg : L) (o : Output) (f : Report) (b : Boxed) → me.0.logic ≡ Some lg → IsAlone me.0 → (person me.0).role ≡ Process → x ≡ suc (person me.0).part.sequence
       → HasOutputRoom terms.gateways terms.output_rows (person me.0) (person me.0).part.sequence
-      → get_elem? (terms.outputs lg (take (suc (person me.0).own) (person me.0).seen)) (person me.0).part.sequence ≡ some o → (person me.0).part.words ≡ output_words o → IsPackableOutput o
-      → Allows (Lawful S terms) slots id me published (λ _. x) (λ _. publishes (step slots published x 0 none) me x)
-  stores_published slots id me x lg o view_is one role next room at_by whole packed s r wide at _ =
+      → get_elem? (terms.outputs lg (take (suc (person me.0).own) (person me.0).seen)) (person me.0).part.sequence ≡ some o → (person me.0).part.words ≡ o.to ∷ []
+      → (person me.0).out ≡ Some f → f.place ≡ (person me.0).part.sequence → me.1 ≡ ((person me.0).part.sequence % terms.output_rows, b) ∷ [] → b.value ≡ report_of o (person me.0).part.sequence
+      → Allows (Lawful terms) slots id me published (λ _. x) (λ _. publishes (step slots published x 0 none) me x)
+  stores_published slots id me x lg o f b view_is one role next room at_by whole out_is place_f carried b_is s r wide at _ =
       let p = person me.0 in let n : ℕ = terms.rows in let m : ℕ = terms.output_rows in let h = r.log.history in
       let ws = s.words in let w = words_of s in let ws' = set ws 104 x in let w' : ℕ → ℕ = λ (j : ℕ). get_or ws' j 0 in
-      let own = mine S terms s r id me.0 p at one in let knows = own.2 in let own_is : w 0 ≡ p.own = subst (λ (z : Role). w (place_of z) ≡ p.own) role knows.own in
+      let own = mine terms s r id me.0 p at one in let knows = own.2 in let own_is : w 0 ≡ p.own = subst (λ (z : Role). w (place_of z) ≡ p.own) role knows.own in
       let deep = subst (λ (z : Role). Depth w z (length p.seen)) role knows.depth in let deep_1 : length p.seen ≤ w 24 = deep.1 in
-      let part = at_published S terms s r id me at one role in let place_is : p.part.sequence ≡ w 104 = part.0 in
+      let part = at_published terms s r id me at one role in let place_is : p.part.sequence ≡ w 104 = part.0 in
       let logic_is : lg ≡ terms.logic = same_Some lg terms.logic (sym view_is ∙ own.0) in
       let inside : 104 < length ws = (let v = r.wide in omega arith) in let here : w' 104 ≡ x = word_here ws 104 x inside in
       let else : (k : ℕ) → k ≢ 104 → w' k ≡ w k = λ k ne. word_else ws 104 k x ne in
@@ -95,31 +111,52 @@ module _ {L : Type 0} (S : Type 0) (terms : Terms L) where
       (output_stays terms (take (suc p.own) p.seen) more.0 p.part.sequence o first) in
       let in_history : get_elem? (outputs_of terms (take (suc (w 0)) h)) (w 104) ≡ some o = subst (λ (k : ℕ). get_elem? (outputs_of terms (take (suc k) h)) (w 104) ≡ some o) (sym own_is)
       (subst (λ (q : ℕ). get_elem? (outputs_of terms (take (suc p.own) h)) q ≡ some o) place_is grown) in
-      let words : (i y : ℕ) → get_elem? (output_words o) i ≡ some y → w (out_row n m (w 104) i) ≡ y =
-      λ i y there. ap (λ (q : ℕ). w (out_row n m q i)) (sym place_is) ∙ (part.1 i y (ap (λ (l : List ℕ). get_elem? l i) whole ∙ there)).1 in
+      let address : w (out_row n m (w 104) 0) ≡ o.to = ap (λ (q : ℕ). w (out_row n m q 0)) (sym place_is) ∙ (part.1 0 o.to (ap (λ (l : List ℕ). get_elem? l 0) whole)).1 in
+      let filling_is : r.log.slots.filling ≡ Some f = sym (subst (λ (z : Role). OutOf r.log.slots z p.out) role knows.out) ∙ out_is in
+      let behind = (r.outgoing.filling f filling_is).1 in
+      let slots' : Slots = published_slots r.log.slots (w 104 % m) b.value in
+      let row_is : p.part.sequence % m ≡ w 104 % m = ap (λ (q : ℕ). q % m) place_is in
       let input : (c : ℕ) → c < marshalled → w' c ≡ w c = λ c low. else c (λ (e : c ≡ 104). omega arith) in (
-        alone me.0 (at_place p x),
-        keeps,
+        alone me.0 (with_out (at_place p x) None),
+        gives,
         tt,
-        after S terms s r ws' id me.0 p (at_place p x) at one refl (length-set ws 104 x) r.log
+        subst (λ (c : List (ℕ × Boxed)). Lawful terms record { words = ws'; homes = put_back s.homes c; views = set s.views id (alone me.0 (with_out (at_place p x) None)) }) (sym (carried ∙ ap (λ (j : ℕ). (j, b) ∷ []) row_is))
+            (after terms s r ws' id me.0 p (with_out (at_place p x) None) at one refl (length-set ws 104 x) (record r.log { slots = slots' })
             (ordered_stays terms w w' r.log input r.order)
-            (logged_stays terms w w' r.log input r.logged)
-            (rows_stay terms w w' r.log input r.logged (all_rows terms w w' r.log (λ t i _. same t i)) r.rows)
+            (logged_out terms w' r.log slots' (logged_stays terms w w' r.log input r.logged))
+            (rows_out terms w' r.log slots' (rows_stay terms w w' r.log input r.logged (all_rows terms w w' r.log (λ t i _. same t i)) r.rows))
             (outgoing_published terms w w' r.log o r.few (here ∙ next ∙ ap suc place_is) (λ k low. else k (λ (e : k ≡ 104). let lt : k < 104 = low in omega arith)) same_out
-            (λ k g. (let lt = has_room S terms s r id me p.part.sequence at one room k g in omega arith)) in_history words packed r.outgoing)
+            (λ k g. (let lt = has_room terms s r id me p.part.sequence at one room k g in omega arith)) in_history address b.value (b_is ∙ ap (report_of o) place_is) behind r.outgoing)
+            (set s.homes (w 104 % m) (some b))
+            (filling_given m r.log.slots s.homes r.filled f b (w 104 % m) (ap (λ (q : ℕ). q % m) (place_f ∙ place_is)) (mod-lt (w 104) r.some_output_row) filling_is)
+            (knows_out terms w' r.log slots' (at_place p x) None (subst (λ (z : Role). OutOf slots' z None) (sym role) refl)
             (knows_on terms w r.log w' p p.own (at_place p x).part rises (else (place_of p.role) (not_published terms.gateways p.role r.few knows.role) ∙ knows.own)
             (subst (λ (z : Role). PartOf n m w' r.log z (at_place p x).part) (sym role) (sym here, λ i y there. absurd (some-ne-none y (sym there))))
-            (λ is. absurd (let z : 0 ≡ 16 = ap place_of (sym role ∙ is) in omega arith)) (λ is. absurd (let z : 0 ≡ 32 = ap place_of (sym role ∙ is) in omega arith)) knows)
-            (λ d other known. knows_risen terms w r.log w' d d.own rises same same_out (λ (is : d.role ≡ Process). absurd (other (ap place_of is ∙ sym (ap place_of role))))
-            (else (place_of d.role) (not_published terms.gateways d.role r.few known.role) ∙ known.own) known),
+            (λ is. absurd (let z : 0 ≡ 16 = ap place_of (sym role ∙ is) in omega arith)) (λ is. absurd (let z : 0 ≡ 32 = ap place_of (sym role ∙ is) in omega arith)) knows))
+            (λ d other known. knows_out terms w' r.log slots' d d.out
+            (others_out r.log.slots slots' d.role d.out (λ is. absurd (other (ap place_of is ∙ sym (ap place_of role)))) (λ _. refl) known.out)
+            (knows_risen terms w r.log w' d d.own rises same same_out (λ (is : d.role ≡ Process). absurd (other (ap place_of is ∙ sym (ap place_of role))))
+            (else (place_of d.role) (not_published terms.gateways d.role r.few known.role) ∙ known.own) known))),
         refl,
       )
 
   -- the same, where the code's numbers of output rows and gateways are the key's
-  pub stores_published_in : (m g : ℕ) → terms.output_rows ≡ m → terms.gateways ≡ g → (slots id : ℕ) (me : Seated S L) (x : ℕ) (lg : L) (o : Output) → me.0.logic ≡ Some lg → IsAlone me.0 → (person me.0).role ≡ Process
-      → x ≡ suc (person me.0).part.sequence → HasOutputRoom g m (person me.0) (person me.0).part.sequence
-      → get_elem? (terms.outputs lg (take (suc (person me.0).own) (person me.0).seen)) (person me.0).part.sequence ≡ some o → (person me.0).part.words ≡ output_words o → IsPackableOutput o
-      → Allows (Lawful S terms) slots id me published (λ _. x) (λ _. publishes (step slots published x 0 none) me x)
-  stores_published_in m g is many slots id me x lg o view_is one role next room =
-      stores_published slots id me x lg o view_is one role next
+  pub stores_published_in : (m g : ℕ) → terms.output_rows ≡ m → terms.gateways ≡ g → (slots id : ℕ) (me : Seated Boxed L) (x : ℕ) (lg : L) (o : Output) (f : Report) (b : Boxed) → me.0.logic ≡ Some lg → IsAlone me.0
+      → (person me.0).role ≡ Process → x ≡ suc (person me.0).part.sequence → HasOutputRoom g m (person me.0) (person me.0).part.sequence
+      → get_elem? (terms.outputs lg (take (suc (person me.0).own) (person me.0).seen)) (person me.0).part.sequence ≡ some o → (person me.0).part.words ≡ o.to ∷ []
+      → (person me.0).out ≡ Some f → f.place ≡ (person me.0).part.sequence → me.1 ≡ ((person me.0).part.sequence % m, b) ∷ [] → b.value ≡ report_of o (person me.0).part.sequence
+      → Allows (Lawful terms) slots id me published (λ _. x) (λ _. publishes (step slots published x 0 none) me x)
+  stores_published_in m g is many slots id me x lg o f b view_is one role next room at_by whole out_is place_f carried b_is =
+      stores_published slots id me x lg o f b view_is one role next
       (subst (λ (j : ℕ). HasOutputRoom j terms.output_rows (person me.0) (person me.0).part.sequence) (sym many) (subst (λ (j : ℕ). HasOutputRoom g j (person me.0) (person me.0).part.sequence) (sym is) room))
+      at_by whole out_is place_f (carried ∙ ap (λ (j : ℕ). ((person me.0).part.sequence % j, b) ∷ []) (sym is)) b_is
+
+  -- the same behind the store of the address and the exchange: the slot of the row is out, with the report
+  pub publishes_put : (m g : ℕ) → terms.output_rows ≡ m → terms.gateways ≡ g → (slots id : ℕ) (me me' : Seated Boxed L) (x : ℕ) (lg : L) (o : Output) (f : Report) (b : Boxed) → me.0.logic ≡ Some lg
+      → (person me.0).role ≡ Process → x ≡ suc (person me.0).part.sequence → HasOutputRoom g m (person me.0) (person me.0).part.sequence
+      → get_elem? (terms.outputs lg (take (suc (person me.0).own) (person me.0).seen)) (person me.0).part.sequence ≡ some o → f.place ≡ (person me.0).part.sequence → b.value ≡ report_of o (person me.0).part.sequence
+      → me' ≡ (alone me.0 (with_out (wrote (person me.0) (person me.0).part.sequence (o.to ∷ [])) (Some f)), ((person me.0).part.sequence % m, b) ∷ [])
+      → Allows (Lawful terms) slots id me' published (λ _. x) (λ _. publishes (step slots published x 0 none) me' x)
+  publishes_put m g is many slots id me me' x lg o f b view_is role next room at_by place_f b_is me_is = let p = person me.0 in let q : Person = with_out (wrote p p.part.sequence (o.to ∷ [])) (Some f) in
+      subst (λ (z : Seated Boxed L). Allows (Lawful terms) slots id z published (λ _. x) (λ _. publishes (step slots published x 0 none) z x)) (sym me_is)
+      (stores_published_in m g is many slots id (alone me.0 q, (p.part.sequence % m, b) ∷ []) x lg o f b view_is refl role next room at_by refl refl place_f refl b_is)

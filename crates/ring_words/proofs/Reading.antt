@@ -1,4 +1,4 @@
--- A gateway's loads of an output's words and of its text's: what stands in the row is that of the history that it knows.
+-- A gateway's loads of an output's address and of its text: what stands in the row is that of the history that it knows.
 use Rattle.std.proofs.Common.{◌≡◌, ℕ, ◌<◌, ◌≤◌, List, ◌++◌, length, refl, ap, sym, subst, ◌∙◌, arith, le_refl}
 use Rattle.std.proofs.lemmas.Option.{same_Some}
 use mathlib.Core.Option.{none, some}
@@ -6,6 +6,7 @@ use lib.ListN.{get_elem?}
 use Rattle.atomic_table.specs.Table.{step, Allows}
 use Rattle.venue_model.specs.History.{Message}
 use Rattle.venue_model.specs.declared.outputs.Output.{Output}
+use Rattle.ring_words.specs.Slots.{Boxed}
 use Rattle.ring_words.specs.declared.view.Role.{Role}
 use Rattle.ring_words.specs.declared.view.Role.TheVariants.{Gateway}
 use Rattle.ring_words.specs.declared.view.Person.{Person}
@@ -15,7 +16,7 @@ use Rattle.ring_words.specs.Texts.{text_words, IsPackableText}
 use Rattle.ring_words.specs.Terms.{Terms, outputs_of, text_of}
 use Rattle.ring_words.specs.Rule.{IsGateway, IsRole, Depth, Outgoing, Knows, words_of, Lawful}
 use Rattle.ring_words.specs.Seats.{person, IsAlone, looked}
-use Rattle.ring_words.specs.Steps.{Seated, readable, meaning, sees_output, sees_text}
+use Rattle.ring_words.specs.Steps.{Seated, readable, meaning, sees_address, sees_text}
 use Rattle.ring_words.proofs.Logs.{knows_looked}
 use Rattle.ring_words.proofs.Keeps.{mine}
 use Rattle.ring_words.proofs.Outgoings.{rest_of, output_kept, still_above}
@@ -34,37 +35,37 @@ module _ {L : Type 0} (terms : Terms L) (w : ℕ → ℕ) (log : Log) (p : Perso
   pub gateway_owns : (k : ℕ) → p.role ≡ Gateway k → Knows terms w log p → IsGateway terms.gateways k × (w (taken k) ≡ p.own)
   gateway_owns k role knows = (subst (IsRole terms.gateways) role knows.role, subst (λ (z : Role). w (place_of z) ≡ p.own) role knows.own)
 
-module _ {L : Type 0} (S : Type 0) (terms : Terms L) where
-  abbrev Loads : ℕ → ℕ → Seated S L → ℕ → (ℕ → Seated S L → Type 0) → Type 0
-  Loads slots id me k then = Allows (Lawful S terms) slots id me k (λ x. x) then
+module _ {L : Type 0} (terms : Terms L) where
+  abbrev Loads : ℕ → ℕ → Seated Boxed L → ℕ → (ℕ → Seated Boxed L → Type 0) → Type 0
+  Loads slots id me k then = Allows (Lawful terms) slots id me k (λ x. x) then
 
-  -- a word of an output that is marshalled and that the gateway hasn't taken is that of the output
-  pub loads_address : (slots id k : ℕ) (me : Seated S L) (place : ℕ) → IsAlone me.0 → (person me.0).role ≡ Gateway k
-      → Loads slots id me place (sees_output (readable terms.rows terms.output_rows marshalled) terms.outputs (step slots place 0 0 none) me)
+  -- the address of an output that is marshalled and that the gateway hasn't taken is that of the output
+  pub loads_address : (slots id k : ℕ) (me : Seated Boxed L) (place : ℕ) → IsAlone me.0 → (person me.0).role ≡ Gateway k
+      → Loads slots id me place (sees_address (readable terms.rows terms.output_rows marshalled) terms.outputs (step slots place 0 0 none) me)
   loads_address slots id k me place one role s r wide at _ = let p = person me.0 in let w = words_of s in let x : ℕ = w place in
-      let own = mine S terms s r id me.0 p at one in let knows = own.2 in let owns = gateway_owns terms w r.log p k role knows in let own_is : w (taken k) ≡ p.own = owns.1 in
-      looks S terms s r place id me (looked p place x) (sees_output (readable terms.rows terms.output_rows marshalled) terms.outputs (step slots place 0 0 none) me) at one refl (knows_looked terms w r.log p place x (λ _. le_refl x) knows) (
+      let own = mine terms s r id me.0 p at one in let knows = own.2 in let owns = gateway_owns terms w r.log p k role knows in let own_is : w (taken k) ≡ p.own = owns.1 in
+      looks terms s r place id me (looked p place x) (sees_address (readable terms.rows terms.output_rows marshalled) terms.outputs (step slots place 0 0 none) me) at one refl (knows_looked terms w r.log p place x (λ _. le_refl x) knows) (
         refl,
-        λ logic q i y o view_is there held shown word is. (
+        λ logic q o view_is there held shown is. (
             let logic_is : logic ≡ terms.logic = same_Some logic terms.logic (sym view_is ∙ own.0) in
             let kept = known_kept terms w r.log p k q o role r.outgoing knows (subst (λ (l : L). get_elem? (terms.outputs l p.seen) q ≡ some o) logic_is there) in
             let below : q < w marshalled = still_above terms w r.log p marshalled q knows (omega arith) shown in let order : w marshalled ≤ w published = r.outgoing.marshalled_published in
             let from : w (taken k) ≤ q = omega arith in let to : q < w published = omega arith in
-            (ap w is ∙ r.outgoing.outputs k q o owns.0 from to kept i y word, r.outgoing.packable k q o owns.0 from to kept)),
+            ap w is ∙ r.outgoing.addresses k q o owns.0 from to kept),
       )
 
   -- the same, where the code's numbers of rows are the key's
-  pub loads_address_in : (n m : ℕ) → terms.rows ≡ n → terms.output_rows ≡ m → (slots id k : ℕ) (me : Seated S L) (place : ℕ) → IsAlone me.0 → (person me.0).role ≡ Gateway k
-      → Loads slots id me place (sees_output (readable n m marshalled) terms.outputs (step slots place 0 0 none) me)
-  loads_address_in n m is outputs_is slots id k me place one role = subst (λ (j : ℕ). Loads slots id me place (sees_output (readable j m marshalled) terms.outputs (step slots place 0 0 none) me)) is
-      (subst (λ (j : ℕ). Loads slots id me place (sees_output (readable terms.rows j marshalled) terms.outputs (step slots place 0 0 none) me)) outputs_is (loads_address slots id k me place one role))
+  pub loads_address_in : (n m : ℕ) → terms.rows ≡ n → terms.output_rows ≡ m → (slots id k : ℕ) (me : Seated Boxed L) (place : ℕ) → IsAlone me.0 → (person me.0).role ≡ Gateway k
+      → Loads slots id me place (sees_address (readable n m marshalled) terms.outputs (step slots place 0 0 none) me)
+  loads_address_in n m is outputs_is slots id k me place one role = subst (λ (j : ℕ). Loads slots id me place (sees_address (readable j m marshalled) terms.outputs (step slots place 0 0 none) me)) is
+      (subst (λ (j : ℕ). Loads slots id me place (sees_address (readable terms.rows j marshalled) terms.outputs (step slots place 0 0 none) me)) outputs_is (loads_address slots id k me place one role))
 
   -- a word of the text of an output that is marshalled and that the gateway hasn't taken is that of the text
-  pub loads_text : (slots id k : ℕ) (me : Seated S L) (place : ℕ) → IsAlone me.0 → (person me.0).role ≡ Gateway k
+  pub loads_text : (slots id k : ℕ) (me : Seated Boxed L) (place : ℕ) → IsAlone me.0 → (person me.0).role ≡ Gateway k
       → Loads slots id me place (sees_text (readable terms.rows terms.output_rows marshalled) (meaning terms.outputs terms.text) (step slots place 0 0 none) me)
   loads_text slots id k me place one role s r wide at _ = let p = person me.0 in let w = words_of s in let x : ℕ = w place in
-      let own = mine S terms s r id me.0 p at one in let knows = own.2 in let owns = gateway_owns terms w r.log p k role knows in let own_is : w (taken k) ≡ p.own = owns.1 in
-      looks S terms s r place id me (looked p place x) (sees_text (readable terms.rows terms.output_rows marshalled) (meaning terms.outputs terms.text) (step slots place 0 0 none) me) at one refl (knows_looked terms w r.log p place x (λ _. le_refl x) knows) (
+      let own = mine terms s r id me.0 p at one in let knows = own.2 in let owns = gateway_owns terms w r.log p k role knows in let own_is : w (taken k) ≡ p.own = owns.1 in
+      looks terms s r place id me (looked p place x) (sees_text (readable terms.rows terms.output_rows marshalled) (meaning terms.outputs terms.text) (step slots place 0 0 none) me) at one refl (knows_looked terms w r.log p place x (λ _. le_refl x) knows) (
         refl,
         λ logic q i y o view_is there held shown word is. (
             let logic_is : logic ≡ terms.logic = same_Some logic terms.logic (sym view_is ∙ own.0) in
@@ -75,7 +76,7 @@ module _ {L : Type 0} (S : Type 0) (terms : Terms L) where
       )
 
   -- the same, where the code's numbers of rows are the key's
-  pub loads_text_in : (n m : ℕ) → terms.rows ≡ n → terms.output_rows ≡ m → (slots id k : ℕ) (me : Seated S L) (place : ℕ) → IsAlone me.0 → (person me.0).role ≡ Gateway k
+  pub loads_text_in : (n m : ℕ) → terms.rows ≡ n → terms.output_rows ≡ m → (slots id k : ℕ) (me : Seated Boxed L) (place : ℕ) → IsAlone me.0 → (person me.0).role ≡ Gateway k
       → Loads slots id me place (sees_text (readable n m marshalled) (meaning terms.outputs terms.text) (step slots place 0 0 none) me)
   loads_text_in n m is outputs_is slots id k me place one role = subst (λ (j : ℕ). Loads slots id me place (sees_text (readable j m marshalled) (meaning terms.outputs terms.text) (step slots place 0 0 none) me)) is
       (subst (λ (j : ℕ). Loads slots id me place (sees_text (readable terms.rows j marshalled) (meaning terms.outputs terms.text) (step slots place 0 0 none) me)) outputs_is (loads_text slots id k me place one role))

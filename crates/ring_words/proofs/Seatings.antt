@@ -5,6 +5,7 @@ use lib.ListN.{get_elem?}
 use Rattle.std.specs.Prelude.{Some}
 use Rattle.atomic_table.specs.Table.{State, Splits, Joins}
 use Rattle.atomic_table.proofs.Lists.{at_set, at_snoc}
+use Rattle.ring_words.specs.Slots.{Boxed}
 use Rattle.ring_words.specs.declared.view.Person.{Person}
 use Rattle.ring_words.specs.declared.view.View.{View}
 use Rattle.ring_words.specs.Terms.{Terms}
@@ -26,12 +27,12 @@ in_drop : (ps : List Person) (j : ℕ) (o : Person) → get_elem? (drop 1 ps) j 
 in_drop [] j o at = at
 in_drop (p ∷ ps) j o at = at
 
-module _ {L : Type 0} (S : Type 0) (terms : Terms L) where
+module _ {L : Type 0} (terms : Terms L) where
   -- the rule stays where views change so that all in them know the rings as before, and each word has as many owners as before
-  pub reseated : (s : State S (View L)) (r : Lawful S terms s) (views : List (View L))
+  pub reseated : (s : State Boxed (View L)) (r : Lawful terms s) (views : List (View L))
       → ((i j : ℕ) (u : View L) (o : Person) → get_elem? views i ≡ some u → get_elem? u.people j ≡ some o
       → (u.logic ≡ Some terms.logic) × (u.base ≡ terms.base) × Knows terms (words_of s) r.log o)
-      → ((k : ℕ) → all_owners k views ≡ all_owners k s.views) → Lawful S terms record { words = s.words; homes = s.homes; views = views }
+      → ((k : ℕ) → all_owners k views ≡ all_owners k s.views) → Lawful terms record { words = s.words; homes = s.homes; views = views }
   reseated s r views people counts = record {
     log = r.log;
     some_row = r.some_row;
@@ -43,6 +44,7 @@ module _ {L : Type 0} (S : Type 0) (terms : Terms L) where
     logged = r.logged;
     rows = r.rows;
     outgoing = r.outgoing;
+    filled = r.filled;
     people = people;
     once = λ k. counts k ∙ r.once k;
   }
@@ -52,7 +54,7 @@ module _ {L : Type 0} (S : Type 0) (terms : Terms L) where
       → ((j : ℕ) (o : Person) → get_elem? ps j ≡ some o → (i : ℕ) × (get_elem? v.people i ≡ some o))
       → ((j : ℕ) (o : Person) → get_elem? qs j ≡ some o → (i : ℕ) × (get_elem? v.people i ≡ some o))
       → ((k : ℕ) → owners k ps + owners k qs ≡ owners k v.people)
-      → Splits (Lawful S terms) id v (record v { people = ps }) (record v { people = qs })
+      → Splits (Lawful terms) id v (record v { people = ps }) (record v { people = qs })
   resplits id v ps qs in_first in_second counts s r at = reseated s r (set s.views id first ++ second ∷ [])
       (λ i j u o there in_it. ⊎_elim
       (λ within_set. ⊎_elim
@@ -77,22 +79,22 @@ module _ {L : Type 0} (S : Type 0) (terms : Terms L) where
             (ap (λ (x : View L). x.logic) (sym is) ∙ own.0, ap (λ (x : View L). x.base) (sym is) ∙ own.1, own.2)
 
   -- a seat of several persons gives the first one a seat of its own
-  pub splits : (id : ℕ) (v : View L) (p : Person) (ps : List Person) → v.people ≡ p ∷ ps → Splits (Lawful S terms) id v (others v) (apart v)
+  pub splits : (id : ℕ) (v : View L) (p : Person) (ps : List Person) → v.people ≡ p ∷ ps → Splits (Lawful terms) id v (others v) (apart v)
   splits id v p ps one = resplits id v (drop 1 v.people) (person v ∷ []) (λ j o at. (suc j, in_drop v.people j o at))
       (λ j o at. (0, subst (λ (l : List Person). get_elem? l 0 ≡ some (first_of l)) (sym one) refl ∙ ap some (sym (only (person v) o (person v ∷ []) j refl at))))
       (λ k. subst (λ (l : List Person). owners k (drop 1 l) + owners k (first_of l ∷ []) ≡ owners k l) (sym one) (let both = owners_both k (p ∷ []) ps in omega arith))
 
   -- a seat of nobody may be split off any seat
-  pub spares : (id : ℕ) (v : View L) → Splits (Lawful S terms) id v v (nobody_else v)
+  pub spares : (id : ℕ) (v : View L) → Splits (Lawful terms) id v v (nobody_else v)
   spares id v = resplits id v v.people [] (λ j o at. (j, at)) (λ j o at. absurd (some-ne-none o (sym at))) (λ k. (let x : ℕ = owners k v.people in omega arith))
 
   -- the first person gets a seat of its own, and the others another
-  pub parts : (id : ℕ) (v : View L) → Splits (Lawful S terms) id v (first_alone v) (second_alone v)
+  pub parts : (id : ℕ) (v : View L) → Splits (Lawful terms) id v (first_alone v) (second_alone v)
   parts id v = resplits id v (take 1 v.people) (drop 1 v.people) (λ j o at. (j, (in_take v.people 1 j o at).1)) (λ j o at. (suc j, in_drop v.people j o at))
       (λ k. sym (owners_both k (take 1 v.people) (drop 1 v.people)) ∙ ap (owners k) (take-append-drop 1 v.people))
 
   -- the first seat takes in the persons of another, which then has none
-  pub joins : (id other : ℕ) (v w : View L) (p : Person) (ps : List Person) → v.people ≡ p ∷ ps → Joins (Lawful S terms) id v other w (together v w) nobody
+  pub joins : (id other : ℕ) (v w : View L) (p : Person) (ps : List Person) → v.people ≡ p ∷ ps → Joins (Lawful terms) id v other w (together v w) nobody
   joins id other v w p ps some_one s r at apart at' = let both = together v w in let vs = set s.views id both in
       let was_there : get_elem? s.views other ≡ some w = ⊎_elim (λ (t : (other ≡ id) × (both ≡ w)). absurd (apart t.0)) (λ (t : (other ≢ id) × (get_elem? s.views other ≡ some w)). t.1) (at_set s.views id other both w at') in
       let first = r.people id 0 v p at (ap (λ (l : List Person). get_elem? l 0) some_one) in reseated s r (set vs other nobody)

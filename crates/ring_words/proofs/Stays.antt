@@ -6,6 +6,7 @@ use lib.ListN.{get_elem?}
 use Rattle.atomic_table.specs.Table.{State}
 use Rattle.venue_model.specs.History.{Message}
 use Rattle.venue_model.specs.ListLaws.{at_end, within}
+use Rattle.ring_words.specs.Slots.{Boxed, Slots, OutOf}
 use Rattle.ring_words.specs.declared.view.Role.{Role}
 use Rattle.ring_words.specs.declared.view.Role.TheVariants.{Process, Unmarshal, Journal, Marshal, Gateway}
 use Rattle.ring_words.specs.declared.view.Part.{Part}
@@ -14,7 +15,7 @@ use Rattle.ring_words.specs.declared.view.View.{View}
 use Rattle.ring_words.specs.Places.{processed, claim, unmarshalled, journalled, marshalled, published, first_row, in_row, out_row, place_of, number_of}
 use Rattle.ring_words.specs.Log.{IsEntry, claimed, sent, Log, entry_of, sends_of, claims_of}
 use Rattle.ring_words.specs.Raw.{raw_count}
-use Rattle.ring_words.specs.Packing.{IsPackable}
+use Rattle.command_words.specs.Packing.{IsPackable}
 use Rattle.ring_words.specs.Terms.{Terms, commands_of, command_of}
 use Rattle.ring_words.specs.Rule.{IsRole, Ordered, Logged, Rows, PartOf, Written, WrittenTexts, Knows, words_of, Lawful}
 use Rattle.ring_words.specs.Seats.{person, IsAlone, alone, stored}
@@ -113,21 +114,38 @@ module _ {L : Type 0} (terms : Terms L) (w w' : ℕ → ℕ) (log : Log) where
   rows_stay same logged rows r = rows_rise log.history (same 8 (omega arith)) logged rows (λ t e is below. r.commands t e is (subst (λ (z : ℕ). t < z) (same 16 (omega arith)) below))
       (λ t e is below. r.packable t e is (subst (λ (z : ℕ). t < z) (same 16 (omega arith)) below)) r
 
+-- the log's part and the rows' part read nothing of the slots
+pub logged_out : {L : Type 0} (terms : Terms L) (w : ℕ → ℕ) (log : Log) (slots : Slots) → Logged terms w log → Logged terms w (record log { slots = slots })
+logged_out terms w log slots r = record {
+  start = r.start;
+  based = r.based;
+  older = r.older;
+  ahead = r.ahead;
+  somebodys = r.somebodys;
+  holder = r.holder;
+  sender = r.sender;
+  done = r.done;
+  kept = r.kept;
+}
+
+pub rows_out : {L : Type 0} (terms : Terms L) (w : ℕ → ℕ) (log : Log) (slots : Slots) → Rows terms w log → Rows terms w (record log { slots = slots })
+rows_out terms w log slots r = record { marks = r.marks; shown = r.shown; raw = r.raw; commands = r.commands; packable = r.packable }
+
 -- the words that a role stores in the row under way, of this log and of another in which its claims stand
 pub record SameParts {L : Type 0} (terms : Terms L) (w w' : ℕ → ℕ) (log log' : Log) (role : Role) : Type 0 where
   pub raw : (t i j : ℕ) → role ≡ Gateway j → i < 41 → log.status t ≡ claimed j
       → (log'.status t ≡ claimed j) × (w' (in_row terms.rows t (i + 1)) ≡ w (in_row terms.rows t (i + 1)))
   pub commands : (t i : ℕ) → role ≡ Unmarshal → i < 16 → w' (in_row terms.rows t (i + 48)) ≡ w (in_row terms.rows t (i + 48))
-  pub outputs : (q i : ℕ) → role ≡ Process → i < 60 → w' (out_row terms.rows terms.output_rows q i) ≡ w (out_row terms.rows terms.output_rows q i)
+  pub outputs : (q i : ℕ) → role ≡ Process → i < 1 → w' (out_row terms.rows terms.output_rows q i) ≡ w (out_row terms.rows terms.output_rows q i)
   pub texts : (q i : ℕ) → role ≡ Marshal → i < 64 → w' (out_row terms.rows terms.output_rows q (i + 64)) ≡ w (out_row terms.rows terms.output_rows q (i + 64))
 
--- what another person knows stays, where entries stay, its publications and claims stay, control words stay, and its row stays
-pub others_know : {L : Type 0} (terms : Terms L) (w w' : ℕ → ℕ) (log log' : Log) (o : Person) → terms.gateways ≤ 8
+-- what another person knows stays, where entries stay, its publications and claims stay, control words stay, its row stays, and the slots stay
+pub others_know : {L : Type 0} (terms : Terms L) (w w' : ℕ → ℕ) (log log' : Log) (o : Person) → terms.gateways ≤ 8 → log'.slots ≡ log.slots
     → ((s : ℕ) (e : Message) → entry_of (log.status s) ≡ some e → entry_of (log'.status s) ≡ some e)
     → ((s : ℕ) → sends_of (number_of o.role) (log.status s) ≡ sends_of (number_of o.role) (log'.status s))
     → ((s : ℕ) → claims_of (number_of o.role) (log.status s) ≡ claims_of (number_of o.role) (log'.status s))
     → ((c : ℕ) → c < first_row → w' c ≡ w c) → SameParts terms w w' log log' o.role → Knows terms w log o → Knows terms w' log' o
-others_know terms w w' log log' o few entries sends claims control same r = record {
+others_know terms w w' log log' o few slots_are entries sends claims control same r = record {
   role = r.role;
   front = λ s e at. entries s e (r.front s e at);
   depth = depth_risen w w' (λ c low. subst (λ (y : ℕ). w c ≤ y) (sym (control c low)) (le_refl (w c))) o.role (length o.seen) r.depth;
@@ -140,6 +158,7 @@ others_know terms w w' log log' o few entries sends claims control same r = reco
       (λ s i x e lo hi at. (let size = short_words e.gateway (command_of terms s e) in let few = within (commands_of terms s e) i x at in same.commands s i is (omega arith)))
       (r.written is);
   written_texts = λ is. texts_on terms w w' o.seen o.own o.own o.part.sequence (le_refl o.own) (λ q i lo hi few. same.texts q i is few) (r.written_texts is);
+  out = subst (λ (x : Slots). OutOf x o.role o.out) (sym slots_are) r.out;
 } where
   part_stays : (role : Role) → o.role ≡ role → PartOf terms.rows terms.output_rows w log role o.part → PartOf terms.rows terms.output_rows w' log' role o.part
   part_stays Process is h = (h.0 ∙ sym (control published (omega arith)), λ i x at. let t = h.1 i x at in (t.0, same.outputs o.part.sequence i is t.0 ∙ t.1))
@@ -163,26 +182,27 @@ one_word_more F t a i x goes_on before next j y there = ⊎_elim
       long = ⊎_elim (λ (none_yet : i ≡ 0). subst (λ (k : ℕ). length (take k t.words) ≡ k) (sym none_yet) refl)
           (λ (on : (t.sequence ≡ a) × (i ≤ length t.words)). length-take-le i t.words on.1) goes_on
 
-module _ {L : Type 0} (S : Type 0) (terms : Terms L) where
+module _ {L : Type 0} (terms : Terms L) where
   -- the rule holds after a word of a row becomes x, the next word of the row under way, where whoever may read a row finds the same words there,
   -- and nobody else's row under way has that word
-  pub word_stored : (s : State S (View L)) (r : Lawful S terms s) (id here a i x : ℕ) (me : Seated S L) → get_elem? s.views id ≡ some me.0 → IsAlone me.0
+  pub word_stored : (s : State Boxed (View L)) (r : Lawful terms s) (id here a i x : ℕ) (me : Seated Boxed L) → get_elem? s.views id ≡ some me.0 → IsAlone me.0
       → ((c : ℕ) → c < first_row → here ≢ c)
       → SameRows terms (words_of s) (λ j. get_or (set s.words here x) j 0) r.log → SameOutputs terms (words_of s) (λ j. get_or (set s.words here x) j 0)
       → PartOf terms.rows terms.output_rows (λ j. get_or (set s.words here x) j 0) r.log (person me.0).role (stored (person me.0) a i x).part
       → ((person me.0).role ≡ Unmarshal → Written terms (λ j. get_or (set s.words here x) j 0) (person me.0).seen (person me.0).own a)
       → ((person me.0).role ≡ Marshal → WrittenTexts terms (λ j. get_or (set s.words here x) j 0) (person me.0).seen (person me.0).own a)
       → ((o : Person) → place_of o.role ≢ place_of (person me.0).role → SameParts terms (words_of s) (λ j. get_or (set s.words here x) j 0) r.log r.log o.role)
-      → Lawful S terms record { words = set s.words here x; homes = s.homes; views = set s.views id (alone me.0 (stored (person me.0) a i x)) }
+      → Lawful terms record { words = set s.words here x; homes = s.homes; views = set s.views id (alone me.0 (stored (person me.0) a i x)) }
   word_stored s r id here a i x me at one no_control rows outputs part written texts others =
-      let p = person me.0 in let w = words_of s in let w' : ℕ → ℕ = λ (j : ℕ). get_or (set s.words here x) j 0 in let knows = (mine S terms s r id me.0 p at one).2 in
+      let p = person me.0 in let w = words_of s in let w' : ℕ → ℕ = λ (j : ℕ). get_or (set s.words here x) j 0 in let knows = (mine terms s r id me.0 p at one).2 in
       let control : (c : ℕ) → c < first_row → w' c ≡ w c = λ c low. word_else s.words here c x (λ e. no_control c low (sym e)) in
       let input : (c : ℕ) → c < marshalled → w' c ≡ w c = λ c low. control c (omega arith) in
-      after S terms s r (set s.words here x) id me.0 p (stored p a i x) at one refl (length-set s.words here x) r.log
+      after terms s r (set s.words here x) id me.0 p (stored p a i x) at one refl (length-set s.words here x) r.log
       (ordered_stays terms w w' r.log input r.order)
       (logged_stays terms w w' r.log input r.logged)
       (rows_stay terms w w' r.log input r.logged rows r.rows)
-      (outgoing_stays terms w w' r.log r.log r.few refl r.outgoing.front (control processed (omega arith)) (control journalled (omega arith)) (λ c _ low. control c low) outputs r.outgoing)
+      (outgoing_stays terms w w' r.log r.log r.few refl refl r.outgoing.front (control processed (omega arith)) (control journalled (omega arith)) (λ c _ low. control c low) outputs r.outgoing)
+      s.homes r.filled
       (knows_on terms w r.log w' p p.own (stored p a i x).part (λ c low. subst (λ (y : ℕ). w c ≤ y) (sym (control c low)) (le_refl (w c)))
       (control (place_of p.role) (place_low terms.gateways p.role r.few knows.role) ∙ knows.own) part written texts knows)
-      (λ o apart known. others_know terms w w' r.log r.log o r.few (λ _ _ e. e) (λ _. refl) (λ _. refl) control (others o apart) known)
+      (λ o apart known. others_know terms w w' r.log r.log o r.few refl (λ _ _ e. e) (λ _. refl) (λ _. refl) control (others o apart) known)

@@ -8,12 +8,13 @@ use lib.ListN.{get_elem?}
 use Rattle.atomic_table.specs.Table.{State, step, keeps, Allows}
 use Rattle.venue_model.specs.History.{Message}
 use Rattle.venue_model.specs.ListLaws.{stands, within}
+use Rattle.ring_words.specs.Slots.{Boxed}
 use Rattle.ring_words.specs.declared.view.Role.{Role}
 use Rattle.ring_words.specs.declared.view.Role.TheVariants.{Unmarshal, Journal}
 use Rattle.ring_words.specs.declared.view.View.{View}
 use Rattle.ring_words.specs.Places.{processed, claim, unmarshalled, journalled, marshalled, published, first_row, in_row, out_row, place_of}
 use Rattle.ring_words.specs.Log.{sent, entry_of}
-use Rattle.ring_words.specs.Packing.{IsPackable}
+use Rattle.command_words.specs.Packing.{IsPackable}
 use Rattle.ring_words.specs.Terms.{Terms, commands_of, command_of}
 use Rattle.ring_words.specs.Rule.{Ordered, PartOf, Written, Outgoing, words_of, Lawful}
 use Rattle.ring_words.specs.Seats.{person, IsAlone, alone, moved}
@@ -33,20 +34,20 @@ risen ws i x k inside up = dite (ℕ_discrete k i)
     (λ e. subst (λ (j : ℕ). get_or ws j 0 ≤ get_or (set ws i x) j 0) (sym e) (subst (λ (y : ℕ). get_or ws i 0 ≤ y) (sym (word_here ws i x inside)) up))
     (λ ne. subst (λ (y : ℕ). get_or ws k 0 ≤ y) (sym (word_else ws i k x ne)) (le_refl (get_or ws k 0)))
 
-module _ {L : Type 0} (S : Type 0) (terms : Terms L) where
+module _ {L : Type 0} (terms : Terms L) where
   -- Somebody moves the own word, at k, to x, and the history that is kept may become another: what is left to show is the order of the control
   -- words, what lies below unmarshalled and journalled, and the output ring
-  pub own_now : (s : State S (View L)) (r : Lawful S terms s) (h : List Message) (id : ℕ) (me : Seated S L) (k x : ℕ) → get_elem? s.views id ≡ some me.0 → IsAlone me.0 → place_of (person me.0).role ≡ k
+  pub own_now : (s : State Boxed (View L)) (r : Lawful terms s) (h : List Message) (id : ℕ) (me : Seated Boxed L) (k x : ℕ) → get_elem? s.views id ≡ some me.0 → IsAlone me.0 → place_of (person me.0).role ≡ k
       → k < first_row → k ≢ claim → k ≢ published → (person me.0).own ≤ x → Ordered terms (λ j. get_or (set s.words k x) j 0)
       → ((t : ℕ) → t < get_or (set s.words k x) unmarshalled 0 → (e : Message) × (entry_of (r.log.status t) ≡ some e))
       → ((t : ℕ) → t < get_or (set s.words k x) journalled 0 → (e : Message) × (entry_of (r.log.status t) ≡ some e))
       → ((t : ℕ) (e : Message) → r.log.status t ≡ sent e → t < get_or (set s.words k x) unmarshalled 0 → words_of s claim ≤ t + terms.rows → (i y : ℕ) → get_elem? (commands_of terms t e) i ≡ some y → words_of s (in_row terms.rows t (i + 48)) ≡ y)
       → ((t : ℕ) (e : Message) → r.log.status t ≡ sent e → t < get_or (set s.words k x) unmarshalled 0 → IsPackable e.gateway (command_of terms t e))
       → Outgoing terms (λ j. get_or (set s.words k x) j 0) (record r.log { history = h })
-      → Lawful S terms record { words = set s.words k x; homes = s.homes; views = set s.views id (alone me.0 (moved (person me.0) x)) }
+      → Lawful terms record { words = set s.words k x; homes = s.homes; views = set s.views id (alone me.0 (moved (person me.0) x)) }
   own_now s r h id me k x at one place low no_claim no_published up order done kept commands packable outgoing =
       let p = person me.0 in let ws = s.words in let w = words_of s in let ws' = set ws k x in let w' : ℕ → ℕ = λ (j : ℕ). get_or ws' j 0 in
-      let knows = (mine S terms s r id me.0 p at one).2 in
+      let knows = (mine terms s r id me.0 p at one).2 in
       let own_is : w k ≡ p.own = subst (λ (j : ℕ). w j ≡ p.own) place knows.own in
       let inside : k < length ws = (let v = r.wide in let lt : k < 128 = low in omega arith) in
       let here : w' k ≡ x = word_here ws k x inside in let claim_is : w' claim ≡ w claim = word_else ws k claim x (λ e. no_claim (sym e)) in
@@ -55,17 +56,18 @@ module _ {L : Type 0} (S : Type 0) (terms : Terms L) where
       let zero_up : w processed ≤ w' processed = rises processed (omega arith) in
       let same_out : (q i : ℕ) → w' (out_row terms.rows terms.output_rows q i) ≡ w (out_row terms.rows terms.output_rows q i) = λ q i. word_else ws k (out_row terms.rows terms.output_rows q i) x (no_output terms.rows terms.output_rows q i k (let n : ℕ = terms.rows in omega arith)) in
       let published_is : w' published ≡ w published = word_else ws k published x (λ e. no_published (sym e)) in
-      after S terms s r ws' id me.0 p (moved p x) at one refl (length-set ws k x) (record r.log { history = h }) order
+      after terms s r ws' id me.0 p (moved p x) at one refl (length-set ws k x) (record r.log { history = h }) order
       (logged_rises terms w w' r.log h zero_up claim_is done kept r.logged)
       (rows_rise terms w w' r.log h claim_is r.logged (all_rows terms w w' r.log (λ t i _. same t i)) commands packable r.rows)
       outgoing
+      s.homes r.filled
       (still_knows terms w' r.log h (moved p x) (knows_risen terms w r.log w' p x rises same same_out (λ _. published_is) (ap w' place ∙ here) knows))
       (λ o apart_from known. still_knows terms w' r.log h o (knows_risen terms w r.log w' o o.own rises same same_out (λ _. published_is) (word_else ws k (place_of o.role) x (λ e. apart_from (e ∙ sym place)) ∙ known.own) known))
 
   -- the same of an own word of the output ring: its part of the rule alone is left to show
-  pub own_output_now : (s : State S (View L)) (r : Lawful S terms s) (id : ℕ) (me : Seated S L) (k x : ℕ) → get_elem? s.views id ≡ some me.0 → IsAlone me.0 → place_of (person me.0).role ≡ k
+  pub own_output_now : (s : State Boxed (View L)) (r : Lawful terms s) (id : ℕ) (me : Seated Boxed L) (k x : ℕ) → get_elem? s.views id ≡ some me.0 → IsAlone me.0 → place_of (person me.0).role ≡ k
       → marshalled ≤ k → k < published → (person me.0).own ≤ x → Outgoing terms (λ j. get_or (set s.words k x) j 0) r.log
-      → Lawful S terms record { words = set s.words k x; homes = s.homes; views = set s.views id (alone me.0 (moved (person me.0) x)) }
+      → Lawful terms record { words = set s.words k x; homes = s.homes; views = set s.views id (alone me.0 (moved (person me.0) x)) }
   own_output_now s r id me k x at one place from to up outgoing =
       let w = words_of s in let w' : ℕ → ℕ = λ (j : ℕ). get_or (set s.words k x) j 0 in
       let same : (c : ℕ) → c < marshalled → w' c ≡ w c = λ c low. word_else s.words k c x (λ (e : c ≡ k). omega arith) in
@@ -78,11 +80,11 @@ module _ {L : Type 0} (S : Type 0) (terms : Terms L) where
       outgoing
 
   -- the journaller moves its word to what it knows at most
-  pub stores_journalled : (slots id : ℕ) (me : Seated S L) (x : ℕ) → IsAlone me.0 → (person me.0).role ≡ Journal → (person me.0).own ≤ x → x ≤ length (person me.0).seen
-      → Allows (Lawful S terms) slots id me journalled (λ _. x) (λ _. moves_own (step slots journalled x 0 none) me x)
+  pub stores_journalled : (slots id : ℕ) (me : Seated Boxed L) (x : ℕ) → IsAlone me.0 → (person me.0).role ≡ Journal → (person me.0).own ≤ x → x ≤ length (person me.0).seen
+      → Allows (Lawful terms) slots id me journalled (λ _. x) (λ _. moves_own (step slots journalled x 0 none) me x)
   stores_journalled slots id me x one role low high s r wide at _ =
       let p = person me.0 in let ws = s.words in let w = words_of s in let w' : ℕ → ℕ = λ (j : ℕ). get_or (set ws 24 x) j 0 in
-      let knows = (mine S terms s r id me.0 p at one).2 in let own_is : w 24 ≡ p.own = subst (λ (z : Role). w (place_of z) ≡ p.own) role knows.own in
+      let knows = (mine terms s r id me.0 p at one).2 in let own_is : w 24 ≡ p.own = subst (λ (z : Role). w (place_of z) ≡ p.own) role knows.own in
       let reach = reaches terms w r.log p.seen r.logged knows.front in
       let inside : 24 < length ws = (let v = r.wide in omega arith) in
       let here : w' 24 ≡ x = word_here ws 24 x inside in let zero_is : w' 0 ≡ w 0 = word_else ws 24 0 x (λ (e : 0 ≡ 24). omega arith) in let claim_is : w' 8 ≡ w 8 = word_else ws 24 8 x (λ (e : 8 ≡ 24). omega arith) in
@@ -113,12 +115,12 @@ module _ {L : Type 0} (S : Type 0) (terms : Terms L) where
       )
 
   -- the unmarshaller moves its word behind the row under way, whose command it wrote whole
-  pub stores_unmarshalled : (slots id : ℕ) (me : Seated S L) (x : ℕ) (e : Message) → IsAlone me.0 → (person me.0).role ≡ Unmarshal → x ≡ suc (person me.0).part.sequence
+  pub stores_unmarshalled : (slots id : ℕ) (me : Seated Boxed L) (x : ℕ) (e : Message) → IsAlone me.0 → (person me.0).role ≡ Unmarshal → x ≡ suc (person me.0).part.sequence
       → WroteCommand (terms.reads terms.logic) (person me.0) e
-      → Allows (Lawful S terms) slots id me unmarshalled (λ _. x) (λ _. moves_own (step slots unmarshalled x 0 none) me x)
+      → Allows (Lawful terms) slots id me unmarshalled (λ _. x) (λ _. moves_own (step slots unmarshalled x 0 none) me x)
   stores_unmarshalled slots id me x e one role next wrote s r wide at _ =
       let p = person me.0 in let ws = s.words in let w = words_of s in let w' : ℕ → ℕ = λ (j : ℕ). get_or (set ws 16 x) j 0 in
-      let knows = (mine S terms s r id me.0 p at one).2 in let own_is : w 16 ≡ p.own = subst (λ (z : Role). w (place_of z) ≡ p.own) role knows.own in
+      let knows = (mine terms s r id me.0 p at one).2 in let own_is : w 16 ≡ p.own = subst (λ (z : Role). w (place_of z) ≡ p.own) role knows.own in
       let reach = reaches terms w r.log p.seen r.logged knows.front in let row = wrote.row in
       let longer : p.part.sequence < length p.seen = within p.seen p.part.sequence e wrote.entry in
       let part = subst (λ (z : Role). PartOf terms.rows terms.output_rows w r.log z p.part) role knows.part in
@@ -150,7 +152,7 @@ module _ {L : Type 0} (S : Type 0) (terms : Terms L) where
             (λ t d is lt. dite (dec_lt t (w 16))
             (λ before. r.rows.packable t d is before)
             (λ (behind : ¬ (t < w 16)). all.packable t d (known t d (below t lt) is) (omega arith) (below t lt)))
-            (outgoing_stays terms w w' r.log r.log r.few refl r.outgoing.front zero_is journalled_is
+            (outgoing_stays terms w w' r.log r.log r.few refl refl r.outgoing.front zero_is journalled_is
             (λ k from to. word_else ws 16 k x (λ (z : k ≡ 16). omega arith))
             (all_outputs terms w w' (λ q i. word_else ws 16 (out_row terms.rows terms.output_rows q i) x (no_output terms.rows terms.output_rows q i 16 (let n : ℕ = terms.rows in omega arith)))) r.outgoing),
         refl,

@@ -10,6 +10,7 @@ use Rattle.atomic_table.specs.Table.{step, keeps, Allows}
 use Rattle.venue_model.specs.History.{Message}
 use Rattle.venue_model.specs.declared.outputs.Output.{Output}
 use Rattle.venue_model.specs.ListLaws.{stands}
+use Rattle.ring_words.specs.Slots.{Boxed}
 use Rattle.ring_words.specs.declared.view.Role.{Role}
 use Rattle.ring_words.specs.declared.view.Role.TheVariants.{Gateway}
 use Rattle.ring_words.specs.declared.view.Person.{Person}
@@ -58,8 +59,10 @@ module _ {L : Type 0} (terms : Terms L) where
         let a : length (outputs_of terms (take (w 0) log.history)) ≤ w 104 = r.least in omega arith);
     most = (let is : length (outputs_of terms (take (suc (w' 0)) log.history)) ≡ length (outputs_of terms (take (suc (w 0)) log.history)) = ap (λ (x : ℕ). length (outputs_of terms (take (suc x) log.history))) first in
         let a : w 104 ≤ length (outputs_of terms (take (suc (w 0)) log.history)) = r.most in omega arith);
-    outputs = λ j q o g from to at i x there. (let b = rises j in rows q i ∙ r.outputs j q o g (omega arith) (omega arith) at i x there);
-    packable = λ j q o g from to at. (let b = rises j in r.packable j q o g (omega arith) (omega arith) at);
+    addresses = λ j q o g from to at. (let b = rises j in rows q 0 ∙ r.addresses j q o g (omega arith) (omega arith) at);
+    reports = λ j q o g from to at. (let b = rises j in r.reports j q o g (omega arith) (omega arith) at);
+    filling = λ f is. (let h = r.filling f is in let a : f.place ≡ w 104 = h.0 in let b : w 104 < w 32 + terms.output_rows = h.1 in ((omega arith), (omega arith)));
+    reading = λ f is. (let h = r.reading f is in let a : w 32 ≤ f.place = h.1 in let b : f.place < w 104 = h.2 in (h.0, (omega arith), (omega arith)));
     texts = λ j q o g from to at i x there. (let b = rises j in rows q (i + 64) ∙ r.texts j q o g (omega arith) (omega arith) at i x there);
     readable = λ j q o g from to at. (let b = rises j in r.readable j q o g (omega arith) (omega arith) at);
   } where
@@ -82,20 +85,20 @@ module _ {L : Type 0} (terms : Terms L) where
     still_low j g = dite (ℕ_discrete (taken j) (taken k)) (λ e. subst (λ (i : ℕ). w' i ≤ w 32) (sym e) most)
         (λ ne. let is = else (taken j) ne in let le : w (taken j) ≤ w 32 = r.taken_marshalled j g in omega arith)
 
-module _ {L : Type 0} (S : Type 0) (terms : Terms L) where
+module _ {L : Type 0} (terms : Terms L) where
   -- where marshalled lies above a gateway's own word there is an output, in a history that is legal for the gateway
-  pub loads_marshalled : (slots id k : ℕ) (me : Seated S L) → IsAlone me.0 → (person me.0).role ≡ Gateway k
-      → Allows (Lawful S terms) slots id me marshalled (λ x. x) (sees_marshalled terms.outputs (step slots marshalled 0 0 none) me)
+  pub loads_marshalled : (slots id k : ℕ) (me : Seated Boxed L) → IsAlone me.0 → (person me.0).role ≡ Gateway k
+      → Allows (Lawful terms) slots id me marshalled (λ x. x) (sees_marshalled terms.outputs (step slots marshalled 0 0 none) me)
   loads_marshalled slots id k me one role s r wide at _ = let p = person me.0 in let w = words_of s in let x : ℕ = w marshalled in let then = sees_marshalled terms.outputs (step slots marshalled 0 0 none) me in
-      let own = mine S terms s r id me.0 p at one in let knows = own.2 in let owns = gateway_owns terms w r.log p k role knows in let own_is : w (taken k) ≡ p.own = owns.1 in
+      let own = mine terms s r id me.0 p at one in let knows = own.2 in let owns = gateway_owns terms w r.log p k role knows in let own_is : w (taken k) ≡ p.own = owns.1 in
       let below : w (taken k) ≤ x = r.outgoing.taken_marshalled k owns.0 in
       let after_load = knows_looked terms w r.log p marshalled x (λ _. le_refl x) knows in
       dite (ℕ_discrete x p.own)
-      (λ (same : x ≡ p.own). looks S terms s r marshalled id me (looked p marshalled x) then at one refl after_load ((omega arith), (λ _. refl), (λ (more : p.own < x). absurd (omega arith))))
+      (λ (same : x ≡ p.own). looks terms s r marshalled id me (looked p marshalled x) then at one refl after_load ((omega arith), (λ _. refl), (λ (more : p.own < x). absurd (omega arith))))
       (λ (ne : x ≢ p.own). let h = r.log.history in let longer = goes_on_kept terms w r.log p k role r.outgoing knows in let rest : List Message = longer.0 in let is : h ≡ p.seen ++ rest = longer.1 in
       let front : IsFront r.log.status (p.seen ++ rest) = subst (IsFront r.log.status) is r.outgoing.front in
       let kept : length (p.seen ++ rest) ≤ w journalled = (let a : length h ≡ w journalled = r.outgoing.kept in let b : length h ≡ length (p.seen ++ rest) = ap (λ (l : List Message). length l) is in omega arith) in
-      looks S terms s r marshalled id me (knowing (looked p marshalled x) rest) then at one refl
+      looks terms s r marshalled id me (knowing (looked p marshalled x) rest) then at one refl
       (knows_knowing terms w r.log (looked p marshalled x) rest front (subst (λ (z : Role). Depth w z (length (p.seen ++ rest))) (sym role) kept) after_load) (
         (omega arith),
         (λ same. absurd (ne same)),
@@ -110,11 +113,11 @@ module _ {L : Type 0} (S : Type 0) (terms : Terms L) where
       ))
 
   -- a gateway moves its taken word behind the next output, which a value of marshalled that it loaded showed
-  pub stores_taken : (slots id k : ℕ) (me : Seated S L) (x : ℕ) → IsAlone me.0 → (person me.0).role ≡ Gateway k → x ≡ suc (person me.0).own → Shows marshalled (person me.0) (person me.0).own
-      → Allows (Lawful S terms) slots id me (taken k) (λ _. x) (λ _. moves_own (step slots (taken k) x 0 none) me x)
+  pub stores_taken : (slots id k : ℕ) (me : Seated Boxed L) (x : ℕ) → IsAlone me.0 → (person me.0).role ≡ Gateway k → x ≡ suc (person me.0).own → Shows marshalled (person me.0) (person me.0).own
+      → Allows (Lawful terms) slots id me (taken k) (λ _. x) (λ _. moves_own (step slots (taken k) x 0 none) me x)
   stores_taken slots id k me x one role next shown s r wide at _ =
       let p = person me.0 in let ws = s.words in let w = words_of s in let here : ℕ = taken k in let w' : ℕ → ℕ = λ (j : ℕ). get_or (set ws here x) j 0 in
-      let knows = (mine S terms s r id me.0 p at one).2 in let owns = gateway_owns terms w r.log p k role knows in let own_is : w here ≡ p.own = owns.1 in
+      let knows = (mine terms s r id me.0 p at one).2 in let owns = gateway_owns terms w r.log p k role knows in let own_is : w here ≡ p.own = owns.1 in
       let lo : 1 ≤ k = owns.0.0 in let hi : k ≤ terms.gateways = owns.0.1 in let few = r.few in
       let below : p.own < w marshalled = still_above terms w r.log p marshalled p.own knows (omega arith) shown in
       let inside : here < length ws = (let v = r.wide in let n : ℕ = terms.rows in let m : ℕ = terms.output_rows in omega arith) in
@@ -122,13 +125,13 @@ module _ {L : Type 0} (S : Type 0) (terms : Terms L) where
         alone me.0 (moved p x),
         keeps,
         tt,
-        own_output_now S terms s r id me here x at one (ap place_of role) (omega arith) (omega arith) (omega arith)
+        own_output_now terms s r id me here x at one (ap place_of role) (omega arith) (omega arith) (omega arith)
             (outgoing_taken terms w w' r.log k few owns.0 else (omega arith) (omega arith) r.outgoing),
         refl,
       )
 
   -- the same, at the place that the code found
-  pub stores_taken_at : (slots id k : ℕ) (me : Seated S L) (place x : ℕ) → place ≡ taken k → IsAlone me.0 → (person me.0).role ≡ Gateway k → x ≡ suc (person me.0).own → Shows marshalled (person me.0) (person me.0).own
-      → Allows (Lawful S terms) slots id me place (λ _. x) (λ _. moves_own (step slots place x 0 none) me x)
+  pub stores_taken_at : (slots id k : ℕ) (me : Seated Boxed L) (place x : ℕ) → place ≡ taken k → IsAlone me.0 → (person me.0).role ≡ Gateway k → x ≡ suc (person me.0).own → Shows marshalled (person me.0) (person me.0).own
+      → Allows (Lawful terms) slots id me place (λ _. x) (λ _. moves_own (step slots place x 0 none) me x)
   stores_taken_at slots id k me place x is one role next shown =
-      subst (λ (j : ℕ). Allows (Lawful S terms) slots id me j (λ _. x) (λ _. moves_own (step slots j x 0 none) me x)) (sym is) (stores_taken slots id k me x one role next shown)
+      subst (λ (j : ℕ). Allows (Lawful terms) slots id me j (λ _. x) (λ _. moves_own (step slots j x 0 none) me x)) (sym is) (stores_taken slots id k me x one role next shown)

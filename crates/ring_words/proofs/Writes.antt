@@ -6,6 +6,7 @@ use mathlib.Core.Logic.{dite}
 use native.Mathlib.Decide.{ℕ_discrete, dec_le}
 use lib.ListN.{get_elem?}
 use Rattle.atomic_table.specs.Table.{State, step, keeps, Allows}
+use Rattle.ring_words.specs.Slots.{Boxed}
 use Rattle.ring_words.specs.declared.view.Role.{Role}
 use Rattle.ring_words.specs.declared.view.Role.TheVariants.{Gateway}
 use Rattle.ring_words.specs.declared.view.View.{View}
@@ -58,18 +59,18 @@ module _ {L : Type 0} (terms : Terms L) (w : ℕ → ℕ) (log : Log) (order : O
   one_row s t k is there late same = let use_s = in_use s k is in let a = use_s.0 in let b = use_s.1 in let c = below_claim t there in let room = order.room in
       one_window (w claim - terms.rows) t s terms.rows (omega arith) (omega arith) (omega arith) (omega arith) same
 
-module _ {L : Type 0} (S : Type 0) (terms : Terms L) where
-  stored_now : (s : State S (View L)) (r : Lawful S terms s) (id k a i x : ℕ) (me : Seated S L) → get_elem? s.views id ≡ some me.0 → IsAlone me.0 → (person me.0).role ≡ Gateway k
+module _ {L : Type 0} (terms : Terms L) where
+  stored_now : (s : State Boxed (View L)) (r : Lawful terms s) (id k a i x : ℕ) (me : Seated Boxed L) → get_elem? s.views id ≡ some me.0 → IsAlone me.0 → (person me.0).role ≡ Gateway k
       → r.log.status a ≡ claimed k → i < 41 → GoesOn (person me.0).part a i
-      → Lawful S terms record { words = set s.words (in_row terms.rows a (i + 1)) x; homes = s.homes; views = set s.views id (alone me.0 (stored (person me.0) a i x)) }
+      → Lawful terms record { words = set s.words (in_row terms.rows a (i + 1)) x; homes = s.homes; views = set s.views id (alone me.0 (stored (person me.0) a i x)) }
   stored_now s r id k a i x me at one role is small goes_on =
       let p = person me.0 in let n : ℕ = terms.rows in let m : ℕ = terms.output_rows in let ws = s.words in let w = words_of s in
       let here : ℕ = in_row n a (i + 1) in let w' : ℕ → ℕ = λ (j : ℕ). get_or (set ws here x) j 0 in let low : i + 1 < 64 = omega arith in
-      let knows = (mine S terms s r id me.0 p at one).2 in
+      let knows = (mine terms s r id me.0 p at one).2 in
       let inside : here < length ws = subst (λ (y : ℕ). here < y) (sym r.wide) (row_inside n m a (i + 1) r.some_row low) in
       let stays : (t j : ℕ) → j < 64 → (t % n ≡ a % n → j ≢ i + 1) → w' (in_row n t j) ≡ w (in_row n t j) = λ t j few. row_else ws n t a j (i + 1) x few low in
       let outside : (q j : ℕ) → w' (out_row n m q j) ≡ w (out_row n m q j) = λ q j. output_apart ws n m a (i + 1) q j x r.some_row low in
-      word_stored S terms s r id here a i x me at one (no_control n a (i + 1))
+      word_stored terms s r id here a i x me at one (no_control n a (i + 1))
       record {
         marks = λ t. stays t 0 (omega arith) (λ _. (λ (e : 0 ≡ i + 1). omega arith));
         raw = λ t e sent_is late j few. stays t (j + 1) (omega arith) (λ same. absurd (claimed_not_sent k e (sym is ∙ ap r.log.status (
@@ -98,10 +99,10 @@ module _ {L : Type 0} (S : Type 0) (terms : Terms L) where
       })
 
   -- a gateway stores the next raw word of a row that it claimed
-  pub writes_raw : (slots id k a i x : ℕ) (me : Seated S L) → IsAlone me.0 → (person me.0).role ≡ Gateway k → 0 < times a (person me.0).claims → i < 41 → GoesOn (person me.0).part a i
-      → Allows (Lawful S terms) slots id me (in_row terms.rows a (i + 1)) (λ _. x) (λ _. stores_raw terms.rows (step slots (in_row terms.rows a (i + 1)) x 0 none) me x)
+  pub writes_raw : (slots id k a i x : ℕ) (me : Seated Boxed L) → IsAlone me.0 → (person me.0).role ≡ Gateway k → 0 < times a (person me.0).claims → i < 41 → GoesOn (person me.0).part a i
+      → Allows (Lawful terms) slots id me (in_row terms.rows a (i + 1)) (λ _. x) (λ _. stores_raw terms.rows (step slots (in_row terms.rows a (i + 1)) x 0 none) me x)
   writes_raw slots id k a i x me one role mine_is small goes_on s r wide at _ =
-      let p = person me.0 in let w = words_of s in let knows = (mine S terms s r id me.0 p at one).2 in
+      let p = person me.0 in let w = words_of s in let knows = (mine terms s r id me.0 p at one).2 in
       let who : number_of p.role ≡ k = ap number_of role in
       let is_claimed : (t : ℕ) → 0 < times t p.claims → r.log.status t ≡ claimed k = λ t some_claim. claim_is (r.log.status t) k (subst (λ (y : ℕ). 0 < y) (knows.claims t ∙ ap (λ (j : ℕ). claims_of j (r.log.status t)) who) some_claim) in
       let is = is_claimed a mine_is in (
@@ -117,8 +118,8 @@ module _ {L : Type 0} (S : Type 0) (terms : Terms L) where
             ap (λ (z : ℕ). (alone me.0 (stored p z i x), me.1)) (sym eq) ∙ ap (λ (z : ℕ). (alone me.0 (stored p t z x), me.1)) word_is),
       )
 
-  pub writes_raw_in : (n : ℕ) → terms.rows ≡ n → (slots id k a i x : ℕ) (me : Seated S L) (place : ℕ) → IsAlone me.0 → (person me.0).role ≡ Gateway k → 0 < times a (person me.0).claims → i < 41 → GoesOn (person me.0).part a i
-      → place ≡ in_row n a (i + 1) → Allows (Lawful S terms) slots id me place (λ _. x) (λ _. stores_raw n (step slots place x 0 none) me x)
+  pub writes_raw_in : (n : ℕ) → terms.rows ≡ n → (slots id k a i x : ℕ) (me : Seated Boxed L) (place : ℕ) → IsAlone me.0 → (person me.0).role ≡ Gateway k → 0 < times a (person me.0).claims → i < 41 → GoesOn (person me.0).part a i
+      → place ≡ in_row n a (i + 1) → Allows (Lawful terms) slots id me place (λ _. x) (λ _. stores_raw n (step slots place x 0 none) me x)
   writes_raw_in n is slots id k a i x me place one role mine_is small goes_on place_is =
-      subst (λ (y : ℕ). Allows (Lawful S terms) slots id me y (λ _. x) (λ _. stores_raw n (step slots y x 0 none) me x)) (sym place_is)
-      (subst (λ (j : ℕ). Allows (Lawful S terms) slots id me (in_row j a (i + 1)) (λ _. x) (λ _. stores_raw j (step slots (in_row j a (i + 1)) x 0 none) me x)) is (writes_raw slots id k a i x me one role mine_is small goes_on))
+      subst (λ (y : ℕ). Allows (Lawful terms) slots id me y (λ _. x) (λ _. stores_raw n (step slots y x 0 none) me x)) (sym place_is)
+      (subst (λ (j : ℕ). Allows (Lawful terms) slots id me (in_row j a (i + 1)) (λ _. x) (λ _. stores_raw j (step slots (in_row j a (i + 1)) x 0 none) me x)) is (writes_raw slots id k a i x me one role mine_is small goes_on))

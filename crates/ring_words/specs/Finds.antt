@@ -9,8 +9,7 @@ use Rattle.venue_model.specs.declared.outputs.Output.{Output}
 use Rattle.ring_words.specs.declared.view.Person.{Person}
 use Rattle.ring_words.specs.Places.{unmarshalled, journalled, marshalled, published, in_row}
 use Rattle.ring_words.specs.Log.{IsEntry}
-use Rattle.ring_words.specs.Packing.{command_words, IsPackable}
-use Rattle.ring_words.specs.OutputPacking.{output_words, IsPackableOutput}
+use Rattle.command_words.specs.Packing.{command_words, IsPackable}
 use Rattle.ring_words.specs.Texts.{text_words, IsPackableText}
 use Rattle.ring_words.specs.Seats.{looked, knowing, saw, last_from}
 use Rattle.ring_words.specs.At.{At, Steps}
@@ -21,14 +20,9 @@ abbrev pub IsCommandWord : (ℕ → Message → Command) → Person → ℕ → 
 IsCommandWord reads p s i x = (y : ℕ) (e : Message) → get_elem? p.seen s ≡ some e → get_elem? (command_words e.gateway (reads s e)) i ≡ some y
     → (x ≡ y) × IsPackable e.gateway (reads s e) × IsEntry e
 
--- word i of the output at q of the history that the person knows is x
-abbrev pub IsOutputWord : (List Message → List Output) → Person → ℕ → ℕ → ℕ → Type 0
-IsOutputWord outputs p q i x = (y : ℕ) (o : Output) → get_elem? (outputs p.seen) q ≡ some o → get_elem? (output_words o) i ≡ some y
-    → (x ≡ y) × IsPackableOutput o
-
 -- x is the number of the gateway that the output at q goes to
 abbrev pub IsAddress : (List Message → List Output) → Person → ℕ → ℕ → Type 0
-IsAddress outputs p q x = (o : Output) → get_elem? (outputs p.seen) q ≡ some o → (x ≡ o.to) × IsPackableOutput o
+IsAddress outputs p q x = (o : Output) → get_elem? (outputs p.seen) q ≡ some o → x ≡ o.to
 
 -- word i of the text of the output at q is x
 abbrev pub IsTextWord : (List Message → List Output) → (Output → ℕ → Text) → Person → ℕ → ℕ → ℕ → Type 0

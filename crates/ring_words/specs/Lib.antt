@@ -1,8 +1,7 @@
 pub mod Places
+pub mod Slots
 pub mod Log
 pub mod Raw
-pub mod Packing
-pub mod OutputPacking
 pub mod Texts
 pub mod Terms
 pub mod Rule

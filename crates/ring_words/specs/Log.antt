@@ -4,6 +4,7 @@ use mathlib.Core.Option.{Option, none, some}
 use lib.ListN.{get_elem?}
 use Rattle.venue_model.specs.History.{Message, IsMessage}
 use Rattle.ring_words.specs.declared.view.Sent.{Sent}
+use Rattle.ring_words.specs.Slots.{Slots}
 
 -- a message, as bytes
 pub record IsEntry (e : Message) : Type 0 where
@@ -17,10 +18,11 @@ pub data Status : Type 0 where
   claimed : ℕ → Status
   sent : Message → Status
 
--- the log: what stands at each sequence, and the history that is kept, which is its beginning
+-- the log: what stands at each sequence, and the history that is kept, which is its beginning; and the reports of the output ring
 pub record Log : Type 0 where
   pub status : ℕ → Status
   pub history : List Message
+  pub slots : Slots
 
 -- the entry that stands there
 abbrev pub entry_of : Status → Option Message

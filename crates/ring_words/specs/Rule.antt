@@ -1,6 +1,6 @@
 -- The rule of the table, which holds between any two steps: the order of the control words, the log with what each
 -- person knows of it, and what stands in the rows. The words are read as a function from places.
-use Rattle.std.specs.Prelude.{◌≡◌, ◌≢◌, ℕ, zero, suc, ◌+◌, ◌%◌, ◌^◌, ◌<◌, ◌≤◌, List, [], ◌∷◌, ◌==◌, cond, length, take, slice_index, if◌then◌else◌, nat_lt, Some}
+use Rattle.std.specs.Prelude.{None, ◌≡◌, ◌≢◌, ℕ, zero, suc, ◌+◌, ◌%◌, ◌^◌, ◌<◌, ◌≤◌, List, [], ◌∷◌, ◌==◌, cond, length, take, slice_index, if◌then◌else◌, nat_lt, Some}
 use mathlib.Core.Option.{some}
 use lib.ListN.{get_elem?}
 use Rattle.atomic_table.specs.Table.{State}
@@ -13,10 +13,11 @@ use Rattle.ring_words.specs.declared.view.Part.{Part}
 use Rattle.ring_words.specs.declared.view.Person.{Person}
 use Rattle.ring_words.specs.declared.view.View.{View}
 use Rattle.ring_words.specs.Places.{processed, claim, unmarshalled, journalled, marshalled, taken, published, first_row, in_row, out_row, table_words, place_of, number_of}
+use Rattle.ring_words.specs.declared.report.Report.{Report}
+use Rattle.ring_words.specs.Slots.{Boxed, report_of, OutOf, Filled}
 use Rattle.ring_words.specs.Log.{IsEntry, unclaimed, old, claimed, sent, Log, entry_of, sends_of, claims_of, sent_at, times, IsFront}
 use Rattle.ring_words.specs.Raw.{raw_word, raw_count}
-use Rattle.ring_words.specs.Packing.{IsPackable}
-use Rattle.ring_words.specs.OutputPacking.{output_words, IsPackableOutput}
+use Rattle.command_words.specs.Packing.{IsPackable}
 use Rattle.ring_words.specs.Texts.{text_words, IsPackableText}
 use Rattle.ring_words.specs.Terms.{Terms, commands_of, command_of, outputs_of, text_of}
 
@@ -48,9 +49,9 @@ Stands n w log k t = (i x : ℕ) → get_elem? t.words i ≡ some x → (i < 41)
 abbrev pub StandsBehind : ℕ → (ℕ → ℕ) → Part → Type 0
 StandsBehind n w t = (i x : ℕ) → get_elem? t.words i ≡ some x → (i < 16) × (w (in_row n t.sequence (i + 48)) ≡ x)
 
--- the words of an output that were stored stand in the row of its place, in a ring of m rows behind n input rows
+-- the word of an output that was stored stands in the row of its place, in a ring of m rows behind n input rows
 abbrev pub StandsOut : ℕ → ℕ → (ℕ → ℕ) → Part → Type 0
-StandsOut n m w t = (i x : ℕ) → get_elem? t.words i ≡ some x → (i < 60) × (w (out_row n m t.sequence i) ≡ x)
+StandsOut n m w t = (i x : ℕ) → get_elem? t.words i ≡ some x → (i < 1) × (w (out_row n m t.sequence i) ≡ x)
 
 -- the words of a text that were stored stand in the row of its output's place
 abbrev pub StandsText : ℕ → ℕ → (ℕ → ℕ) → Part → Type 0
@@ -71,7 +72,7 @@ owners k (p ∷ ps) = cond (place_of p.role == k) (suc (owners k ps)) (owners k 
 
 -- a person at the start: it knows this history and its own word
 abbrev pub newcomer : Role → List Message → ℕ → Person
-newcomer r base own = record { role = r; seen = base; own = own; mine = []; claims = []; loads = []; part = record { sequence = 0; words = [] } }
+newcomer r base own = record { role = r; seen = base; own = own; mine = []; claims = []; loads = []; part = record { sequence = 0; words = [] }; out = None }
 
 -- g gateways from number k on, whose counts of outputs are those given
 abbrev pub gateways : ℕ → ℕ → List Message → ℕ → List Person
@@ -134,7 +135,7 @@ module _ {L : Type 0} where
     pub readable : (q : ℕ) (o : Output) → get_elem? (outputs_of terms seen) q ≡ some o → from ≤ q → q < to → IsPackableText (text_of terms o q)
 
   -- what a person knows: a beginning of the log, no longer than its role may know, its own word, exactly its publications and claims,
-  -- what it loaded, its row under way, and of unmarshaller and marshaller the commands or texts that they wrote before that row
+  -- what it loaded, its row under way, of unmarshaller and marshaller the commands or texts that they wrote before that row, and whose slot it has out
   pub record Knows (terms : Terms L) (w : ℕ → ℕ) (log : Log) (p : Person) : Type 0 where
     pub role : IsRole terms.gateways p.role
     pub front : IsFront log.status p.seen
@@ -146,6 +147,7 @@ module _ {L : Type 0} where
     pub part : PartOf terms.rows terms.output_rows w log p.role p.part
     pub written : p.role ≡ Unmarshal → Written terms w p.seen p.own p.part.sequence
     pub written_texts : p.role ≡ Marshal → WrittenTexts terms w p.seen p.own p.part.sequence
+    pub out : OutOf log.slots p.role p.out
 
   -- the rows: an availability word names a published sequence of its row, and a row that may still be read has its own, its message, and below
   -- unmarshalled its command
@@ -160,7 +162,9 @@ module _ {L : Type 0} where
 
   -- The output ring. The outputs that go through it are those of the history that is kept, which is the log's beginning: all of the
   -- entries processed are published, and maybe some of the next entry's. No row is used again before each gateway has taken its output: until
-  -- then that stands in its row, and below marshalled its text.
+  -- then its address stands in the row's word, its report stands for the row, and below marshalled its text stands there. The processor has no
+  -- slot out but that of the next place, which the marshaller has passed; and the marshaller none but that of an output between marshalled and published,
+  -- whose report still stands for its row.
   pub record Outgoing (terms : Terms L) (w : ℕ → ℕ) (log : Log) : Type 0 where
     pub kept : length log.history ≡ w journalled
     pub front : IsFront log.status log.history
@@ -169,12 +173,15 @@ module _ {L : Type 0} where
     pub free : (k : ℕ) → IsGateway terms.gateways k → w published ≤ w (taken k) + terms.output_rows
     pub least : length (outputs_of terms (take (w processed) log.history)) ≤ w published
     pub most : w published ≤ length (outputs_of terms (take (suc (w processed)) log.history))
-    pub outputs : (k q : ℕ) (o : Output) → IsGateway terms.gateways k → w (taken k) ≤ q → q < w published
+    pub addresses : (k q : ℕ) (o : Output) → IsGateway terms.gateways k → w (taken k) ≤ q → q < w published
         → get_elem? (outputs_of terms log.history) q ≡ some o
-        → (i x : ℕ) → get_elem? (output_words o) i ≡ some x → w (out_row terms.rows terms.output_rows q i) ≡ x
-    pub packable : (k q : ℕ) (o : Output) → IsGateway terms.gateways k → w (taken k) ≤ q → q < w published
+        → w (out_row terms.rows terms.output_rows q 0) ≡ o.to
+    pub reports : (k q : ℕ) (o : Output) → IsGateway terms.gateways k → w (taken k) ≤ q → q < w published
         → get_elem? (outputs_of terms log.history) q ≡ some o
-        → IsPackableOutput o
+        → log.slots.reports (q % terms.output_rows) ≡ some (report_of o q)
+    pub filling : (f : Report) → log.slots.filling ≡ Some f → (f.place ≡ w published) × (w published < w marshalled + terms.output_rows)
+    pub reading : (f : Report) → log.slots.reading ≡ Some f
+        → (log.slots.reports (f.place % terms.output_rows) ≡ some f) × (w marshalled ≤ f.place) × (f.place < w published)
     pub texts : (k q : ℕ) (o : Output) → IsGateway terms.gateways k → w (taken k) ≤ q → q < w marshalled
         → get_elem? (outputs_of terms log.history) q ≡ some o
         → (i x : ℕ) → get_elem? (text_words (text_of terms o q)) i ≡ some x → w (out_row terms.rows terms.output_rows q (i + 64)) ≡ x
@@ -192,7 +199,7 @@ module _ {L : Type 0} where
   words_of s i = slice_index s.words i
 
   -- the rule. Each person of the crew is in one view, once: no word has two owners, and nobody is lost
-  pub record Lawful (S : Type 0) (terms : Terms L) (s : State S (View L)) : Type 0 where
+  pub record Lawful (terms : Terms L) (s : State Boxed (View L)) : Type 0 where
     pub log : Log
     pub some_row : 0 < terms.rows
     pub some_output_row : 0 < terms.output_rows
@@ -203,6 +210,7 @@ module _ {L : Type 0} where
     pub logged : Logged terms (words_of s) log
     pub rows : Rows terms (words_of s) log
     pub outgoing : Outgoing terms (words_of s) log
+    pub filled : Filled terms.output_rows log.slots s.homes
     pub people : (id j : ℕ) (v : View L) (p : Person) → get_elem? s.views id ≡ some v → get_elem? v.people j ≡ some p
         → (v.logic ≡ Some terms.logic) × (v.base ≡ terms.base) × Knows terms (words_of s) log p
     pub once : (k : ℕ) → all_owners k s.views ≡ owners k (crew terms.gateways terms.base terms.given)

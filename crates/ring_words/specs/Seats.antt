@@ -5,6 +5,7 @@ use Rattle.ring_words.specs.declared.view.Role.{Role}
 use Rattle.ring_words.specs.declared.view.Role.TheVariants.{Process, Unmarshal, Journal}
 use Rattle.ring_words.specs.declared.view.Sent.{Sent}
 use Rattle.ring_words.specs.declared.view.Load.{Load}
+use Rattle.ring_words.specs.declared.report.Report.{Report}
 use Rattle.ring_words.specs.declared.view.Person.{Person}
 use Rattle.ring_words.specs.declared.view.View.{View}
 use Rattle.ring_words.specs.Places.{taken}
@@ -71,6 +72,14 @@ no_values = None ∷ None ∷ None ∷ None ∷ None ∷ None ∷ None ∷ None 
 -- a stage that reads what gateways published
 abbrev pub IsReader : Role → Type 0
 IsReader r = (r ≡ Unmarshal) ⊎ (r ≡ Journal)
+
+-- it has this report out, or none
+abbrev pub with_out : Person → Option Report → Person
+with_out p out = record p { out = out }
+
+-- it loaded the word at k twice, as x
+abbrev pub looked_twice : Person → ℕ → ℕ → Person
+looked_twice p k x = looked (looked p k x) k x
 
 -- its own word became x
 abbrev pub moved : Person → ℕ → Person

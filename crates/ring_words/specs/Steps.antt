@@ -1,13 +1,14 @@
 -- What each kind of step tells the one who makes it: of the step, the seat before, the number found (at a store, the number
 -- stored), and the seat after.
-use Rattle.std.specs.Prelude.{Some, ◌≡◌, ◌≢◌, ◌⊎◌, ℕ, suc, ◌+◌, ◌^◌, ◌<◌, ◌≤◌, List, [], ◌++◌, length, take, if◌then◌else◌, nat_le}
+use Rattle.std.specs.Prelude.{None, Some, ◌≡◌, ◌≢◌, ◌⊎◌, ℕ, suc, ◌+◌, ◌%◌, ◌^◌, ◌<◌, ◌≤◌, List, [], ◌∷◌, ◌++◌, length, take, if◌then◌else◌, nat_le}
 use mathlib.Core.Option.{some}
 use lib.ListN.{get_elem?}
-use Rattle.atomic_table.specs.Table.{Me, Step}
+use Rattle.atomic_table.specs.Table.{Me, Step, rest}
 use Rattle.venue_model.specs.History.{Message}
 use Rattle.venue_model.specs.Texts.{Text}
 use Rattle.venue_model.specs.declared.commands.Command.{Command}
 use Rattle.venue_model.specs.declared.outputs.Output.{Output}
+use Rattle.ring_words.specs.declared.report.Report.{Report}
 use Rattle.ring_words.specs.declared.view.Load.{Load}
 use Rattle.ring_words.specs.declared.view.Part.{Part}
 use Rattle.ring_words.specs.declared.view.Person.{Person}
@@ -15,11 +16,11 @@ use Rattle.ring_words.specs.declared.view.View.{View}
 use Rattle.ring_words.specs.Places.{processed, claim, unmarshalled, journalled, marshalled, taken, published, in_row, out_row, number_of}
 use Rattle.ring_words.specs.Log.{IsEntry, times, sent_at, published_at}
 use Rattle.ring_words.specs.Raw.{raw_word, raw_count, Spells}
-use Rattle.ring_words.specs.Packing.{command_words, IsPackable}
-use Rattle.ring_words.specs.OutputPacking.{output_words, IsPackableOutput}
+use Rattle.command_words.specs.Packing.{command_words, IsPackable}
+use Rattle.ring_words.specs.Slots.{Boxed, report_of}
 use Rattle.ring_words.specs.Texts.{text_words, IsPackableText}
 use Rattle.ring_words.specs.Rule.{IsGateway, at_place}
-use Rattle.ring_words.specs.Seats.{person, alone, looked, with_claim, stored, marked, saw, knowing, last_from, moved}
+use Rattle.ring_words.specs.Seats.{person, alone, looked, with_claim, stored, wrote, with_out, marked, saw, knowing, last_from, moved}
 
 -- no claim value that the person loaded is above x
 abbrev pub ClaimsUpTo : Person → ℕ → Type 0
@@ -83,13 +84,6 @@ pub record WroteCommand (reads : ℕ → Message → Command) (p : Person) (e : 
 -- the rows that the unmarshaller may write: the first that it hasn't handed on, the one under way, and when that is written whole the next one
 abbrev pub MayWrite : (ℕ → Message → Command) → Person → ℕ → Type 0
 MayWrite reads p s = (s ≡ p.own) ⊎ ((s ≡ p.part.sequence) ⊎ ((s ≡ suc p.part.sequence) × ((e : Message) × WroteCommand reads p e)))
-
--- the processor wrote the whole output at the next place, which is one of the next entry's; it saw that entry journalled
-pub record WroteOutput (outputs : List Message → List Output) (p : Person) (o : Output) : Type 0 where
-  pub synced : Shows journalled p p.own
-  pub output : get_elem? (outputs (take (suc p.own) p.seen)) p.part.sequence ≡ some o
-  pub words : p.part.words ≡ output_words o
-  pub packable : IsPackableOutput o
 
 -- the processor published all outputs of the first entries that it knows, so many
 abbrev pub HasPublished : (List Message → List Output) → Person → ℕ → Type 0
@@ -177,22 +171,22 @@ module _ {S L : Type 0} where
   sees_taken rows st m r after = Became m (looked (person m.0) st.word r) after
       × (r ≤ (person m.0).part.sequence) × ((person m.0).part.sequence ≤ r + rows)
 
-  -- a store of an output word in the row of the next place
-  abbrev pub stores_output : ℕ → ℕ → Step S → Seated S L → ℕ → Seated S L → Type 0
-  stores_output n rows st m r after = (i : ℕ) → i < 60 → st.word ≡ out_row n rows (person m.0).part.sequence i
-      → Became m (stored (person m.0) (person m.0).part.sequence i r) after
+  -- a store of the address of the output at the next place, in its row, whose slot is taken out for its report
+  abbrev pub puts_address : ℕ → ℕ → Step S → Seated S L → ℕ → Seated S L → Type 0
+  puts_address n rows st m r after = st.word ≡ out_row n rows (person m.0).part.sequence 0
+      → (f : Report) × ((x : S) × (f.place ≡ (person m.0).part.sequence)
+      × (after ≡ (alone m.0 (with_out (wrote (person m.0) (person m.0).part.sequence (r ∷ [])) (Some f)), ((person m.0).part.sequence % rows, x) ∷ m.1)))
 
-  -- a store of published
+  -- a store of published, which brings that slot back
   abbrev pub publishes : Step S → Seated S L → ℕ → Seated S L → Type 0
-  publishes st m r after = Became m (at_place (person m.0) r) after
+  publishes st m r after = after ≡ (alone m.0 (with_out (at_place (person m.0) r) None), rest m.1)
 
-  -- a load of an output word, where a value of the gate was loaded above its place and it isn't released: the output is that of the history that is
+  -- a load of an address, where a value of the gate was loaded above its place and it isn't released: the output is that of the history that is
   -- known
-  abbrev pub sees_output : Readable → (L → List Message → List Output) → Step S → Seated S L → ℕ → Seated S L → Type 0
-  sees_output ring outputs st m r after = Became m (looked (person m.0) st.word r) after
-      × ((logic : L) (q i x : ℕ) (o : Output) → m.0.logic ≡ Some logic → get_elem? (outputs logic (person m.0).seen) q ≡ some o
-      → (person m.0).own ≤ q → Shows ring.gate (person m.0) q
-      → get_elem? (output_words o) i ≡ some x → st.word ≡ out_row ring.rows ring.output_rows q i → (r ≡ x) × IsPackableOutput o)
+  abbrev pub sees_address : Readable → (L → List Message → List Output) → Step S → Seated S L → ℕ → Seated S L → Type 0
+  sees_address ring outputs st m r after = Became m (looked (person m.0) st.word r) after
+      × ((logic : L) (q : ℕ) (o : Output) → m.0.logic ≡ Some logic → get_elem? (outputs logic (person m.0).seen) q ≡ some o
+      → (person m.0).own ≤ q → Shows ring.gate (person m.0) q → st.word ≡ out_row ring.rows ring.output_rows q 0 → r ≡ o.to)
 
   -- a load of published: the marshaller knows a history that has so many outputs
   abbrev pub sees_published : (L → List Message → List Output) → Step S → Seated S L → ℕ → Seated S L → Type 0
@@ -220,3 +214,19 @@ module _ {S L : Type 0} where
       → (person m.0).own ≤ q → Shows ring.gate (person m.0) q
       → get_elem? (text_words (means.text logic o q)) i ≡ some x → st.word ≡ out_row ring.rows ring.output_rows q (i + 64)
       → (r ≡ x) × IsPackableText (means.text logic o q))
+
+module _ {L : Type 0} where
+  -- a load of the address of an output that is published and not released, which takes the slot of its row out: its report is that of the output in
+  -- the history that is known
+  abbrev pub takes_report : Readable → (L → List Message → List Output) → Step Boxed → Seated Boxed L → ℕ → Seated Boxed L → Type 0
+  takes_report ring outputs st m r after = (q : ℕ) → (person m.0).own ≤ q → Shows ring.gate (person m.0) q → st.word ≡ out_row ring.rows ring.output_rows q 0
+      → (b : Boxed) × (b.value.place ≡ q)
+      × (after ≡ (alone m.0 (with_out (looked (person m.0) st.word r) (Some b.value)), (q % ring.output_rows, b) ∷ m.1))
+      × ((logic : L) (o : Output) → m.0.logic ≡ Some logic → get_elem? (outputs logic (person m.0).seen) q ≡ some o
+      → (r ≡ o.to) × (b.value ≡ report_of o q))
+
+  -- a load of that address again, which brings the slot back
+  abbrev pub gives_report : Readable → (L → List Message → List Output) → Step Boxed → Seated Boxed L → ℕ → Seated Boxed L → Type 0
+  gives_report ring outputs st m r after = (after ≡ (alone m.0 (with_out (looked (person m.0) st.word r) None), rest m.1))
+      × ((logic : L) (q : ℕ) (o : Output) → m.0.logic ≡ Some logic → get_elem? (outputs logic (person m.0).seen) q ≡ some o
+      → (person m.0).own ≤ q → Shows ring.gate (person m.0) q → st.word ≡ out_row ring.rows ring.output_rows q 0 → r ≡ o.to)

@@ -5,7 +5,7 @@ use Rattle.venue_model.specs.Texts.{Text}
 use Rattle.venue_model.specs.declared.commands.Command.{Command}
 use Rattle.venue_model.specs.declared.outputs.Output.{Output}
 use Rattle.ring_words.specs.declared.setup.Setup.{Setup}
-use Rattle.ring_words.specs.Packing.{command_words}
+use Rattle.command_words.specs.Packing.{command_words}
 
 -- the numbers of input rows, output rows and gateways; the logic, and what it means: the command of an entry at a sequence, the outputs of a
 -- history, and the text of an output at its place; the history at the start, and the number of its outputs

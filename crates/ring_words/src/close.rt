@@ -1,14 +1,17 @@
 //! How the rings end: all seats come back, and the last words are read.
+ghost use Rattle.std.specs.Prelude.{◌≡◌, ℕ, ◌<◌, false, true, slice_index_or};
 
 use crate::marshal_seat::MarshalSeat;
 use crate::places::{PROCESSED, PUBLISHED};
 use crate::plays::Together;
 use crate::process_seat::ProcessSeat;
 use crate::reader_seat::{JournalSeat, ReaderSeat, UnmarshalSeat};
+use crate::report::Slot;
 use crate::rings::Rings;
 use crate::seats::{GatewaySeat, Seats};
 use crate::view::View;
-use atomic_table::Seat;
+use atomic_table::{Closed, Seat};
+use std::alloc::Global;
 use venue_model::Logic;
 
 /// What had been done when the rings were closed.
@@ -18,6 +21,16 @@ pub struct Summary {
     pub commands: u64,
     /// How many outputs were published, with those of the history at the start.
     pub outputs: u64,
+}
+
+/// Takes the box out of each slot, and gives the table's memory back.
+fn let_go(mut closed: Closed<Slot, Global>)
+    requires full { (k : ℕ) → k < closed.slots.len → slice_index_or closed.slots.filled k false ≡ true }
+{
+    for row in 0..closed.slot_count() {
+        drop(closed.take(row));
+    }
+    closed.free();
 }
 
 impl<L: Logic + Drop, const N: usize, const M: usize, const G: usize> Rings<L, N, M, G> {
@@ -35,7 +48,7 @@ impl<L: Logic + Drop, const N: usize, const M: usize, const G: usize> Rings<L, N
         unmarshal: UnmarshalSeat<L>,
         journal: JournalSeat<L>,
         marshal: MarshalSeat<L>,
-    ) -> Seat<(), View<L>>
+    ) -> Seat<Slot, View<L>>
         requires process { IsAt self.now process }
         requires unmarshal { IsAt self.now unmarshal }
         requires journal { IsAt self.now journal }
@@ -59,8 +72,8 @@ impl<L: Logic + Drop, const N: usize, const M: usize, const G: usize> Rings<L, N
     fn gather(
         &self,
         mut gateways: Vec<GatewaySeat<L>>,
-        stages: Seat<(), View<L>>,
-    ) -> Seat<(), View<L>>
+        stages: Seat<Slot, View<L>>,
+    ) -> Seat<Slot, View<L>>
         requires table { (stages.table_id ≡ self.now.table) × (stages.me.1 ≡ []) }
         requires some { 0 < length stages.me.0.people }
         requires gateways { AreGateways self.now gateways.items }
@@ -99,7 +112,7 @@ impl<L: Logic + Drop, const N: usize, const M: usize, const G: usize> Rings<L, N
             commands: closed.word(PROCESSED),
             outputs: closed.word(PUBLISHED),
         };
-        closed.free();
+        let_go(closed);
         summary
     }
 }

@@ -1,21 +1,25 @@
 //! The marshaller's seat, behind the processor's.
-ghost use Rattle.std.specs.Prelude.{◌≡◌, []};
+ghost use Rattle.std.specs.Prelude.{None, ◌≡◌, []};
 ghost use Rattle.ring_words.specs.declared.view.Role.TheVariants.{Marshal};
 ghost use Rattle.ring_words.specs.Seats.{person, IsAlone};
 
+use crate::report::Slot;
 use crate::view::View;
 use atomic_table::Seat;
 use std::marker::Model;
 
-/// The marshaller's place at the table. It holds its own word.
+/// The marshaller's place at the table. It holds its own word, and a spare box, which lies in a row while the output there is
+/// copied.
 #[derive(Drop)]
 pub struct MarshalSeat<L> {
-    pub(crate) seat: Seat<(), View<L>>,
+    pub(crate) seat: Seat<Slot, View<L>>,
     pub(crate) own: u64,
+    pub(crate) spare: Slot,
     ghost alone: { IsAlone seat.me.0 },
     ghost bare: { seat.me.1 ≡ [] },
     ghost role: { (person seat.me.0).role ≡ Marshal },
     ghost counts: { own ≡ (person seat.me.0).own },
+    ghost home: { (person seat.me.0).out ≡ None },
 }
 
 impl<L> Model for MarshalSeat<L> {

@@ -1,17 +1,19 @@
 //! The single steps of the marshaller, which writes the text of each output that is published.
 ghost use Rattle.std.specs.Prelude.{◌≡◌, suc, ◌<◌, ◌≤◌};
+ghost use mathlib.Core.Option.{some};
+ghost use lib.ListN.{get_elem?};
 ghost use Rattle.venue_model.specs.declared.outputs.Output.{Output};
 ghost use Rattle.ring_words.specs.Places.{published, out_row};
-ghost use Rattle.ring_words.specs.Seats.{looked, stored, moved};
+ghost use Rattle.ring_words.specs.Seats.{looked_twice, stored, moved};
 ghost use Rattle.ring_words.specs.At.{IsAt, Steps};
 ghost use Rattle.ring_words.specs.Steps.{GoesOn, Shows, WroteText, MayWriteText};
-ghost use Rattle.ring_words.specs.Finds.{IsOutputWord, FindsPublished};
+ghost use Rattle.ring_words.specs.Finds.{FindsPublished};
 
 use crate::marshal_seat::MarshalSeat;
 use crate::places::{MARSHALLED, PUBLISHED, TEXT};
-use crate::plays::{MoveOwn, SeeOutput, SeePublished, StoreText};
+use crate::plays::{GiveReport, MoveOwn, SeePublished, StoreText, TakeReport};
 use crate::rings::Rings;
-use venue_model::Logic;
+use venue_model::{Logic, Output};
 
 impl<L: Logic, const N: usize, const M: usize, const G: usize> Rings<L, N, M, G> {
     /// Loads published: the marshaller then knows a history that has so many outputs at least.
@@ -25,19 +27,25 @@ impl<L: Logic, const N: usize, const M: usize, const G: usize> Rings<L, N, M, G>
             .load::<SeePublished>(&mut seat.seat, PUBLISHED)
     }
 
-    /// Loads a word of an output that is published and not released.
-    pub fn load_output(&self, seat: &mut MarshalSeat<L>, place: u64, word: usize) -> u64
+    /// Copies an output that is published and not released out of the slot of its row. The slot is taken out by a load of the address, and brought
+    /// back by another one.
+    pub fn load_output(&self, seat: &mut MarshalSeat<L>, place: u64) -> Output
         requires at { IsAt self.now seat.old }
         requires from { seat.old.who.own ≤ place }
         requires to { Shows published seat.old.who place }
-        requires word { word < 60 }
-        ensures step { Steps seat.old (looked seat.old.who (out_row N M place word) result) seat.new }
-        ensures output { IsOutputWord (L.outputs self.now.logic) seat.old.who place word result }
+        ensures output { (o : Output) → get_elem? (L.outputs self.now.logic seat.old.who.seen) place ≡ some o → result ≡ o }
+        ensures step { (o : Output) → get_elem? (L.outputs self.now.logic seat.old.who.seen) place ≡ some o
+            → Steps seat.old (looked_twice seat.old.who (out_row N M place 0) o.to) seat.new }
     {
-        let at = self.output_word(place, word);
-        self.table
-            .shared
-            .load::<SeeOutput<N, M>>(&mut seat.seat, at)
+        let row = self.output_row(place);
+        let word = self.output_word(place, 0);
+        let shared = &self.table.shared;
+        shared.load::<TakeReport<N, M>>(&mut seat.seat, word);
+        self.exchange_report(&mut seat.seat, row, &mut seat.spare);
+        let output = seat.spare.output;
+        self.exchange_report(&mut seat.seat, row, &mut seat.spare);
+        shared.load::<GiveReport<N, M>>(&mut seat.seat, word);
+        output
     }
 
     /// Stores a word of the text of an output that is published and not released: the first one, or one behind or among those stored

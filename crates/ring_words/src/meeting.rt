@@ -7,6 +7,7 @@ ghost use Rattle.ring_words.specs.Meeting.{longer, met, AreMet, MeetsJournal};
 use crate::places::PROCESSED;
 use crate::plays::{Meet, MeetJournal, Parted, Spare, Together};
 use crate::reader_seat::JournalSeat;
+use crate::report::Slot;
 use crate::rings::Rings;
 use crate::seats::GatewaySeat;
 use crate::view::View;
@@ -16,7 +17,7 @@ use venue_model::Logic;
 
 impl<L: Logic, const N: usize, const M: usize, const G: usize> Rings<L, N, M, G> {
     /// The first seat takes in the persons of the second, which is then a seat of nobody.
-    fn bring_together(&self, first: &mut Seat<(), View<L>>, second: &mut Seat<(), View<L>>)
+    fn bring_together(&self, first: &mut Seat<Slot, View<L>>, second: &mut Seat<Slot, View<L>>)
         requires first { (first.old.table_id ≡ self.now.table) × (first.old.me.1 ≡ []) × IsAlone first.old.me.0 }
         requires second { (second.old.table_id ≡ self.now.table) × (second.old.me.1 ≡ []) }
         ensures first { (first.new.table_id ≡ first.old.table_id) × (first.new.me ≡ (together first.old.me.0 second.old.me.0, [])) }

@@ -12,6 +12,7 @@ use crate::places::{FIRST_ROW, MARSHALLED, OUTPUT_ROW_WORDS, OUTPUT_WORDS_END, R
 use crate::plays::Apart;
 use crate::process_seat::{ProcessSeat, no_values};
 use crate::reader_seat::{Reader, ReaderSeat};
+use crate::report::{Slot, blank_box, blank_boxes};
 use crate::rings::Rings;
 use crate::seats::{GatewaySeat, Seats};
 use crate::setup::Setup;
@@ -73,7 +74,7 @@ fn words_at_start(
 
 impl<L: Logic, const N: usize, const M: usize, const G: usize> Rings<L, N, M, G> {
     /// Splits the seat of the first person off the first seat.
-    fn split(&self, first: &mut Seat<(), View<L>>) -> Seat<(), View<L>>
+    fn split(&self, first: &mut Seat<Slot, View<L>>) -> Seat<Slot, View<L>>
         requires table { first.old.table_id ≡ self.now.table }
         requires bare { first.old.me.1 ≡ [] }
         requires some { 0 < length first.old.me.0.people }
@@ -84,7 +85,13 @@ impl<L: Logic, const N: usize, const M: usize, const G: usize> Rings<L, N, M, G>
     }
 
     /// Splits the processor's seat off the first one.
-    fn process_seat(&self, first: &mut Seat<(), View<L>>, count: u64, given: u64) -> ProcessSeat<L>
+    fn process_seat(
+        &self,
+        first: &mut Seat<Slot, View<L>>,
+        count: u64,
+        given: u64,
+        spare: Slot,
+    ) -> ProcessSeat<L>
         requires table { first.old.table_id ≡ self.now.table }
         requires bare { first.old.me.1 ≡ [] }
         requires some { 0 < length first.old.me.0.people }
@@ -101,11 +108,17 @@ impl<L: Logic, const N: usize, const M: usize, const G: usize> Rings<L, N, M, G>
             gate: 0,
             published: given,
             taken: no_values(),
+            spare,
         }
     }
 
     /// Splits the marshaller's seat off the first one.
-    fn marshal_seat(&self, first: &mut Seat<(), View<L>>, given: u64) -> MarshalSeat<L>
+    fn marshal_seat(
+        &self,
+        first: &mut Seat<Slot, View<L>>,
+        given: u64,
+        spare: Slot,
+    ) -> MarshalSeat<L>
         requires table { first.old.table_id ≡ self.now.table }
         requires bare { first.old.me.1 ≡ [] }
         requires some { 0 < length first.old.me.0.people }
@@ -116,11 +129,16 @@ impl<L: Logic, const N: usize, const M: usize, const G: usize> Rings<L, N, M, G>
         MarshalSeat {
             seat: self.split(first),
             own: given,
+            spare,
         }
     }
 
     /// Splits the seat of a stage that reads what gateways publish off the first one.
-    fn reader_seat<R: Reader>(&self, first: &mut Seat<(), View<L>>, count: u64) -> ReaderSeat<L, R>
+    fn reader_seat<R: Reader>(
+        &self,
+        first: &mut Seat<Slot, View<L>>,
+        count: u64,
+    ) -> ReaderSeat<L, R>
         requires table { first.old.table_id ≡ self.now.table }
         requires bare { first.old.me.1 ≡ [] }
         requires some { 0 < length first.old.me.0.people }
@@ -141,7 +159,7 @@ impl<L: Logic, const N: usize, const M: usize, const G: usize> Rings<L, N, M, G>
     /// Splits the seat of the next gateway off the first one, which has those of `left` gateways.
     fn gateway_seat(
         &self,
-        first: &mut Seat<(), View<L>>,
+        first: &mut Seat<Slot, View<L>>,
         number: u64,
         left: u64,
         given: u64,
@@ -168,7 +186,7 @@ impl<L: Logic, const N: usize, const M: usize, const G: usize> Rings<L, N, M, G>
     fn gateway_seats(
         &self,
         alloc: Global,
-        mut first: Seat<(), View<L>>,
+        mut first: Seat<Slot, View<L>>,
         given: u64,
     ) -> Result<Vec<GatewaySeat<L>>, AllocError>
         requires table { first.table_id ≡ self.now.table }
@@ -195,6 +213,7 @@ impl<L: Logic, const N: usize, const M: usize, const G: usize> Rings<L, N, M, G>
 impl<L: Logic + Drop, const N: usize, const M: usize, const G: usize> Rings<L, N, M, G> {
     /// Rings of `N` and `M` rows for `G` gateways, behind this history, whose number of outputs is given. All input words
     /// begin at its length, all output words at `given`, and all rows are empty.
+    /// Each row of the output ring has a box in its slot, and processor and marshaller have one each to exchange.
     pub fn open(
         alloc: Global,
         logic: L,
@@ -226,14 +245,23 @@ impl<L: Logic + Drop, const N: usize, const M: usize, const G: usize> Rings<L, N
             base: Snapshot::of(base),
             given,
         };
-        let Ok((table, mut first)) = Table::of_words(alloc, words.as_slice(), &setup) else {
+        let Ok(boxes) = blank_boxes(alloc, M) else {
+            return Err(OpenError::Memory);
+        };
+        let Ok(put) = blank_box(alloc) else {
+            return Err(OpenError::Memory);
+        };
+        let Ok(copied) = blank_box(alloc) else {
+            return Err(OpenError::Memory);
+        };
+        let Ok((table, mut first)) = Table::new(alloc, words.as_slice(), boxes, &setup) else {
             return Err(OpenError::Memory);
         };
         let rings = Rings { table };
-        let process = rings.process_seat(&mut first, count, given);
+        let process = rings.process_seat(&mut first, count, given, put);
         let unmarshal = rings.reader_seat(&mut first, count);
         let journal = rings.reader_seat(&mut first, count);
-        let marshal = rings.marshal_seat(&mut first, given);
+        let marshal = rings.marshal_seat(&mut first, given, copied);
         let Ok(gateways) = rings.gateway_seats(alloc, first, given) else {
             return Err(OpenError::Memory);
         };

@@ -1,17 +1,19 @@
 //! The single steps of the processor at the output ring: it puts outputs into rows that every gateway has passed.
-ghost use Rattle.std.specs.Prelude.{◌≡◌, suc, ◌+◌, ◌<◌, ◌≤◌};
-ghost use Rattle.venue_model.specs.declared.outputs.Output.{Output};
-ghost use Rattle.ring_words.specs.Places.{taken, out_row};
+ghost use Rattle.std.specs.Prelude.{◌≡◌, suc, ◌+◌, ◌<◌, ◌≤◌, take};
+ghost use mathlib.Core.Option.{some};
+ghost use lib.ListN.{get_elem?};
+ghost use Rattle.ring_words.specs.Places.{journalled, taken, out_row};
 ghost use Rattle.ring_words.specs.Rule.{at_place};
-ghost use Rattle.ring_words.specs.Seats.{looked, stored};
+ghost use Rattle.ring_words.specs.Seats.{looked};
 ghost use Rattle.ring_words.specs.At.{IsAt, Steps};
-ghost use Rattle.ring_words.specs.Steps.{GoesOn, HasOutputRoom, WroteOutput};
+ghost use Rattle.ring_words.specs.Steps.{HasOutputRoom, Shows};
 
 use crate::places::{FIRST_ROW, MARSHALLED, OUTPUT_ROW_WORDS, PUBLISHED, ROW_WORDS, TAKEN_STRIDE};
-use crate::plays::{PublishOutput, SeeTaken, StoreOutput};
+use crate::plays::{PublishOutput, PutAddress, SeeTaken};
 use crate::process_seat::ProcessSeat;
+use crate::report::Report;
 use crate::rings::Rings;
-use venue_model::Logic;
+use venue_model::{Logic, Output};
 
 impl<L: Logic, const N: usize, const M: usize, const G: usize> Rings<L, N, M, G> {
     /// The place of this word in the row of an output.
@@ -49,33 +51,30 @@ impl<L: Logic, const N: usize, const M: usize, const G: usize> Rings<L, N, M, G>
         found
     }
 
-    /// Stores a word of the next output in its row, which every gateway has passed: the first word, or one behind or among those stored
-    /// so far.
-    pub fn store_output(&self, seat: &mut ProcessSeat<L>, word: usize, value: u64)
+    /// Puts the next output, whose row every gateway has passed: its address is stored in the row's word, its report goes into the row's slot, and
+    /// then published is stored. It is one of the entries that the processor has processed, or of the one behind them, which it saw journalled.
+    pub fn store_output(&self, seat: &mut ProcessSeat<L>, output: &Output)
         requires at { IsAt self.now seat.old }
         requires room { HasOutputRoom G M seat.old.who seat.old.who.part.sequence }
-        requires word { word < 60 }
-        requires order { GoesOn seat.old.who.part seat.old.who.part.sequence word }
-        ensures step { Steps seat.old (stored seat.old.who seat.old.who.part.sequence word value) seat.new }
-    {
-        let place = self.output_word(seat.published, word);
-        self.table
-            .shared
-            .store::<StoreOutput<N, M>>(&mut seat.seat, place, value);
-    }
-
-    /// Stores published: the next output, whose words are all stored, may be read. It is one of the entries that the processor has
-    /// processed, or of the one behind them.
-    pub fn store_published(&self, seat: &mut ProcessSeat<L>)
-        requires at { IsAt self.now seat.old }
-        requires room { HasOutputRoom G M seat.old.who seat.old.who.part.sequence }
-        requires output { (o : Output) × WroteOutput (L.outputs self.now.logic) seat.old.who o }
+        requires synced { Shows journalled seat.old.who seat.old.who.own }
+        requires next { get_elem? (L.outputs self.now.logic (take (suc seat.old.who.own) seat.old.who.seen)) seat.old.who.part.sequence ≡ some output.now }
         ensures step { Steps seat.old (at_place seat.old.who (suc seat.old.who.part.sequence)) seat.new }
     {
-        let next = seat.published + 1;
-        self.table
-            .shared
-            .store::<PublishOutput>(&mut seat.seat, PUBLISHED, next);
+        let place = seat.published;
+        let next = place + 1;
+        let row = self.output_row(place);
+        let word = self.output_word(place, 0);
+        Box::replace(
+            &mut seat.spare,
+            Report {
+                output: *output,
+                place,
+            },
+        );
+        let shared = &self.table.shared;
+        shared.store::<PutAddress<N, M>>(&mut seat.seat, word, u64::from(output.to));
+        self.exchange_report(&mut seat.seat, row, &mut seat.spare);
+        shared.store::<PublishOutput>(&mut seat.seat, PUBLISHED, next);
         seat.published = next;
     }
 }

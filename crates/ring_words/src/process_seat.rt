@@ -4,21 +4,23 @@ ghost use Rattle.ring_words.specs.declared.view.Role.TheVariants.{Process};
 ghost use Rattle.ring_words.specs.Places.{unmarshalled, taken as taken_word};
 ghost use Rattle.ring_words.specs.Seats.{person, IsAlone, last_from, last_of, AreTaken, no_values};
 
+use crate::report::Slot;
 use crate::view::View;
 use atomic_table::Seat;
 use std::marker::Model;
 
 /// The processor's place at the table. It holds the length of the history that it knows, its own word, the unmarshalled value that it loaded
-/// last, how many outputs are published, and of each gateway the taken value that it loaded last, if any: the taken words only rise, so outputs that
-/// these values leave room for need no look at the words.
+/// last, how many outputs are published, of each gateway the taken value that it loaded last, if any, and a spare box for the next output. The taken
+/// words only rise, so outputs that these values leave room for need no look at the words.
 #[derive(Drop)]
 pub struct ProcessSeat<L> {
-    pub(crate) seat: Seat<(), View<L>>,
+    pub(crate) seat: Seat<Slot, View<L>>,
     pub(crate) known: u64,
     pub(crate) own: u64,
     pub(crate) gate: u64,
     pub(crate) published: u64,
     pub(crate) taken: [Option<u64>; 8],
+    pub(crate) spare: Slot,
     ghost alone: { IsAlone seat.me.0 },
     ghost bare: { seat.me.1 ≡ [] },
     ghost role: { (person seat.me.0).role ≡ Process },
@@ -26,6 +28,7 @@ pub struct ProcessSeat<L> {
     ghost gated: { gate ≡ last_from unmarshalled 0 (person seat.me.0).loads },
     ghost put: { published ≡ (person seat.me.0).part.sequence },
     ghost kept: { AreTaken taken (person seat.me.0).loads },
+    ghost home: { (person seat.me.0).out ≡ None },
 }
 
 /// No taken word was loaded yet.

@@ -2,6 +2,7 @@
 ghost use Rattle.std.specs.Prelude.{◌≡◌, ◌≤◌, ◌^◌, [], length};
 ghost use Rattle.ring_words.specs.Seats.{person, IsAlone};
 
+use crate::report::Slot;
 use crate::view::View;
 use atomic_table::Seat;
 use std::marker::{Model, PhantomData};
@@ -46,7 +47,7 @@ impl Reader for Journalling {
 /// own word.
 #[derive(Drop)]
 pub struct ReaderSeat<L, R: Reader> {
-    pub(crate) seat: Seat<(), View<L>>,
+    pub(crate) seat: Seat<Slot, View<L>>,
     pub(crate) known: u64,
     pub(crate) own: u64,
     pub(crate) marker: PhantomData<R>,

@@ -2,6 +2,7 @@
 ghost use Rattle.std.specs.Prelude.{◌≡◌, ◌<◌, ◌≤◌};
 ghost use Rattle.ring_words.specs.Places.{table_words};
 
+use crate::report::Slot;
 use crate::setup::Setup;
 use crate::view::View;
 use atomic_table::{Table, TableRule};
@@ -14,11 +15,11 @@ pub struct Ring<L> {
     marker: PhantomData<L>,
 }
 
-impl<L: Logic> TableRule<(), View<L>, Setup<L>> for Ring<L> {
+impl<L: Logic> TableRule<Slot, View<L>, Setup<L>> for Ring<L> {
     ghost use Rattle.ring_words.specs.Terms.{terms_of};
     ghost use Rattle.ring_words.specs.Rule.{Lawful, first_view};
 
-    ghost holds = { λ k. Lawful (Unit {0}) (terms_of L.reads L.outputs L.text L.nothing L.grows k) };
+    ghost holds = { λ k. Lawful (terms_of L.reads L.outputs L.text L.nothing L.grows k) };
 
     ghost first = { λ k. first_view (terms_of L.reads L.outputs L.text L.nothing L.grows k) };
 }
@@ -26,11 +27,11 @@ impl<L: Logic> TableRule<(), View<L>, Setup<L>> for Ring<L> {
 /// Both rings: `N` input rows and `M` output rows, powers of two from 2 to 4,096, for `G` gateways, 1 to 8.
 #[derive(Drop)]
 pub struct Rings<L: Logic, const N: usize, const M: usize, const G: usize> {
-    pub(crate) table: Table<(), View<L>, Setup<L>, Ring<L>, Global>,
+    pub(crate) table: Table<Slot, View<L>, Setup<L>, Ring<L>, Global>,
     ghost rows: { (table.shared.key.rows ≡ N) × (table.shared.key.output_rows ≡ M) × (table.shared.key.gateways ≡ G) },
     ghost words: { (table.shared.table_id.words ≡ table_words N M)
         × (0 < N) × (N ≤ 4096) × (0 < M) × (M ≤ 4096) × (1 ≤ G) × (G ≤ 8) },
-    ghost bare: { table.shared.table_id.slots ≡ 0 },
+    ghost slots: { table.shared.table_id.slots ≡ M },
 }
 
 impl<L: Logic, const N: usize, const M: usize, const G: usize> Model for Rings<L, N, M, G> {

@@ -7,6 +7,7 @@ ghost use Rattle.ring_words.specs.Seats.{person, IsAlone, last_of};
 use crate::marshal_seat::MarshalSeat;
 use crate::process_seat::ProcessSeat;
 use crate::reader_seat::{JournalSeat, UnmarshalSeat};
+use crate::report::Slot;
 use crate::view::View;
 use atomic_table::Seat;
 use std::marker::Model;
@@ -15,7 +16,7 @@ use std::marker::Model;
 /// processed word only rises, so a claim that this value leaves room for needs no look at the word.
 #[derive(Drop)]
 pub struct GatewaySeat<L> {
-    pub(crate) seat: Seat<(), View<L>>,
+    pub(crate) seat: Seat<Slot, View<L>>,
     pub(crate) number: u64,
     pub(crate) taken: u64,
     pub(crate) processed: Option<u64>,

@@ -26,7 +26,7 @@ impl<L: Logic, const N: usize, const M: usize, const G: usize> Rings<L, N, M, G>
             .load::<SeeMarshalled>(&mut seat.seat, MARSHALLED)
     }
 
-    /// Loads a word of an output that is marshalled and that the gateway hasn't taken: word 0 is the gateway that it goes to.
+    /// Loads the address of an output that is marshalled and that the gateway hasn't taken: the gateway that it goes to.
     pub fn load_address(&self, seat: &mut GatewaySeat<L>, place: u64) -> u64
         requires at { IsAt self.now seat.old }
         requires from { seat.old.who.own ≤ place }

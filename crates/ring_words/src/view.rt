@@ -1,4 +1,5 @@
 //! What those at the table know. No value of these types is ever made: they stand in views, which exist in proofs alone.
+use crate::report::Report;
 use std::collections::LinkedList;
 use venue_model::Entry;
 
@@ -28,7 +29,7 @@ pub struct Load {
     pub value: u64,
 }
 
-/// The row under way: its sequence or place, and the words stored so far in it, in order, of the message, the command, the output or the text.
+/// The row under way: its sequence or place, and the words stored so far in it, in order, of the message, the command, the address or the text.
 /// Of the processor the place is always the published word.
 pub struct Part {
     pub sequence: u64,
@@ -49,6 +50,8 @@ pub struct Person {
     /// All its loads, in order.
     pub loads: LinkedList<Load>,
     pub part: Part,
+    /// The report that the processor puts, or that the marshaller took to copy it: the slot of its row is out.
+    pub out: Option<Report>,
 }
 
 /// The persons of one seat: one while it is in use, several while seats meet, all at the start, none when it is spent.

@@ -1,5 +1,4 @@
 pub mod ClaimRooms
-pub mod OutputWords
 pub mod Rooms
 pub mod Takings
 pub mod TextReading

@@ -10,13 +10,13 @@ use Rattle.venue_model.specs.declared.outputs.OutputType.{OutputType}
 use Rattle.fix_orders.specs.Text.{type_of, text_bytes}
 use Rattle.ring_words.specs.declared.view.Person.{Person}
 use Rattle.ring_words.specs.Places.{published}
-use Rattle.ring_words.specs.OutputPacking.{output_words}
+use Rattle.ring_words.specs.Slots.{output_words}
 use Rattle.ring_words.specs.Texts.{text_words, IsPackableText}
 use Rattle.ring_words.specs.Seats.{load_of, looked, knowing, wrote, moved}
 use Rattle.ring_words.specs.At.{At, seated}
 use Rattle.ring_words.specs.Steps.{Shows, WroteText, MayWriteText}
 use Rattle.venue_model.specs.ListLaws.{at_longer, at_behind}
-use Rattle.barrier.specs.Outputs.{after_output}
+use Rattle.barrier.specs.Outputs.{output_loads, after_output}
 use Rattle.book.specs.Histories.{outputs_of}
 use Rattle.stages.specs.Marshals.{after_text, WroteTexts, Marshals}
 use Rattle.stages.specs.declared.turn.Turn.TheVariants.{Did, Idle}
@@ -35,7 +35,7 @@ just_shown p k x s rest below = (length p.loads, (load_of k x, at_behind p.loads
 
 -- and the loads of an output's words leave that
 pub still_shown : (n m : ℕ) (p : Person) (k q s : ℕ) (ws : List ℕ) → Shows k p s → Shows k (after_output n m p q ws) s
-still_shown n m p k q s ws shown = let l = shown.1.0 in (shown.0, (l, at_longer p.loads _ shown.0 l shown.1.1, shown.1.2, shown.1.3))
+still_shown n m p k q s ws shown = let l = shown.1.0 in (shown.0, (l, at_longer (p.loads ++ output_loads n m q 0 ws) _ shown.0 l (at_longer p.loads _ shown.0 l shown.1.1), shown.1.2, shown.1.3))
 
 -- ITS TEXT
 

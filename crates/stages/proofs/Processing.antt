@@ -16,7 +16,7 @@ use Rattle.ring_words.specs.Log.{IsEntry}
 use Rattle.ring_words.specs.Places.{journalled}
 use Rattle.ring_words.specs.Seats.{last_from}
 use Rattle.ring_words.specs.At.{At, seated}
-use Rattle.ring_words.specs.Packing.{command_words}
+use Rattle.command_words.specs.Packing.{command_words}
 use Rattle.venue_model.specs.ListLaws.{stands}
 use Rattle.barrier.specs.Commands.{after_command}
 use Rattle.book.specs.Books.{Book}

@@ -15,7 +15,7 @@ use Rattle.venue_model.specs.declared.outputs.Output.{Output}
 use Rattle.fix_orders.specs.Reading.{reads}
 use Rattle.ring_words.specs.declared.view.Load.{Load}
 use Rattle.ring_words.specs.declared.view.Person.{Person}
-use Rattle.ring_words.specs.Packing.{command_words}
+use Rattle.command_words.specs.Packing.{command_words}
 use Rattle.ring_words.specs.Places.{unmarshalled, journalled, taken, in_row}
 use Rattle.ring_words.specs.Rule.{at_place}
 use Rattle.ring_words.specs.Seats.{load_of, looked, last_from}

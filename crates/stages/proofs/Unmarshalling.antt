@@ -6,7 +6,7 @@ use Rattle.venue_model.specs.History.{Message}
 use Rattle.venue_model.specs.declared.commands.Command.{Command}
 use Rattle.ring_words.specs.declared.raw.Raw.{Raw}
 use Rattle.ring_words.specs.Raw.{raw_count}
-use Rattle.ring_words.specs.Packing.{command_words, IsPackable}
+use Rattle.command_words.specs.Packing.{command_words, IsPackable}
 use Rattle.ring_words.specs.Seats.{wrote}
 use Rattle.ring_words.specs.At.{At, seated}
 use Rattle.ring_words.specs.Steps.{WroteCommand, MayWrite}

@@ -8,7 +8,7 @@ use Rattle.venue_model.specs.declared.outputs.Output.{Output}
 use Rattle.fix_orders.specs.Text.{text_bytes}
 use Rattle.ring_words.specs.declared.view.Person.{Person}
 use Rattle.ring_words.specs.Places.{published}
-use Rattle.ring_words.specs.OutputPacking.{output_words}
+use Rattle.ring_words.specs.Slots.{output_words}
 use Rattle.ring_words.specs.Texts.{text_words}
 use Rattle.ring_words.specs.Seats.{looked, knowing, wrote, moved}
 use Rattle.barrier.specs.Outputs.{after_output}

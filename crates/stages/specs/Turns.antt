@@ -9,7 +9,7 @@ use Rattle.ring_words.specs.declared.view.Load.{Load}
 use Rattle.ring_words.specs.declared.view.Person.{Person}
 use Rattle.ring_words.specs.Places.{in_row}
 use Rattle.ring_words.specs.Raw.{raw_count}
-use Rattle.ring_words.specs.Packing.{command_words}
+use Rattle.command_words.specs.Packing.{command_words}
 use Rattle.ring_words.specs.Seats.{looked, wrote, moved}
 use Rattle.barrier.specs.Availability.{Shown}
 use Rattle.barrier.specs.Commands.{after_command}

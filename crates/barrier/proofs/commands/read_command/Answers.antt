@@ -1,7 +1,7 @@
 use Rattle.std.proofs.Common.{◌∙◌, ℕ, [], ◌∷◌, refl, ap, rules, arith}
 use Rattle.std.proofs.lemmas.List.{length-set}
 use Rattle.venue_model.specs.ListLaws.{stands}
-use Rattle.ring_words.specs.Packing.{command_words}
+use Rattle.command_words.specs.Packing.{command_words}
 use Rattle.barrier.proofs.CommandWords.{agree_more, agree_whole, loads_more, seen_stays}
 use Rattle.barrier.proofs.commands.read_command.Goals as goal
 

@@ -2,7 +2,7 @@ use Rattle.std.proofs.Common.{◌≡◌, length, take}
 use mathlib.Core.Option.{some}
 use lib.ListN.{get_elem?}
 use Rattle.venue_model.specs.History.{Message}
-use Rattle.ring_words.specs.Packing.{command_words, IsPackable}
+use Rattle.command_words.specs.Packing.{command_words, IsPackable}
 use Rattle.ring_words.specs.At.{IsAt, seated}
 use Rattle.barrier.specs.Commands.{after_command}
 use Rattle.barrier.proofs.commands.read_command.Given as goal

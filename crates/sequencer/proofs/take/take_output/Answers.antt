@@ -57,7 +57,7 @@ returns-clause-taken g c = λ _. let v = c.args.seat.now in let u = c.load_marsh
     let number_is : c.number.result ≡ number v = c.number.ensures.value ∙ ap number_of (role_same v u c.load_marshalled.result gained.rest gained.step w only) in
     let logic = c.args.rings.now.logic in let out = gained.output in let o : Output = out.0 in let t = g.L.Logic.text logic o v.who.own in
     let at_u = at_kept v u c.load_marshalled.result gained.rest gained.step (g.L.Logic.outputs logic) o c.taken-place.result place out.1 in
-    let address : c.load_address.result ≡ o.to = (c.load_address.ensures.address o at_u).0 in (
+    let address : c.load_address.result ≡ o.to = c.load_address.ensures.address o at_u in (
       v.who.seen ++ gained.rest,
       record {
         value = c.load_marshalled.result;

@@ -20,7 +20,7 @@ join_seat-requires g c = let key = c.self.inside.table.shared.key in let inv = c
       ap (λ (s : At g.row.L.Denot). s.table) (c.gateway.view_is ∙ at.0) ∙ ap (λ (r : Opened g.row.L.Denot). r.table) (sym c.self.view_is),
       seat.bare,
       search rules,
-      joins (Unit {0}) (terms_of g.L.Logic.reads g.L.Logic.outputs g.L.Logic.text g.L.Logic.nothing g.L.Logic.grows key) all.id seat.seat.id all.me.0 seat.seat.me.0 head.0 _ (begins_with all.me.0.people head.0 (was.stage 0 head.0 head.1)),
+      joins (terms_of g.L.Logic.reads g.L.Logic.outputs g.L.Logic.text g.L.Logic.nothing g.L.Logic.grows key) all.id seat.seat.id all.me.0 seat.seat.me.0 head.0 _ (begins_with all.me.0.people head.0 (was.stage 0 head.0 head.1)),
     )
 
 pub loop-gateway-preserved : goal.loop-gateway-preserved

@@ -10,7 +10,7 @@ use Rattle.ring_words.proofs.rings.Rings.load_marshalled.Goals as goal
 
 pub load-requires : goal.load-requires
 load-requires g c = let key = c.self.inside.table.shared.key in
-    (search rules, search rules, loads_marshalled (Unit {0}) (terms_of g.L.Logic.reads g.L.Logic.outputs g.L.Logic.text g.L.Logic.nothing g.L.Logic.grows key) _ _ _ _ c.seat.inside.alone c.seat.inside.role)
+    (search rules, search rules, loads_marshalled (terms_of g.L.Logic.reads g.L.Logic.outputs g.L.Logic.text g.L.Logic.nothing g.L.Logic.grows key) _ _ _ _ c.seat.inside.alone c.seat.inside.role)
 
 pub invariant_of-seat-inside : goal.invariant_of-seat-inside
 invariant_of-seat-inside g c = let seat = c.seat.inside in let found : ℕ = c.load.result in let own : ℕ = (person seat.seat.me.0).own in

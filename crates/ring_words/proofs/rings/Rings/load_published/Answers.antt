@@ -5,4 +5,4 @@ use Rattle.ring_words.proofs.rings.Rings.load_published.Goals as goal
 
 pub load-requires : goal.load-requires
 load-requires g c = let key = c.self.inside.table.shared.key in
-    (search rules, search rules, loads_published (Unit {0}) (terms_of g.L.Logic.reads g.L.Logic.outputs g.L.Logic.text g.L.Logic.nothing g.L.Logic.grows key) _ _ _ c.seat.inside.alone c.seat.inside.role)
+    (search rules, search rules, loads_published (terms_of g.L.Logic.reads g.L.Logic.outputs g.L.Logic.text g.L.Logic.nothing g.L.Logic.grows key) _ _ _ c.seat.inside.alone c.seat.inside.role)

@@ -1,9 +1,10 @@
 use Rattle.std.proofs.Common.{rules, ◌≡◌, ◌-◌, ◌*◌, ◌+◌, ◌∙◌, ℕ, ap, sym, arith}
+use Rattle.ring_words.specs.Slots.{Boxed}
 use Rattle.ring_words.specs.Terms.{terms_of}
 use Rattle.ring_words.specs.Seats.{person, last_from}
 use Rattle.ring_words.specs.Steps.{Seated}
 use Rattle.ring_words.specs.SeatLaws.{kept_now, last_kept}
-use Rattle.ring_words.proofs.Becomes.{still_sits, still_taken}
+use Rattle.ring_words.proofs.Becomes.{still_sits, still_taken, still_home}
 use Rattle.ring_words.proofs.Putting.{loads_taken_in}
 use Rattle.ring_words.proofs.rings.Rings.load_taken.Goals as goal
 
@@ -11,7 +12,7 @@ pub load-found-requires : goal.load-found-requires
 load-found-requires g c = let key = c.self.inside.table.shared.key in let rows = c.self.inside.rows in (
   search rules,
   search rules,
-  loads_taken_in (Unit {0}) (terms_of g.L.Logic.reads g.L.Logic.outputs g.L.Logic.text g.L.Logic.nothing g.L.Logic.grows key) g.row.M g.row.G rows.1 rows.2 _ _ c.args.gateway _ _
+  loads_taken_in (terms_of g.L.Logic.reads g.L.Logic.outputs g.L.Logic.text g.L.Logic.nothing g.L.Logic.grows key) g.row.M g.row.G rows.1 rows.2 _ _ c.args.gateway _ _
       c.seat.inside.alone c.seat.inside.role c.requires.gateway c.taken_word-place.ensures.place,
 )
 
@@ -20,8 +21,8 @@ invariant_of-seat-inside g c = let seat = c.seat.inside in let is = c.load-found
     let place : c.taken_word-place.result ≡ 32 + 8 * k = c.taken_word-place.ensures.place in still_sits seat.seat.me _ _ is seat.bare _ seat.role (
       search rules,
       (
-        seat.gated ∙ sym (ap (λ (z : Seated (Unit {0}) g.row.L.Denot). last_from 16 0 (person z.0).loads) is
+        seat.gated ∙ sym (ap (λ (z : Seated Boxed g.row.L.Denot). last_from 16 0 (person z.0).loads) is
             ∙ last_kept 16 c.taken_word-place.result 0 c.load-found.result (person seat.seat.me.0).loads (λ (e : c.taken_word-place.result ≡ 16). omega arith)),
-        (search rules, (still_taken seat.seat.me _ _ is _ (kept_now seat.taken (person seat.seat.me.0).loads (k - 1) c.taken_word-place.result c.load-found.result (search rules) (let low = c.requires.gateway.0 in omega arith) seat.kept), tt)),
+        (search rules, (still_taken seat.seat.me _ _ is _ (kept_now seat.taken (person seat.seat.me.0).loads (k - 1) c.taken_word-place.result c.load-found.result (search rules) (let low = c.requires.gateway.0 in omega arith) seat.kept), (still_home seat.seat.me _ _ is seat.home, tt))),
       ),
     )

@@ -8,7 +8,7 @@ use Rattle.ring_words.proofs.rings.Rings.load_text.Goals as goal
 
 pub load-requires : goal.load-requires
 load-requires g c = let key = c.self.inside.table.shared.key in let rows = c.self.inside.rows in
-    (search rules, search rules, loads_text_in (Unit {0}) (terms_of g.L.Logic.reads g.L.Logic.outputs g.L.Logic.text g.L.Logic.nothing g.L.Logic.grows key) g.row.N g.row.M rows.0 rows.1 _ _ _ _ _ c.seat.inside.alone c.seat.inside.role)
+    (search rules, search rules, loads_text_in (terms_of g.L.Logic.reads g.L.Logic.outputs g.L.Logic.text g.L.Logic.nothing g.L.Logic.grows key) g.row.N g.row.M rows.0 rows.1 _ _ _ _ _ c.seat.inside.alone c.seat.inside.role)
 
 pub invariant_of-seat-inside : goal.invariant_of-seat-inside
 invariant_of-seat-inside g c = let seat = c.seat.inside in let place : ℕ = c.output_word-at.result in

@@ -1,5 +1,6 @@
 use Rattle.std.proofs.Common.{None, rules, ◌≡◌, ℕ, List, [], length, refl, ap, sym, subst, ◌∙◌}
 use Rattle.venue_model.specs.History.{Message}
+use Rattle.ring_words.specs.Slots.{Boxed}
 use Rattle.ring_words.specs.declared.view.Person.{Person}
 use Rattle.ring_words.specs.Terms.{terms_of}
 use Rattle.ring_words.specs.Places.{processed}
@@ -17,13 +18,13 @@ pub load-found-requires : goal.load-found-requires
 load-found-requires g c = let key = c.self.inside.table.shared.key in let one = c.one.inside in let other = c.other.inside in (
   search rules,
   search rules,
-  loads_meeting (Unit {0}) (terms_of g.L.Logic.reads g.L.Logic.outputs g.L.Logic.text g.L.Logic.nothing g.L.Logic.grows key) _ _ _ (person one.seat.me.0) (person other.seat.me.0) one.number other.number
+  loads_meeting (terms_of g.L.Logic.reads g.L.Logic.outputs g.L.Logic.text g.L.Logic.nothing g.L.Logic.grows key) _ _ _ (person one.seat.me.0) (person other.seat.me.0) one.number other.number
       (both_people one.seat.me.0 other.seat.me.0 _ one.alone other.alone c.bring_together.ensures.first.1) one.role other.role,
 )
 
 pub split_seat-requires : goal.split_seat-requires
 split_seat-requires g c = let key = c.self.inside.table.shared.key in
-    (search rules, search rules, parts (Unit {0}) (terms_of g.L.Logic.reads g.L.Logic.outputs g.L.Logic.text g.L.Logic.nothing g.L.Logic.grows key) _ _)
+    (search rules, search rules, parts (terms_of g.L.Logic.reads g.L.Logic.outputs g.L.Logic.text g.L.Logic.nothing g.L.Logic.grows key) _ _)
 
 pub invariant_of-one-inside : goal.invariant_of-one-inside
 invariant_of-one-inside g c = let one = c.one.inside in let other = c.other.inside in let came = c.bring_together.ensures.first.1 in
@@ -41,7 +42,7 @@ pub returns-clause-met : goal.returns-clause-met
 returns-clause-met g c = let one = c.one.inside in let other = c.other.inside in let came = c.bring_together.ensures.first.1 in
     let learned = c.load-found.ensures.2 (person one.seat.me.0) (person other.seat.me.0) one.number other.number (both_people one.seat.me.0 other.seat.me.0 _ one.alone other.alone came) one.role other.role in
     let base : c.bring_together.new.first.me.0.base ≡ c.args.self.now.base =
-    ap (λ (z : Seated (Unit {0}) g.row.L.Denot). z.0.base) came ∙ ap (λ (s : At g.row.L.Denot). s.base) c.one.view_is ∙ ap (λ (s : At g.row.L.Denot). s.base) c.requires.one in
+    ap (λ (z : Seated Boxed g.row.L.Denot). z.0.base) came ∙ ap (λ (s : At g.row.L.Denot). s.base) c.one.view_is ∙ ap (λ (s : At g.row.L.Denot). s.base) c.requires.one in
     subst (λ (z : Person × Person). AreMet (length c.args.self.now.base) z.0 z.1) (λ i. ((c.one.view_is i).who, (c.other.view_is i).who))
     (subst (λ (h : List Message). AreMet (length h) (person one.seat.me.0) (person other.seat.me.0)) base learned.1)
 

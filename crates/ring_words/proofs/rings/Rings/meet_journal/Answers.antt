@@ -1,5 +1,6 @@
 use Rattle.std.proofs.Common.{None, rules, ◌≡◌, ◌≤◌, ℕ, List, [], length, take, refl, ap, sym, subst, ◌∙◌}
 use Rattle.venue_model.specs.History.{Message}
+use Rattle.ring_words.specs.Slots.{Boxed}
 use Rattle.ring_words.specs.declared.view.Person.{Person}
 use Rattle.ring_words.specs.Terms.{terms_of}
 use Rattle.ring_words.specs.Places.{processed}
@@ -17,13 +18,13 @@ pub load-found-requires : goal.load-found-requires
 load-found-requires g c = let key = c.self.inside.table.shared.key in let gateway = c.gateway.inside in let journal = c.journal.inside in (
   search rules,
   search rules,
-  loads_journal (Unit {0}) (terms_of g.L.Logic.reads g.L.Logic.outputs g.L.Logic.text g.L.Logic.nothing g.L.Logic.grows key) _ _ _ (person gateway.seat.me.0) (person journal.seat.me.0) gateway.number
+  loads_journal (terms_of g.L.Logic.reads g.L.Logic.outputs g.L.Logic.text g.L.Logic.nothing g.L.Logic.grows key) _ _ _ (person gateway.seat.me.0) (person journal.seat.me.0) gateway.number
       (both_people gateway.seat.me.0 journal.seat.me.0 _ gateway.alone journal.alone c.bring_together.ensures.first.1) gateway.role journal.role (subst (λ (x : ℕ). x ≤ length (person journal.seat.me.0).seen) journal.counts.1 (subst (λ (x : ℕ). journal.own ≤ x) journal.counts.0 journal.counts.2)),
 )
 
 pub split_seat-requires : goal.split_seat-requires
 split_seat-requires g c = let key = c.self.inside.table.shared.key in
-    (search rules, search rules, parts (Unit {0}) (terms_of g.L.Logic.reads g.L.Logic.outputs g.L.Logic.text g.L.Logic.nothing g.L.Logic.grows key) _ _)
+    (search rules, search rules, parts (terms_of g.L.Logic.reads g.L.Logic.outputs g.L.Logic.text g.L.Logic.nothing g.L.Logic.grows key) _ _)
 
 pub invariant_of-gateway-inside : goal.invariant_of-gateway-inside
 invariant_of-gateway-inside g c = let gateway = c.gateway.inside in let journal = c.journal.inside in let came = c.bring_together.ensures.first.1 in
@@ -37,8 +38,8 @@ invariant_of-journal-inside g c = let gateway = c.gateway.inside in let journal 
     let is = parted_second gateway.seat.me.0 journal.seat.me.0 _ _ _ _ _ came learned.0 c.split_seat.ensures.4 in
     still_sits (gateway.seat.me.0, []) _ _ is refl _ journal.role (
       (
-        journal.counts.0 ∙ sym (ap (λ (z : Seated (Unit {0}) g.row.L.Denot). length (person z.0).seen) is),
-        journal.counts.1 ∙ sym (ap (λ (z : Seated (Unit {0}) g.row.L.Denot). (person z.0).own) is),
+        journal.counts.0 ∙ sym (ap (λ (z : Seated Boxed g.row.L.Denot). length (person z.0).seen) is),
+        journal.counts.1 ∙ sym (ap (λ (z : Seated Boxed g.row.L.Denot). (person z.0).own) is),
         journal.counts.2,
         journal.counts.3,
       ),
@@ -49,7 +50,7 @@ pub returns-clause-met : goal.returns-clause-met
 returns-clause-met g c = let gateway = c.gateway.inside in let journal = c.journal.inside in let came = c.bring_together.ensures.first.1 in
     let learned = c.load-found.ensures.2 (person gateway.seat.me.0) (person journal.seat.me.0) gateway.number (both_people gateway.seat.me.0 journal.seat.me.0 _ gateway.alone journal.alone came) gateway.role journal.role (subst (λ (x : ℕ). x ≤ length (person journal.seat.me.0).seen) journal.counts.1 (subst (λ (x : ℕ). journal.own ≤ x) journal.counts.0 journal.counts.2)) in
     let base : c.bring_together.new.first.me.0.base ≡ c.args.self.now.base =
-    ap (λ (z : Seated (Unit {0}) g.row.L.Denot). z.0.base) came ∙ ap (λ (s : At g.row.L.Denot). s.base) c.gateway.view_is ∙ ap (λ (s : At g.row.L.Denot). s.base) c.requires.gateway in
+    ap (λ (z : Seated Boxed g.row.L.Denot). z.0.base) came ∙ ap (λ (s : At g.row.L.Denot). s.base) c.gateway.view_is ∙ ap (λ (s : At g.row.L.Denot). s.base) c.requires.gateway in
     subst (λ (z : Person × Person). MeetsJournal (length c.args.self.now.base) z.0 z.1) (λ i. ((c.gateway.view_is i).who, (c.journal.view_is i).who))
     (subst (λ (h : List Message). MeetsJournal (length h) (person gateway.seat.me.0) (person journal.seat.me.0)) base learned.1)
 

@@ -10,7 +10,7 @@ pub store-requires : goal.store-requires
 store-requires g c = let key = c.self.inside.table.shared.key in let e = c.requires.message in let next : c.args.sequence + 1 ≡ suc c.args.sequence = omega arith in (
   search rules,
   search rules,
-  marks_row_in (Unit {0}) (terms_of g.L.Logic.reads g.L.Logic.outputs g.L.Logic.text g.L.Logic.nothing g.L.Logic.grows key) g.row.N c.self.inside.rows.0 _ _ _ c.args.sequence _ e.0 _ _
+  marks_row_in (terms_of g.L.Logic.reads g.L.Logic.outputs g.L.Logic.text g.L.Logic.nothing g.L.Logic.grows key) g.row.N c.self.inside.rows.0 _ _ _ c.args.sequence _ e.0 _ _
       c.seat.inside.alone c.seat.inside.role (search rules) (search rules) (search rules) e.2 (e.3 ∙ ap number (sym c.seat.view_is) ∙ ap number_of c.seat.inside.role) c.row_word-place.ensures.place next,
 )
 

@@ -8,7 +8,7 @@ pub store-requires : goal.store-requires
 store-requires g c = let key = c.self.inside.table.shared.key in (
   search rules,
   search rules,
-  writes_raw_in (Unit {0}) (terms_of g.L.Logic.reads g.L.Logic.outputs g.L.Logic.text g.L.Logic.nothing g.L.Logic.grows key) g.row.N c.self.inside.rows.0 _ _ _ c.args.sequence c.args.word c.args.value _ _
+  writes_raw_in (terms_of g.L.Logic.reads g.L.Logic.outputs g.L.Logic.text g.L.Logic.nothing g.L.Logic.grows key) g.row.N c.self.inside.rows.0 _ _ _ c.args.sequence c.args.word c.args.value _ _
       c.seat.inside.alone c.seat.inside.role (search rules) c.requires.word (search rules) c.row_word-place.ensures.place,
 )
 

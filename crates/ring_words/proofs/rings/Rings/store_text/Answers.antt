@@ -2,7 +2,7 @@ use Rattle.std.proofs.Common.{rules, sym, subst}
 use Rattle.ring_words.specs.Terms.{terms_of}
 use Rattle.ring_words.specs.At.{Opened, At}
 use Rattle.ring_words.specs.Steps.{MayWriteText}
-use Rattle.ring_words.proofs.Becomes.{still_sits}
+use Rattle.ring_words.proofs.Becomes.{still_sits, still_home}
 use Rattle.ring_words.proofs.TextWords.{writes_text_in}
 use Rattle.ring_words.proofs.rings.Rings.store_text.Goals as goal
 
@@ -10,7 +10,7 @@ pub store-requires : goal.store-requires
 store-requires g c = let key = c.self.inside.table.shared.key in let sizes = c.self.inside.rows in (
   search rules,
   search rules,
-  writes_text_in (Unit {0}) (terms_of g.L.Logic.reads g.L.Logic.outputs g.L.Logic.text g.L.Logic.nothing g.L.Logic.grows key) g.row.N g.row.M sizes.0 sizes.1 _ _ c.args.place c.args.word c.args.value _ _
+  writes_text_in (terms_of g.L.Logic.reads g.L.Logic.outputs g.L.Logic.text g.L.Logic.nothing g.L.Logic.grows key) g.row.N g.row.M sizes.0 sizes.1 _ _ c.args.place c.args.word c.args.value _ _
       c.seat.inside.alone c.seat.inside.role (search rules) (search rules) c.requires.word (search rules)
       (subst (λ (z : Opened g.row.L.Denot × At g.row.L.Denot). MayWriteText (g.L.Logic.outputs z.0.logic) (g.L.Logic.text z.0.logic) z.1.who c.args.place)
       (λ i. (sym c.self.view_is i, sym c.seat.view_is i)) c.requires.row)
@@ -19,4 +19,4 @@ store-requires g c = let key = c.self.inside.table.shared.key in let sizes = c.s
 
 pub invariant_of-seat-inside : goal.invariant_of-seat-inside
 invariant_of-seat-inside g c = let seat = c.seat.inside in let is = c.store.ensures.2 c.args.place c.args.word (search rules) (search rules) c.requires.word c.output_word-at.ensures.place in
-    still_sits seat.seat.me _ _ is seat.bare _ seat.role (search rules, tt)
+    still_sits seat.seat.me _ _ is seat.bare _ seat.role (search rules, (still_home seat.seat.me _ _ is seat.home, tt))
