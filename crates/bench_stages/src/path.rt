@@ -128,10 +128,10 @@ fn did_all(turns: Turns) -> bool {
 
 /// Lets the gateway at this place take its turn, and says whether it did something.
 fn turn_at<const G: usize>(gateways: &mut [Gateway<'_, G>], place: usize) -> bool {
-    let Some(gateway) = gateways.get_mut(place) else {
+    if gateways.len() <= place {
         return false;
-    };
-    matches!(gateway.turn(), Outcome::Worked)
+    }
+    matches!(gateways[place].turn(), Outcome::Worked)
 }
 
 /// Lets each gateway take its turn, and says whether all did something.
