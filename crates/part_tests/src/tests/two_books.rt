@@ -209,32 +209,65 @@ fn fills(out: &[Output], sequence: u64) -> u64 {
     count
 }
 
+/// The plain book, and what both books have answered last.
+#[derive(Drop)]
+struct Beside {
+    plain: PlainBook,
+    out: Vec<Output>,
+    plainly: Vec<Output>,
+}
+
+/// Asks both books the same, and compares what they answer. For a new order the book reads no more than it fills, and one.
+fn ask_both(
+    book: &mut Book,
+    beside: &mut Beside,
+    sequence: u64,
+    client: u8,
+    command: &Command,
+) -> Result<(), Fail>
+    requires { Below sequence book.old.state.orders }
+    ensures { OnOk result (Below (sequence + 1) book.new.state.orders) }
+{
+    ask(book, sequence, client, command, &mut beside.out)?;
+    beside.plainly.clear();
+    beside
+        .plain
+        .apply(sequence, client, command, &mut beside.plainly)?;
+    if !are_same(&beside.out, &beside.plainly) {
+        Err("the books differ")?;
+    }
+    let most = fills(&beside.out, sequence).wrapping_add(1);
+    if matches!(command, Command::New { .. }) && book.reads() > most {
+        Err("the book read more than it filled")?;
+    }
+    Ok(())
+}
+
+/// Asks both books 13,100 times, and answers how many orders rested at most.
+fn ask_many(book: &mut Book, beside: &mut Beside, symbol: Symbol) -> Result<usize, Fail>
+    requires { Below 0 book.old.state.orders }
+{
+    let mut state = 1;
+    let mut most = 0;
+    for turn in 0..13_100u64 {
+        let (client, command) = next_command(&mut state, symbol, &beside.plain, turn, 3_100);
+        ask_both(book, beside, turn, client, &command)?;
+        most = most.max(beside.plain.orders.len());
+    }
+    Ok(most)
+}
+
 #[test]
 fn two_books(rt: HostRuntime) -> Result<(), Fail> {
     let alloc = rt.alloc();
     let symbol = Symbol::new(b"ABC").ok_or("no symbol")?;
     let mut book = Book::new(alloc, &limits(alloc)?)?;
-    let mut plain = PlainBook::new(alloc, symbol)?;
-    let mut out = Vec::with_capacity(alloc, MOST_OUTPUTS)?;
-    let mut plainly = Vec::with_capacity(alloc, MOST_OUTPUTS)?;
-    let mut state = 1;
-    let mut most = 0;
-    for turn in 0..13_100u64 {
-        let (client, command) = next_command(&mut state, symbol, &plain, turn, 3_100);
-        ask(&mut book, turn, client, &command, &mut out)?;
-        plainly.clear();
-        plain.apply(turn, client, &command, &mut plainly)?;
-        if !are_same(&out, &plainly) {
-            Err("the books differ")?;
-        }
-        if matches!(command, Command::New { .. })
-            && book.reads() > fills(&out, turn).wrapping_add(1)
-        {
-            Err("the book read more than it filled")?;
-        }
-        most = most.max(plain.orders.len());
-    }
-    if most < 3_000 {
+    let mut beside = Beside {
+        plain: PlainBook::new(alloc, symbol)?,
+        out: Vec::with_capacity(alloc, MOST_OUTPUTS)?,
+        plainly: Vec::with_capacity(alloc, MOST_OUTPUTS)?,
+    };
+    if ask_many(&mut book, &mut beside, symbol)? < 3_000 {
         Err("too few orders rested")?;
     }
     Ok(())
