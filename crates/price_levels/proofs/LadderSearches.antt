@@ -21,6 +21,11 @@ pub home-known : (fences : List Fence) (homes read : List Home) (i : ℕ) (home 
 home-known fences homes read i home same within is known = subst (IsHomeOf fences) (sym is)
     (all-at (IsHomeOf fences) read i home within (subst (AllByRecursion (IsHomeOf fences)) (sym same) known))
 
+pub at-home : (own fences : List Fence) (i : ℕ) (s symbol : List ℕ) (d side : Side) → own ≡ fences → s ≡ symbol → d ≡ side → Belongs own i s d →
+    Belongs fences i symbol side
+at-home own fences i s symbol d side same symbols sides belongs = subst (λ e. Belongs fences i symbol e) sides (subst (λ t. Belongs fences i t d)
+    symbols (subst (λ fs. Belongs fs i s d) same belongs))
+
 module _ (l : Laddered) (fences : List Fence) (homes : List Home) (ladders : List (Vec Level)) (room : ℕ)
     (are : AreLadders fences homes ladders room) (fences_are : l.fences ≡ fences) (is : l.ladders ≡ items_of ladders) (k : Key) (i : ℕ)
     (belongs : Belongs l.fences i k.symbol k.side) where

@@ -1,6 +1,6 @@
 //! The levels in ladders: those of each symbol and side of the venue in a list of their own, which is searched and
 //! moved alone. Contracts see which level stands where, in the order of all.
-ghost use Rattle.std.specs.Prelude.{◌≡◌, ◌<◌, ◌≤◌, ◌+◌, ◌^◌, ⊤, [], true, false, MatchOption, length, take, drop, get_or, slice_set, IfOk};
+ghost use Rattle.std.specs.Prelude.{◌≡◌, ◌<◌, ◌≤◌, ◌+◌, ◌^◌, [], true, false, length, take, drop, get_or, slice_set, IfOk};
 ghost use Rattle.std.specs.List.{AllByRecursion, insert};
 ghost use Rattle.price_levels.specs.Keys.{key_before, before_side, opposite, InOrder};
 ghost use Rattle.price_levels.specs.Arena.{holds, of_side, first_in, crossed_left, levels_with};
@@ -19,7 +19,7 @@ pub(crate) struct Fence {
     pub(crate) side: Side,
 }
 
-/// Where the ladders of a symbol of the venue are: that isn't looked for among the fences.
+/// The ladders of a symbol of the venue: where they are is known, and isn't looked for among the fences.
 #[derive(Clone, Copy)]
 pub(crate) struct Home {
     pub(crate) symbol: Symbol,
@@ -39,7 +39,6 @@ pub(crate) struct Rung {
 pub(crate) struct Ladders {
     fences: Vec<Fence>,
     homes: Vec<Home>,
-    guesses: [u8; 32],
     ladders: Vec<Vec<Level>>,
     room: usize,
 }
@@ -64,44 +63,27 @@ impl Ladders {
         let fences = fences_of(alloc, symbols)?;
         let homes = homes_of(alloc, symbols, &fences)?;
         let ladders = empty_ladders(alloc, fences.len() + 1, room)?;
-        let guesses = guesses_of(&homes);
         Ok(Ladders {
             fences,
             homes,
-            guesses,
             ladders,
             room,
         })
-    }
-
-    /// Where the ladders of a symbol are, if that is known: it is looked for where it is guessed first.
-    fn home_of(&self, symbol: &Symbol) -> Option<Home>
-        ensures { MatchOption result ⊤ (λ home. IsHomeOf self.now.fences home × (home.symbol ≡ symbol.now)) }
-    {
-        let guess = self.guesses[spot(symbol)] as usize;
-        if guess < self.homes.len() {
-            let home = self.homes[guess];
-            if home.symbol.is(symbol) {
-                return Some(home);
-            }
-        }
-        'homes: for home in &self.homes {
-            if home.symbol.is(symbol) {
-                return Some(*home);
-            }
-        }
-        None
     }
 
     /// The ladder of a symbol and side.
     fn ladder_of(&self, symbol: &Symbol, side: Side) -> usize
         ensures { Belongs self.now.fences result symbol.now side }
     {
-        match (self.home_of(symbol), side) {
-            (Some(home), Side::Buy) => home.buys,
-            (Some(home), Side::Sell) => home.sells,
-            (None, _) => fence_at(&self.fences, symbol, side),
+        'homes: for home in &self.homes {
+            if home.symbol.is(symbol) {
+                return match side {
+                    Side::Buy => home.buys,
+                    Side::Sell => home.sells,
+                };
+            }
         }
+        fence_at(&self.fences, symbol, side)
     }
 
     /// The place of a key: all levels ahead of it stand before the key, and none from it on does.
@@ -254,25 +236,6 @@ fn homes_of(alloc: Global, symbols: &[Symbol], fences: &[Fence]) -> Result<Vec<H
         });
     }
     Ok(homes)
-}
-
-/// The number of the home that is guessed for each spot: of the symbols that have it, the last one's.
-fn guesses_of(homes: &[Home]) -> [u8; 32] {
-    let mut guesses = [0; 32];
-    for at in 0..homes.len() {
-        guesses[spot(&homes[at].symbol)] = (at % 256) as u8;
-    }
-    guesses
-}
-
-/// Where a symbol's home is guessed, by its length and its first and last byte.
-fn spot(symbol: &Symbol) -> usize
-    ensures { result < 32 }
-{
-    let name = symbol.as_bytes();
-    let first = name[0] as usize;
-    let last = name[name.len() - 1] as usize;
-    (3 * first + last + name.len()) % 32
 }
 
 /// So many ladders, each with room for so many levels.
