@@ -180,7 +180,8 @@ impl Ladders {
     }
 }
 
-/// The fences of these symbols, two of each, each ahead of those that it is before.
+/// The fences of these symbols, two of each, each ahead of those that it is before. So each symbol and side has a ladder
+/// alone, which is for speed, and no clause says it.
 fn fences_of(alloc: Global, symbols: &[Symbol]) -> Result<Vec<Fence>, AllocError>
     requires { length symbols.now ≤ 8 }
     ensures { IfOk result (λ fences. length fences.items ≤ 16) }
