@@ -50,13 +50,17 @@ fn measure<R: Env + Clock + Print + Eprint + AllocGlobal>(rt: &R) -> Result<(), 
 }
 
 /// Fills a second book, and then does the commands that are measured, by the clock. It answers how many outputs they had,
-/// and their rate; where all outputs aren't as many as those of the first book, there is none.
+/// and their rate; where all outputs aren't as many as those of the first book, or a command isn't in range, there is
+/// none. The range is looked at once, before the clock.
 fn timed<R: Clock + AllocGlobal>(
     rt: &R,
     limits: &Limits,
     task: &Task,
     chosen: &Chosen,
 ) -> Result<(u64, Rate), Fault> {
+    if !chosen.is_in_range() {
+        return Err(Fault::Wrong);
+    }
     let mut book = Book::new(rt.alloc(), limits)?;
     let mut out = Vec::with_capacity(rt.alloc(), MOST_OUTPUTS)?;
     let filled = chosen.run(&mut book, 0, task.resting, &mut out)?;
