@@ -1,3 +1,4 @@
+mod NameBytes
 mod SymbolLemmas
 mod TableLemmas
 mod WorkedSessions

@@ -63,11 +63,12 @@ impl Symbol {
         0 < name.len() && name.len() <= 8 && has_name_bytes(name)
     }
 
-    /// Whether both are one symbol. It is what `==` answers, said of the names.
+    /// Whether both are one symbol. It is what `==` answers, said of the names: their eight bytes tell them apart, since
+    /// no zero stands in a name.
     pub fn is(&self, other: &Symbol) -> bool
         ensures { result ≡ bytes_eq self.now other.now }
     {
-        self == other
+        self.bytes == other.bytes
     }
 
     /// The bytes that spell it.
