@@ -1,6 +1,6 @@
 -- The table keeps what holds of it, call by call; names are found where the entries say.
-use Rattle.std.proofs.Common.{◌≡◌, ◌+◌, ◌<◌, ◌≤◌, ℕ, List, length, get_or, Option, Some, None, refl, sym, subst, ◌∙◌, arith}
-use Rattle.std.specs.Prelude.{slice_set, replicate}
+use Rattle.std.proofs.Common.{◌≡◌, ◌+◌, ◌<◌, ◌≤◌, ℕ, List, length, get_or, Option, Some, None, refl, ap, sym, subst, ◌∙◌, arith}
+use Rattle.std.specs.Prelude.{◌≢◌, slice_set, replicate, IsSome}
 use Rattle.std.proofs.Math.Path.{fun_ext}
 use Rattle.std.proofs.lemmas.List.{get_or_read, length-set, length-replicate}
 use Rattle.order_index.specs.declared.slots.Entry.{Entry}
@@ -71,6 +71,14 @@ pub read-finds : (slots seen : Slots) → IsTable slots → seen ≡ slots → (
 read-finds slots seen table same c n s way within read is o was =
     let in_slots : s < length slots = subst (λ xs. s < length xs) same within in
     finds slots table c n s (subst (λ xs. WayEnds (at xs) c n s) same way) o (sym (get_or_read slots s read in_slots is None) ∙ was)
+
+-- where a name has a place, what is read there is an entry
+pub reads-entry : (slots seen : Slots) (view : List Entry) → IsTable slots → seen ≡ slots → entries_of slots ≡ view → (c n s : ℕ)
+    → WayEnds (at seen) c n s → s < length seen → place_of view c n ≢ None → (read : Option Entry) → read ≡ get_or slots s read
+    → (o : Option Entry) → read ≡ o → IsSome o
+reads-entry slots seen view table same view_is c n s way within there read is None was = absurd (there
+    (ap (λ entries. place_of entries c n) (sym view_is) ∙ sym (read-finds slots seen table same c n s way within read is None was)))
+reads-entry slots seen view table same view_is c n s way within there read is (Some e) was = refl
 
 -- what an insertion makes of the table
 pub record IsInsert (slots after : Slots) (c n place : ℕ) (before : List Entry) : Type 0 where

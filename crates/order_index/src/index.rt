@@ -1,5 +1,5 @@
 //! The index: each name's place is found, put in and taken out by the way from its home slot.
-ghost use Rattle.std.specs.Prelude.{◌≡◌, ◌≢◌, ◌<◌, ◌+◌, [], None, length, IfOk};
+ghost use Rattle.std.specs.Prelude.{◌≡◌, ◌≢◌, ◌<◌, ◌+◌, [], None, Some, length, IfOk};
 ghost use Rattle.order_index.specs.Names.{most_entries, place_of, with_name, without_name};
 
 use crate::slots::{Entry, FREE, SLOTS, Slot, close, reach};
@@ -58,14 +58,17 @@ impl OrderIndex {
         });
     }
 
-    /// Takes a name's place away from it.
-    pub fn remove(&mut self, client: u8, name: u64)
+    /// Takes a name's place away from it, and answers the place.
+    pub fn remove(&mut self, client: u8, name: u64) -> u32
         requires { place_of self.old client name ≢ None }
+        ensures place { place_of self.old client name ≡ Some result }
         ensures places { place_of self.new ≡ without_name client name (place_of self.old) }
         ensures entries { length self.new + 1 ≡ length self.old }
     {
         let at = reach(&self.slots, client, name);
+        let entry = self.slots[at].entry().unwrap();
         self.slots[at] = FREE;
         close(&mut self.slots, at);
+        entry.place
     }
 }

@@ -94,8 +94,7 @@ impl RestingOrders {
         ensures order { find (is_named client name) self.old ≡ Some result }
         ensures orders { self.new ≡ filter (λ o. not (is_named client name o)) self.old }
     {
-        let number = self.index.find(client, name).unwrap();
-        self.index.remove(client, name);
+        let number = self.index.remove(client, name);
         self.count -= 1;
         self.levels.unlink(Place::at(number as usize))
     }
@@ -107,10 +106,9 @@ impl RestingOrders {
         requires fresh { NoneNamed client new_name self.old }
         ensures { self.new ≡ map (λ o. if is_named client name o then amended new_name total o else o) self.old }
     {
-        let number = self.index.find(client, name).unwrap();
+        let number = self.index.remove(client, name);
         self.levels
             .amend(Place::at(number as usize), new_name, total);
-        self.index.remove(client, name);
         self.index.insert(client, new_name, number);
     }
 

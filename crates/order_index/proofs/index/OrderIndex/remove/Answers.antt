@@ -1,13 +1,29 @@
 -- The entry leaves a gap, and its closing changes no name's place.
-use Rattle.std.proofs.Common.{◌+◌, length, ap, sym, ◌∙◌}
+use Rattle.std.proofs.Common.{◌≡◌, ◌+◌, length, Option, Some, None, ap, sym, subst, ◌∙◌}
+use Rattle.std.specs.Prelude.{◌≢◌}
 use Rattle.order_index.specs.Names.{without_name, place_of}
+use Rattle.order_index.specs.declared.slots.Entry.{Entry}
 use Rattle.order_index.proofs.Leavings.{removed}
+use Rattle.order_index.proofs.Tables.{read-finds, reads-entry}
 use Rattle.order_index.proofs.index.OrderIndex.remove.Goals as goal
+
+pub unwrap-entry-requires : goal.unwrap-entry-requires
+unwrap-entry-requires c =
+    reads-entry c.self.inside.slots.items c.deref.result.now c.args.self.now c.self.invariant c.deref.ensures.value c.self.view_is
+    c.args.client c.args.name c.reach-at.result c.reach-at.ensures.way c.reach-at.ensures.within c.requires
+    c.index.result.now c.index.ensures c.entry.result (sym c.entry.ensures)
 
 pub close-requires : goal.close-requires
 close-requires c =
     (removed c.self.inside.slots.items c.deref.result.now c.args.self.now c.self.invariant c.deref.ensures.value (sym c.self.view_is)
     c.args.client c.args.name c.reach-at.result c.reach-at.ensures.way c.requires).has_gap
+
+pub returns-clause-place : goal.returns-clause-place
+returns-clause-place c =
+    sym (ap (λ entries. place_of entries c.args.client c.args.name) c.self.view_is)
+    ∙ sym (read-finds c.self.inside.slots.items c.deref.result.now c.self.invariant c.deref.ensures.value c.args.client c.args.name
+    c.reach-at.result c.reach-at.ensures.way c.reach-at.ensures.within c.index.result.now c.index.ensures (Some c.unwrap-entry.result)
+    (sym c.entry.ensures ∙ c.unwrap-entry.ensures))
 
 pub returns-clause-places : goal.returns-clause-places
 returns-clause-places c =
