@@ -92,6 +92,7 @@ fn sweep(
 }
 
 /// A new order comes in on these terms, behind all that rest.
+#[inline(always)]
 pub(crate) fn enter(
     orders: &mut RestingOrders,
     incoming: &Order,

@@ -1,5 +1,6 @@
 -- A search in the ladders for an order that stands: it is on its level.
 use Rattle.std.proofs.Common.{◌≡◌, ℕ, zero, suc, ◌+◌, ◌^◌, ◌<◌, ◌≤◌, List, [], ◌∷◌, ◌++◌, length, get_or, take, Some, None, refl, ap, sym, subst, ◌∙◌, arith, add-one}
+use Rattle.std.specs.Prelude.{replicate}
 use Rattle.std.specs.List.{AllByRecursion}
 use Rattle.std.specs.Global.{Vec}
 use Rattle.std.specs.Vec.{vec_capacity}
@@ -83,6 +84,11 @@ empties room (v ∷ ladders) empty (suc i) = empties room ladders empty.1 i
 pub none-joined : (room : ℕ) (ladders : List (Vec Level)) → AllByRecursion (IsEmpty room) ladders → joined (items_of ladders) ≡ []
 none-joined room [] empty = refl
 none-joined room (v ∷ ladders) empty = ap (λ levels. levels ++ joined (items_of ladders)) empty.0.0 ∙ none-joined room ladders empty.1
+
+-- all of a list alike
+pub all-alike : {X : Type 0} (P : X → Type 0) (n : ℕ) (x : X) → P x → AllByRecursion P (replicate n x)
+all-alike P zero x is = tt
+all-alike P (suc n) x is = (is, all-alike P n x is)
 
 pub new-ladders : (fences : List Fence) (homes : List Home) (ladders : List (Vec Level)) (room : ℕ) → length ladders ≡ length fences + 1 →
     AllByRecursion (IsEmpty room) ladders → AllByRecursion (IsHomeOf fences) homes → AreLadders fences homes ladders room

@@ -26,6 +26,7 @@ pub(crate) fn is_of(level: &Level, symbol: &Symbol, side: Side) -> bool
 }
 
 /// The place of the first order of the level at this place, if that is one of the symbol and side.
+#[inline(always)]
 pub(crate) fn first_in(levels: &[Level], at: usize, symbol: &Symbol, side: Side) -> Option<usize>
     ensures { result ≡ first_in symbol.now side levels.now at }
 {

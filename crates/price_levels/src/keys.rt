@@ -118,6 +118,7 @@ pub(crate) fn comes_before(key: &Key, other: &Key) -> bool
 }
 
 /// The place of a key: all levels ahead of it stand before the key, and none from it on does.
+#[inline(never)]
 pub(crate) fn search(levels: &[Level], key: &Key) -> usize
     requires { InOrder levels.now }
     ensures within { result ≤ length levels.now }
@@ -157,6 +158,7 @@ pub(crate) fn comes_before_side(key: &Key, symbol: &Symbol, side: Side) -> bool
 }
 
 /// The place of a symbol and side: all levels ahead of it stand before those, and none from it on does.
+#[inline(never)]
 pub(crate) fn search_side(levels: &[Level], symbol: &Symbol, side: Side) -> usize
     requires { InOrder levels.now }
     ensures within { result ≤ length levels.now }

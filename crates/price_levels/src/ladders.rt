@@ -1,9 +1,10 @@
 //! The levels in ladders: those of each symbol and side of the venue in a list of their own, which is searched and
 //! moved alone. Contracts see which level stands where, in the order of all.
-ghost use Rattle.std.specs.Prelude.{◌≡◌, ◌<◌, ◌≤◌, ◌+◌, ◌^◌, [], true, false, length, take, drop, get_or, slice_set, IfOk};
+ghost use Rattle.std.specs.Prelude.{◌≡◌, ◌<◌, ◌≤◌, ◌+◌, ◌^◌, List, [], true, false, length, take, drop, get_or, slice_set, IfOk, IfSome};
 ghost use Rattle.std.specs.List.{AllByRecursion, insert};
 ghost use Rattle.price_levels.specs.Keys.{key_before, before_side, opposite, InOrder};
 ghost use Rattle.price_levels.specs.Arena.{holds, of_side, first_in, crossed_left, levels_with};
+ghost use Rattle.price_levels.specs.declared.ladders.Fence.{Fence};
 ghost use Rattle.price_levels.specs.Ladders.{Belongs, IsRung, IsOn, IsHome, IsHomeOf, IsEmpty, all, number};
 
 use crate::finds::{crossed_left, first_in, holds, is_of};
@@ -33,6 +34,12 @@ pub(crate) struct Rung {
     pub(crate) ladder: usize,
     pub(crate) at: usize,
 }
+
+/// How many spots there are for homes: many more than symbols.
+const SPOTS: usize = 256;
+
+/// How many homes stand side by side from a spot on, where the bytes of so many symbols lead to one.
+const SIDE_BY_SIDE: usize = 8;
 
 /// All levels, in one ladder more than there are fences.
 #[derive(Drop)]
@@ -72,15 +79,42 @@ impl Ladders {
     }
 
     /// The ladder of a symbol and side.
+    #[inline(never)]
     fn ladder_of(&self, symbol: &Symbol, side: Side) -> usize
         ensures { Belongs self.now.fences result symbol.now side }
     {
-        'homes: for home in &self.homes {
-            if home.symbol.is(symbol) {
-                return match side {
-                    Side::Buy => home.buys,
-                    Side::Sell => home.sells,
-                };
+        let spot = spot(symbol);
+        match self.known_ladder(spot, symbol, side) {
+            Some(ladder) => ladder,
+            None => self.ladder_beside(spot, symbol, side),
+        }
+    }
+
+    /// The ladder of a symbol and side, where the home that stands there is the symbol's.
+    #[inline(always)]
+    fn known_ladder(&self, at: usize, symbol: &Symbol, side: Side) -> Option<usize>
+        ensures { IfSome result (λ ladder. Belongs self.now.fences ladder symbol.now side) }
+    {
+        let home = self.homes.get(at)?;
+        if !home.symbol.is(symbol) {
+            return None;
+        }
+        match side {
+            Side::Buy => Some(home.buys),
+            Side::Sell => Some(home.sells),
+        }
+    }
+
+    /// The ladder of a symbol whose spot another one has: its home is looked for beside it, and then its fences.
+    #[cold]
+    #[inline(never)]
+    fn ladder_beside(&self, spot: usize, symbol: &Symbol, side: Side) -> usize
+        requires { spot < SPOTS }
+        ensures { Belongs self.now.fences result symbol.now side }
+    {
+        for at in spot + 1..spot + SIDE_BY_SIDE {
+            if let Some(ladder) = self.known_ladder(at, symbol, side) {
+                return ladder;
             }
         }
         fence_at(&self.fences, symbol, side)
@@ -100,6 +134,7 @@ impl Ladders {
     }
 
     /// The place of a symbol and side: all levels ahead of it stand before those, and none from it on does.
+    #[inline(always)]
     pub(crate) fn search_side(&self, symbol: &Symbol, side: Side) -> Rung
         requires { InOrder (all self.now) }
         ensures rung { IsRung self.now result }
@@ -161,6 +196,7 @@ impl Ladders {
     }
 
     /// The place of the first order of the level at this place, if that is one of the symbol and side.
+    #[inline(always)]
     pub(crate) fn first_in(&self, rung: Rung, symbol: &Symbol, side: Side) -> Option<usize>
         requires rung { IsRung self.now rung }
         requires home { IsHome self.now rung symbol.now side }
@@ -207,6 +243,8 @@ fn put(fences: &mut Vec<Fence>, symbol: &Symbol, side: Side)
 }
 
 /// The number of the ladder where the levels of a symbol and side belong.
+#[cold]
+#[inline(never)]
 fn fence_at(fences: &[Fence], symbol: &Symbol, side: Side) -> usize
     ensures belongs { Belongs fences.now result symbol.now side }
     ensures within { result ≤ length fences.now }
@@ -224,19 +262,63 @@ fn fence_at(fences: &[Fence], symbol: &Symbol, side: Side) -> usize
     fences.len()
 }
 
-/// Where the ladders of these symbols are.
+/// Where a symbol's home is looked for first: most symbols have a spot of their own.
+fn spot(symbol: &Symbol) -> usize
+    ensures { result < SPOTS }
+{
+    let bytes = symbol.as_bytes();
+    let (first, last) = (bytes[0] as usize, bytes[bytes.len() - 1] as usize);
+    (31 * first + 7 * last + bytes.len()) % SPOTS
+}
+
+/// Where the ladders of a symbol are.
+fn home_of(symbol: &Symbol, fences: &[Fence]) -> Home
+    ensures { IsHomeOf fences.now result }
+{
+    Home {
+        symbol: *symbol,
+        buys: fence_at(fences, symbol, Side::Buy),
+        sells: fence_at(fences, symbol, Side::Sell),
+    }
+}
+
+/// Where the ladders of these symbols are, each symbol's home at its spot or next to it. The first one's is wherever no
+/// other is. That each is found so is for speed, and no clause says it.
 fn homes_of(alloc: Global, symbols: &[Symbol], fences: &[Fence]) -> Result<Vec<Home>, AllocError>
     ensures { IfOk result (λ homes. AllByRecursion (IsHomeOf fences.now) homes.items) }
 {
-    let mut homes = Vec::with_capacity(alloc, symbols.len())?;
+    if symbols.is_empty() {
+        return Ok(Vec::new(alloc));
+    }
+    let first = home_of(&symbols[0], fences);
+    let mut homes = vec![in alloc; first; SPOTS + SIDE_BY_SIDE]?;
     'symbols: for symbol in symbols {
-        homes.push_reserved(Home {
-            symbol: *symbol,
-            buys: fence_at(fences, symbol, Side::Buy),
-            sells: fence_at(fences, symbol, Side::Sell),
-        });
+        settle(&mut homes, &first.symbol, home_of(symbol, fences));
     }
     Ok(homes)
+}
+
+/// Puts a home at its spot, or next to it, where none but this first symbol's is.
+fn settle(homes: &mut Vec<Home>, first: &Symbol, home: Home)
+    ensures { (fences : List Fence) → IsHomeOf fences home → AllByRecursion (IsHomeOf fences) homes.old.items
+        → AllByRecursion (IsHomeOf fences) homes.new.items }
+{
+    if let Some(at) = free_spot(homes, first, &home.symbol) {
+        homes[at] = home;
+    }
+}
+
+/// A symbol's spot, or one next to it, where this first symbol's home is.
+fn free_spot(homes: &[Home], first: &Symbol, symbol: &Symbol) -> Option<usize>
+    ensures { IfSome result (λ at. at < length homes.now) }
+{
+    let spot = spot(symbol);
+    for at in spot..spot + SIDE_BY_SIDE {
+        if at < homes.len() && homes[at].symbol.is(first) {
+            return Some(at);
+        }
+    }
+    None
 }
 
 /// So many ladders, each with room for so many levels.
@@ -253,6 +335,7 @@ fn empty_ladders(alloc: Global, count: usize, room: usize) -> Result<Vec<Vec<Lev
 
 /// The place of a key in a ladder: the first one for the best price, and else by prices alone, where all its levels are of
 /// the key's symbol and side.
+#[inline(always)]
 fn place_in(levels: &[Level], key: &Key) -> usize
     requires { InOrder levels.now }
     ensures within { result ≤ length levels.now }
@@ -273,6 +356,7 @@ fn place_in(levels: &[Level], key: &Key) -> usize
 }
 
 /// Whether the first and the last level are of the symbol and side: so are all between them.
+#[inline(always)]
 fn are_of(levels: &[Level], symbol: &Symbol, side: Side) -> bool
     requires { InOrder levels.now }
     ensures { result ≡ true → AllByRecursion (λ l. of_side symbol.now side l.key ≡ true) levels.now }
@@ -284,6 +368,7 @@ fn are_of(levels: &[Level], symbol: &Symbol, side: Side) -> bool
 }
 
 /// The place of a symbol and side in a ladder: it begins with them, unless there are others.
+#[inline(always)]
 fn start_of(levels: &[Level], symbol: &Symbol, side: Side) -> usize
     requires { InOrder levels.now }
     ensures within { result ≤ length levels.now }
