@@ -6,6 +6,7 @@ mod PointLemmas
 mod NodeLemmas
 mod LeftLemmas
 mod ArenaLemmas
+mod CountLemmas
 mod SearchLemmas
 mod Comings
 mod Leavings

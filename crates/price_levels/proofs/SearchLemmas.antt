@@ -6,11 +6,13 @@ use Rattle.std.specs.List.Sorted.{IsPartitionedBy}
 use Rattle.std.specs.Str.{bytes_eq}
 use Rattle.std.proofs.lemmas.Slice.Eq.{bytes_eq-Decides}
 use Rattle.std.proofs.Math.Decide.{ℕ_discrete}
+use Rattle.std.proofs.lemmas.List.Sums.{count_by-le-length}
+use Rattle.price_levels.proofs.CountLemmas.{ends-behind, ends-before}
 use Rattle.venue_model.specs.declared.orders.Side.{Side}
 use Rattle.venue_model.specs.declared.orders.Side.TheVariants.{Buy, Sell}
 use Rattle.price_levels.specs.declared.keys.Key.{Key}
 use Rattle.price_levels.specs.declared.keys.Level.{Level}
-use Rattle.price_levels.specs.Keys.{key_before, before_side, side_before, symbol_before, InOrder}
+use Rattle.price_levels.specs.Keys.{key_before, before_side, side_before, symbol_before, InOrder, count_better, BetterFirst}
 use Rattle.price_levels.specs.Arena.{of_side}
 use Rattle.venue_model.specs.Orders.{same_side, is_better}
 use Rattle.price_levels.proofs.KeyLemmas.{before-means, Before, both, side-is, sides-same, key-trans, symbol-trans, symbol-apart, same-bytes, other-bytes}
@@ -102,20 +104,39 @@ by-price a k of =
     ap (λ t. if t then side_before a.side k.side (is_better a.side a.price k.price) else symbol_before a.symbol k.symbol) parts.0
     ∙ ap (λ d. side_before d k.side (is_better d a.price k.price)) sides ∙ sides-same k.side (is_better k.side a.price k.price)
 
-module _ (k : Key) (p : Level → Bool) (levels : List Level) (order : InOrder levels)
-    (same : AllByRecursion (λ (l : Level). key_before l.key k ≡ p l) levels) where
-  same-at : (i : ℕ) (d : Level) → i < length levels → key_before (get_or levels i d).key k ≡ p (get_or levels i d)
-  same-at i d lt = all-at (λ (l : Level). key_before l.key k ≡ p l) levels i d lt same
+-- among levels of one symbol and side those of a better price stand first, and end at the number of them
+module _ (k : Key) (side : Side) (is : k.side ≡ side) (levels : List Level) (order : InOrder levels)
+    (one : AllByRecursion (λ (l : Level). of_side k.symbol k.side l.key ≡ true) levels) where
+  test-at : (i : ℕ) (d : Level) → i < length levels → key_before (get_or levels i d).key k ≡ is_better side (get_or levels i d).key.price k.price
+  test-at i d lt =
+      by-price (get_or levels i d).key k (all-at (λ (l : Level). of_side k.symbol k.side l.key ≡ true) levels i d lt one)
+      ∙ ap (λ s. is_better s (get_or levels i d).key.price k.price) is
 
-  pub parted-by : IsPartitionedBy p levels
-  parted-by = λ i j d le lt holds.
-      sym (same-at i d (omega (arith, le, lt)))
-      ∙ parted (λ j. key_before j k) (λ a b h g. key-trans a b k h g) levels order i j d le lt (same-at j d lt ∙ holds)
+  pub better-first : BetterFirst side k.price levels
+  better-first = λ i j d le lt h.
+      sym (test-at i d (omega (arith, le, lt)))
+      ∙ parted (λ j. key_before j k) (λ a b h g. key-trans a b k h g) levels order i j d le lt (test-at j d lt ∙ h)
 
-  pub before-by : (n : ℕ) → n ≤ length levels → ((i : ℕ) (d : Level) → i < n → p (get_or levels i d) ≡ true) →
-      AllByRecursion (λ (l : Level). key_before l.key k ≡ true) (take n levels)
-  before-by n le each = all-take (λ (l : Level). key_before l.key k ≡ true) levels n le (λ i d lt. same-at i d (omega (arith, lt, le)) ∙ each i d lt)
+  better-at : (i : ℕ) (d : Level) → i < count_better side k.price levels → i < length levels → key_before (get_or levels i d).key k ≡ true
+  better-at i d lt in-it = elim (key_before (get_or levels i d).key k) as (λ t. key_before (get_or levels i d).key k ≡ t → t ≡ true) [
+    | true ↦ λ h. refl
+    | false ↦ λ h. let end = ends-before (λ (l : Level). is_better side l.key.price k.price) levels better-first i d
+        (sym (test-at i d in-it) ∙ h) in-it in absurd (omega (arith, end, lt))
+  ] refl
 
-  pub behind-by : (n : ℕ) → ((i : ℕ) (d : Level) → n ≤ i → i < length levels → p (get_or levels i d) ≡ false) →
-      AllByRecursion (λ (l : Level). key_before l.key k ≡ false) (drop n levels)
-  behind-by n each = all-drop (λ (l : Level). key_before l.key k ≡ false) levels n (λ i d le lt. same-at i d lt ∙ each i d le lt)
+  other-at : (i : ℕ) (d : Level) → count_better side k.price levels ≤ i → i < length levels → key_before (get_or levels i d).key k ≡ false
+  other-at i d le in-it = elim (key_before (get_or levels i d).key k) as (λ t. key_before (get_or levels i d).key k ≡ t → t ≡ false) [
+    | true ↦ λ h. let end = ends-behind (λ (l : Level). is_better side l.key.price k.price) levels better-first i d in-it
+        (sym (test-at i d in-it) ∙ h) in absurd (omega (arith, end, le))
+    | false ↦ λ h. refl
+  ] refl
+
+  within-better : (n : ℕ) → n ≡ count_better side k.price levels → n ≤ length levels
+  within-better n e = omega (arith, e, count_by-le-length (λ (l : Level). is_better side l.key.price k.price) levels)
+
+  pub before-better : (n : ℕ) → n ≡ count_better side k.price levels → AllByRecursion (λ (l : Level). key_before l.key k ≡ true) (take n levels)
+  before-better n e = all-take (λ (l : Level). key_before l.key k ≡ true) levels n (within-better n e) (λ i d lt. better-at i d
+      (omega (arith, e, lt)) (omega (arith, within-better n e, lt)))
+
+  pub behind-better : (n : ℕ) → n ≡ count_better side k.price levels → AllByRecursion (λ (l : Level). key_before l.key k ≡ false) (drop n levels)
+  behind-better n e = all-drop (λ (l : Level). key_before l.key k ≡ false) levels n (λ i d le lt. other-at i d (omega (arith, e, le)) lt)

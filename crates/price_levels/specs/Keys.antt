@@ -1,6 +1,7 @@
 -- The order in which levels stand: by symbol, buys before sells, and of one symbol and side from the best price on.
 use Rattle.std.specs.Prelude.{◌≡◌, ⊤, ℕ, nat_eq, Bool, true, false, ◌&&◌, List, [], ◌∷◌, Option, Some, None, if◌then◌else◌}
-use Rattle.std.specs.List.{AllByRecursion}
+use Rattle.std.specs.List.{AllByRecursion, count_by}
+use Rattle.std.specs.List.Sorted.{IsPartitionedBy}
 use Rattle.std.specs.Str.{bytes_eq}
 use Rattle.std.specs.Ordering.{nat_cmp, is_lt}
 use Rattle.std.specs.Cmp.Lexicographic.{slice_cmp}
@@ -55,3 +56,11 @@ InOrder (l ∷ ls) = AllByRecursion (λ m. key_before l.key m.key ≡ true) ls �
 abbrev pub level_of : Key → List Level → Option Level
 level_of k [] = None
 level_of k (l ∷ ls) = if same_key l.key k then Some l else level_of k ls
+
+-- how many levels have a better price than this
+abbrev pub count_better : Side → ℕ → List Level → ℕ
+count_better side price levels = count_by (λ l. is_better side l.key.price price) levels
+
+-- no level of a better price stands behind one that has none
+abbrev pub BetterFirst : Side → ℕ → List Level → Type 0
+BetterFirst side price levels = IsPartitionedBy (λ l. is_better side l.key.price price) levels

@@ -1,13 +1,16 @@
 //! The levels in their order: by symbol, buys before sells, and of one symbol and side from the best price on. A key's
-//! place among them is found by halving.
+//! place among them is found by halving; among levels of its symbol and side, those of a better price are counted.
 ghost use Rattle.std.specs.Prelude.{◌≡◌, ◌<◌, ◌≤◌, ◌+◌, length, take, drop, true, false, if◌then◌else◌};
 ghost use Rattle.std.specs.List.{AllByRecursion};
 ghost use Rattle.venue_model.specs.Orders.{same_side, is_better, meets, leaves};
 ghost use Rattle.price_levels.specs.Arena.{of_side};
-ghost use Rattle.price_levels.specs.Keys.{key_of, same_key, key_before, opposite, symbol_before, before_side, InOrder};
+ghost use Rattle.price_levels.specs.Keys.{key_of, same_key, key_before, opposite, symbol_before, before_side, InOrder, count_better, BetterFirst};
 
 use std::cmp::Ordering;
 use venue_model::{Order, Side, Symbol};
+
+/// More levels than this are halved first.
+const MANY: usize = 64;
 
 /// What the orders of one level share.
 #[derive(Clone, Copy)]
@@ -136,11 +139,80 @@ pub(crate) fn search_price(levels: &[Level], key: &Key) -> usize
     ensures before { AllByRecursion (λ l. key_before l.key key.now ≡ true) (take result levels.now) }
     ensures behind { AllByRecursion (λ l. key_before l.key key.now ≡ false) (drop result levels.now) }
 {
-    let price = key.price;
     match key.side {
-        Side::Buy => levels.partition_point(|level| price < level.key.price),
-        Side::Sell => levels.partition_point(|level| level.key.price < price),
+        Side::Buy => count_better(levels, Side::Buy, key.price),
+        Side::Sell => count_better(levels, Side::Sell, key.price),
     }
+}
+
+/// How many levels have a better price, where those stand first. Where they end is a matter of chance, which a processor
+/// can't foresee. So they are counted without a branch, eight at a time and then one by one.
+#[inline(always)]
+fn count_better(levels: &[Level], side: Side, price: u64) -> usize
+    requires { BetterFirst side price levels.now }
+    ensures { result ≡ count_better side price levels.now }
+{
+    if levels.len() < 8 {
+        return count_some(levels, side, price, 0, levels.len());
+    }
+    let (from, upto) = halve(levels, side, price);
+    let at = count_eights(levels, side, price, from, upto);
+    count_some(levels, side, price, at.min(levels.len() - 7), 7)
+}
+
+/// Halves the levels until few are left: from one place up to another. Those of a better price end there.
+#[inline(always)]
+fn halve(levels: &[Level], side: Side, price: u64) -> (usize, usize)
+    requires { BetterFirst side price levels.now }
+    ensures from { result.0 ≤ count_better side price levels.now }
+    ensures upto { count_better side price levels.now ≤ result.1 }
+    ensures within { result.1 ≤ length levels.now }
+{
+    let mut from = 0;
+    let mut upto = levels.len();
+    while upto - from > MANY {
+        let middle = from + (upto - from) / 2;
+        if price_before(side, levels[middle].key.price, price) {
+            from = middle + 1;
+        } else {
+            upto = middle;
+        }
+    }
+    (from, upto)
+}
+
+/// Of the levels from one place up to another, where those of a better price end, passes over eight at a time that are all
+/// better. It looks at the last of each eight.
+#[inline(always)]
+fn count_eights(levels: &[Level], side: Side, price: u64, from: usize, upto: usize) -> usize
+    requires order { BetterFirst side price levels.now }
+    requires from { from ≤ count_better side price levels.now }
+    requires upto { count_better side price levels.now ≤ upto }
+    requires within { upto ≤ length levels.now }
+    ensures at { result ≤ count_better side price levels.now }
+    ensures rest { count_better side price levels.now ≤ result + 7 }
+{
+    let mut eights = 0;
+    'eights: for eight in 0..(upto - from) / 8 {
+        eights += usize::from(price_before(side, levels[from + 8 * eight + 7].key.price, price));
+    }
+    from + 8 * eights
+}
+
+/// Of so many levels from a place on, where those of a better price end, counts these and all ahead of the place.
+#[inline(always)]
+fn count_some(levels: &[Level], side: Side, price: u64, from: usize, many: usize) -> usize
+    requires order { BetterFirst side price levels.now }
+    requires from { from ≤ count_better side price levels.now }
+    requires upto { count_better side price levels.now ≤ from + many }
+    requires within { from + many ≤ length levels.now }
+    ensures { result ≡ count_better side price levels.now }
+{
+    let mut at = from;
+    'levels: for next in 0..many {
+        at += usize::from(price_before(side, levels[from + next].key.price, price));
+    }
+    at
 }
 
 /// Whether a level stands before all of a symbol and side.
