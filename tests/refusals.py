@@ -17,6 +17,8 @@ from venues import printed, replay
 FRESH = b"VNJL\0\0\0\1\0"
 LOGON = message(1, 1, "A", "98=0|108=0|141=Y|")
 MOST_CALLS = 10_000  # A bound for a test that goes wrong.
+EDGE = 96  # Of a sample, so many of the first calls and of the last ones are refused one by one,
+STEP = 24  # and of those between them one of so many.
 
 
 def orders(first, count):
@@ -65,11 +67,28 @@ def standard(journal):
     return [VENUED, "-", journal, "1", "ABC"]
 
 
-class Sweeps:
-    """What refuses calls, compiled into this folder, and which calls were refused so far, with how many of each name."""
+def greatest(holds):
+    """The greatest number, from 1 on, for which something holds that holds for all below it too; 0 where it holds for none."""
+    some, none = 0, 1
+    while holds(none):
+        some, none = none, 2 * none
+    while some + 1 < none:
+        middle = (some + none) // 2
+        some, none = (middle, none) if holds(middle) else (some, middle)
+    return some
 
-    def __init__(self, folder):
-        self.folder, self.library = folder, os.path.join(folder, "refusals.so")
+
+def sample(count):
+    """The numbers of a sample of so many calls."""
+    return [at for at in range(1, count + 1) if at <= EDGE or count - at < EDGE or at % STEP == 0]
+
+
+class Sweeps:
+    """What refuses calls, compiled into this folder, and which calls were refused so far, with how many of each name.
+    All calls are, or a sample of those for memory."""
+
+    def __init__(self, folder, is_sample=False):
+        self.folder, self.library, self.is_sample = folder, os.path.join(folder, "refusals.so"), is_sample
         self.met = collections.Counter()
         words = ["cc", "-O1", "-shared", "-fPIC", "-o", self.library, os.path.join(ROOT, "tests/refusals.c"), "-ldl"]
         built = subprocess.run(words, capture_output=True, text=True)
@@ -88,14 +107,18 @@ class Sweeps:
 
     def sweep(self, check, group, how, together=4):
         """Refuses the first call, the second, and so on until none is left; so many programs run side by side."""
+        if self.is_sample and group == "memory":
+            chosen = sample(greatest(lambda at: self.refused(check, group, at, how)))
+        else:
+            chosen = range(1, MOST_CALLS)
         with concurrent.futures.ThreadPoolExecutor(together) as pool:
-            for first in range(1, MOST_CALLS, together):
-                calls = range(first, first + together)
-                names = list(pool.map(lambda at: self.refused(check, group, at, how), calls))
+            for first in range(0, len(chosen), together):
+                names = list(pool.map(lambda at: self.refused(check, group, at, how), chosen[first:first + together]))
                 self.met.update(it for it in names if it)
                 if None in names:
                     return
-        raise Trouble(f"expected an end of the calls came more than {MOST_CALLS}")
+        if MOST_CALLS - 1 in chosen:
+            raise Trouble(f"expected an end of the calls came more than {MOST_CALLS}")
 
     def said(self):
         """The calls that were refused, in words."""
@@ -187,7 +210,7 @@ def listens(refusal, gateways):
     raise Trouble(f"in {TRIES} tries no {gateways} ports stayed free")
 
 
-def run_tests(name, tests):
+def run_tests(name, tests, is_sample=False):
     """Runs these tests, each in a folder of its own, and prints what they came to; the status is 1 where one failed."""
     if not shutil.which("cc"):
         print(f"{name}: cc isn't installed, which compiles tests/refusals.c: nothing was tried\n0 passed, 0 failed")
@@ -200,7 +223,7 @@ def run_tests(name, tests):
     for test in tests:
         with tempfile.TemporaryDirectory(prefix="refusals-") as folder:
             try:
-                print(f"{test.__name__}: {test(Sweeps(folder))}", flush=True)
+                print(f"{test.__name__}: {test(Sweeps(folder, is_sample))}", flush=True)
             except (Trouble, OSError) as why:
                 print(f"{test.__name__}: {why}", flush=True)
                 failed += 1

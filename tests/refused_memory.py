@@ -1,7 +1,8 @@
 #!/usr/bin/env python3
 """Refuses memory, or a thread, to the built programs: the first request, the second, and so on until none is left.
 
-    tests/refused_memory.py
+    tests/refused_memory.py             each request is refused: a minute or more
+    tests/refused_memory.py --sample    the first requests for memory, the last ones, and some of those between them
 
 Each program either does what it does with ample memory, or says that it has none: `venued: no memory` on standard
 error, nothing on standard output, status 1, and the journal as it was. Each request is refused alone, and then with all
@@ -9,9 +10,10 @@ that come behind it. A venue that listens prints no `ready` line where it has no
 go that it has no room for, serves the next, and stops in order.
 
 Requests are refused by tests/refusals.c, which cc compiles into a folder of its own; without cc nothing is tried, and a
-line says so. The last line is `N passed, M failed`, and the status is 1 where one failed. It takes a minute or more. Build
-both programs first, by scripts/build; others are taken by the environment's VENUED and VENUE_REPLAY.
+line says so. The last line is `N passed, M failed`, and the status is 1 where one failed. Build both programs first, by
+scripts/build; others are taken by the environment's VENUED and VENUE_REPLAY.
 """
+import argparse
 import collections
 import concurrent.futures
 
@@ -125,4 +127,6 @@ def replays(sweeps):
 
 
 if __name__ == "__main__":
-    run_tests("refused_memory", [standard_session, listening, replays])
+    parser = argparse.ArgumentParser(description=__doc__, formatter_class=argparse.RawDescriptionHelpFormatter)
+    parser.add_argument("--sample", action="store_true", help="refuse a sample of the requests for memory")
+    run_tests("refused_memory", [standard_session, listening, replays], parser.parse_args().sample)
