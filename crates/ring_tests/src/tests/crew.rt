@@ -13,8 +13,8 @@ use std::alloc::Global;
 use std::test::Fail;
 use venue_model::Limits;
 
-/// The stages over a journal that keeps nothing.
-pub type Stages = Crew<NullDisk>;
+/// The stages over a journal that keeps nothing, in a box: all of it is let go by one call.
+pub type Stages = Box<Crew<NullDisk>>;
 
 /// Rings, the stages at them, and the gateways' seats.
 pub type Venue<const N: usize, const M: usize, const G: usize> = (
@@ -28,7 +28,7 @@ pub fn open_venue<const N: usize, const M: usize, const G: usize>(
     alloc: Global,
 ) -> Result<Venue<N, M, G>, Fail>
     requires { (1 ≤ G) × (G ≤ 8) }
-    ensures stages { IfOk result (λ r. AreAt r.0 r.1) }
+    ensures stages { IfOk result (λ r. AreAt r.0 r.1.value) }
     ensures seats { IfOk result (λ r. AreSpent r.0 r.2.items) }
     ensures count { IfOk result (λ r. vec_len r.2 ≡ G) }
 {
@@ -48,16 +48,16 @@ pub fn stages_of<const N: usize, const M: usize, const G: usize>(
     requires opened { (rings.now.logic ≡ limits.now) × (rings.now.base ≡ []) × (rings.now.given ≡ 0) }
     requires seats { AreNew G rings.now seats }
     requires spent { AreSpent rings.now seats.gateways.items }
-    ensures rings { IfOk result (λ r. AreAt rings.now r.0) }
+    ensures rings { IfOk result (λ r. AreAt rings.now r.0.value) }
     ensures gateways { IfOk result (λ r. r.1 ≡ seats.gateways) }
     ensures spent { IfOk result (λ r. AreSpent rings.now r.1.items) }
 {
     let journal = empty_journal(alloc)?;
     let book = Book::new(alloc, limits)?;
-    match Crew::new(alloc, rings, seats, journal, book) {
-        Ok(made) => Ok(made),
-        Err(_) => Err("no memory")?,
-    }
+    let Ok((crew, gateways)) = Crew::new(alloc, rings, seats, journal, book) else {
+        return Err(Fail::from("no memory"));
+    };
+    Ok((Box::new(alloc, crew)?, gateways))
 }
 
 /// Lets each stage poll once.
@@ -65,8 +65,8 @@ pub fn poll<const N: usize, const M: usize, const G: usize>(
     rings: &TestRings<N, M, G>,
     stages: &mut Stages,
 ) -> Turns
-    requires { AreAt rings.now stages.old }
-    ensures { AreAt rings.now stages.new }
+    requires { AreAt rings.now stages.old.value }
+    ensures { AreAt rings.now stages.new.value }
 {
     stages.poll(rings)
 }
@@ -77,11 +77,11 @@ pub fn close<const N: usize, const M: usize, const G: usize>(
     stages: Stages,
     gateways: Vec<GatewaySeat<BookLogic>>,
 ) -> Summary
-    requires stages { AreAt rings stages }
+    requires stages { AreAt rings stages.value }
     requires seats { AreSpent rings gateways.items }
     requires count { vec_len gateways ≡ G }
 {
-    let (summary, _) = stages.close(rings, gateways);
+    let (summary, _) = Box::into_inner(stages).close(rings, gateways);
     summary
 }
 

@@ -119,8 +119,8 @@ fn process<const N: usize, const M: usize, const G: usize>(
     mut stages: Stages,
     outputs: u64,
 ) -> Option<Stages>
-    requires { AreAt rings.now stages }
-    ensures { IfSome result (AreAt rings.now) }
+    requires { AreAt rings.now stages.value }
+    ensures { IfSome result (λ r. AreAt rings.now r.value) }
 {
     for _ in 0..TRIES {
         if marshalled(&stages) == outputs {
@@ -144,10 +144,10 @@ pub fn run<R: Threads + Sync, const N: usize, const M: usize, const G: usize>(
 ) -> Option<Crew>
     requires one { IsAt rings.now crew.0 }
     requires other { IsAt rings.now crew.1 }
-    requires rings { AreAt rings.now crew.2 }
+    requires rings { AreAt rings.now crew.2.value }
     ensures one { IfSome result (λ r. StaysSpent crew.0 r.0) }
     ensures other { IfSome result (λ r. StaysSpent crew.1 r.1) }
-    ensures rings { IfSome result (λ r. AreAt rings.now r.2) }
+    ensures rings { IfSome result (λ r. AreAt rings.now r.2.value) }
 {
     let (one, other, stages) = crew;
     let ((one, other), stages) = join(
@@ -161,8 +161,8 @@ pub fn run<R: Threads + Sync, const N: usize, const M: usize, const G: usize>(
             ensures other { IfSome result.1 (StaysSpent other) }
         { trade_both(rt, rings, one, other, clients, day) },
         move || -> Option<Stages>
-            requires { AreAt rings.now stages }
-            ensures { IfSome result (AreAt rings.entry.now) }
+            requires { AreAt rings.now stages.value }
+            ensures { IfSome result (λ r. AreAt rings.entry.now r.value) }
         { process(rings, stages, day.outputs) },
     );
     Some((one?, other?, stages?))

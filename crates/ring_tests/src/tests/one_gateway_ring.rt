@@ -22,9 +22,9 @@ fn is_acknowledged<const N: usize, const M: usize, const G: usize>(
     order: &[u8],
     acknowledged: &[u8],
 ) -> bool
-    requires stages { AreAt rings.now stages.old }
+    requires stages { AreAt rings.now stages.old.value }
     requires order { (1 ≤ length order.now) × (length order.now ≤ 320) }
-    ensures stages { AreAt rings.now stages.new }
+    ensures stages { AreAt rings.now stages.new.value }
     ensures spent { StaysSpent gateway.old.seat gateway.new.seat }
 {
     let published = gateway.publish(order).is_ok();

@@ -28,13 +28,23 @@ fn taken<const N: usize, const M: usize, const G: usize>(
     (own, passed)
 }
 
+/// Both gateways take and pass over so many.
+fn take<A: Abort, const N: usize, const M: usize, const G: usize>(
+    rt: &A,
+    one: &mut Member<'_, N, M, G>,
+    other: &mut Member<'_, N, M, G>,
+    both: ((u8, u8), (u8, u8)),
+) {
+    assert_eq!(rt; (taken(one), taken(other)), both);
+}
+
 /// Lets the stages poll twice, so that two outputs are marshalled, and answers what the processor did first.
 fn process<const N: usize, const M: usize, const G: usize>(
     rings: &TestRings<N, M, G>,
     stages: &mut Stages,
 ) -> Turn
-    requires stages { AreAt rings.now stages.old }
-    ensures stages { AreAt rings.now stages.new }
+    requires stages { AreAt rings.now stages.old.value }
+    ensures stages { AreAt rings.now stages.new.value }
 {
     let turns = poll(rings, stages);
     poll(rings, stages);
@@ -51,13 +61,13 @@ fn sell<A: Abort, const N: usize, const M: usize, const G: usize>(
     stages: &mut Stages,
     order: &str,
 ) -> Result<(), Fail>
-    requires stages { AreAt rings.now stages.old }
-    ensures stages { AreAt rings.now stages.new }
+    requires stages { AreAt rings.now stages.old.value }
+    ensures stages { AreAt rings.now stages.new.value }
 {
     let order = message(alloc, order)?;
     assert!(rt; one.publish(&order).is_ok());
     assert_eq!(rt; process(rings, stages), Did(1));
-    assert_eq!(rt; (taken(one), taken(other)), ((1, 0), (0, 1)));
+    take(rt, one, other, ((1, 0), (0, 1)));
     Ok(())
 }
 
@@ -69,12 +79,49 @@ fn put_two<A: Abort, const N: usize, const M: usize, const G: usize>(
     other: &mut Member<'_, N, M, G>,
     stages: &mut Stages,
 )
-    requires stages { AreAt rings.now stages.old }
-    ensures stages { AreAt rings.now stages.new }
+    requires stages { AreAt rings.now stages.old.value }
+    ensures stages { AreAt rings.now stages.new.value }
 {
     assert_eq!(rt; process(rings, stages), OutFull);
     assert_eq!(rt; processed(stages), 3);
-    assert_eq!(rt; (taken(one), taken(other)), ((1, 1), (1, 1)));
+    take(rt, one, other, ((1, 1), (1, 1)));
+}
+
+/// The first gateway sells 1 three times.
+fn sell_three<A: Abort, const N: usize, const M: usize, const G: usize>(
+    rt: &A,
+    alloc: Global,
+    rings: &TestRings<N, M, G>,
+    one: &mut Member<'_, N, M, G>,
+    other: &mut Member<'_, N, M, G>,
+    stages: &mut Stages,
+) -> Result<(), Fail>
+    requires stages { AreAt rings.now stages.old.value }
+    ensures stages { AreAt rings.now stages.new.value }
+{
+    sell(rt, alloc, rings, one, other, stages, SELL_ONE)?;
+    sell(rt, alloc, rings, one, other, stages, SELL_TWO)?;
+    sell(rt, alloc, rings, one, other, stages, SELL_THREE)
+}
+
+/// The second gateway buys 3, and six outputs of that are put and taken.
+fn buy_three<A: Abort, const N: usize, const M: usize, const G: usize>(
+    rt: &A,
+    alloc: Global,
+    rings: &TestRings<N, M, G>,
+    one: &mut Member<'_, N, M, G>,
+    other: &mut Member<'_, N, M, G>,
+    stages: &mut Stages,
+) -> Result<(), Fail>
+    requires stages { AreAt rings.now stages.old.value }
+    ensures stages { AreAt rings.now stages.new.value }
+{
+    let order = message(alloc, BUY_THREE)?;
+    assert_eq!(rt; other.publish(&order), Ok(3));
+    put_two(rt, rings, one, other, stages);
+    put_two(rt, rings, one, other, stages);
+    put_two(rt, rings, one, other, stages);
+    Ok(())
 }
 
 /// The first gateway sells 1 three times, and the second one buys 3.
@@ -86,19 +133,13 @@ fn trade<A: Abort, const N: usize, const M: usize, const G: usize>(
     other: &mut Member<'_, N, M, G>,
     stages: &mut Stages,
 ) -> Result<(), Fail>
-    requires stages { AreAt rings.now stages.old }
+    requires stages { AreAt rings.now stages.old.value }
 {
-    sell(rt, alloc, rings, one, other, stages, SELL_ONE)?;
-    sell(rt, alloc, rings, one, other, stages, SELL_TWO)?;
-    sell(rt, alloc, rings, one, other, stages, SELL_THREE)?;
-    let order = message(alloc, BUY_THREE)?;
-    assert_eq!(rt; other.publish(&order), Ok(3));
-    put_two(rt, rings, one, other, stages);
-    put_two(rt, rings, one, other, stages);
-    put_two(rt, rings, one, other, stages);
+    sell_three(rt, alloc, rings, one, other, stages)?;
+    buy_three(rt, alloc, rings, one, other, stages)?;
     assert_eq!(rt; process(rings, stages), Did(1));
     assert_eq!(rt; processed(stages), 4);
-    assert_eq!(rt; (taken(one), taken(other)), ((0, 1), (1, 0)));
+    take(rt, one, other, ((0, 1), (1, 0)));
     Ok(())
 }
 

@@ -1,5 +1,5 @@
 //! Two gateways fill a ring of two rows; once the stages have done its first message, the row is claimed again.
-ghost use Rattle.std.specs.Prelude.{◌≤◌};
+ghost use Rattle.std.specs.Prelude.{◌≤◌, length};
 ghost use Rattle.stages.specs.Crews.{AreAt};
 
 use super::crew::{Stages, open_venue, poll, turns_of};
@@ -7,6 +7,7 @@ use super::member::{Member, next_two};
 use super::messages::{FIRST_BUY, THIRD_ACKNOWLEDGED, bytes_of, message};
 use super::venue::TestRings;
 use sequencer::{ClaimRefusal, Take, try_claim};
+use stages::Turn;
 use stages::Turn::{Did, Idle};
 use std::alloc::Global;
 use std::process::Abort;
@@ -19,8 +20,8 @@ fn publish_both<const N: usize, const M: usize, const G: usize>(
     other: &mut Member<'_, N, M, G>,
     stages: &mut Stages,
 ) -> Result<Option<(u64, u64)>, ClaimRefusal>
-    requires stages { AreAt rings.now stages.old }
-    ensures stages { AreAt rings.now stages.new }
+    requires stages { AreAt rings.now stages.old.value }
+    ensures stages { AreAt rings.now stages.new.value }
 {
     let first = try_claim(one.rings, &mut one.seat)?;
     let second = match try_claim(other.rings, &mut other.seat) {
@@ -39,6 +40,52 @@ fn publish_both<const N: usize, const M: usize, const G: usize>(
     Ok(Some((before, at)))
 }
 
+/// Lets the stages poll once, and says what each did.
+fn polls<A: Abort, const N: usize, const M: usize, const G: usize>(
+    rt: &A,
+    rings: &TestRings<N, M, G>,
+    stages: &mut Stages,
+    turns: [Turn; 4],
+)
+    requires { AreAt rings.now stages.old.value }
+    ensures { AreAt rings.now stages.new.value }
+{
+    assert_eq!(rt; poll(rings, stages), turns_of(turns));
+}
+
+/// The gateway publishes the order in the first row again, once there is room, and the stages work it off.
+fn publish_again<A: Abort, const N: usize, const M: usize, const G: usize>(
+    rt: &A,
+    rings: &TestRings<N, M, G>,
+    one: &mut Member<'_, N, M, G>,
+    stages: &mut Stages,
+    order: &[u8],
+)
+    requires stages { AreAt rings.now stages.old.value }
+    requires order { (1 ≤ length order.now) × (length order.now ≤ 320) }
+{
+    assert_eq!(rt; one.publish(order), Err(ClaimRefusal::Full));
+    polls(rt, rings, stages, [Did(2), Did(2), Did(1), Idle]);
+    assert_eq!(rt; one.publish(order), Ok(2));
+    polls(rt, rings, stages, [Did(1), Did(1), Did(1), Idle]);
+    polls(rt, rings, stages, [Idle, Idle, Did(1), Did(1)]);
+    polls(rt, rings, stages, [Idle; 4]);
+}
+
+/// The first gateway takes the acknowledgement and no more, and the other one passes it over.
+fn take_one<A: Abort, const N: usize, const M: usize, const G: usize>(
+    rt: &A,
+    one: &mut Member<'_, N, M, G>,
+    other: &mut Member<'_, N, M, G>,
+    acknowledged: &[u8],
+) {
+    let mut body = [0; 320];
+    assert!(rt; matches!(one.take(&mut body), Take::Mine(_)));
+    assert!(rt; body.starts_with(acknowledged));
+    assert_eq!(rt; one.take(&mut body), Take::Nothing);
+    assert_eq!(rt; other.take(&mut body), Take::Passed);
+}
+
 /// Fills the ring, publishes an order in its first row again, and takes what came of it.
 fn fill<A: Abort, const N: usize, const M: usize, const G: usize>(
     rt: &A,
@@ -48,28 +95,13 @@ fn fill<A: Abort, const N: usize, const M: usize, const G: usize>(
     other: &mut Member<'_, N, M, G>,
     stages: &mut Stages,
 ) -> Result<(), Fail>
-    requires stages { AreAt rings.now stages.old }
+    requires stages { AreAt rings.now stages.old.value }
 {
     let order = message(alloc, FIRST_BUY)?;
     let acknowledged = bytes_of(alloc, THIRD_ACKNOWLEDGED)?;
     assert_eq!(rt; publish_both(rings, one, other, stages), Ok(Some((0, 1))));
-    assert_eq!(rt; one.publish(&order), Err(ClaimRefusal::Full));
-    assert_eq!(rt;
-        poll(rings, stages),
-        turns_of([Did(2), Did(2), Did(1), Idle])
-    );
-    assert_eq!(rt; one.publish(&order), Ok(2));
-    assert_eq!(rt;
-        poll(rings, stages),
-        turns_of([Did(1), Did(1), Did(1), Idle])
-    );
-    assert_eq!(rt; poll(rings, stages), turns_of([Idle, Idle, Did(1), Did(1)]));
-    assert_eq!(rt; poll(rings, stages), turns_of([Idle; 4]));
-    let mut body = [0; 320];
-    assert!(rt; matches!(one.take(&mut body), Take::Mine(_)));
-    assert!(rt; body.starts_with(&acknowledged));
-    assert_eq!(rt; one.take(&mut body), Take::Nothing);
-    assert_eq!(rt; other.take(&mut body), Take::Passed);
+    publish_again(rt, rings, one, stages, &order);
+    take_one(rt, one, other, &acknowledged);
     Ok(())
 }
 

@@ -14,6 +14,7 @@ use book::BookLogic;
 use gateway::{Gateway, MemWire, Reason, Turned};
 use ring_words::GatewaySeat;
 use std::alloc::{AllocError, Global};
+use std::process::Abort;
 use std::test::Fail;
 use venue_model::Limits;
 
@@ -64,19 +65,19 @@ const SELLER_IS_TOLD: &str = "8=FIX.4.4|9=63|35=A|49=VENUE|56=C2|34=1|\
     11=1|55=ABC|54=2|38=30|44=50|32=30|31=50|151=0|\
     14=30|6=50|10=250|";
 
-/// The gateway of a new seat.
+/// The gateway of a new seat, in a box: all of it is let go by one call.
 fn gateway_at<const N: usize, const M: usize, const G: usize>(
     alloc: Global,
     rings: &TestRings<N, M, G>,
     limits: &Limits,
     seat: GatewaySeat<BookLogic>,
-) -> Result<Gateway, Fail>
+) -> Result<Box<Gateway>, Fail>
     requires opened { (rings.now.logic ≡ limits.now) × (rings.now.base ≡ []) × (rings.now.given ≡ 0) }
     requires new { seat ≡ at rings.now (newcomer (role.Gateway (number seat)) [] 0) }
-    ensures { IfOk result (λ g. IsAt rings.now g.seat) }
+    ensures { IfOk result (λ g. IsAt rings.now g.value.seat) }
 {
     match Gateway::new(alloc, seat) {
-        Ok(gateway) => Ok(gateway),
+        Ok(gateway) => Ok(Box::new(alloc, gateway)?),
         Err((refused, _)) => Err(refused)?,
     }
 }
@@ -116,8 +117,8 @@ fn serve<const N: usize, const M: usize, const G: usize>(
 ) -> Option<(Reason, u32)>
     requires live { gateway.old.front.live ≡ true }
     requires at { IsAt rings.now gateway.old.seat }
-    requires stages { AreAt rings.now stages.old }
-    ensures stages { AreAt rings.now stages.new }
+    requires stages { AreAt rings.now stages.old.value }
+    ensures stages { AreAt rings.now stages.new.value }
     ensures table { IsAt rings.now gateway.new.seat }
     ensures over { IsSome result → gateway.new.front.live ≡ false }
     ensures alive { result ≡ None → gateway.new.front.live ≡ true }
@@ -164,10 +165,10 @@ fn pair<const N: usize, const M: usize, const G: usize>(
     rings: &TestRings<N, M, G>,
     limits: &Limits,
     mut gateways: Vec<GatewaySeat<BookLogic>>,
-) -> Result<(Gateway, Gateway), Fail>
+) -> Result<(Box<Gateway>, Box<Gateway>), Fail>
     requires opened { (rings.now.logic ≡ limits.now) × (rings.now.base ≡ []) × (rings.now.given ≡ 0) }
     requires new { AreNewGateways rings.now gateways.items }
-    ensures { IfOk result (λ pair. IsAt rings.now pair.0.seat × IsAt rings.now pair.1.seat) }
+    ensures { IfOk result (λ pair. IsAt rings.now pair.0.value.seat × IsAt rings.now pair.1.value.seat) }
 {
     let Some(second) = gateways.pop() else {
         return Err(Fail::from("no gateway"));
@@ -188,7 +189,7 @@ fn serve_both<const N: usize, const M: usize, const G: usize>(
     seller: &mut Gateway,
     wires: &mut Wires,
 ) -> bool
-    requires stages { AreAt rings.now stages.old }
+    requires stages { AreAt rings.now stages.old.value }
     requires buyer { IsAt rings.now buyer.old.seat }
     requires seller { IsAt rings.now seller.old.seat }
 {
@@ -222,23 +223,39 @@ fn trade<const N: usize, const M: usize, const G: usize>(
     Ok(served.then_some(buyer.passed()))
 }
 
+/// The same at rings of four rows, for the symbol ABC.
+fn trade_abc(alloc: Global, wires: &mut Wires) -> Result<Option<u64>, Fail> {
+    let limits = abc(alloc).ok_or("no memory")?;
+    trade::<4, 4, 2>(alloc, &limits, wires)
+}
+
+/// The clients: the first one stays until it has left, the second one closes.
+fn clients(alloc: Global) -> Result<Wires, AllocError> {
+    let buying = wire_of(alloc, BUYER)?.staying_open();
+    let leaving = wire_of(alloc, BUYER_LEAVES)?;
+    let selling = wire_of(alloc, SELLER)?;
+    Ok(Wires {
+        buying,
+        leaving,
+        selling,
+    })
+}
+
+/// The client of this wire was sent this text.
+fn is_told<A: Abort>(rt: &A, alloc: Global, wire: &MemWire, told: &str) -> Result<(), Fail> {
+    let told = bytes_of(alloc, told)?;
+    assert_eq!(rt; wire.taken(), told.as_slice());
+    Ok(())
+}
+
 #[test]
 fn reports_without_session_are_passed_over(rt: HostRuntime) -> Result<(), Fail> {
-    let limits = abc(rt.alloc()).ok_or("no memory")?;
-    let mut wires = Wires {
-        buying: wire_of(rt.alloc(), BUYER)?.staying_open(),
-        leaving: wire_of(rt.alloc(), BUYER_LEAVES)?,
-        selling: wire_of(rt.alloc(), SELLER)?,
-    };
-    assert_eq!(rt; trade::<4, 4, 2>(rt.alloc(), &limits, &mut wires)?, Some(1));
-    for (wire, told) in [
-        (&wires.buying, BUYER_IS_TOLD),
-        (&wires.leaving, BUYER_LEFT),
-        (&wires.selling, SELLER_IS_TOLD),
-    ] {
-        assert_eq!(rt; wire.taken(), bytes_of(rt.alloc(), told)?.as_slice());
-    }
-    Ok(())
+    let mut wires = clients(rt.alloc())?;
+    let passed = trade_abc(rt.alloc(), &mut wires)?;
+    assert_eq!(rt; passed, Some(1));
+    is_told(&rt, rt.alloc(), &wires.buying, BUYER_IS_TOLD)?;
+    is_told(&rt, rt.alloc(), &wires.leaving, BUYER_LEFT)?;
+    is_told(&rt, rt.alloc(), &wires.selling, SELLER_IS_TOLD)
 }
 
 /// Serves a client over this wire until its session ends, and then, over another one, a Logon. Says how the first session ended; how many
@@ -265,34 +282,40 @@ fn serve_again<const N: usize, const M: usize, const G: usize>(
     Ok(Some((reason, still, gateway.passed())))
 }
 
+/// The same at rings of four rows, for the symbol ABC.
+fn serve_abc_again(
+    alloc: Global,
+    wire: &mut MemWire,
+    next: &mut MemWire,
+) -> Result<Option<(Reason, u32, u64)>, Fail> {
+    let limits = abc(alloc).ok_or("no memory")?;
+    serve_again::<4, 4, 2>(alloc, &limits, wire, next)
+}
+
+/// The session over this wire ends so, no report is passed over, the wire took so many bytes of what the buyer is told, and the session behind
+/// it is answered.
+fn ends<A: Abort>(
+    rt: &A,
+    alloc: Global,
+    wire: &mut MemWire,
+    how: (Reason, u32),
+    taken: usize,
+) -> Result<(), Fail> {
+    let mut next = wire_of(alloc, LOGON)?;
+    let (reason, still) = how;
+    let ended = serve_abc_again(alloc, wire, &mut next)?;
+    assert_eq!(rt; ended, Some((reason, still, 0)));
+    let told = bytes_of(alloc, BUYER_IS_TOLD)?;
+    assert_eq!(rt; Some(wire.taken()), told.get(..taken));
+    is_told(rt, alloc, &next, LOGON_IS_TOLD)
+}
+
 #[test]
 fn broken_deaf_or_closed(rt: HostRuntime) -> Result<(), Fail> {
-    let limits = abc(rt.alloc()).ok_or("no memory")?;
-    let told = bytes_of(rt.alloc(), BUYER_IS_TOLD)?;
-    let logged_on = bytes_of(rt.alloc(), LOGON_IS_TOLD)?;
-    let rows = [
-        (
-            wire_of(rt.alloc(), BUYER)?.breaking_after(100),
-            Reason::WireFailed,
-            1,
-            100,
-        ),
-        (
-            wire_of(rt.alloc(), LOGON)?.full_after(0),
-            Reason::Stalled,
-            100_000,
-            0,
-        ),
-        (wire_of(rt.alloc(), BUYER)?, Reason::Closed, 1_000, 222),
-    ];
-    for (mut wire, reason, still, taken) in rows {
-        let mut next = wire_of(rt.alloc(), LOGON)?;
-        assert_eq!(rt;
-            serve_again::<4, 4, 2>(rt.alloc(), &limits, &mut wire, &mut next)?,
-            Some((reason, still, 0))
-        );
-        assert_eq!(rt; Some(wire.taken()), told.get(..taken));
-        assert_eq!(rt; next.taken(), logged_on.as_slice());
-    }
-    Ok(())
+    let mut breaks = wire_of(rt.alloc(), BUYER)?.breaking_after(100);
+    ends(&rt, rt.alloc(), &mut breaks, (Reason::WireFailed, 1), 100)?;
+    let mut deaf = wire_of(rt.alloc(), LOGON)?.full_after(0);
+    ends(&rt, rt.alloc(), &mut deaf, (Reason::Stalled, 100_000), 0)?;
+    let mut closed = wire_of(rt.alloc(), BUYER)?;
+    ends(&rt, rt.alloc(), &mut closed, (Reason::Closed, 1_000), 222)
 }

@@ -57,27 +57,29 @@ fn trade_all<R: Threads + Sync>(rt: &R, rings: &SmallRings, seats: Four) -> Opti
 /// Lets all four trade beside the stages, each of these on a thread of its own, too. Gives all back, where that was soon done and right.
 fn run_all<R: Threads + Clock + Sync>(
     rt: &R,
+    alloc: Global,
     rings: &SmallRings,
     stages: Stages,
     seats: Four,
 ) -> Option<(Stages, Four)>
-    requires stages { AreAt rings.now stages }
+    requires stages { AreAt rings.now stages.value }
     requires seats { (IsAt rings.now seats.0) × (IsAt rings.now seats.1) × (IsAt rings.now seats.2) × (IsAt rings.now seats.3) }
-    ensures stages { IfSome result (λ r. AreAt rings.now r.0) }
+    ensures stages { IfSome result (λ r. AreAt rings.now r.0.value) }
     ensures seats { IfSome result (λ r. StaysSpent seats.0 r.1.0 × StaysSpent seats.1 r.1.1 × StaysSpent seats.2 r.1.2 × StaysSpent seats.3 r.1.3) }
 {
     let signals = Signals::new(8);
-    let (stages, back) = run(
+    let (crew, back) = run(
         rt,
         &NoGate,
         rings,
-        stages,
+        Box::into_inner(stages),
         move || -> Option<Four>
             requires { IsSync R.row × (IsAt rings.now seats.0) × (IsAt rings.now seats.1) × (IsAt rings.now seats.2) × (IsAt rings.now seats.3) }
             ensures { IfSome result (λ back. StaysSpent seats.0 back.0 × StaysSpent seats.1 back.1 × StaysSpent seats.2 back.2 × StaysSpent seats.3 back.3) }
         { trade_all(rt, rings, seats) },
         &signals,
     );
+    let stages = Box::new(alloc, crew).ok()?;
     Some((stages, back?))
 }
 
@@ -102,7 +104,7 @@ fn close_behind<R: Threads + Clock + Sync>(rt: &R, alloc: Global) -> Result<Opti
         return Ok(None);
     };
     let four = (first.seat, second.seat, third.seat, fourth.seat);
-    let Some((stages, back)) = run_all(rt, &rings, stages, four) else {
+    let Some((stages, back)) = run_all(rt, alloc, &rings, stages, four) else {
         return Ok(None);
     };
     let (first, second, third, fourth) = back;

@@ -1,11 +1,12 @@
 //! What a session meets at standard input and output, and at a stream: readers and writers that do less than they are
 //! asked for, or fail.
-ghost use Rattle.std.specs.Prelude.{◌≤◌, IfOk};
+ghost use Rattle.std.specs.Prelude.{◌<◌, ◌≤◌, length, IfOk};
 
 use gateway::{Counts, GatheringWire, StdWire, StreamWire, TcpWire, TryRead, TryWrite, Wire};
 use std::alloc::{AllocError, Global};
 use std::io;
 use std::io::{ErrorKind, Read, Write};
+use std::process::Abort;
 use std::test::Fail;
 
 /// A reader and a writer that go through a script: each read, write and flush takes the next step.
@@ -50,6 +51,28 @@ impl Write for Script<'_> {
     }
 }
 
+/// Reads into eight bytes, and is given this answer.
+fn expect_read<A: Abort, W: Wire>(rt: &A, wire: &mut W, answer: TryRead) {
+    assert_eq!(rt; wire.try_read(&mut [0; 8]), answer);
+}
+
+/// Rests before each such read.
+fn expect_reads_at_rest<A: Abort, W: Wire>(rt: &A, wire: &mut W, answers: &[TryRead]) {
+    for answer in answers {
+        wire.rest(true);
+        expect_read(rt, wire, *answer);
+    }
+}
+
+/// Writes these bytes as often as there are answers, and is given those.
+fn expect_writes<A: Abort, W: Wire>(rt: &A, wire: &mut W, bytes: &[u8], answers: &[TryWrite])
+    requires { 0 < length bytes.now }
+{
+    for answer in answers {
+        assert_eq!(rt; wire.try_write(bytes), *answer);
+    }
+}
+
 #[test]
 fn reads_on_after_a_failure(rt: HostRuntime) {
     let steps = [
@@ -71,10 +94,7 @@ fn reads_on_after_a_failure(rt: HostRuntime) {
         TryRead::End,
     ];
     let mut wire = StdWire::new(Script(&steps), Script(&[]));
-    for answer in answers {
-        wire.rest(true);
-        assert_eq!(rt; wire.try_read(&mut [0; 8]), answer);
-    }
+    expect_reads_at_rest(&rt, &mut wire, &answers);
     let counts = Counts {
         failures: 1,
         empty_reads: 2,
@@ -89,20 +109,18 @@ fn a_reader_is_asked_only_at_rest(rt: HostRuntime) {
     let reads = [Step::Moves(3), Step::Moves(2), Step::Moves(0)];
     let writes = [Step::Moves(8), Step::Moves(0)];
     let mut wire = StdWire::new(Script(&reads), Script(&writes));
-    assert_eq!(rt; wire.try_read(&mut [0; 8]), TryRead::Got(3));
-    assert_eq!(rt; wire.try_read(&mut [0; 8]), TryRead::Nothing);
-    assert_eq!(rt; wire.try_read(&mut [0; 8]), TryRead::Nothing);
+    expect_read(&rt, &mut wire, TryRead::Got(3));
+    expect_read(&rt, &mut wire, TryRead::Nothing);
+    expect_read(&rt, &mut wire, TryRead::Nothing);
     wire.rest(true);
-    assert_eq!(rt; wire.try_write(b"8=FIX.4."), TryWrite::Put(8));
-    assert_eq!(rt; wire.try_read(&mut [0; 8]), TryRead::Nothing);
+    expect_writes(&rt, &mut wire, b"8=FIX.4.", &[TryWrite::Put(8)]);
+    expect_read(&rt, &mut wire, TryRead::Nothing);
     wire.rest(true);
     wire.rest(false);
-    assert_eq!(rt; wire.try_read(&mut [0; 8]), TryRead::Nothing);
-    wire.rest(true);
-    assert_eq!(rt; wire.try_read(&mut [0; 8]), TryRead::Got(2));
-    assert_eq!(rt; wire.try_read(&mut [0; 8]), TryRead::Nothing);
-    wire.rest(true);
-    assert_eq!(rt; wire.try_read(&mut [0; 8]), TryRead::End);
+    expect_read(&rt, &mut wire, TryRead::Nothing);
+    expect_reads_at_rest(&rt, &mut wire, &[TryRead::Got(2)]);
+    expect_read(&rt, &mut wire, TryRead::Nothing);
+    expect_reads_at_rest(&rt, &mut wire, &[TryRead::End]);
     assert_eq!(rt; wire.counts().empty_reads, 5);
 }
 
@@ -132,9 +150,7 @@ fn a_write_is_flushed_or_failed(rt: HostRuntime) {
         TryWrite::Put(1),
     ];
     let mut wire = StdWire::new(Script(&[]), Script(&steps));
-    for answer in answers {
-        assert_eq!(rt; wire.try_write(b"8=FIX.4."), answer);
-    }
+    expect_writes(&rt, &mut wire, b"8=FIX.4.", &answers);
     let counts = Counts {
         failures: 3,
         empty_reads: 0,
@@ -193,6 +209,23 @@ fn wire_over<'a, 'b>(
     Ok(GatheringWire::new(alloc, StreamWire::new(line))?)
 }
 
+/// Reads two bytes at a time and keeps them, and is given these answers.
+fn expect_reads_by_two<A: Abort, W: Wire>(
+    rt: &A,
+    wire: &mut W,
+    answers: &[TryRead],
+    bytes: &mut Vec<u8>,
+) -> Result<(), AllocError> {
+    for answer in answers {
+        let mut buf = [0; 2];
+        assert_eq!(rt; wire.try_read(&mut buf), *answer);
+        if let TryRead::Got(count) = *answer {
+            bytes.extend_from_slice(&buf[..count.min(2)])?;
+        }
+    }
+    Ok(())
+}
+
 #[test]
 fn what_is_read_ahead_is_handed_out_in_order(rt: HostRuntime) -> Result<(), Fail> {
     let steps = [
@@ -217,13 +250,7 @@ fn what_is_read_ahead_is_handed_out_in_order(rt: HostRuntime) -> Result<(), Fail
     let mut line = Line::new(rt.alloc(), b"8=FIX.4.4", &steps, &[]);
     let mut wire = wire_over(rt.alloc(), &mut line)?;
     let mut bytes = Vec::new(rt.alloc());
-    for answer in answers {
-        let mut buf = [0; 2];
-        assert_eq!(rt; wire.try_read(&mut buf), answer);
-        if let TryRead::Got(count) = answer {
-            bytes.extend_from_slice(&buf[..count.min(2)])?;
-        }
-    }
+    expect_reads_by_two(&rt, &mut wire, &answers, &mut bytes)?;
     assert_eq!(rt; bytes.as_slice(), b"8=FIX.4.4".as_slice());
     let counts = Counts {
         failures: 1,
@@ -233,6 +260,19 @@ fn what_is_read_ahead_is_handed_out_in_order(rt: HostRuntime) -> Result<(), Fail
     };
     assert_eq!(rt; wire.counts(), counts);
     Ok(())
+}
+
+/// Writes each row, works, and flushes: says whether all was sent.
+fn expect_flushes<A: Abort, W: Wire + Drop>(
+    rt: &A,
+    wire: &mut GatheringWire<W>,
+    rows: &[(&[u8; 5], bool)],
+) {
+    for (bytes, sent) in rows {
+        assert_eq!(rt; wire.try_write(*bytes), TryWrite::Put(5));
+        wire.rest(false);
+        assert_eq!(rt; wire.flush(), *sent);
+    }
 }
 
 #[test]
@@ -247,12 +287,12 @@ fn what_is_written_waits_until_it_is_sent(rt: HostRuntime) -> Result<(), Fail> {
     ];
     let mut line = Line::new(rt.alloc(), b"", &[], &steps);
     let mut wire = wire_over(rt.alloc(), &mut line)?;
-    for (bytes, sent) in [(b"8=FIX", false), (b".4.4|", false), (b"9=5|3", true)] {
-        assert_eq!(rt; wire.try_write(bytes), TryWrite::Put(5));
-        wire.rest(false);
-        assert_eq!(rt; wire.flush(), sent);
-    }
-    assert_eq!(rt; wire.try_write(b"5=0|1"), TryWrite::Put(5));
+    expect_flushes(
+        &rt,
+        &mut wire,
+        &[(b"8=FIX", false), (b".4.4|", false), (b"9=5|3", true)],
+    );
+    expect_writes(&rt, &mut wire, b"5=0|1", &[TryWrite::Put(5)]);
     wire.rest(true);
     drop(wire);
     assert_eq!(rt; line.sent.as_slice(), b"8=FIX.4.4|9=5|35=0|1".as_slice());
@@ -269,22 +309,27 @@ fn a_deaf_client_is_noticed(rt: HostRuntime) -> Result<(), Fail> {
     ];
     let mut line = Line::new(rt.alloc(), b"", &[], &steps);
     let mut wire = wire_over(rt.alloc(), &mut line)?;
-    for _ in 0..64 {
-        assert_eq!(rt; wire.try_write(&[b'0'; 1024]), TryWrite::Put(1024));
-    }
+    expect_writes(&rt, &mut wire, &[b'0'; 1024], &[TryWrite::Put(1024); 64]);
     let answers = [
         TryWrite::Nothing,
         TryWrite::Put(100),
         TryWrite::Nothing,
         TryWrite::Put(1024),
     ];
-    for answer in answers {
-        assert_eq!(rt; wire.try_write(&[b'0'; 1024]), answer);
-    }
+    expect_writes(&rt, &mut wire, &[b'0'; 1024], &answers);
     assert_eq!(rt; wire.counts().full_writes, 2);
     drop(wire);
     assert_eq!(rt; line.sent.len(), 65_636);
     Ok(())
+}
+
+/// Neither sends nor reads any more, and counts each try.
+fn is_broken<A: Abort, W: Wire + Drop>(rt: &A, wire: &mut GatheringWire<W>) {
+    for failures in 1..3 {
+        assert!(rt; !wire.flush());
+        expect_read(rt, wire, TryRead::Failed);
+        assert_eq!(rt; wire.counts().failures, failures);
+    }
 }
 
 #[test]
@@ -293,13 +338,9 @@ fn a_wire_whose_write_failed_is_broken(rt: HostRuntime) -> Result<(), Fail> {
         let steps = [step, Step::Moves(1000)];
         let mut line = Line::new(rt.alloc(), b"8=FIX.4.4", &[Step::Moves(3)], &steps);
         let mut wire = wire_over(rt.alloc(), &mut line)?;
-        assert_eq!(rt; wire.try_write(b"8=FIX"), TryWrite::Put(5));
-        for failures in 1..3 {
-            assert!(rt; !wire.flush());
-            assert_eq!(rt; wire.try_read(&mut [0; 8]), TryRead::Failed);
-            assert_eq!(rt; wire.counts().failures, failures);
-        }
-        assert_eq!(rt; wire.try_write(b".4.4"), TryWrite::Failed);
+        expect_writes(&rt, &mut wire, b"8=FIX", &[TryWrite::Put(5)]);
+        is_broken(&rt, &mut wire);
+        expect_writes(&rt, &mut wire, b".4.4", &[TryWrite::Failed]);
         drop(wire);
         assert!(rt; line.sent.is_empty());
     }

@@ -8,5 +8,5 @@ abbrev pub invariant-loop : goal.invariant-loop
 invariant-loop g l = record {
   live : l.gateway.front.live ≡ true;
   table : IsAt l.fn.rings l.gateway.seat;
-  stages : AreAt l.fn.rings l.stages;
+  stages : AreAt l.fn.rings l.stages.value;
 }
