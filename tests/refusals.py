@@ -16,6 +16,7 @@ from venues import printed, replay
 
 FRESH = b"VNJL\0\0\0\1\0"
 LOGON = message(1, 1, "A", "98=0|108=0|141=Y|")
+LONG = 4 * PATIENCE  # A venue tries for ten seconds to start a thread, and for longer where others keep the cores busy.
 MOST_CALLS = 10_000  # A bound for a test that goes wrong.
 EDGE = 96  # Of a sample, so many of the first calls and of the last ones are refused one by one,
 STEP = 24  # and of those between them one of so many.
@@ -201,10 +202,10 @@ def listens(refusal, gateways):
     """A venue to which a call is refused, and its first line, if it is ready; else None, and how it ended."""
     for _ in range(TRIES):
         venue = Venue(free_port(gateways), refusal.journal, gateways, env=refusal.environment())
-        line = venue.out.next()
+        line = venue.out.next(LONG)
         if COUNTS.fullmatch(line or ""):
             return venue, line
-        fault = venue.err.next() or ""
+        fault = venue.err.next(LONG) or ""
         if not fault.startswith("venued: cannot listen"):
             return None, (venue.process.wait(PATIENCE), (line or "").encode(), f"{fault}\n")
     raise Trouble(f"in {TRIES} tries no {gateways} ports stayed free")
