@@ -1,8 +1,6 @@
 -- The entry leaves a gap, and its closing changes no name's place.
-use Rattle.std.proofs.Common.{◌≡◌, ◌+◌, length, Option, Some, None, ap, sym, subst, ◌∙◌}
-use Rattle.std.specs.Prelude.{◌≢◌}
+use Rattle.std.proofs.Common.{◌+◌, length, Some, ap, sym, ◌∙◌}
 use Rattle.order_index.specs.Names.{without_name, place_of}
-use Rattle.order_index.specs.declared.slots.Entry.{Entry}
 use Rattle.order_index.proofs.Leavings.{removed}
 use Rattle.order_index.proofs.Tables.{read-finds, reads-entry}
 use Rattle.order_index.proofs.index.OrderIndex.remove.Goals as goal

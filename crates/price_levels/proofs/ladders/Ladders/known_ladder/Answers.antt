@@ -1,10 +1,9 @@
 -- The home that stands there is the symbol's.
-use Rattle.std.proofs.Common.{List, ap, sym, subst, length, ◌∙◌}
+use Rattle.std.proofs.Common.{ap, sym, length, ◌∙◌}
 use Rattle.std.proofs.lemmas.Bool.{ltb-true}
 use Rattle.std.proofs.lemmas.Slice.Eq.{bytes_eq-Decides}
 use Rattle.venue_model.specs.declared.orders.Side.TheVariants.{Buy, Sell}
-use Rattle.price_levels.specs.declared.ladders.Fence.{Fence}
-use Rattle.price_levels.specs.Ladders.{Laddered, Belongs}
+use Rattle.price_levels.specs.Ladders.{Laddered}
 use Rattle.price_levels.proofs.LadderSearches.{home-known, at-home}
 use Rattle.price_levels.proofs.ladders.Ladders.known_ladder.Goals as goal
 

@@ -1,5 +1,4 @@
 -- The name and the zeros behind it keep a symbol.
-use Rattle.std.proofs.Common.{rules}
 use Rattle.venue_model.proofs.SymbolLemmas.{keeps_name}
 use Rattle.venue_model.proofs.symbol.Symbol.of_name.Goals as goal
 
