@@ -5,11 +5,11 @@ use Rattle.fix_orders.specs.Text.{Said}
 use Rattle.gateway.specs.Answers.{Logon, Heartbeat, Logout}
 use Rattle.gateway.specs.Session.{Item, Answer, Output, is_logon, is_last, orderly, outputs_in, Standing, At}
 use Rattle.gateway.specs.Ledgers.{Ledger}
-use Rattle.gateway.specs.Wires.{Told, grown}
+use Rattle.wires.specs.Wires.{Told, grown}
 use Rattle.gateway.specs.Turns.{world, Front, Moved, Takes, Turn}
 use Rattle.gateway.specs.declared.ending.Turned.{Turned}
 use Rattle.gateway.specs.Delivers.{Course, nothing_yet, further, Start, Delivers}
-use Rattle.gateway.proofs.WireLemmas.{grown-append, grown-nil}
+use Rattle.wires.specs.WireLaws.{grown-append, grown-nil}
 
 -- where no Logon stands among the items no output does
 none_last : (items : List Item) → is_last items ≡ true → flat_map outputs_in items ≡ []

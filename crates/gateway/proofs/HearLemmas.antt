@@ -7,7 +7,7 @@ use Rattle.gateway.specs.declared.seat.TryPublish.{TryPublish}
 use Rattle.gateway.specs.declared.seat.TryPublish.TheVariants.{Done, Refused, Exhausted}
 use Rattle.gateway.specs.declared.client_side.Heard.{Heard}
 use Rattle.gateway.specs.declared.client_side.Heard.TheVariants.{Something, Nothing, Failed}
-use Rattle.gateway.specs.Wires.{Told}
+use Rattle.wires.specs.Wires.{Told}
 use Rattle.ring_words.specs.Places.{claim, processed}
 use Rattle.ring_words.specs.Seats.{load_of}
 use Rattle.gateway.specs.Ledgers.{Ledger, loading, IsClaimed, IsRefused}
@@ -21,7 +21,7 @@ use Rattle.gateway.specs.Gateways.{Hears, HeardSo, Reads, ReadSo}
 use Rattle.gateway.proofs.Opening.{opened}
 use Rattle.gateway.proofs.Standings.{at-published, at-exhausted, at-fed, at-heard, at-faulted}
 use Rattle.gateway.proofs.StepLemmas.{at-same, moves-nothing}
-use Rattle.gateway.proofs.WireLemmas.{grown-nil}
+use Rattle.wires.specs.WireLaws.{grown-nil}
 
 -- nothing was loaded
 unloaded : (l : Ledger) → l ≡ record (loading l []) { published = l.published }

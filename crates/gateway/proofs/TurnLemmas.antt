@@ -6,22 +6,22 @@ use Rattle.gateway.specs.declared.ending.Reason.{Reason}
 use Rattle.gateway.specs.declared.ending.Reason.TheVariants.{Closed, WireFailed, LoggedOut, Refused, Stalled, Exhausted}
 use Rattle.gateway.specs.declared.ending.Turned.{Turned}
 use Rattle.gateway.specs.declared.ending.Turned.TheVariants.{Worked, Quiet, Ended}
-use Rattle.gateway.specs.declared.flushing.Flushed.TheVariants as flushed
+use Rattle.wires.specs.declared.flushed.Flushed.TheVariants as flushed
 use Rattle.gateway.specs.declared.client_side.Heard.{Heard}
 use Rattle.gateway.specs.declared.client_side.Heard.TheVariants.{Something, Nothing, Failed}
 use Rattle.venue_model.specs.Counts.{Rose}
-use Rattle.gateway.specs.Wires.{Told, grown}
+use Rattle.wires.specs.Wires.{Told, grown}
 use Rattle.ring_words.specs.declared.view.Load.{Load}
 use Rattle.ring_words.specs.Places.{claim, marshalled}
 use Rattle.ring_words.specs.Seats.{load_of}
 use Rattle.gateway.specs.Ledgers.{Ledger, loading}
-use Rattle.gateway.specs.Flushing.{Flushes}
+use Rattle.wires.specs.Flushing.{Flushes}
 use Rattle.gateway.specs.Session.{Standing}
 use Rattle.gateway.specs.Sessions.{ClosesItself}
 use Rattle.gateway.specs.Turns.{World, place, world, Front, Moved, nothing_moved, Step, Takes, WasRefused, WasExhausted, FoundNone, ClosesBy, Silence, Hearing, IsQuiet, GoesOn, EndedBy, Means, CountsTurns, Attends, Turn, Counts, GoesWith}
 use Rattle.gateway.specs.Gateways.{Hears, HeardSo, HandsOn, TookSo, Waits, Rests, RestsSo, Stuck, StuckSo}
 use Rattle.gateway.proofs.StepLemmas.{both, step-then, flush-step}
-use Rattle.gateway.proofs.WireLemmas.{grown-nil}
+use Rattle.wires.specs.WireLaws.{grown-nil}
 
 -- no outputs are taken
 no_takes : (on : Bool) (old new : Front) (desk desk' : Ledger) → desk'.taken ≡ desk.taken → new.passed ≡ old.passed → Takes on old new desk desk' []

@@ -4,7 +4,7 @@ use Rattle.gateway.specs.AtRings.{AtRings, Idles}
 use Rattle.gateway.specs.Delivers.{Proceeds}
 use Rattle.gateway.specs.Gateways.{begun}
 use Rattle.gateway.specs.Seats.{Uses, LooksOnce, ledger_of}
-use Rattle.gateway.specs.Wires.{Told}
+use Rattle.wires.specs.Wires.{Told}
 use Rattle.ring_words.specs.At.{number}
 use Rattle.gateway.specs.declared.ending.Turned.{Turned}
 use Rattle.gateway.specs.declared.ending.Turned.TheVariants.{Worked, Quiet, Ended}

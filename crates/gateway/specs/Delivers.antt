@@ -7,7 +7,7 @@ use Rattle.gateway.specs.Seats.{ledger_of}
 use Rattle.gateway.specs.Session.{At}
 use Rattle.gateway.specs.Turns.{Front, Moved, world, Turn}
 use Rattle.gateway.specs.declared.ending.Turned.{Turned}
-use Rattle.gateway.specs.Wires.{Told, grown}
+use Rattle.wires.specs.Wires.{Told, grown}
 
 -- the course of a session so far: the bytes fed to it, the messages published, the outputs given to its client, and the bytes written
 pub record Course : Type 0 where

@@ -8,7 +8,7 @@ use Rattle.gateway.specs.declared.client_side.Heard.{Heard}
 use Rattle.gateway.specs.declared.client_side.Heard.TheVariants.{Something, Nothing, Failed}
 use Rattle.gateway.specs.declared.client_side.ClientSide.TheInside.{Inside}
 use Rattle.venue_model.specs.Counts.{Rose}
-use Rattle.gateway.specs.Wires.{Told, grown}
+use Rattle.wires.specs.Wires.{Told, grown}
 use Rattle.ring_words.specs.declared.view.Load.{Load}
 use Rattle.ring_words.specs.Places.{claim, marshalled}
 use Rattle.ring_words.specs.Seats.{load_of}

@@ -1,9 +1,9 @@
 -- What a read leaves in the input buffer.
 use Rattle.std.specs.Prelude.{◌≡◌, ℕ, ◌≤◌, List, [], length}
-use Rattle.gateway.specs.declared.wire.TryRead.{TryRead}
-use Rattle.gateway.specs.declared.wire.TryRead.TheVariants.{Got, Nothing, End, Failed}
+use Rattle.wires.specs.declared.wire.TryRead.{TryRead}
+use Rattle.wires.specs.declared.wire.TryRead.TheVariants.{Got, Nothing, End, Failed}
 use Rattle.venue_model.specs.Counts.{Rose}
-use Rattle.gateway.specs.Wires.{Told, grown}
+use Rattle.wires.specs.Wires.{Told, grown}
 
 -- the bytes between two places of 512 are left
 pub record KeepsInput (bytes : List ℕ) (start upto : ℕ) : Type 0 where

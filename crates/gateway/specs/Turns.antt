@@ -6,7 +6,7 @@ use Rattle.gateway.specs.declared.ending.Reason.TheVariants.{Closed, WireFailed,
 use Rattle.gateway.specs.declared.ending.Turned.{Turned}
 use Rattle.gateway.specs.declared.ending.Turned.TheVariants.{Worked, Quiet, Ended}
 use Rattle.venue_model.specs.Counts.{Rose}
-use Rattle.gateway.specs.Wires.{Told, grown}
+use Rattle.wires.specs.Wires.{Told, grown}
 use Rattle.ring_words.specs.declared.view.Load.{Load}
 use Rattle.ring_words.specs.Places.{marshalled}
 use Rattle.ring_words.specs.Seats.{load_of}

@@ -4,16 +4,15 @@ ghost use Rattle.std.specs.Prelude.{◌≡◌, ◌≢◌, ◌≤◌, ◌<◌, �
 ghost use Rattle.gateway.specs.HeardOf.{heard_of};
 
 use crate::ending::{Reason, Turned};
-use crate::flushing::Flushed;
 use crate::input::Input;
 use crate::seat::{TryPublish, take, try_publish};
 use crate::session::Session;
-use crate::wire::{TryRead, Wire};
 use book::BookLogic;
 use ring_words::{GatewaySeat, Rings};
 use sequencer::Take;
 use std::alloc::{AllocError, Global};
 use std::marker::Model;
+use wires::{Flushed, TryRead, Wire};
 
 /// After so many turns in a row in which the wire took no byte of those that stood to be written a session is over.
 const MOST_DEAF: u32 = 100_000;

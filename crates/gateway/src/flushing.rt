@@ -1,19 +1,8 @@
 //! Bytes that stand to be written, into the wire: how each turn of a gateway begins.
-ghost use Rattle.gateway.specs.Flushing.{Flushes};
+ghost use Rattle.wires.specs.Flushing.{Flushes};
 
 use crate::outgoing::Outgoing;
-use crate::wire::{TryWrite, Wire};
-
-/// Why a flush came to its end.
-#[derive(Clone, Copy, Debug, PartialEq, Eq)]
-pub enum Flushed {
-    /// All bytes went out.
-    All,
-    /// The wire answered Nothing, and bytes remain.
-    Full,
-    /// The wire failed.
-    Failed,
-}
+use wires::{Flushed, TryWrite, Wire};
 
 /// Writes the bytes until none is left, the wire takes no more, or it fails.
 pub fn flush<W: Wire>(outgoing: &mut Outgoing, wire: &mut W) -> Flushed

@@ -4,11 +4,11 @@ ghost use Rattle.std.specs.Prelude.{◌≡◌, [], true, false, IfOk, IfErr};
 
 use crate::client_side::ClientSide;
 use crate::ending::Turned;
-use crate::wire::Wire;
 use book::BookLogic;
 use ring_words::{GatewaySeat, Rings};
 use std::alloc::{AllocError, Global};
 use std::marker::Model;
+use wires::Wire;
 
 /// A gateway. Contracts see an `AtRings`.
 #[derive(Drop)]

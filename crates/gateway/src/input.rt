@@ -2,8 +2,8 @@
 ghost use Rattle.std.specs.Prelude.{◌≡◌, ◌≤◌, [], length, drop, IsTrue, ◌↔◌};
 ghost use Rattle.gateway.specs.Inputs.{Fills};
 
-use crate::wire::{TryRead, Wire};
 use std::marker::Model;
+use wires::{TryRead, Wire};
 
 /// How many bytes one read takes at most.
 const SIZE: usize = 512;

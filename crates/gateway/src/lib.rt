@@ -18,11 +18,10 @@ mod outgoing;
 mod refusal;
 mod seat;
 mod session;
-mod wire;
 
 pub use acceptor::Acceptor;
 pub use ending::{Reason, Turned};
 pub use gateway::Gateway;
-pub use wire::{
+pub use wires::{
     Counts, GatheringWire, MemWire, StdWire, StreamWire, TcpWire, TryRead, TryWrite, Wire, tcp_wire,
 };

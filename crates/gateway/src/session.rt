@@ -1,22 +1,22 @@
 //! The pure session: it hears a client's frames one by one, answers them, holds an order message until it is published, and
 //! numbers all that is written. It knows no wire and no ring.
 ghost use Rattle.std.specs.Prelude.{◌≡◌, ◌≢◌, ◌+◌, ◌≤◌, ◌<◌, ◌^◌, [], Some, None, IfOk, IsTrue, ◌↔◌, length, is_some};
-ghost use Rattle.gateway.specs.Flushing.{Flushes};
+ghost use Rattle.wires.specs.Flushing.{Flushes};
 ghost use Rattle.fix_orders.specs.Text.{Said};
 
 use crate::ending::Reason;
-use crate::flushing::{Flushed, flush};
+use crate::flushing::flush;
 use crate::hearing::{Heard, Judged, hear};
 use crate::held::Held;
 use crate::outgoing::Outgoing;
 use crate::refusal::Refusal;
 use crate::seat::{TryPublish, type_text};
-use crate::wire::Wire;
 use fix_frame::Framer;
 use fix_orders::put_field;
 use sequencer::Head;
 use std::alloc::{AllocError, Global};
 use std::marker::Model;
+use wires::{Flushed, Wire};
 
 /// One session of a gateway's client. Contracts see a `Standing`.
 #[derive(Drop)]

@@ -25,7 +25,7 @@ use Rattle.gateway.specs.Gateways.{begun}
 use Rattle.gateway.specs.Ledgers.{Ledger}
 use Rattle.gateway.specs.Turns as turns
 use Rattle.gateway.specs.Turns.{Front}
-use Rattle.gateway.specs.Wires as wires
+use Rattle.wires.specs.Wires as wires
 use Rattle.gateway.specs.declared.ending.Reason.{Reason}
 use Rattle.gateway.specs.declared.ending.Turned.{Turned}
 use Rattle.gateway.specs.declared.ending.Turned.TheVariants.{Worked, Quiet, Ended}

@@ -4,7 +4,7 @@ use Rattle.venue_model.specs.History.{History}
 use Rattle.venue_model.specs.Requests.{Symbols}
 use Rattle.ring_words.specs.At.{Opened}
 use Rattle.gateway.specs.AtRings.{AtRings}
-use Rattle.gateway.specs.Wires.{Told}
+use Rattle.wires.specs.Wires.{Told}
 use Rattle.journal.specs.Disk as disk
 use Rattle.journal.specs.Format.{IsJournal}
 use Rattle.stages.specs.Stations.{OneCrew}

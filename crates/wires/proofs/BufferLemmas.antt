@@ -2,9 +2,9 @@
 use Rattle.std.proofs.Common.{◌≡◌, ℕ, ◌+◌, ◌-◌, ◌≤◌, List, ◌++◌, length, take, drop, sym, ap, ◌∙◌, arith}
 use Rattle.std.specs.List.{slice_range}
 use Rattle.std.proofs.lemmas.List.{take-append-drop, append_assoc, drop-take, drop-drop}
-use Rattle.gateway.specs.Wires.{Told, grown}
-use Rattle.gateway.proofs.MemWireLemmas.{take-front}
-use Rattle.gateway.proofs.WireLemmas.{grown-append}
+use Rattle.wires.specs.Wires.{Told, grown}
+use Rattle.wires.proofs.MemWireLemmas.{take-front}
+use Rattle.wires.specs.WireLaws.{grown-append}
 
 -- what is copied into a buffer's front, and what is behind it in what is held, are what is held
 pub given_first : (held behind : List ℕ) (n : ℕ) → n ≤ length held

@@ -1,11 +1,11 @@
 -- What the answers of a wire add to its counts.
 use Rattle.std.specs.Prelude.{◌≡◌}
 use Rattle.venue_model.specs.Counts.{Rose}
-use Rattle.gateway.specs.declared.wire.counts.Counts.{Counts}
-use Rattle.gateway.specs.declared.wire.TryRead.{TryRead}
-use Rattle.gateway.specs.declared.wire.TryRead.TheVariants as read
-use Rattle.gateway.specs.declared.wire.TryWrite.{TryWrite}
-use Rattle.gateway.specs.declared.wire.TryWrite.TheVariants as write
+use Rattle.wires.specs.declared.counts.Counts.{Counts}
+use Rattle.wires.specs.declared.wire.TryRead.{TryRead}
+use Rattle.wires.specs.declared.wire.TryRead.TheVariants as read
+use Rattle.wires.specs.declared.wire.TryWrite.{TryWrite}
+use Rattle.wires.specs.declared.wire.TryWrite.TheVariants as write
 
 -- a read that answered so is counted
 abbrev pub CountsRead : Counts → Counts → TryRead → Type 0

@@ -1,9 +1,9 @@
 -- What a flush tells: which bytes went out, and why it ended.
 use Rattle.std.specs.Prelude.{◌≡◌, ◌≢◌, ℕ, List, [], ◌++◌}
-use Rattle.gateway.specs.declared.flushing.Flushed.{Flushed}
-use Rattle.gateway.specs.declared.flushing.Flushed.TheVariants.{All, Full, Failed}
+use Rattle.wires.specs.declared.flushed.Flushed.{Flushed}
+use Rattle.wires.specs.declared.flushed.Flushed.TheVariants.{All, Full, Failed}
 use Rattle.venue_model.specs.Counts.{Rose}
-use Rattle.gateway.specs.Wires.{Told, grown}
+use Rattle.wires.specs.Wires.{Told, grown}
 
 -- the wire took these bytes, and then the flush ended so
 abbrev pub FlushTells : Told → Told → List ℕ → List ℕ → Flushed → Type 0

@@ -1,15 +1,15 @@
 -- A wire that gathers in front of another one: what it tells, what it holds, and what its calls do.
 use Rattle.std.specs.Prelude.{◌≡◌, ◌↔◌, ℕ, Bool, true, false, List, [], None}
-use Rattle.gateway.specs.declared.flushing.Flushed.{Flushed}
-use Rattle.gateway.specs.declared.flushing.Flushed.TheVariants.{Failed}
-use Rattle.gateway.specs.declared.wire.TryRead.{TryRead}
-use Rattle.gateway.specs.declared.wire.TryWrite.{TryWrite}
-use Rattle.gateway.specs.declared.wire.TryWrite.TheVariants as write
-use Rattle.gateway.specs.declared.wire.gathering.GatheringWire.{GatheringWire}
-use Rattle.gateway.specs.Wires.{Told}
-use Rattle.gateway.specs.StdWires.{untold}
-use Rattle.gateway.specs.Flushing.{Flushes}
-use Rattle.gateway.specs.Gatherings.{HandsOut, Gathers}
+use Rattle.wires.specs.declared.flushed.Flushed.{Flushed}
+use Rattle.wires.specs.declared.flushed.Flushed.TheVariants.{Failed}
+use Rattle.wires.specs.declared.wire.TryRead.{TryRead}
+use Rattle.wires.specs.declared.wire.TryWrite.{TryWrite}
+use Rattle.wires.specs.declared.wire.TryWrite.TheVariants as write
+use Rattle.wires.specs.declared.gathering.GatheringWire.{GatheringWire}
+use Rattle.wires.specs.Wires.{Told}
+use Rattle.wires.specs.StdWires.{untold}
+use Rattle.wires.specs.Flushing.{Flushes}
+use Rattle.wires.specs.Gatherings.{HandsOut, Gathers}
 
 -- it tells its counts, and whether it was last told to rest
 abbrev pub told : {W : Type 0} → GatheringWire W → Told

@@ -1,11 +1,11 @@
 -- Bytes held between a session and the wire below: what moving them does to them, and to what that wire tells.
 use Rattle.std.specs.Prelude.{◌≡◌, ℕ, ◌<◌, List, [], ◌++◌, length, take, ⊤}
-use Rattle.gateway.specs.declared.wire.TryRead.{TryRead}
-use Rattle.gateway.specs.declared.wire.TryRead.TheVariants as read
-use Rattle.gateway.specs.declared.wire.TryWrite.{TryWrite}
-use Rattle.gateway.specs.declared.wire.TryWrite.TheVariants as write
-use Rattle.gateway.specs.declared.wire.buffers.TheConstants.{GATHERED}
-use Rattle.gateway.specs.Wires.{Told, grown, ReadTells, WriteTells}
+use Rattle.wires.specs.declared.wire.TryRead.{TryRead}
+use Rattle.wires.specs.declared.wire.TryRead.TheVariants as read
+use Rattle.wires.specs.declared.wire.TryWrite.{TryWrite}
+use Rattle.wires.specs.declared.wire.TryWrite.TheVariants as write
+use Rattle.wires.specs.declared.buffers.TheConstants.{GATHERED}
+use Rattle.wires.specs.Wires.{Told, grown, ReadTells, WriteTells}
 
 -- what one read of the wire below with this answer tells, where these bytes are held ahead then, and none were before
 abbrev pub ReadsAhead : Told → Told → List ℕ → TryRead → Type 0

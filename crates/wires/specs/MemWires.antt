@@ -1,10 +1,10 @@
 -- A wire in memory: what it holds, what it tells, and what its calls answer.
 use Rattle.std.specs.Prelude.{◌≡◌, ℕ, ◌+◌, ◌-◌, ◌^◌, ◌<◌, ◌≤◌, min, Bool, true, false, List, [], ◌++◌, length, take, Some}
-use Rattle.gateway.specs.declared.wire.TryRead.{TryRead}
-use Rattle.gateway.specs.declared.wire.TryRead.TheVariants as read
-use Rattle.gateway.specs.declared.wire.TryWrite.{TryWrite}
-use Rattle.gateway.specs.declared.wire.TryWrite.TheVariants as write
-use Rattle.gateway.specs.Wires.{Told}
+use Rattle.wires.specs.declared.wire.TryRead.{TryRead}
+use Rattle.wires.specs.declared.wire.TryRead.TheVariants as read
+use Rattle.wires.specs.declared.wire.TryWrite.{TryWrite}
+use Rattle.wires.specs.declared.wire.TryWrite.TheVariants as write
+use Rattle.wires.specs.Wires.{Told}
 
 -- what it has to give and how much of that it gave, what it took, its counts, whether it was last told to rest, and how it was set
 pub record Memory : Type 0 where

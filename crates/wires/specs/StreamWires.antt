@@ -3,13 +3,13 @@ use Rattle.std.specs.Prelude.{◌≡◌, ℕ, ◌<◌, None, Ok, Err}
 use Rattle.std.specs.IoError.{error_kind}
 use Rattle.std.specs.declared.io.Error.{Error}
 use Rattle.std.specs.declared.result.Result.{Result}
-use Rattle.gateway.specs.declared.wire.stream.StreamWire.{StreamWire}
-use Rattle.gateway.specs.declared.wire.TryRead.{TryRead}
-use Rattle.gateway.specs.declared.wire.TryRead.TheVariants as read
-use Rattle.gateway.specs.declared.wire.TryWrite.{TryWrite}
-use Rattle.gateway.specs.declared.wire.TryWrite.TheVariants as write
-use Rattle.gateway.specs.Wires.{Told}
-use Rattle.gateway.specs.StdWires.{IsPassing}
+use Rattle.wires.specs.declared.stream.StreamWire.{StreamWire}
+use Rattle.wires.specs.declared.wire.TryRead.{TryRead}
+use Rattle.wires.specs.declared.wire.TryRead.TheVariants as read
+use Rattle.wires.specs.declared.wire.TryWrite.{TryWrite}
+use Rattle.wires.specs.declared.wire.TryWrite.TheVariants as write
+use Rattle.wires.specs.Wires.{Told}
+use Rattle.wires.specs.StdWires.{IsPassing}
 
 -- it tells its counts, and whether it was last told to rest
 abbrev pub told : {S : Type 0} → StreamWire S → Told

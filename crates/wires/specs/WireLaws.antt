@@ -1,6 +1,6 @@
 -- What a wire tells grows piece by piece.
 use Rattle.std.proofs.Common.{◌≡◌, ℕ, List, [], ◌++◌, Option, Some, None, refl, ap, append_assoc, append-nil}
-use Rattle.gateway.specs.Wires.{grown}
+use Rattle.wires.specs.Wires.{grown}
 
 -- two pieces, one after the other, are one
 pub grown-append : (t : Option (List ℕ)) (x y : List ℕ) → grown (grown t x) y ≡ grown t (x ++ y)

@@ -1,11 +1,11 @@
 -- What a wire tells of itself, and what each of its calls tells. It may keep its bytes to itself, but not its counts.
 use Rattle.std.specs.Prelude.{◌≡◌, ℕ, Bool, ◌≤◌, List, ◌++◌, length, take, Option, Some, None}
 use Rattle.venue_model.specs.Counts.{Rose}
-use Rattle.gateway.specs.declared.wire.counts.Counts.{Counts}
-use Rattle.gateway.specs.declared.wire.TryRead.{TryRead}
-use Rattle.gateway.specs.declared.wire.TryRead.TheVariants as read
-use Rattle.gateway.specs.declared.wire.TryWrite.{TryWrite}
-use Rattle.gateway.specs.declared.wire.TryWrite.TheVariants as write
+use Rattle.wires.specs.declared.counts.Counts.{Counts}
+use Rattle.wires.specs.declared.wire.TryRead.{TryRead}
+use Rattle.wires.specs.declared.wire.TryRead.TheVariants as read
+use Rattle.wires.specs.declared.wire.TryWrite.{TryWrite}
+use Rattle.wires.specs.declared.wire.TryWrite.TheVariants as write
 
 -- the bytes that it gave and took, each None where it tells none; the calls that failed; the reads and the writes
 -- that answered Nothing; the reads that answered End; and whether it was last told to rest

@@ -1,11 +1,11 @@
 //! The two buffers of a wire that gathers: bytes read ahead of the session, and bytes that wait to be sent. Each takes
 //! all its memory as it is made.
 ghost use Rattle.std.specs.Prelude.{◌≡◌, ◌≤◌, ◌-◌, ◌<◌, ◌↔◌, [], ◌++◌, length, take, drop, min, IfOk, IsTrue};
-ghost use Rattle.gateway.specs.Flushing.{Flushes};
-ghost use Rattle.gateway.specs.Gatherings.{ReadsAhead, HandsOut, SendsSome, Gathers, IfGot, IfPut};
+ghost use Rattle.wires.specs.Flushing.{Flushes};
+ghost use Rattle.wires.specs.Gatherings.{ReadsAhead, HandsOut, SendsSome, Gathers, IfGot, IfPut};
 
-use super::{TryRead, TryWrite, Wire};
-use crate::flushing::Flushed;
+use crate::wire::{TryRead, TryWrite, Wire};
+use crate::flushed::Flushed;
 use std::alloc::{AllocError, Global};
 use std::marker::Model;
 
@@ -101,7 +101,7 @@ pub struct Waiting {
 
 impl Model for Waiting {
     ghost use Rattle.std.specs.Prelude.{ℕ, List, ◌≤◌, length, vec_capacity};
-    ghost use Rattle.gateway.specs.declared.wire.buffers.TheConstants.{GATHERED};
+    ghost use Rattle.wires.specs.declared.buffers.TheConstants.{GATHERED};
 
     ghost Value = { List ℕ };
 

@@ -1,7 +1,7 @@
 //! What every wire counts of its own calls.
 ghost use Rattle.std.specs.Prelude.{◌≡◌};
 ghost use Rattle.venue_model.specs.Counts.{Rose};
-ghost use Rattle.gateway.specs.Counting.{CountsRead, CountsWrite};
+ghost use Rattle.wires.specs.Counting.{CountsRead, CountsWrite};
 
 use super::{TryRead, TryWrite};
 

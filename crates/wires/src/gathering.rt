@@ -1,15 +1,15 @@
 //! A wire that gathers: it reads ahead of the session, and what is written waits until it is sent together. It stands
 //! in front of a wire that never waits, as that of a client that came over TCP.
 ghost use Rattle.std.specs.Prelude.{◌≡◌, ◌<◌, ◌↔◌, ◌⊎◌, [], true, false, length, IfOk, IfErr, IsTrue};
-ghost use Rattle.gateway.specs.Wires.{ReadTells, WriteTells, counts_of};
-ghost use Rattle.gateway.specs.GatheringWires.{told, below_of, ahead_of, waiting_of, broken_of, IsFresh, HoldsSame};
-ghost use Rattle.gateway.specs.GatheringWires.{holding, rested, Reads, Writes, Sends};
-ghost use Rattle.gateway.specs.declared.wire.buffers.TheConstants.{GATHERED};
+ghost use Rattle.wires.specs.Wires.{ReadTells, WriteTells, counts_of};
+ghost use Rattle.wires.specs.GatheringWires.{told, below_of, ahead_of, waiting_of, broken_of, IsFresh, HoldsSame};
+ghost use Rattle.wires.specs.GatheringWires.{holding, rested, Reads, Writes, Sends};
+ghost use Rattle.wires.specs.declared.buffers.TheConstants.{GATHERED};
 
-use super::buffers::{Ahead, Waiting};
-use super::counts::Counts;
-use super::{TryRead, TryWrite, Wire};
-use crate::flushing::Flushed;
+use crate::buffers::{Ahead, Waiting};
+use crate::counts::Counts;
+use crate::wire::{TryRead, TryWrite, Wire};
+use crate::flushed::Flushed;
 use std::alloc::{AllocFailed, Global};
 
 /// A wire in front of another one. A read hands out what was read ahead, and the wire below is read only where that is

@@ -1,11 +1,11 @@
 //! A wire in memory, for tests: it gives the bytes that it was made with, keeps those that it takes, and tells both.
 ghost use Rattle.std.specs.Prelude.{◌≡◌, ◌<◌, ◌≤◌, [], length, take, true, false, IfOk};
-ghost use Rattle.gateway.specs.Wires.{ReadTells, WriteTells};
-ghost use Rattle.gateway.specs.MemWires.{fresh, told, Gives, Takes};
-ghost use Rattle.gateway.specs.Wires.{counts_of};
+ghost use Rattle.wires.specs.Wires.{ReadTells, WriteTells};
+ghost use Rattle.wires.specs.MemWires.{fresh, told, Gives, Takes};
+ghost use Rattle.wires.specs.Wires.{counts_of};
 
-use super::counts::Counts;
-use super::{TryRead, TryWrite, Wire};
+use crate::counts::Counts;
+use crate::wire::{TryRead, TryWrite, Wire};
 use std::alloc::{AllocError, Global};
 use std::marker::Model;
 
@@ -24,7 +24,7 @@ pub struct MemWire {
 }
 
 impl Model for MemWire {
-    ghost use Rattle.gateway.specs.MemWires.{Memory};
+    ghost use Rattle.wires.specs.MemWires.{Memory};
 
     ghost Value = { Memory };
 

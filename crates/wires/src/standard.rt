@@ -1,11 +1,11 @@
 //! The program's own wire: standard input and output, or any reader and writer.
 ghost use Rattle.std.specs.Prelude.{◌≡◌, ◌<◌, ◌↔◌, true, false, length, IsTrue};
 ghost use Rattle.std.specs.IoError.{error_kind};
-ghost use Rattle.gateway.specs.Wires.{ReadTells, WriteTells, counts_of};
-ghost use Rattle.gateway.specs.StdWires.{told, untold, reader_of, writer_of, rested_of, IsPassing, TakesIn, SendsOut, Rests, RestsNot};
+ghost use Rattle.wires.specs.Wires.{ReadTells, WriteTells, counts_of};
+ghost use Rattle.wires.specs.StdWires.{told, untold, reader_of, writer_of, rested_of, IsPassing, TakesIn, SendsOut, Rests, RestsNot};
 
-use super::counts::Counts;
-use super::{TryRead, TryWrite, Wire};
+use crate::counts::Counts;
+use crate::wire::{TryRead, TryWrite, Wire};
 use std::io;
 use std::io::{ErrorKind, Read, Write};
 

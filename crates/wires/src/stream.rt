@@ -1,12 +1,12 @@
 //! A wire over a stream that never waits for the client, as a socket that was set so. It has no buffer.
 ghost use Rattle.std.specs.Prelude.{◌≡◌, ◌<◌, length};
-ghost use Rattle.gateway.specs.Wires.{ReadTells, WriteTells, counts_of};
-ghost use Rattle.gateway.specs.StdWires.{untold, TakesIn, SendsOut};
-ghost use Rattle.gateway.specs.StreamWires.{told, stream_of, MeansRead, MeansWrite};
+ghost use Rattle.wires.specs.Wires.{ReadTells, WriteTells, counts_of};
+ghost use Rattle.wires.specs.StdWires.{untold, TakesIn, SendsOut};
+ghost use Rattle.wires.specs.StreamWires.{told, stream_of, MeansRead, MeansWrite};
 
-use super::counts::Counts;
-use super::standard::is_passing;
-use super::{TryRead, TryWrite, Wire};
+use crate::counts::Counts;
+use crate::standard::is_passing;
+use crate::wire::{TryRead, TryWrite, Wire};
 use std::io;
 use std::io::{Read, Write};
 

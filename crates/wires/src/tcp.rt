@@ -1,10 +1,10 @@
 //! The wire of a client that came over TCP.
 ghost use Rattle.std.specs.Prelude.{◌≡◌, IfOk};
-ghost use Rattle.gateway.specs.GatheringWires.{IsFresh, below_of};
-ghost use Rattle.gateway.specs.StreamWires.{stream_of};
+ghost use Rattle.wires.specs.GatheringWires.{IsFresh, below_of};
+ghost use Rattle.wires.specs.StreamWires.{stream_of};
 
-use super::gathering::GatheringWire;
-use super::stream::StreamWire;
+use crate::gathering::GatheringWire;
+use crate::stream::StreamWire;
 use std::alloc::Global;
 use std::io;
 use std::net::TcpStream;

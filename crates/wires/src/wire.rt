@@ -1,23 +1,8 @@
-//! The wire: where a client's bytes come in and where its messages go out, one session at a time.
-//! A session knows no more of it than this trait. `MemWire` stands in for it in tests, `StdWire` is for standard input
-//! and output, and `TcpWire` for a client that came over TCP.
+//! The wire, one session of a client at a time: who reads and writes knows no more of it than this trait.
 ghost use Rattle.std.specs.Prelude.{◌≡◌, ◌<◌, length};
-ghost use Rattle.gateway.specs.Wires.{Told, ReadTells, WriteTells, counts_of};
+ghost use Rattle.wires.specs.Wires.{Told, ReadTells, WriteTells, counts_of};
 
-mod buffers;
-mod counts;
-mod gathering;
-mod mem;
-mod standard;
-mod stream;
-mod tcp;
-
-pub use counts::Counts;
-pub use gathering::GatheringWire;
-pub use mem::MemWire;
-pub use standard::StdWire;
-pub use stream::StreamWire;
-pub use tcp::{TcpWire, tcp_wire};
+use crate::counts::Counts;
 
 /// What a read found. `Failed` is an error of the wire, `End` the end of what the client sends.
 #[derive(Clone, Copy, Debug, PartialEq, Eq)]

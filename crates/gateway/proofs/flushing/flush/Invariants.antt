@@ -1,6 +1,6 @@
 -- what went out so far, and what is left
 use Rattle.std.proofs.Common.{◌≡◌, ◌++◌, ℕ, List, length}
-use Rattle.gateway.specs.Wires.{grown}
+use Rattle.wires.specs.Wires.{grown}
 use Rattle.gateway.proofs.flushing.flush.Given as goal
 
 abbrev pub invariant-bytes : goal.invariant-bytes

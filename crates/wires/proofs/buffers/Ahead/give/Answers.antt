@@ -1,8 +1,8 @@
 -- What is copied is the front of what is held, and the rest is what is held behind it.
 use Rattle.std.proofs.Common.{◌≡◌, ◌+◌, ◌≤◌, ◌++◌, length, take, drop, ap, ◌∙◌, arith}
 use Rattle.std.specs.List.{slice_range}
-use Rattle.gateway.proofs.BufferLemmas.{given_first, drop-slice_range}
-use Rattle.gateway.proofs.wire.buffers.Ahead.give.Goals as goal
+use Rattle.wires.proofs.BufferLemmas.{given_first, drop-slice_range}
+use Rattle.wires.proofs.buffers.Ahead.give.Goals as goal
 
 pub returns-clause-gives : goal.returns-clause-gives
 returns-clause-gives c =

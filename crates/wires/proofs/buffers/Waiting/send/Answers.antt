@@ -1,6 +1,6 @@
 -- Each write takes the first of the bytes that still wait.
-use Rattle.gateway.proofs.BufferLemmas.{sent_more}
-use Rattle.gateway.proofs.wire.buffers.Waiting.send.Goals as goal
+use Rattle.wires.proofs.BufferLemmas.{sent_more}
+use Rattle.wires.proofs.buffers.Waiting.send.Goals as goal
 
 pub bytes-preserved : goal.bytes-preserved
 bytes-preserved g c =

@@ -1,7 +1,7 @@
 -- what was sent so far, and what still waits
 use Rattle.std.proofs.Common.{◌≡◌, ◌++◌, ℕ, List, length}
-use Rattle.gateway.specs.Wires.{grown}
-use Rattle.gateway.proofs.wire.buffers.Waiting.send.Given as goal
+use Rattle.wires.specs.Wires.{grown}
+use Rattle.wires.proofs.buffers.Waiting.send.Given as goal
 
 abbrev pub invariant-bytes : goal.invariant-bytes
 invariant-bytes g l =

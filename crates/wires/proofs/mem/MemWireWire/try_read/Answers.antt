@@ -1,8 +1,8 @@
 -- The piece copied is what the wire has given more, and it stands in the buffer's front.
 use Rattle.std.proofs.Common.{◌≡◌, ◌≤◌, ◌-◌, length, take, drop, refl, ap, ◌∙◌, arith, length-append}
 use Rattle.std.proofs.lemmas.List.{length-take-le}
-use Rattle.gateway.proofs.MemWireLemmas.{rest_is, given_more}
-use Rattle.gateway.proofs.wire.mem.MemWireWire.try_read.Goals as goal
+use Rattle.wires.proofs.MemWireLemmas.{rest_is, given_more}
+use Rattle.wires.proofs.mem.MemWireWire.try_read.Goals as goal
 
 pub returns-then-count-gt0-clause-tells : goal.returns-then-count-gt0-clause-tells
 returns-then-count-gt0-clause-tells c =
