@@ -1,6 +1,6 @@
 -- An acceptor: its gateway, and the wire of the client that is connected; and what one turn of it does.
 use Rattle.std.specs.Prelude.{◌≡◌, ◌⊎◌, ℕ, zero, suc, Bool, true, false, Option, Some, None}
-use Rattle.gateway.specs.AtRings.{AtRings, Idles}
+use Rattle.gateway.specs.Gateways.{AtRings, Idles}
 use Rattle.gateway.specs.Delivers.{Proceeds}
 use Rattle.gateway.specs.Gateways.{begun}
 use Rattle.gateway.specs.Seats.{Uses, LooksOnce, ledger_of}

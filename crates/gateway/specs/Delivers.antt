@@ -1,7 +1,7 @@
 -- The headline at one gateway: what its session read, published, gave its client and wrote, held against what its seat took of the rings.
 use Rattle.std.specs.Prelude.{◌≡◌, ℕ, ◌+◌, List, [], ◌++◌, length}
 use Rattle.fix_orders.specs.Text.{Said}
-use Rattle.gateway.specs.AtRings.{AtRings}
+use Rattle.gateway.specs.Gateways.{AtRings}
 use Rattle.gateway.specs.Ledgers.{Ledger}
 use Rattle.gateway.specs.Seats.{ledger_of}
 use Rattle.gateway.specs.Session.{At}

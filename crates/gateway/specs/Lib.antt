@@ -5,9 +5,7 @@ pub mod Moves
 pub mod Ledgers
 pub mod Turns
 pub mod Parts
-pub mod HeardOf
-pub mod Gateways
-pub mod Inputs
+pub mod TurnParts
 pub mod Sessions
 pub mod Holding
 pub mod Hears
@@ -15,7 +13,7 @@ pub mod Messages
 pub mod Logons
 pub mod Headings
 pub mod Seats
-pub mod AtRings
+pub mod Gateways
 pub mod Delivers
 pub mod Accepting
 pub mod AcceptingLaws

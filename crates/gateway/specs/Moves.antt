@@ -2,8 +2,9 @@
 use Rattle.std.specs.Prelude.{ℕ, ◌+◌, true, false, List, [], ◌++◌, Some, None}
 use Rattle.fix_orders.specs.Text.{Said}
 use Rattle.gateway.specs.declared.ending.Reason.{Reason}
-use Rattle.gateway.specs.declared.ending.Reason.TheVariants.{LoggedOut, Refused}
+use Rattle.gateway.specs.declared.ending.Reason.TheVariants.{LoggedOut, Refused, Exhausted}
 use Rattle.gateway.specs.declared.refusal.Refusal.{Refusal}
+use Rattle.gateway.specs.declared.refusal.Refusal.TheVariants as refusal
 use Rattle.gateway.specs.Verdict.{Verdict, Welcome, Beat, Hold, Pass, Leave, Refuse, refusal_text}
 use Rattle.gateway.specs.Answers.{Reply, Logon, Heartbeat, Logout, no_time}
 use Rattle.gateway.specs.Session.{Standing, message_text, said_by}
@@ -36,6 +37,10 @@ closing_by reason time text s = record (replying (Logout time text) s) { closing
 -- the session refuses what it got
 abbrev pub refusing : List ℕ → Refusal → Standing → Standing
 refusing time r s = closing_by Refused time (refusal_text r) s
+
+-- no sequence is left for the message held
+abbrev pub exhausting : Standing → Standing
+exhausting s = record (closing_by Exhausted s.time (refusal_text refusal.Exhausted) s) { held = None }
 
 -- a frame is accepted
 abbrev pub accepting : List ℕ → Standing → Standing

@@ -4,13 +4,11 @@
 #![tactic(auto)]
 
 mod acceptor;
-mod client_side;
 mod ending;
 mod flushing;
 mod gateway;
 mod hearing;
 mod held;
-mod input;
 mod message;
 mod moment;
 mod names;

@@ -19,7 +19,7 @@ use Rattle.stages.specs.declared.turn.Turn.{Turn}
 use Rattle.stages.specs.declared.turn.Turn.TheVariants.{Did, Idle, OutFull, JournalFailed}
 use Rattle.stages.specs.Kept.{Fails}
 use Rattle.stages.specs.Turns.{Journals}
-use Rattle.gateway.specs.AtRings.{AtRings}
+use Rattle.gateway.specs.Gateways.{AtRings}
 use Rattle.gateway.specs.Delivers.{Start, Course, Delivers}
 use Rattle.gateway.specs.Gateways.{begun}
 use Rattle.gateway.specs.Ledgers.{Ledger}

@@ -2,6 +2,7 @@ pub mod Wires
 pub mod WireLaws
 pub mod Counting
 pub mod Flushing
+pub mod Inputs
 pub mod Gatherings
 pub mod GatheringWires
 pub mod MemWires

@@ -1,9 +1,9 @@
-//! What was read of the wire and not yet fed to the session.
+//! What was read of a wire, and is not yet used.
 ghost use Rattle.std.specs.Prelude.{◌≡◌, ◌≤◌, [], length, drop, IsTrue, ◌↔◌};
-ghost use Rattle.gateway.specs.Inputs.{Fills};
+ghost use Rattle.wires.specs.Inputs.{Fills};
 
+use crate::wire::{TryRead, Wire};
 use std::marker::Model;
-use wires::{TryRead, Wire};
 
 /// How many bytes one read takes at most.
 const SIZE: usize = 512;
@@ -18,7 +18,7 @@ pub struct Input {
 
 impl Model for Input {
     ghost use Rattle.std.specs.Prelude.{List, ℕ, ◌≡◌, ◌≤◌, length, take, drop};
-    ghost use Rattle.gateway.specs.Inputs.{KeepsInput};
+    ghost use Rattle.wires.specs.Inputs.{KeepsInput};
 
     ghost Value = { List ℕ };
 
@@ -39,7 +39,7 @@ impl Input {
         }
     }
 
-    /// Whether all is fed.
+    /// Whether none is left.
     pub fn is_empty(&self) -> bool
         ensures { IsTrue result ↔ (self.now ≡ []) }
     {
@@ -53,7 +53,7 @@ impl Input {
         &self.bytes[self.from..self.upto]
     }
 
-    /// Forgets the bytes that were fed.
+    /// Forgets the first bytes, which were used.
     pub fn skip(&mut self, n: usize)
         requires { n ≤ length self.old }
         ensures { self.new ≡ drop n self.old }
@@ -61,7 +61,7 @@ impl Input {
         self.from += n;
     }
 
-    /// Reads once, where all is fed.
+    /// Reads once, where none is left.
     pub fn fill<W: Wire>(&mut self, wire: &mut W) -> TryRead
         requires { self.old ≡ [] }
         ensures { Fills self.new (W.tells wire.old) (W.tells wire.new) result }
