@@ -32,6 +32,7 @@ import sys
 import tempfile
 import threading
 
+import needs_python  # (in front of what an older Python can't read)
 import crates
 from crates import ROOT
 

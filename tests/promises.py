@@ -21,6 +21,9 @@ import re
 import sys
 
 ROOT = os.path.dirname(os.path.dirname(os.path.abspath(__file__)))
+sys.path.insert(0, os.path.join(ROOT, "scripts"))
+
+import needs_python  # (in front of what an older Python can't read)
 
 TRAIT = re.compile(r"pub trait (\w+)")
 IMPL = re.compile(r"impl\b(?:<[^{]*?>)? (?:(?:\w+::)*(?P<trait>\w+)(?:<[^{]*>)? for )?(?:\w+::)*(?P<type>\w+)")
@@ -186,6 +189,9 @@ def items_of(lines):
 
 
 def main():
+    if set(sys.argv[1:]) & {"-h", "--help"}:
+        print(__doc__.strip())
+        return
     path = sys.argv[1] if len(sys.argv) > 1 else f"{ROOT}/docs/PROMISES.md"
     lines, check = lines_of(path), Check(Sources())
     promises = sum(1 for line in lines if PROMISE.match(line))
