@@ -1,12 +1,9 @@
-//! The seats: one for each gateway and one for each stage. Only `Rings::open` makes them, and each is used by one thread.
+//! A gateway's seat, in front of the input ring and behind the output ring.
 ghost use Rattle.std.specs.Prelude.{None, ◌≡◌, ◌≤◌, []};
 ghost use Rattle.ring_words.specs.declared.view.Role.TheVariants.{Gateway};
 ghost use Rattle.ring_words.specs.Places.{processed as processed_word};
 ghost use Rattle.ring_words.specs.Seats.{person, IsAlone, last_of};
 
-use crate::marshal_seat::MarshalSeat;
-use crate::process_seat::ProcessSeat;
-use crate::reader_seat::{JournalSeat, UnmarshalSeat};
 use crate::report::Slot;
 use crate::view::View;
 use atomic_table::Seat;
@@ -63,14 +60,4 @@ impl<L> GatewaySeat<L> {
     {
         self.taken
     }
-}
-
-/// All seats of one table: the gateways' in the order of their numbers, and the stages'.
-#[derive(Drop)]
-pub struct Seats<L> {
-    pub gateways: Vec<GatewaySeat<L>>,
-    pub unmarshal: UnmarshalSeat<L>,
-    pub journal: JournalSeat<L>,
-    pub process: ProcessSeat<L>,
-    pub marshal: MarshalSeat<L>,
 }
