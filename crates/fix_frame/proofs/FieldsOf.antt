@@ -124,6 +124,20 @@ module _ (body : List ℕ) (f : Field) (rest : List ℕ) (b : BeginsField body f
       let p = printed_run body fs all e in
       (subst BeginsWithType (sym p.1 ∙ first_and_rest body f rest b) first, run_behind body f rest b p.0)
 
+-- each field has four bytes at least
+pub few_fields : (fs : List Field) → AllByRecursion IsField fs → 4 * length fs ≤ length (print_fields fs)
+few_fields [] all = omega arith
+few_fields (f ∷ fs) all =
+    let more = few_fields fs all.1 in
+    let digits = decimal_nonempty f.tag (omega (arith, all.0.tag_to)) in
+    let long = ap length (field_then-piece f (print_fields fs)) in
+    let piece = length-append (piece_of f) (1 ∷ print_fields fs) in
+    let tag = length-append (decimal f.tag) (61 ∷ f.value) in
+    omega (arith, more, digits, long, piece, tag, all.0.valued)
+
+pub few_of_body : (fs : List Field) → IsBody most_in fs → length fs ≤ 74
+few_of_body fs b = omega (arith, few_fields fs b.each, b.at_most)
+
 -- SOH ends a run, if it has a field
 print_ends : (fs : List Field) → 0 < length (print_fields fs) → EndsInSoh (print_fields fs)
 print_ends [] some = absurd (omega arith)

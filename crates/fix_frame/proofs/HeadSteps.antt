@@ -31,8 +31,6 @@ module _ (bytes front : List ℕ) (byte v : ℕ) (e : bytes ≡ front ++ byte �
   longer : length bytes ≡ length front + 1
   longer = ap length e ∙ length_push front byte
 
-  }
-
   -- another byte
   pub no_opening : length front < 12 → byte ≢ get_or opening (length front) 0 → NoHead bytes
   no_opening early other n more rest is same =

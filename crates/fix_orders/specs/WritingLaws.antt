@@ -94,6 +94,13 @@ length_four n large fits =
 pub length_two : (n : ℕ) → 10 ≤ n → n < 100 → length (decimal n) ≡ 2
 length_two n large small = ap length (decimal_two n large small)
 
+-- a tag has 5 digits at most, a number 20
+pub tag_digits : (tag : ℕ) → tag ≤ 99999 → length (decimal tag) ≤ 5
+tag_digits tag h = length-decimal-le 5 tag (omega arith) (omega arith) (omega arith)
+
+pub number_digits : (n : ℕ) → n < 2 ^ 64 → length (decimal n) ≤ 20
+number_digits n h = length-decimal-le 20 n (omega arith) (omega arith) h
+
 -- how many digits a number has
 pub length_digit : (n : ℕ) → n < 10 → length (decimal n) ≡ 1
 length_digit n small = ap length (decimal_digit n small)
