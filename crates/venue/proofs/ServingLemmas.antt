@@ -5,9 +5,9 @@ use lib.ListN.{get_elem?}
 use Rattle.venue_model.specs.Counts.{Rose}
 use Rattle.venue_model.specs.History.{History}
 use Rattle.venue_model.specs.Requests.{Symbols}
-use Rattle.journal.specs.Disk.{Told, LeavesOnly}
+use Rattle.disks.specs.Disk.{Told, LeavesOnly}
 use Rattle.journal.specs.Journals.{OneJournal, IsJournalFrom}
-use Rattle.journal.specs.MomentLaws.{started, joined, weaker}
+use Rattle.disks.specs.MomentLaws.{started, joined, weaker}
 use Rattle.ring_words.specs.At.{Opened, At, IsAt, number}
 use Rattle.ring_words.specs.Crew.{AreGateways}
 use Rattle.ring_words.specs.Ending.{AreSpent}
@@ -116,7 +116,3 @@ module _ {L : Type 0} (rings : Opened L) (seat : At L) where
 
   pub are_spent : (items : List (At L)) → items ≡ seat ∷ [] → seat.who.claims ≡ [] → AreSpent items
   are_spent items is none = subst (λ (all : List (At L)). AreSpent all) (sym is) (one_spent none)
-
--- new stages are at the rings
-pub new_at : {D : Type 0} (rings : Opened Symbols) (crew : OneCrew D) → IsNewCrew rings crew → AreAt rings crew
-new_at rings crew new = subst (AreAt rings) (sym new.crew_is) (record { unmarshaller = refl; journaller = refl; processor = refl; marshaller = refl })
