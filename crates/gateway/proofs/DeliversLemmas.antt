@@ -3,7 +3,7 @@ use Rattle.std.proofs.Common.{◌≡◌, ℕ, Bool, true, false, List, [], ◌�
 use Rattle.std.specs.List.{flat_map, list_any}
 use Rattle.fix_orders.specs.Text.{Said}
 use Rattle.gateway.specs.Answers.{Logon, Heartbeat, Logout}
-use Rattle.gateway.specs.Session.{Item, Answer, Output, is_logon, is_last, orderly, outputs_in, Standing, At}
+use Rattle.gateway.specs.Standing.{Item, Answer, Output, is_logon, is_last, orderly, outputs_in, Standing, At}
 use Rattle.gateway.specs.Ledgers.{Ledger}
 use Rattle.wires.specs.Wires.{Told, grown}
 use Rattle.gateway.specs.Turns.{world, Front, Moved, Takes, Turn}

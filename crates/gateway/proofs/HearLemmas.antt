@@ -12,10 +12,9 @@ use Rattle.ring_words.specs.Places.{claim, processed}
 use Rattle.ring_words.specs.Seats.{load_of}
 use Rattle.gateway.specs.Ledgers.{Ledger, loading, IsClaimed, IsRefused, PublishTells}
 use Rattle.gateway.specs.Verdict.{Verdict, Welcome, Beat, Hold, Pass, Leave, Refuse, verdict}
-use Rattle.gateway.specs.Session.{Standing, At}
-use Rattle.gateway.specs.Moves.{heard, exhausting}
+use Rattle.gateway.specs.Standing.{Standing, At}
+use Rattle.gateway.specs.SessionCalls.{heard, exhausting, Listens, Unheard, HeardFrame, HeardFault}
 use Rattle.gateway.specs.Turns.{world, Front, nothing_moved, Moves, Counts, ClosesBy, farewell}
-use Rattle.gateway.specs.Parts.{Listens, Unheard, HeardFrame, HeardFault}
 use Rattle.gateway.specs.TurnParts.{Hears, HeardSo, Reads, ReadSo}
 use Rattle.gateway.proofs.Opening.{opened}
 use Rattle.gateway.proofs.Standings.{at-published, at-exhausted, at-fed, at-heard, at-faulted}

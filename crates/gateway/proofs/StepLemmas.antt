@@ -3,7 +3,7 @@ use Rattle.std.proofs.Common.{◌≡◌, ℕ, List, [], ◌++◌, refl, ap, sym,
 use Rattle.fix_orders.specs.Text.{Said}
 use Rattle.wires.specs.Wires.{Told, grown}
 use Rattle.gateway.specs.Ledgers.{Ledger}
-use Rattle.gateway.specs.Session.{Standing, At}
+use Rattle.gateway.specs.Standing.{Standing, At}
 use Rattle.gateway.specs.Turns.{place, Moved, nothing_moved, Moves, Step}
 use Rattle.gateway.proofs.Standings.{at-flushed}
 use Rattle.wires.specs.WireLaws.{grown-append, grown-nil}

@@ -16,8 +16,8 @@ use Rattle.ring_words.specs.Places.{claim, marshalled}
 use Rattle.ring_words.specs.Seats.{load_of}
 use Rattle.gateway.specs.Ledgers.{Ledger, loading}
 use Rattle.wires.specs.Flushing.{Flushes}
-use Rattle.gateway.specs.Session.{Standing}
-use Rattle.gateway.specs.Sessions.{ClosesItself}
+use Rattle.gateway.specs.Standing.{Standing}
+use Rattle.gateway.specs.SessionFields.{ClosesItself}
 use Rattle.gateway.specs.Turns.{World, place, world, Front, Moved, nothing_moved, Step, Takes, WasRefused, WasExhausted, FoundNone, ClosesBy, Silence, Hearing, IsQuiet, GoesOn, EndedBy, Means, CountsTurns, Attends, Turn, Counts, GoesWith}
 use Rattle.gateway.specs.TurnParts.{Hears, HeardSo, HandsOn, TookSo, Waits, Rests, RestsSo, Stuck, StuckSo}
 use Rattle.gateway.proofs.StepLemmas.{both, step-then, flush-step}

@@ -4,7 +4,7 @@ use Rattle.fix_orders.specs.Text.{Said}
 use Rattle.gateway.specs.Gateways.{AtRings}
 use Rattle.gateway.specs.Ledgers.{Ledger}
 use Rattle.gateway.specs.Seats.{ledger_of}
-use Rattle.gateway.specs.Session.{At}
+use Rattle.gateway.specs.Standing.{At}
 use Rattle.gateway.specs.Turns.{Front, Moved, world, Turn}
 use Rattle.gateway.specs.declared.ending.Turned.{Turned}
 use Rattle.wires.specs.Wires.{Told, grown}

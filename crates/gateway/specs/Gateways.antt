@@ -7,7 +7,7 @@ use Rattle.gateway.specs.declared.ending.Turned.TheVariants.{Worked, Quiet, Ende
 use Rattle.gateway.specs.declared.gateway.Gateway.TheInside.{Inside}
 use Rattle.wires.specs.Wires.{Told}
 use Rattle.gateway.specs.Ledgers.{Ledger}
-use Rattle.gateway.specs.Moves.{fresh}
+use Rattle.gateway.specs.SessionCalls.{fresh}
 use Rattle.gateway.specs.Seats.{HasSeen, ledger_of}
 use Rattle.gateway.specs.Turns.{Front, World, world, GoesWith}
 use Rattle.gateway.specs.TurnParts.{PassesOver}

@@ -2,7 +2,7 @@
 //! them off the front.
 ghost use Rattle.std.specs.Prelude.{◌≡◌, ◌+◌, ◌≤◌, [], ◌++◌, length, drop};
 ghost use Rattle.fix_orders.specs.Text.{Said};
-ghost use Rattle.gateway.specs.Session.{message_text};
+ghost use Rattle.gateway.specs.Standing.{message_text};
 ghost use Rattle.gateway.specs.Messages.{IsTypeText, AreFields, Spells};
 
 use crate::message::put_fields;

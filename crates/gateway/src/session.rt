@@ -28,11 +28,11 @@ pub struct Session {
 }
 
 impl Model for Session {
-    ghost use Rattle.gateway.specs.Session.{Standing};
+    ghost use Rattle.gateway.specs.Standing.{Standing};
 
     ghost Value = { Standing };
 
-    ghost use Rattle.gateway.specs.Sessions.{standing, KeepsSession};
+    ghost use Rattle.gateway.specs.SessionFields.{standing, KeepsSession};
 
     ghost view = { standing };
 
@@ -45,11 +45,10 @@ impl Session {
     ghost use Rattle.fix_orders.specs.Formats.{time_text};
     ghost use Rattle.fix_orders.specs.Text.{field};
     ghost use Rattle.gateway.specs.Answers.{Logon, Heartbeat, Logout};
-    ghost use Rattle.gateway.specs.Moves.{fresh, saying, replying, heard, exhausting};
+    ghost use Rattle.gateway.specs.SessionCalls.{fresh, saying, replying, heard, exhausting, Listens};
     ghost use Rattle.std.specs.Prelude.{IfSome};
-    ghost use Rattle.gateway.specs.Sessions.{ClosesItself};
-    ghost use Rattle.gateway.specs.Parts.{Listens};
-    ghost use Rattle.gateway.specs.Hears.{verdict_of, IsHeld, CanCount, CanEcho};
+    ghost use Rattle.gateway.specs.SessionFields.{ClosesItself};
+    ghost use Rattle.gateway.specs.Judging.{verdict_of, IsHeld, CanCount, CanEcho};
     ghost use Rattle.gateway.specs.Messages.{IsTypeText, AreFields, Spells, IsRefusalText};
 
     /// A session of this gateway's client, begun.

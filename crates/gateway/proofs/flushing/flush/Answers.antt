@@ -1,6 +1,6 @@
 -- Each write takes a front of what is left.
 use Rattle.std.proofs.Common.{drop, ap, sym, ◌∙◌}
-use Rattle.gateway.specs.Session.{Standing}
+use Rattle.gateway.specs.Standing.{Standing}
 use Rattle.gateway.proofs.FlushLemmas.{flushed-more}
 use Rattle.gateway.proofs.flushing.flush.Goals as goal
 

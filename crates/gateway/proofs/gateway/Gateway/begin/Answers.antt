@@ -2,7 +2,7 @@
 use Rattle.std.proofs.Common.{[], true, false, subst, sym}
 use Rattle.gateway.specs.Gateways.{at_rings}
 use Rattle.gateway.specs.Seats.{ledger_of}
-use Rattle.gateway.specs.Session.{Standing, At}
+use Rattle.gateway.specs.Standing.{Standing, At}
 use Rattle.gateway.proofs.DeliversLemmas.{begins}
 use Rattle.gateway.proofs.Opening.{at_beginning}
 use Rattle.gateway.proofs.gateway.Gateway.begin.Goals as goal

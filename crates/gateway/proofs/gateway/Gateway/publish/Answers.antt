@@ -4,7 +4,7 @@ use Rattle.gateway.specs.declared.gateway.Heard.TheVariants.{Something, Nothing}
 use Rattle.gateway.specs.declared.seat.TryPublish.TheVariants.{Done, Refused, Exhausted}
 use Rattle.gateway.specs.Gateways.{AtRings, at_rings, around}
 use Rattle.gateway.specs.Seats.{ledger_of, MayEnter}
-use Rattle.gateway.specs.Session.{Standing}
+use Rattle.gateway.specs.Standing.{Standing}
 use Rattle.gateway.specs.TurnParts.{Hears}
 use Rattle.gateway.proofs.HearLemmas.{publish-hears}
 use Rattle.gateway.proofs.gateway.Gateway.publish.Goals as goal

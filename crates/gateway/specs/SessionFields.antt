@@ -5,7 +5,7 @@ use Rattle.fix_orders.specs.Formats.{time_text}
 use Rattle.gateway.specs.declared.session.Session.TheInside.{Inside}
 use Rattle.gateway.specs.declared.ending.Reason.{Reason}
 use Rattle.gateway.specs.declared.ending.Reason.TheVariants.{Closed, WireFailed, LoggedOut, Refused, Stalled, Exhausted}
-use Rattle.gateway.specs.Session.{Standing}
+use Rattle.gateway.specs.Standing.{Standing}
 
 abbrev pub standing : Inside → Standing
 standing s = record {

@@ -1,10 +1,10 @@
 -- What the code's judgement of a frame stands for.
-use Rattle.std.specs.Prelude.{◌≡◌, ℕ, ◌<◌, List, Option, Some, ⊤}
+use Rattle.std.specs.Prelude.{◌≡◌, ℕ, ◌<◌, List, Option, Some, ⊤, Bool, false, [], ◌∷◌}
 use Rattle.gateway.specs.declared.hearing.Judged.{Judged}
 use Rattle.gateway.specs.declared.hearing.Judged.TheVariants as judged
-use Rattle.fix_frame.specs.Grammar.{IsField}
+use Rattle.fix_frame.specs.Grammar.{IsField, Field}
 use Rattle.fix_orders.specs.Text.{field}
-use Rattle.gateway.specs.Verdict.{Verdict, Welcome, Beat, Hold, Pass, Leave, Refuse}
+use Rattle.gateway.specs.Verdict.{Verdict, Welcome, Beat, Hold, Pass, Leave, Refuse, is_field}
 
 abbrev pub verdict_of : Judged → Verdict
 verdict_of judged.Welcome = Welcome
@@ -49,3 +49,8 @@ CanEcho judged.Pass = ⊤
 CanEcho judged.Leave = ⊤
 CanEcho judged.Hold = ⊤
 CanEcho (judged.Refuse refusal) = ⊤
+
+-- this field stands first
+abbrev pub begins_with : ℕ → List ℕ → List Field → Bool
+begins_with tag value [] = false
+begins_with tag value (f ∷ fields) = is_field tag value f
