@@ -4,8 +4,8 @@ ghost use Rattle.std.specs.Prelude.{◌≡◌, ◌≤◌, ◌-◌, ◌<◌, ◌�
 ghost use Rattle.wires.specs.Flushing.{Flushes};
 ghost use Rattle.wires.specs.Gatherings.{ReadsAhead, HandsOut, SendsSome, Gathers, IfGot, IfPut};
 
-use crate::wire::{TryRead, TryWrite, Wire};
 use crate::flushed::Flushed;
+use crate::wire::{TryRead, TryWrite, Wire};
 use std::alloc::{AllocError, Global};
 use std::marker::Model;
 

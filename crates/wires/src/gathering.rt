@@ -8,8 +8,8 @@ ghost use Rattle.wires.specs.declared.buffers.TheConstants.{GATHERED};
 
 use crate::buffers::{Ahead, Waiting};
 use crate::counts::Counts;
-use crate::wire::{TryRead, TryWrite, Wire};
 use crate::flushed::Flushed;
+use crate::wire::{TryRead, TryWrite, Wire};
 use std::alloc::{AllocFailed, Global};
 
 /// A wire in front of another one. A read hands out what was read ahead, and the wire below is read only where that is

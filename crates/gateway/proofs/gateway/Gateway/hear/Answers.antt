@@ -19,7 +19,7 @@ returns-then-eq-clause-hears g c =
     let old = c.args.self.now in
     let read = c.read-read.new.self in
     let free = sym (ap (λ (a : AtRings). a.front.session.held) c.self.view_is)
-        ∙ is_free c.self.inside.session.held (sym c.is_holding.ensures ∙ c.if-is_holding.false) in
+    ∙ is_free c.self.inside.session.held (sym c.is_holding.ensures ∙ c.if-is_holding.false) in
     let why : (c.read-read.result ≡ Failed) ⊎ (read.front.waiting ≡ []) =
     elim c.then-eq.branch [
       | then-eq-via-then-eq w ↦ inl (search rules)
@@ -39,7 +39,7 @@ returns-clause-hears g c =
     let mid = at_rings c.self-2.inside in
     let new = at_rings (record c.self-2.inside { session = c.feed-fed.new.self; waiting = c.skip.new.self }) in
     let free = sym (ap (λ (a : AtRings). a.front.session.held) c.self.view_is)
-        ∙ is_free c.self.inside.session.held (sym c.is_holding.ensures ∙ c.if-is_holding.false) in
+    ∙ is_free c.self.inside.session.held (sym c.is_holding.ensures ∙ c.if-is_holding.false) in
     let reads = subst (λ (m : AtRings). Reads old.front m.front (tells c.args.wire.now) (tells c.read-read.new.wire) c.read-read.result)
     (sym c.self-2.view_is) c.read-read.ensures.reads in
     let seat : mid.seat ≡ old.seat = ap (λ (a : AtRings). a.seat) c.self-2.view_is ∙ c.read-read.ensures.seat in
