@@ -11,7 +11,8 @@ bytes-preserved g c =
     let old = c.args.session.now in
     let mid = c.bytes.session in
     let rest = ap (λ (s : Standing). s.outgoing) c.sent.ensures in
-    let more = flushed-more old.outgoing so_far.0 mid.outgoing c.unsent-in-bytes.result.now c.sent.new.self.outgoing c.in-Put.count
+    let more = flushed-more old.outgoing so_far.0 mid.outgoing c.unsent-in-bytes.result.now c.sent.new.self.outgoing
+    c.in-Put.count
     (tells c.args.wire.now) (tells c.bytes.wire) (tells c.try_write.new.self)
     so_far.1 so_far.2 c.unsent-in-bytes.ensures c.in-Put.ensures.2 rest in (
       more.0,

@@ -14,7 +14,8 @@ returns-in-Mine-clause-hands_on g c =
     let carries = took.1 in
     let old = front c.self.inside in
     let new = front (record c.self.inside { session = c.say.new.self }) in
-    let is_open = is_free c.self.inside.session.closing (ap is_some (sym c.closing.ensures.value) ∙ sym c.is_some.ensures ∙ c.if-is_some.false) in
+    let is_open = is_free c.self.inside.session.closing
+    (ap is_some (sym c.closing.ensures.value) ∙ sym c.is_some.ensures ∙ c.if-is_some.false) in
     let said = c.say.ensures.new took.0 (record {
       kind = carries.type ∙ sym c.type_text.ensures.value;
       time_is = carries.time;
@@ -22,7 +23,8 @@ returns-in-Mine-clause-hands_on g c =
       fields = carries.fields;
     }) in
     subst (λ (a : AtRings). HandsOn a.front new (ledger a.seat) (ledger c.take.new.seat) true) c.self.view_is
-    (hands-said old new (ledger c.self.inside.seat) (ledger c.take.new.seat) took.0 took.3 (cc) is_open said refl took.2 took.4)
+    (hands-said old new (ledger c.self.inside.seat) (ledger c.take.new.seat) took.0 took.3 (cc) is_open said refl
+    took.2 took.4)
 
 pub say-requires-clause-fields : goal.say-requires-clause-fields
 say-requires-clause-fields g c =

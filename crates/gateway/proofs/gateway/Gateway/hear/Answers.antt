@@ -26,7 +26,8 @@ returns-then-eq-clause-hears g c =
       | then-eq-via-else-eq+then-is_empty w ↦
           inr (sym (ap (λ (a : AtRings). a.front.waiting) c.self-2.view_is) ∙ w.is_empty.ensures.0 w.if-is_empty.true)
     ] in
-    subst (λ (s : At Symbols). Hears (around n old (tells c.args.wire.now)) (world read.front (tells c.read-read.new.wire) (ledger_of n s)) c.read-read.result)
+    subst (λ (s : At Symbols). Hears (around n old (tells c.args.wire.now))
+    (world read.front (tells c.read-read.new.wire) (ledger_of n s)) c.read-read.result)
     (sym c.read-read.ensures.seat)
     (read-hears old.front read.front (tells c.args.wire.now) (tells c.read-read.new.wire) (ledger_of n old.seat)
     c.requires.open free c.requires.silent c.read-read.result c.read-read.ensures.reads why)
@@ -40,11 +41,14 @@ returns-clause-hears g c =
     let new = at_rings (record c.self-2.inside { session = c.feed-fed.new.self; waiting = c.skip.new.self }) in
     let free = sym (ap (λ (a : AtRings). a.front.session.held) c.self.view_is)
     ∙ is_free c.self.inside.session.held (sym c.is_holding.ensures ∙ c.if-is_holding.false) in
-    let reads = subst (λ (m : AtRings). Reads old.front m.front (tells c.args.wire.now) (tells c.read-read.new.wire) c.read-read.result)
+    let reads = subst (λ (m : AtRings). Reads old.front m.front (tells c.args.wire.now) (tells c.read-read.new.wire)
+    c.read-read.result)
     (sym c.self-2.view_is) c.read-read.ensures.reads in
     let seat : mid.seat ≡ old.seat = ap (λ (a : AtRings). a.seat) c.self-2.view_is ∙ c.read-read.ensures.seat in
-    subst (λ (s : At Symbols). Hears (around n old (tells c.args.wire.now)) (world new.front (tells c.read-read.new.wire) (ledger_of n s)) Something) (sym seat)
+    subst (λ (s : At Symbols). Hears (around n old (tells c.args.wire.now))
+    (world new.front (tells c.read-read.new.wire) (ledger_of n s)) Something) (sym seat)
     (fed-hears old.front mid.front (tells c.args.wire.now) (tells c.read-read.new.wire) (ledger_of n old.seat)
     c.requires.open free c.requires.silent c.read-read.result reads
     (λ is_failed. true≢false (sym (rw is_failed at c.eq.ensures) ∙ c.if-eq.false))
-    c.as_slice.result.now new.front c.feed-fed.result c.as_slice.ensures c.feed-fed.ensures.hears refl c.skip.ensures c.feed-fed.ensures.room)
+    c.as_slice.result.now new.front c.feed-fed.result c.as_slice.ensures c.feed-fed.ensures.hears refl c.skip.ensures
+    c.feed-fed.ensures.room)

@@ -11,7 +11,8 @@ returns-in-Passed-clause-idles g c =
     let ledger = ledger_of g.row.N in
     let old = front c.self.inside in
     subst (λ (a : AtRings). PassesOver a.front old (ledger a.seat) (ledger c.take-next.new.seat) true) c.self.view_is
-    (passes-other old (ledger c.self.inside.seat) (ledger c.take-next.new.seat) c.in-Passed.ensures.tells.1 c.in-Passed.ensures.tells.2)
+    (passes-other old (ledger c.self.inside.seat) (ledger c.take-next.new.seat) c.in-Passed.ensures.tells.1
+    c.in-Passed.ensures.tells.2)
 
 pub returns-in-Nothing-clause-idles : goal.returns-in-Nothing-clause-idles
 returns-in-Nothing-clause-idles g c =

@@ -22,10 +22,12 @@ returns-in-Failed-clause-turn g c =
     let behind = tells c.flush-flushed.new.wire in
     subst (λ (a : AtRings). Proceeds n a c.over.new.self before behind c.over.result) c.self.view_is
     (subst (λ (a : AtRings). Proceeds n old a before behind c.over.result) (sym c.over.ensures.gone)
-    (subst (λ (t : Turned). Proceeds n old (record old { front = record old.front { session = session; live = false } }) before behind t)
+    (subst (λ (t : Turned). Proceeds n old
+    (record old { front = record old.front { session = session; live = false } }) before behind t)
     (sym c.over.ensures.says)
     (proceeds n old _ before behind _
-    (turn-failed old.front session before behind (ledger_of n old.seat) c.flush-flushed.ensures.others c.in-Failed.ensures.bytes))))
+    (turn-failed old.front session before behind (ledger_of n old.seat) c.flush-flushed.ensures.others
+    c.in-Failed.ensures.bytes))))
 
 pub returns-in-Full-clause-turn : goal.returns-in-Full-clause-turn
 returns-in-Full-clause-turn g c =
@@ -37,7 +39,8 @@ returns-in-Full-clause-turn g c =
     let live = ap (λ (a : AtRings). a.front.live) c.self.view_is ∙ c.requires.live in
     subst (λ (a : AtRings). Proceeds n a c.stuck.new.self before behind c.stuck.result) c.self.view_is
     (proceeds n old c.stuck.new.self before behind c.stuck.result
-    (subst (λ (s : At Symbols). Turn (around n old before) (world c.stuck.new.self.front behind (ledger_of n s)) c.stuck.result) (sym c.stuck.ensures.seat)
+    (subst (λ (s : At Symbols). Turn (around n old before) (world c.stuck.new.self.front behind (ledger_of n s))
+    c.stuck.result) (sym c.stuck.ensures.seat)
     (turn-stuck old.front c.flush-flushed.new.session c.stuck.new.self.front before behind (ledger_of n old.seat)
     _ c.stuck.result c.flush-flushed.ensures.others live c.in-Full.ensures.bytes (search rules) c.stuck.ensures.stuck)))
 
@@ -51,7 +54,8 @@ returns-in-Some-clause-turn g c =
     let behind = tells c.flush-flushed.new.wire in
     subst (λ (a : AtRings). Proceeds n a c.over-in-Some.new.self before behind c.over-in-Some.result) c.self.view_is
     (subst (λ (a : AtRings). Proceeds n old a before behind c.over-in-Some.result) (sym c.over-in-Some.ensures.gone)
-    (subst (λ (t : Turned). Proceeds n old (record old { front = record old.front { session = session; deaf = 0; live = false } }) before behind t)
+    (subst (λ (t : Turned). Proceeds n old
+    (record old { front = record old.front { session = session; deaf = 0; live = false } }) before behind t)
     (sym c.over-in-Some.ensures.says)
     (proceeds n old _ before behind _
     (turn-closed old.front session before behind (ledger_of n old.seat) c.in-Some.reason
@@ -69,10 +73,13 @@ returns-then-eq-clause-turn g c =
     let bytes = c.in-All.ensures.bytes in
     subst (λ (a : AtRings). Proceeds n a c.over-then-eq.new.self before behind c.over-then-eq.result) c.self.view_is
     (subst (λ (a : AtRings). Proceeds n old a before behind c.over-then-eq.result) (sym c.over-then-eq.ensures.gone)
-    (subst (λ (t : Turned). Proceeds n old (record heard { front = record heard.front { live = false } }) before behind t) (sym c.over-then-eq.ensures.says)
+    (subst (λ (t : Turned). Proceeds n old (record heard { front = record heard.front { live = false } }) before
+    behind t) (sym c.over-then-eq.ensures.says)
     (proceeds n old _ before behind _
-    (turn-unheard old.front heard.front c.flush-flushed.new.session before flushed behind (ledger_of n old.seat) (ledger_of n heard.seat)
-    bytes.0 c.hear-heard.result bytes.1 c.flush-flushed.ensures.others bytes.2.0 bytes.2.1 c.hear-heard.ensures.hears (search rules)))))
+    (turn-unheard old.front heard.front c.flush-flushed.new.session before flushed behind (ledger_of n old.seat)
+    (ledger_of n heard.seat)
+    bytes.0 c.hear-heard.result bytes.1 c.flush-flushed.ensures.others bytes.2.0 bytes.2.1 c.hear-heard.ensures.hears
+    (search rules)))))
 
 pub returns-clause-turn : goal.returns-clause-turn
 returns-clause-turn g c =
@@ -88,11 +95,15 @@ returns-clause-turn g c =
     let live = ap (λ (a : AtRings). a.front.live) c.self.view_is ∙ c.requires.live in
     subst (λ (a : AtRings). Proceeds n a c.rest.new.self before behind c.rest.result) c.self.view_is
     (proceeds n old c.rest.new.self before behind c.rest.result
-    (subst (λ (s : At Symbols). Turn (around n old before) (world c.rest.new.self.front behind (ledger_of n s)) c.rest.result) (sym c.rest.ensures.seat)
-    (turn-rested old.front heard.front c.flush-flushed.new.session before flushed behind (ledger_of n old.seat) (ledger_of n heard.seat)
+    (subst (λ (s : At Symbols). Turn (around n old before) (world c.rest.new.self.front behind (ledger_of n s))
+    c.rest.result) (sym c.rest.ensures.seat)
+    (turn-rested old.front heard.front c.flush-flushed.new.session before flushed behind (ledger_of n old.seat)
+    (ledger_of n heard.seat)
     bytes.0 c.hear-heard.result bytes.1 c.flush-flushed.ensures.others bytes.2.0 bytes.2.1 c.hear-heard.ensures.hears
-    (ledger_of n handed.seat) handed.front c.hand_on-took.result c.hand_on-took.ensures.hands_on c.rest.new.self.front _ c.rest.result
-    (search rules) (λ is_failed. true≢false (sym (rw is_failed at c.eq.ensures) ∙ c.if-eq.false)) live (search rules) c.rest.ensures.rests)))
+    (ledger_of n handed.seat) handed.front c.hand_on-took.result c.hand_on-took.ensures.hands_on c.rest.new.self.front
+    _ c.rest.result
+    (search rules) (λ is_failed. true≢false (sym (rw is_failed at c.eq.ensures) ∙ c.if-eq.false)) live (search rules)
+    c.rest.ensures.rests)))
 
 pub returns-in-Failed-clause-uses : goal.returns-in-Failed-clause-uses
 returns-in-Failed-clause-uses g c =
@@ -101,7 +112,8 @@ returns-in-Failed-clause-uses g c =
 
 pub returns-in-Full-clause-uses : goal.returns-in-Full-clause-uses
 returns-in-Full-clause-uses g c =
-    unused g.row.N c.args.self.now.seat c.stuck.new.self.seat (c.stuck.ensures.seat ∙ ap (λ (a : AtRings). a.seat) c.self.view_is)
+    unused g.row.N c.args.self.now.seat c.stuck.new.self.seat
+    (c.stuck.ensures.seat ∙ ap (λ (a : AtRings). a.seat) c.self.view_is)
 
 pub returns-in-Some-clause-uses : goal.returns-in-Some-clause-uses
 returns-in-Some-clause-uses g c =
@@ -112,11 +124,13 @@ pub returns-then-eq-clause-uses : goal.returns-then-eq-clause-uses
 returns-then-eq-clause-uses g c =
     let heard = c.hear-heard.new.self.seat in
     subst (λ (a : AtRings). Uses g.row.N a.seat c.over-then-eq.new.self.seat) c.self.view_is
-    (used g.row.N c.self.inside.seat heard heard c.over-then-eq.new.self.seat c.hear-heard.ensures.stays c.hear-heard.ensures.enters
+    (used g.row.N c.self.inside.seat heard heard c.over-then-eq.new.self.seat c.hear-heard.ensures.stays
+    c.hear-heard.ensures.enters
     (seat_still heard) (inl refl) (ap (λ (a : AtRings). a.seat) c.over-then-eq.ensures.gone))
 
 pub returns-clause-uses : goal.returns-clause-uses
 returns-clause-uses g c =
     subst (λ (a : AtRings). Uses g.row.N a.seat c.rest.new.self.seat) c.self.view_is
     (used g.row.N c.self.inside.seat c.hear-heard.new.self.seat c.hand_on-took.new.self.seat c.rest.new.self.seat
-    c.hear-heard.ensures.stays c.hear-heard.ensures.enters c.hand_on-took.ensures.stays c.hand_on-took.ensures.looks c.rest.ensures.seat)
+    c.hear-heard.ensures.stays c.hear-heard.ensures.enters c.hand_on-took.ensures.stays c.hand_on-took.ensures.looks
+    c.rest.ensures.seat)
