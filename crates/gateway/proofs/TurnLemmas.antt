@@ -18,7 +18,7 @@ use Rattle.gateway.specs.Ledgers.{Ledger, loading}
 use Rattle.wires.specs.Flushing.{Flushes}
 use Rattle.gateway.specs.Standing.{Standing}
 use Rattle.gateway.specs.SessionFields.{ClosesItself}
-use Rattle.gateway.specs.Turns.{World, place, world, Front, Moved, nothing_moved, Step, Takes, WasRefused, WasExhausted, FoundNone, ClosesBy, Silence, Hearing, IsQuiet, GoesOn, EndedBy, Means, CountsTurns, Attends, Turn, Counts, GoesWith}
+use Rattle.gateway.specs.Turns.{World, place, world, Front, Moved, nothing_moved, Step, Takes, WasRefused, WasExhausted, FoundNone, ClosesBy, Silence, Hearing, IsQuiet, GoesOn, EndedBy, Means, CountsTurns, Attends, Turn}
 use Rattle.gateway.specs.TurnParts.{Hears, HeardSo, HandsOn, TookSo, Waits, Rests, RestsSo, Stuck, StuckSo}
 use Rattle.gateway.proofs.StepLemmas.{both, step-then, flush-step}
 use Rattle.wires.specs.WireLaws.{grown-nil}
@@ -255,24 +255,6 @@ later-refused desk desk' desk'' more grown (ls, why, rest, loads) =
 later-exhausted : (desk desk' desk'' : Ledger) (more : List Load) → desk''.loads ≡ desk'.loads ++ more → WasExhausted desk desk' → WasExhausted desk desk''
 later-exhausted desk desk' desk'' more grown (ls, why, rest, loads) =
     (ls, why, rest ++ more, grown ∙ ap (λ x. x ++ more) loads ∙ append_assoc desk.loads (ls ++ rest) more ∙ ap (λ x. desk.loads ++ x) (append_assoc ls rest more))
-
--- a session that goes with its seat does so behind what it heard
-pub mate-heard : (old new : World) (answer : Heard) → Hears old new answer → GoesWith old.front.session old.front.passed old.desk.count →
-    GoesWith new.front.session new.front.passed new.desk.count
-mate-heard old new answer hears mate =
-    let same : new.desk.count ≡ old.desk.count = ap (λ (l : Ledger). l.count) hears.ledger in
-    let passed : new.front.passed ≡ old.front.passed = ap (λ (f : Front). f.passed) hears.others in
-    record {
-      number = subst (λ n. Counts new.front.session n) (sym same) (hears.counts old.desk.count mate.number);
-      passed_over = omega (arith, mate.passed_over);
-      few = omega (arith, mate.few);
-    }
-
--- and behind an output that was looked for
-pub mate-handed : (old new : Front) (desk desk' : Ledger) (took : Bool) → HandsOn old new desk desk' took → GoesWith old.session old.passed desk.count →
-    GoesWith new.session new.passed desk'.count
-mate-handed old new desk desk' took hands mate =
-    record { number = hands.counts mate.number; passed_over = hands.passed_over mate.passed_over; few = hands.few mate.few }
 
 -- the held message is that of before the flush
 module _ (old h : Front) (session : Standing) (wire wire' wire'' : Told) (desk desk' : Ledger) (put : List ℕ) (answer : Heard)

@@ -5,10 +5,9 @@ use Rattle.venue_model.specs.Requests.{Symbols}
 use Rattle.gateway.specs.declared.gateway.Heard.TheVariants.{Failed, Something}
 use Rattle.gateway.specs.Gateways.{AtRings, at_rings, around}
 use Rattle.gateway.specs.Seats.{ledger_of}
-use Rattle.gateway.specs.Turns.{world, GoesWith}
+use Rattle.gateway.specs.Turns.{world}
 use Rattle.gateway.specs.TurnParts.{Hears, Reads}
 use Rattle.gateway.proofs.HearLemmas.{read-hears, fed-hears, is_free}
-use Rattle.gateway.proofs.TurnLemmas.{mate-heard}
 use Rattle.gateway.proofs.gateway.Gateway.hear.Goals as goal
 use Rattle.gateway.proofs.gateway.Gateway.hear.Goals.{then-eq-via-then-eq, then-eq-via-else-eq+then-is_empty}
 

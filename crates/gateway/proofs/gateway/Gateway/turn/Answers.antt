@@ -1,5 +1,5 @@
 -- A turn is its parts, one behind the other.
-use Rattle.std.proofs.Common.{ap, refl, inl, sym, ◌∙◌, subst, false, true≢false, rules, nat_lt, length}
+use Rattle.std.proofs.Common.{ap, refl, inl, sym, ◌∙◌, subst, false, true≢false, rules}
 use Rattle.ring_words.specs.At.{At}
 use Rattle.venue_model.specs.Requests.{Symbols}
 use Rattle.gateway.specs.declared.ending.Turned.{Turned}
