@@ -4,13 +4,15 @@ ghost use Rattle.std.specs.Prelude.{◌≡◌, ◌≢◌, ◌≤◌, ◌<◌, �
 
 use crate::ending::{Reason, Turned};
 use crate::flushing::flush;
-use crate::seat::{TryPublish, take, try_publish, type_text};
+use crate::seat::{TryPublish, take, try_publish};
 use crate::session::Session;
 use book::BookLogic;
+use fix_orders::msg_type_code;
 use ring_words::{GatewaySeat, Rings};
 use sequencer::Take;
 use std::alloc::{AllocError, Global};
 use std::marker::Model;
+use venue_model::LONGEST_MESSAGE;
 use wires::{Flushed, Input, TryRead, Wire};
 
 /// After so many turns in a row in which the wire took no byte of those that stood to be written a session is over.
@@ -31,7 +33,7 @@ pub struct Gateway {
     idle: u32,
     passed: u64,
     live: bool,
-    body: [u8; 320],
+    body: [u8; LONGEST_MESSAGE],
 }
 
 impl Model for Gateway {
@@ -85,7 +87,7 @@ impl Gateway {
                 idle: 0,
                 passed: 0,
                 live: false,
-                body: [0; 320],
+                body: [0; LONGEST_MESSAGE],
             }),
             Err(refused) => Err((refused, seat)),
         }
@@ -264,7 +266,7 @@ impl Gateway {
             Take::Mine(head) if self.session.is_logged_on() => {
                 let body = &self.body[..head.len];
                 self.session
-                    .say(type_text(head.msg_type), head.sending_time, body);
+                    .say(msg_type_code(head.msg_type), head.sending_time, body);
                 true
             }
             Take::Mine(_) => {

@@ -17,7 +17,7 @@ returns-in-Mine-clause-hands_on g c =
     let is_open = is_free c.self.inside.session.closing
     (ap is_some (sym c.closing.ensures.value) ∙ sym c.is_some.ensures ∙ c.if-is_some.false) in
     let said = c.say.ensures.new took.0 (record {
-      kind = carries.type ∙ sym c.type_text.ensures.value;
+      kind = carries.type ∙ sym c.msg_type_code.ensures.value;
       time_is = carries.time;
       body_is = carries.bytes;
       fields = carries.fields;
