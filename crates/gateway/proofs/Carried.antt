@@ -16,8 +16,8 @@ use Rattle.venue_model.specs.declared.outputs.Output.{Output}
 use Rattle.venue_model.specs.declared.outputs.Report.{Report}
 use Rattle.venue_model.specs.declared.outputs.Report.TheVariants.{Exec, CancelReject, SessionReject}
 use Rattle.venue_model.specs.Spelling.{IsSpelling}
-use Rattle.sequencer.specs.declared.take.Head.{Head}
-use Rattle.sequencer.specs.Outputs as outputs
+use Rattle.barrier.specs.declared.taking.Head.{Head}
+use Rattle.barrier.specs.Taking as taking
 use Rattle.gateway.specs.Ledgers.{Carries, type_text}
 use Rattle.gateway.proofs.OutputSymbols.{TellsSpelled}
 
@@ -138,7 +138,7 @@ same_kind (CancelReject r) = refl
 same_kind (SessionReject fault) = refl
 
 -- head and body say the output
-pub carried : (head : Head) (body : List ℕ) (o : Output) (place : ℕ) → TellsSpelled o.report → outputs.Carries head body (text_bytes o place)
+pub carried : (head : Head) (body : List ℕ) (o : Output) (place : ℕ) → TellsSpelled o.report → taking.Carries head body (text_bytes o place)
     → Carries head body (text o place)
 carried head body o place spelled read = record {
   type = same_kind o.report ∙ ap type_text (sym read.head_is.msg_type);

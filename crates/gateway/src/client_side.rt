@@ -9,9 +9,9 @@ use crate::input::Input;
 use crate::seat::{TryPublish, take, try_publish};
 use crate::session::Session;
 use crate::wire::{TryRead, Wire};
+use barrier::Take;
 use book::BookLogic;
 use ring_words::{GatewaySeat, Rings};
-use sequencer::Take;
 use std::alloc::{AllocError, Global};
 use std::marker::Model;
 

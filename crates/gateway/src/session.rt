@@ -12,9 +12,9 @@ use crate::outgoing::Outgoing;
 use crate::refusal::Refusal;
 use crate::seat::{TryPublish, type_text};
 use crate::wire::Wire;
+use barrier::Head;
 use fix_frame::Framer;
 use fix_orders::put_field;
-use sequencer::Head;
 use std::alloc::{AllocError, Global};
 use std::marker::Model;
 
