@@ -63,7 +63,7 @@ module _ (c : Cause) (i : Order) (orders : List Order) (rising : Rising orders) 
 
 -- ONE COMMAND
 
-found-holds : (P : Order → Type 0) (p : Order → Bool) (xs : List Order) → AllByRecursion P xs → MatchOption (find p xs) ⊤ P
+pub found-holds : (P : Order → Type 0) (p : Order → Bool) (xs : List Order) → AllByRecursion P xs → MatchOption (find p xs) ⊤ P
 found-holds P p [] all = tt
 found-holds P p (x ∷ xs) all = elim (p x) as (λ b. MatchOption (if b then Some x else find p xs) ⊤ P) [ true ↦ all.0 | false ↦ found-holds P p xs all.1 ]
 

@@ -23,6 +23,7 @@ mod LawOrderly
 mod LawTotals
 mod LawTraded
 pub mod LawStamps
+pub mod LawTexts
 mod GroupLemmas
 mod NextLemmas
 mod ListingLemmas

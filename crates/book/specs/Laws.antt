@@ -2,6 +2,8 @@
 use Rattle.std.specs.Prelude.{◌≡◌, ◌⊎◌, ⊤, ℕ, ◌-◌, ◌*◌, ◌<◌, ◌≤◌, true, false, List, [], ◌∷◌, length, slice_index, MatchOption, sum_by, ◌&&◌, if◌then◌else◌}
 use Rattle.std.specs.List.{AllByRecursion, Contains}
 use Rattle.std.specs.Str.{bytes_eq}
+use Rattle.fix_frame.specs.Grammar.{IsField}
+use Rattle.fix_orders.specs.Text.{text}
 use Rattle.venue_model.specs.declared.orders.Side.{Side}
 use Rattle.venue_model.specs.declared.orders.Side.TheVariants.{Buy, Sell}
 use Rattle.venue_model.specs.declared.orders.Order.{Order}
@@ -138,3 +140,7 @@ pub record IsAheadOf (orders : List Order) (first second : Order) : Type 0 where
   pub symbol : first.symbol ≡ second.symbol
   pub side : first.side ≡ second.side
   pub leads : ahead first second ≡ true
+
+-- what an output says is fields, at whatever place it stands
+abbrev pub TellsFields : Output → Type 0
+TellsFields o = (place : ℕ) → AllByRecursion IsField (text o place).body

@@ -14,7 +14,7 @@ ghost use Rattle.venue_model.specs.Match.{crossing, fill, settled, done, filled_
 ghost use Rattle.venue_model.specs.Requests.{Symbols, State};
 ghost use Rattle.venue_model.specs.Step.{Request, step, state, outputs_from, outputs, requests};
 ghost use Rattle.book.specs.Standing.{Rising, Below};
-ghost use Rattle.book.specs.Laws.{AreCrossed, GoesFirst, IsAheadOf, KeepsLimit, KeepsPrice, KeepsTotal, IsFromGateway, Pairwise, IsOrderly, IsUncrossed, quantity_traded, money_traded};
+ghost use Rattle.book.specs.Laws.{AreCrossed, GoesFirst, IsAheadOf, KeepsLimit, KeepsPrice, KeepsTotal, IsFromGateway, Pairwise, IsOrderly, IsUncrossed, TellsFields, quantity_traded, money_traded};
 
 /// What was told stays told: a history's outputs begin with the outputs of each of its beginnings, and each command
 /// adds its own behind them. Its step begins at the state that those before it have left.
@@ -132,4 +132,10 @@ pub fn stamps_are_sequences()
     ensures commands { (symbols : Symbols) (rs : List Request) → Below (length rs) (state symbols rs).orders }
     ensures history { (symbols : Symbols) (h : History) →
         Below (length h) (state symbols (requests (λ sequence m. reads m.bytes) h)).orders }
+{}
+
+/// Each output's text is fields, whatever messages the history has: so who takes an output can write it as a frame.
+pub fn every_text_is_fields()
+    ensures { (symbols : Symbols) (h : History) →
+        AllByRecursion TellsFields (outputs symbols (requests (λ sequence m. reads m.bytes) h)) }
 {}

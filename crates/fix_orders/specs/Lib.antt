@@ -11,5 +11,6 @@ pub mod Writing
 pub mod WritingLaws
 pub mod ExactLaws
 pub mod BodyLaws
+pub mod TextLaws
 pub mod FaultLaws
 pub mod RangeLaws

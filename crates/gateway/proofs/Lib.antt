@@ -18,7 +18,6 @@ pub mod NameLemmas
 pub mod FrameBytes
 pub mod HeaderLemmas
 pub mod HearingLemmas
-pub mod OutputSymbols
 pub mod Carried
 pub mod TakenLemmas
 pub mod SeatLemmas

@@ -5,6 +5,7 @@ use Rattle.venue_model.specs.History.{Message}
 use Rattle.venue_model.specs.Requests.{Symbols}
 use Rattle.venue_model.specs.declared.outputs.Output.{Output}
 use Rattle.book.specs.Histories.{outputs_of}
+use Rattle.book.proofs.LawTexts.{tells-fields}
 use Rattle.ring_words.specs.At.{Opened, At, IsAt, Steps, seated, number}
 use Rattle.ring_words.specs.declared.view.Load.{Load}
 use Rattle.ring_words.specs.declared.view.Person.{Person}
@@ -16,7 +17,6 @@ use Rattle.barrier.specs.declared.taking.Take.TheVariants.{Mine, Passed, Nothing
 use Rattle.gateway.specs.Ledgers.{loading, TakeTells}
 use Rattle.gateway.specs.Seats.{symbols_of, given, HasSeen, messages_of, taken_by, ledger_of, TakesOne, Looks, StaysSeated, Uses}
 use Rattle.gateway.proofs.Carried.{carried}
-use Rattle.gateway.proofs.OutputSymbols.{tells_spelled}
 use Rattle.gateway.proofs.TakenLemmas.{taken_mine, taken_other, still_within, still_small}
 
 -- a holder who has seen and taken as much, and has no claim left, knows as much
@@ -62,7 +62,7 @@ module _ (rings : Opened Symbols) (s t : At Symbols) (at : IsAt rings s) (step :
       → (take ≢ Nothing → Takes rings s t take body) → Looks s t body take
   looks_so (Mine head) body nothing taken =
       let o = one (Mine head) body (taken (λ is. cc)) in
-      (o.0, o.1, o.2.0, carried head body o.0 s.who.own (tells_spelled (symbols_of s) o.1.history s.who.own o.0 o.1.next) o.2.1)
+      (o.0, o.1, o.2.0, carried head body o.0 s.who.own (tells-fields (symbols_of s) o.1.history s.who.own o.0 o.1.next) o.2.1)
   looks_so Passed body nothing taken = let o = one Passed body (taken (λ is. cc)) in (o.0, o.1, o.2)
   looks_so Nothing body nothing taken = step ∙ ap (seated s) (nothing refl)
 
