@@ -1,1 +1,2 @@
 pub mod Packings
+mod Examples

@@ -10,12 +10,7 @@ use Rattle.std.proofs.lemmas.Bool.Decides.{nat_tests}
 use Rattle.std.proofs.lemmas.Grind.{common_steps}
 use mir.Syntax.{w64}
 use Rattle.venue_model.specs.Spelling.{IsSpelling, is_symbol_byte, padded}
-use Rattle.venue_model.specs.declared.commands.Command.TheVariants.{New, Malformed}
-use Rattle.venue_model.specs.declared.commands.TimeInForce.TheVariants.{FillOrKill}
-use Rattle.venue_model.specs.declared.commands.SessionRejectReason.TheVariants.{TagAppearsMoreThanOnce}
-use Rattle.venue_model.specs.declared.commands.RefMsgType.TheVariants.{OrderCancelReplaceRequest}
-use Rattle.venue_model.specs.declared.orders.Side.TheVariants.{Sell}
-use Rattle.command_words.specs.Packing.{symbol_word, command_words}
+use Rattle.command_words.specs.Packing.{symbol_word}
 
 -- a byte of a symbol
 symbol_byte : (b : ℕ) → IsTrue (is_symbol_byte b) → (0 < b) × (b < 256)
@@ -73,26 +68,3 @@ pub symbol_back : (word : ℕ) (name bytes : List ℕ) (n : ℕ) (r : Option (Li
 symbol_back word name bytes n r spelling is be count new =
     let shown : take n bytes ≡ name = rw count (name_back name bytes spelling (be ∙ bytes_back word name spelling is)) in
     made r name spelling (rw shown at new)
-
--- two commands, by the table of the layout
-
-new_example : command_words 3 (New 20240102030405 (record {
-  cl_ord_id = 7;
-  symbol = 65 ∷ 66 ∷ [];
-  side = Sell;
-  price = 12;
-  quantity = 100;
-  time_in_force = FillOrKill;
-}))
-    ≡ 12885004953 ∷ 20240102030405 ∷ 7 ∷ 4702320960928219136 ∷ []
-unfolding symbol_word
-new_example = refl
-
-malformed_example : command_words 8 (Malformed 20240102030405 (record {
-  reason = TagAppearsMoreThanOnce;
-  tag = 99999;
-  ref_seq = 6;
-  ref_type = OrderCancelReplaceRequest;
-}))
-    ≡ 409598532 ∷ 20240102030405 ∷ 6 ∷ []
-malformed_example = refl

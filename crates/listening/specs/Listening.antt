@@ -3,7 +3,7 @@ use Rattle.std.specs.Prelude.{◌≡◌, ◌⊎◌, ℕ, Bool, true, false, List
 use Rattle.venue_model.specs.Requests.{Symbols}
 use Rattle.ring_words.specs.At.{Opened, At}
 use Rattle.ring_words.specs.declared.close.Summary.{Summary}
-use Rattle.journal.specs.Disk.{OnlyRead}
+use Rattle.disks.specs.Disk.{OnlyRead}
 use Rattle.journal.specs.Journals.{IsOpened}
 use Rattle.stages.specs.Stations.{OneCrew, disk_of}
 use Rattle.stages.specs.Finishing.{Finished}

@@ -3,7 +3,7 @@ ghost use Rattle.std.specs.Prelude.{◌≡◌, ◌↔◌, ◌⊎◌, ◌+◌, �
 ghost use Rattle.std.specs.Vec.{vec_capacity};
 ghost use Rattle.std.specs.Thread.{IsSync};
 ghost use denote.Param.Send.{IsSend};
-ghost use Rattle.journal.specs.Disk.{Both};
+ghost use Rattle.disks.specs.Disk.{Both};
 ghost use Rattle.stages.specs.Stations.{disk_of};
 ghost use Rattle.stages.specs.Crews.{AreAt};
 ghost use Rattle.workers.specs.Journalling.{WorksOn};

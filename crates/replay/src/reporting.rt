@@ -2,7 +2,7 @@
 ghost use Rattle.std.specs.Prelude.{◌≡◌, ◌⊎◌, ◌≤◌, length, OnOk};
 ghost use Rattle.std.specs.Io.KnownBytes.{Appends};
 ghost use Rattle.venue_model.specs.History.{History};
-ghost use Rattle.journal.specs.Disk.{Only, OnlyRead};
+ghost use Rattle.disks.specs.Disk.{Only, OnlyRead};
 ghost use Rattle.replay.specs.Lines.{report_text, Reports};
 ghost use Rattle.replay.specs.Replays.{IsReplay};
 

@@ -5,7 +5,7 @@ use mathlib.Core.Option.{some, some-ne-none, some-injective}
 use lib.ListN.{get_elem?}
 use Rattle.venue_model.specs.History.{History, Message}
 use Rattle.venue_model.specs.Requests.{Symbols}
-use Rattle.journal.specs.Disk.{Told}
+use Rattle.disks.specs.Disk.{Told}
 use Rattle.journal.specs.Journals.{IsJournalFrom}
 use Rattle.ring_words.specs.At.{Opened}
 use Rattle.ring_words.specs.Ending.{IsBeginning, Ended, stages_of}

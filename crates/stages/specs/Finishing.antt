@@ -5,7 +5,7 @@ use lib.ListN.{get_elem?}
 use Rattle.venue_model.specs.History.{History}
 use Rattle.venue_model.specs.Requests.{Symbols}
 use Rattle.book.specs.Histories.{outputs_of}
-use Rattle.journal.specs.Disk.{Told}
+use Rattle.disks.specs.Disk.{Told}
 use Rattle.journal.specs.Format.{IsJournal}
 use Rattle.ring_words.specs.At.{Opened, At}
 use Rattle.ring_words.specs.Ending.{IsBeginning, Ended, stages_of}

@@ -7,7 +7,7 @@ use Rattle.ring_words.specs.declared.view.Person.{Person}
 use Rattle.ring_words.specs.Places.{journalled}
 use Rattle.ring_words.specs.Seats.{last_from}
 use Rattle.ring_words.specs.At.{At, seated}
-use Rattle.journal.specs.Disk.{Told}
+use Rattle.disks.specs.Disk.{Told}
 use Rattle.journal.specs.Journals.{OneJournal}
 use Rattle.book.specs.Books.{Book}
 use Rattle.book.specs.Histories.{state_of, outputs_of}

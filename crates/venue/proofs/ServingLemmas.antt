@@ -5,9 +5,9 @@ use lib.ListN.{get_elem?}
 use Rattle.venue_model.specs.Counts.{Rose}
 use Rattle.venue_model.specs.History.{History}
 use Rattle.venue_model.specs.Requests.{Symbols}
-use Rattle.journal.specs.Disk.{Told, LeavesOnly}
+use Rattle.disks.specs.Disk.{Told, LeavesOnly}
 use Rattle.journal.specs.Journals.{OneJournal, IsJournalFrom}
-use Rattle.journal.specs.MomentLaws.{started, joined, weaker}
+use Rattle.disks.specs.MomentLaws.{started, joined, weaker}
 use Rattle.ring_words.specs.At.{Opened, At, IsAt, number}
 use Rattle.ring_words.specs.Crew.{AreGateways}
 use Rattle.ring_words.specs.Ending.{AreSpent}

@@ -7,7 +7,7 @@ use Rattle.gateway.specs.Delivers.{Course, Delivers, starts}
 use Rattle.gateway.specs.Gateways.{begun}
 use Rattle.gateway.specs.Seats.{ledger_of}
 use Rattle.gateway.specs.Wires as wires
-use Rattle.journal.specs.Disk.{Told, LeavesOnly, OnlyRead}
+use Rattle.disks.specs.Disk.{Told, LeavesOnly, OnlyRead}
 use Rattle.journal.specs.Format.{IsJournal}
 use Rattle.journal.specs.Journals.{IsOpened}
 use Rattle.ring_words.specs.declared.close.Summary.{Summary}

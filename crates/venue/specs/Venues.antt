@@ -5,7 +5,7 @@ use Rattle.venue_model.specs.Requests.{Symbols}
 use Rattle.ring_words.specs.At.{Opened}
 use Rattle.gateway.specs.AtRings.{AtRings}
 use Rattle.gateway.specs.Wires.{Told}
-use Rattle.journal.specs.Disk as disk
+use Rattle.disks.specs.Disk as disk
 use Rattle.journal.specs.Format.{IsJournal}
 use Rattle.stages.specs.Stations.{OneCrew}
 

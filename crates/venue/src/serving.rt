@@ -5,7 +5,7 @@ ghost use Rattle.ring_words.specs.At.{IsAt};
 ghost use Rattle.ring_words.specs.Crew.{AreNewGateways};
 ghost use Rattle.ring_words.specs.declared.view.Role.TheVariants as roles;
 ghost use Rattle.venue_model.specs.Counts.{Rose};
-ghost use Rattle.journal.specs.Disk.{Both, LeavesOnly};
+ghost use Rattle.disks.specs.Disk.{Both, LeavesOnly};
 ghost use Rattle.stages.specs.Stations.{disk_of};
 ghost use Rattle.stages.specs.Crews.{AreAt, AreIdle};
 ghost use Rattle.stages.specs.Finishing.{Finished};

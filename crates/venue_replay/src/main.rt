@@ -5,7 +5,8 @@
 ghost use Rattle.std.specs.Prelude.{◌≡◌, ◌↔◌};
 ghost use Rattle.std.specs.IoError.{error_kind};
 
-use journal::{StandardStreams, SystemFolder};
+use disks::{StandardStreams, SystemFolder};
+use journal::JournalFault;
 use replay::{Job, ReplayFault, refuse, run};
 use std::io::{BufWriter, ErrorKind, Stderr};
 use std::process::ExitCode;
@@ -36,7 +37,7 @@ fn start(rt: &HostRuntime, job: &Job, err: &mut Stderr) -> u8 {
     };
     let _streams = match StandardStreams::hold(rt) {
         Ok(streams) => streams,
-        Err(fault) => return refuse(fault.into(), err),
+        Err(fault) => return refuse(JournalFault::from(fault).into(), err),
     };
     let Ok(mut folder) = SystemFolder::new(rt, job.journal.as_str()) else {
         return refuse(ReplayFault::Memory, err);

@@ -1,9 +1,10 @@
 -- From the file that is opened to what a crash leaves of it while the program serves.
 use Rattle.std.proofs.Common.{◌≡◌, ◌⊎◌, inl, inr, ⊎_elim, Bool, true, false, List, [], ◌++◌, ℕ, Option, Some, None, refl, sym, subst}
 use Rattle.venue_model.specs.History.{History}
-use Rattle.journal.specs.Disk.{Told}
+use Rattle.disks.specs.Disk.{Told}
 use Rattle.journal.specs.Format.{IsJournal}
-use Rattle.journal.specs.Places.{Place, IsLeft, Opens}
+use Rattle.disks.specs.Places.{Place, IsLeft}
+use Rattle.journal.specs.Openings.{Opens}
 use Rattle.venued.specs.Running.{StandsFrom, Runs}
 use Rattle.venue.specs.Serving.{LeavesFrom}
 use Rattle.venue.specs.Venues.{IsJournalBehind}

@@ -1,9 +1,9 @@
 -- What a run of the program comes to, from the folder of its journal on.
 use Rattle.std.specs.Prelude.{◌≡◌, ◌⊎◌, ℕ, ◌≤◌, true, false, List, Option}
 use Rattle.venue_model.specs.History.{History}
-use Rattle.journal.specs.Disk.{Told}
+use Rattle.disks.specs.Disk.{Told}
 use Rattle.journal.specs.Format.{IsJournal}
-use Rattle.journal.specs.Places.{Place, IsLeft}
+use Rattle.disks.specs.Places.{Place, IsLeft}
 use Rattle.venue.specs.Venues.{IsJournalBehind}
 
 -- What may stand in the file of a journal behind a run that began in this place: where there was a file, what a crash

@@ -12,8 +12,9 @@ mod words;
 
 use crate::running::{run, run_for};
 use crate::words::{Mode, Words, WordsFault, refuse};
+use disks::{StandardStreams, SystemFolder};
 use gateway::{StdWire, Wire};
-use journal::{StandardStreams, SystemFolder};
+use journal::JournalFault;
 use listening::StopFile;
 use std::fs::{File, Files};
 use std::io::{ErrorKind, Write};
@@ -59,7 +60,7 @@ fn start<
 {
     let _streams = match StandardStreams::hold(rt) {
         Ok(streams) => streams,
-        Err(fault) => return ServeFault::from(fault).say(err),
+        Err(fault) => return ServeFault::from(JournalFault::from(fault)).say(err),
     };
     let journal = words.journal.as_str();
     let Ok(mut folder) = SystemFolder::new(rt, journal) else {

@@ -2,13 +2,15 @@
 //! stands there. It is proved over any folder, wire and line; `main` gives it those of the system.
 ghost use Rattle.std.specs.Prelude.{◌≡◌, ◌≤◌, ◌+◌, true, IfNone, IfSome};
 ghost use Rattle.venue_model.specs.Counts.{Rose};
-ghost use Rattle.journal.specs.Places.{LeavesUnder, LeftOrNew};
+ghost use Rattle.disks.specs.Places.{LeavesUnder};
+ghost use Rattle.journal.specs.Openings.{LeftOrNew};
 ghost use Rattle.venued.specs.Running.{Runs};
 ghost use Rattle.venue.specs.Serving.{IsStatus};
 
 use crate::words::Words;
+use disks::{FileDisk, Folder, JournalDisk, RawFile};
 use gateway::Wire;
-use journal::{FileDisk, Folder, JournalDisk, RawFile, open_journal};
+use journal::open_journal;
 use listening::{StopSign, listen};
 use std::alloc::Global;
 use std::io::Write;

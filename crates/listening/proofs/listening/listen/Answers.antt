@@ -1,6 +1,6 @@
 -- What was opened was served from there on, by the journaller's run and the members' turns.
 use Rattle.std.proofs.Common.{◌∙◌, inr, arith, ap, subst, sym}
-use Rattle.journal.specs.MomentLaws.{weaker}
+use Rattle.disks.specs.MomentLaws.{weaker}
 use Rattle.stages.specs.Stations.{OneCrew, disk_of}
 use Rattle.venue.specs.Faults.{status_of_end}
 use Rattle.listening.specs.Listening.{end_of}

@@ -1,7 +1,7 @@
 -- The file that was opened is the one that has the name, and the report only reads it.
 use Rattle.std.proofs.Common.{sym, ◌∙◌}
-use Rattle.journal.specs.Disk.{Told, OnlyRead}
-use Rattle.journal.specs.Places.{Place, IsNamed}
+use Rattle.disks.specs.Disk.{Told, OnlyRead}
+use Rattle.disks.specs.Places.{Place, IsNamed}
 use Rattle.replay.specs.Running.{OnlyReads}
 use Rattle.replay.proofs.running.run.Goals as goal
 

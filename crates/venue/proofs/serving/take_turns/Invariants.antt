@@ -3,7 +3,7 @@
 use Rattle.std.proofs.Common.{◌≡◌, true, false}
 use Rattle.gateway.specs.Delivers.{Start, Course, Delivers}
 use Rattle.gateway.specs.Seats.{ledger_of}
-use Rattle.journal.specs.Disk.{Both, LeavesOnly}
+use Rattle.disks.specs.Disk.{Both, LeavesOnly}
 use Rattle.ring_words.specs.At.{IsAt}
 use Rattle.stages.specs.Stations.{disk_of}
 use Rattle.stages.specs.Crews.{AreAt}
