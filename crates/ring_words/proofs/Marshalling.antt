@@ -236,8 +236,10 @@ box_of d [] = d
 box_of d (x ∷ xs) = x.1
 
 -- what the box that came out of the slot holds is the output
-pub copied_output : (row j : ℕ) (b d : Boxed) (o : Output) (q : ℕ) → (j, b) ∷ [] ≡ (row, d) ∷ [] → b.value ≡ report_of o q → d.value.output ≡ o
-copied_output row j b d o q same is = ap (λ (z : Boxed). z.value.output) (sym (ap (box_of d) same)) ∙ ap (λ (f : Report). f.output) is
+pub copied_output : (row j : ℕ) (b d : Boxed) (o : Output) (q : ℕ) (out : List (ℕ × Boxed)) → out ≡ (j, b) ∷ [] → out ≡ (row, d) ∷ []
+    → b.value ≡ report_of o q → d.value.output ≡ o
+copied_output row j b d o q out took found is = let same = sym took ∙ found in
+    ap (λ (z : Boxed). z.value.output) (sym (ap (box_of d) same)) ∙ ap (λ (f : Report). f.output) is
 
 -- the seat behind both loads of an address, by which an output was copied
 pub copied : {L : Type 0} (n m q slots : ℕ) (outputs : L → List Message → List Output) (me me' me'' : Seated Boxed L) (k x y : ℕ) (b : Boxed) (logic : L) (o : Output)
