@@ -3,11 +3,10 @@ ghost use Rattle.std.specs.Prelude.{Some, ◌≡◌, ℕ, ◌↔◌, ◌+◌, �
 ghost use Rattle.ring_words.specs.declared.view.Load.{Load};
 ghost use Rattle.ring_words.specs.Log.{times};
 ghost use Rattle.ring_words.specs.Places.{processed};
-ghost use Rattle.ring_words.specs.Seats.{looked};
+ghost use Rattle.ring_words.specs.Seats.{looked, loading};
 ghost use Rattle.ring_words.specs.At.{IsAt, Steps};
 ghost use Rattle.ring_words.specs.Steps.{ClaimsUpTo, HasRoom};
 ghost use Rattle.sequencer.specs.Claims.{last_processed, ShowsFull, SeesRoom, Claimed, Refused};
-ghost use Rattle.sequencer.specs.Outputs.{loading};
 
 use ring_words::{GatewaySeat, Rings};
 use std::marker::Model;

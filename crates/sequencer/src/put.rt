@@ -6,7 +6,7 @@ ghost use Rattle.ring_words.specs.Places.{journalled};
 ghost use Rattle.ring_words.specs.Rule.{at_place};
 ghost use Rattle.ring_words.specs.At.{IsAt, Steps, SamePlace};
 ghost use Rattle.ring_words.specs.Steps.{HasOutputRoom, Shows};
-ghost use Rattle.sequencer.specs.Outputs.{HasLooked, KeepsRoom, KeepsNoRoom, SeesRoomFor};
+ghost use Rattle.sequencer.specs.Rooms.{HasLooked, KeepsRoom, KeepsNoRoom, SeesRoomFor};
 
 use ring_words::{ProcessSeat, Rings};
 use venue_model::{Logic, Output};

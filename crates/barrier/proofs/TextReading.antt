@@ -15,12 +15,12 @@ use Rattle.ring_words.specs.declared.view.Load.{Load}
 use Rattle.ring_words.specs.declared.view.Person.{Person}
 use Rattle.ring_words.specs.Raw.{eight}
 use Rattle.ring_words.specs.Texts.{eights, text_words, IsPackableText}
-use Rattle.ring_words.specs.Seats.{load_of, looked}
+use Rattle.ring_words.specs.Seats.{load_of, loading, looked}
 use Rattle.ring_words.specs.At.{At, seated}
 use Rattle.ring_words.specs.Steps.{Shows}
 use Rattle.ring_words.specs.RawLaws.{word_bytes}
-use Rattle.sequencer.specs.declared.take.Head.{Head}
-use Rattle.sequencer.specs.Outputs.{OnlyLoads, loading, IsHead, Carries}
+use Rattle.barrier.specs.declared.taking.Head.{Head}
+use Rattle.barrier.specs.Taking.{OnlyLoads, IsTextHead, Carries}
 
 -- a load shows the same after more loads
 shows_behind : (k q : ℕ) (p : Person) (ls : List Load) → Shows k p q → Shows k (loading p ls) q
@@ -70,7 +70,7 @@ text_at t i low = let place : suc (suc i) ≡ i + 2 = omega arith in
     subst (λ (k : ℕ). get_elem? (text_words t) k ≡ some (from_be_bytes w64 (eight t.body i))) place (eights_at t.body ((length t.body + 7) / 8) i low)
 
 -- what the body has of words that the loop reads
-pub in_body : (head : Head) (t : Text) (i last : ℕ) → IsHead head t → last ≡ div_ceil head.len 8 → i < last → i < (length t.body + 7) / 8
+pub in_body : (head : Head) (t : Text) (i last : ℕ) → IsTextHead head t → last ≡ div_ceil head.len 8 → i < last → i < (length t.body + 7) / 8
 in_body head t i last is ends low = let len = is.len in omega arith
 
 -- the words that the loop reads have room in the buffer
@@ -82,7 +82,7 @@ pub loaded_bytes : (t : Text) (i x : ℕ) (ys zs : List ℕ) → (x ≡ from_be_
 loaded_bytes t i x ys zs h z_is y_is = y_is ∙ z_is ∙ word_bytes t.body i x h.1.bytes h.0
 
 -- head and body are the text's
-pub carries : (head : Head) (t : Text) (buf : List ℕ) (i last : ℕ) → IsHead head t → head.len ≤ 320 → length buf ≡ 320 → last ≡ div_ceil head.len 8 → last ≤ i
+pub carries : (head : Head) (t : Text) (buf : List ℕ) (i last : ℕ) → IsTextHead head t → head.len ≤ 320 → length buf ≡ 320 → last ≡ div_ceil head.len 8 → last ≤ i
     → ((j : ℕ) → j < 8 * i → get_or buf j 0 ≡ get_or t.body j 0) → Carries head buf t
 carries head t buf i last is most long ends le same = record {
   head_is = is;

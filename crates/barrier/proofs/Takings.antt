@@ -8,10 +8,10 @@ use Rattle.venue_model.specs.declared.outputs.Output.{Output}
 use Rattle.venue_model.specs.ListLaws.{at_behind}
 use Rattle.ring_words.specs.declared.view.Load.{Load}
 use Rattle.ring_words.specs.Places.{marshalled}
-use Rattle.ring_words.specs.Seats.{load_of, looked, knowing, moved}
+use Rattle.ring_words.specs.Seats.{load_of, loading, looked, knowing, moved}
 use Rattle.ring_words.specs.At.{At, seated}
 use Rattle.ring_words.specs.Steps.{Shows}
-use Rattle.sequencer.specs.Outputs.{OnlyLoads, after_taking, loading}
+use Rattle.barrier.specs.Taking.{OnlyLoads, after_taking}
 
 -- what was known begins what is known
 pub begins : (seen rest : List Message) → seen ≡ take (length seen) (seen ++ rest)

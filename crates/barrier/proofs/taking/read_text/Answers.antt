@@ -1,8 +1,8 @@
 use Rattle.std.proofs.Common.{rules, arith, ap, List, ℕ, length, ◌∙◌}
 use Rattle.ring_words.specs.Places.{marshalled}
 use Rattle.ring_words.specs.RawLaws.{bytes_more, length_kept}
-use Rattle.sequencer.proofs.TextReading.{one_load, still_shows, still_own, still_at, text_at, in_body, in_buffer, loaded_bytes, carries}
-use Rattle.sequencer.proofs.take.read_text.Goals as goal
+use Rattle.barrier.proofs.TextReading.{one_load, still_shows, still_own, still_at, text_at, in_body, in_buffer, loaded_bytes, carries}
+use Rattle.barrier.proofs.taking.read_text.Goals as goal
 
 pub loop-index-init : goal.loop-index-init
 loop-index-init g c = (search rules, search rules, c.read_head-head.ensures.step, λ o at j lt. absurd (omega arith))

@@ -4,13 +4,13 @@ use Rattle.venue_model.specs.History.{Message}
 use Rattle.ring_words.specs.Places.{marshalled, number_of}
 use Rattle.ring_words.specs.Steps.{IsLegal}
 use Rattle.ring_words.specs.At.{At, seated, number}
-use Rattle.sequencer.specs.declared.take.Take.{Take}
-use Rattle.sequencer.specs.declared.take.Take.TheVariants.{Mine, Passed}
-use Rattle.sequencer.specs.Outputs.{OnlyLoads, Says, Carries}
-use Rattle.sequencer.proofs.TextReading.{more_loads, still_shows, still_own, still_at}
-use Rattle.sequencer.proofs.Takings.{begins, reached, shown, own_kept, at_kept, taken_now, role_same}
-use Rattle.sequencer.proofs.take.take_output.Goals as goal
-use Rattle.sequencer.proofs.take.take_output.Goals.{then-load_address-number, else-load_address-number}
+use Rattle.barrier.specs.declared.taking.Take.{Take}
+use Rattle.barrier.specs.declared.taking.Take.TheVariants.{Mine, Passed}
+use Rattle.barrier.specs.Taking.{OnlyLoads, Says, Carries}
+use Rattle.barrier.proofs.TextReading.{more_loads, still_shows, still_own, still_at}
+use Rattle.barrier.proofs.Takings.{begins, reached, shown, own_kept, at_kept, taken_now, role_same}
+use Rattle.barrier.proofs.taking.take_output.Goals as goal
+use Rattle.barrier.proofs.taking.take_output.Goals.{then-load_address-number, else-load_address-number}
 
 pub load_address-requires : goal.load_address-requires
 load_address-requires g c = let v = c.args.seat.now in let u = c.load_marshalled.new.seat in let place : c.taken-place.result ≡ v.who.own = c.taken-place.ensures.value in

@@ -8,7 +8,7 @@ ghost use Rattle.ring_words.specs.Places.{marshalled};
 ghost use Rattle.ring_words.specs.Seats.{looked};
 ghost use Rattle.ring_words.specs.At.{IsAt, SamePlace};
 ghost use Rattle.ring_words.specs.Steps.{Shows};
-ghost use Rattle.sequencer.specs.Outputs.{OnlyLoads, IsHead, Carries, TakesNext, SaysOutput};
+ghost use Rattle.barrier.specs.Taking.{OnlyLoads, IsTextHead, Carries, TakesNext, SaysOutput};
 
 use ring_words::{GatewaySeat, Rings, TextHead};
 use venue_model::{LONGEST_MESSAGE, Logic, OutputType};
@@ -45,7 +45,7 @@ fn read_head<L: Logic, const N: usize, const M: usize, const G: usize>(
     ensures step { OnlyLoads seat.old seat.new }
     ensures most { result.len ≤ 320 }
     ensures head { (o : Output) → get_elem? (L.outputs rings.now.logic seat.old.who.seen) place ≡ some o
-        → IsHead result (L.text rings.now.logic o place) }
+        → IsTextHead result (L.text rings.now.logic o place) }
 {
     let TextHead { msg_type, len } = TextHead::from_word(rings.load_text(seat, place, 0));
     let sending_time = rings.load_text(seat, place, 1);

@@ -1,8 +1,8 @@
 use Rattle.std.proofs.Common.{rules, arith, refl, length, ◌≤◌}
 use Rattle.ring_words.specs.Places.{marshalled}
-use Rattle.sequencer.specs.Outputs.{OnlyLoads}
-use Rattle.sequencer.proofs.TextReading.{one_load, still_shows, still_own, still_at}
-use Rattle.sequencer.proofs.take.read_head.Goals as goal
+use Rattle.barrier.specs.Taking.{OnlyLoads}
+use Rattle.barrier.proofs.TextReading.{one_load, still_shows, still_own, still_at}
+use Rattle.barrier.proofs.taking.read_head.Goals as goal
 
 pub load_text-sending_time-requires : goal.load_text-sending_time-requires
 load_text-sending_time-requires g c = let v = c.args.seat.now in let u = c.load_text.new.seat in let only : OnlyLoads v u = (_, c.load_text.ensures.step) in

@@ -3,8 +3,8 @@ use mathlib.Core.Option.{some}
 use lib.ListN.{get_elem?}
 use Rattle.venue_model.specs.declared.outputs.Output.{Output}
 use Rattle.ring_words.specs.At.{IsAt}
-use Rattle.sequencer.specs.Outputs.{OnlyLoads}
-use Rattle.sequencer.proofs.take.read_text.Given as goal
+use Rattle.barrier.specs.Taking.{OnlyLoads}
+use Rattle.barrier.proofs.taking.read_text.Given as goal
 
 abbrev pub invariant-loop-index : goal.invariant-loop-index
 invariant-loop-index g l = let v = l.fn.seat in
