@@ -79,9 +79,10 @@ fn read_text<L: Logic, const N: usize, const M: usize, const G: usize>(
     head
 }
 
-/// Takes the next output. Of one history, legal for this gateway, that begins with what it had seen and that it has seen afterwards, it is the output at
-/// the place that the gateway's count says; the count then rises by one. Where the marshalled word shows none, that load is all. Behind the body the buffer's
-/// bytes are unspecified. Takes no memory and never waits.
+/// Takes the next output: the one at the place that the gateway's count says. The count then rises by one. It is an
+/// output of one history. That history is legal for this gateway, it begins with what the gateway had seen, and the
+/// gateway has seen it afterwards. Where the marshalled word shows no output, the load of that word is all that is done.
+/// Behind the body the buffer's bytes are unspecified. Takes no memory and never waits.
 pub fn take_output<L: Logic, const N: usize, const M: usize, const G: usize>(
     rings: &Rings<L, N, M, G>,
     seat: &mut GatewaySeat<L>,
