@@ -11,9 +11,9 @@ use Rattle.ring_words.specs.declared.view.Load.{Load}
 use Rattle.ring_words.specs.declared.view.Person.{Person}
 use Rattle.ring_words.specs.Places.{marshalled, number_of}
 use Rattle.ring_words.specs.Seats.{looked, load_of}
-use Rattle.sequencer.specs.Outputs.{TakesNext, Says, SaysOutput}
-use Rattle.sequencer.specs.declared.take.Take.{Take}
-use Rattle.sequencer.specs.declared.take.Take.TheVariants.{Mine, Passed, Nothing}
+use Rattle.barrier.specs.Taking.{TakesNext, Says, SaysOutput}
+use Rattle.barrier.specs.declared.taking.Take.{Take}
+use Rattle.barrier.specs.declared.taking.Take.TheVariants.{Mine, Passed, Nothing}
 use Rattle.gateway.specs.Ledgers.{loading, TakeTells}
 use Rattle.gateway.specs.Seats.{symbols_of, given, HasSeen, messages_of, taken_by, ledger_of, TakesOne, Looks, StaysSeated, MayEnter, MayLook, Uses}
 use Rattle.gateway.proofs.Carried.{carried}
