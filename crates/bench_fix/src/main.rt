@@ -17,6 +17,7 @@ use std::env;
 use std::process::ExitCode;
 use std::rt::{Clock, Env};
 use std::time::Instant;
+use venue_model::LONGEST_MESSAGE;
 
 /// Measures as many messages as the words ask for. What was read and written in all goes to standard error; where that
 /// isn't what it should be, there is no figure.
@@ -30,7 +31,7 @@ fn measure<R: Env + Clock + Print + Eprint + AllocGlobal>(rt: &R) -> Result<(), 
     let parse = Rate::of(messages, begun.elapsed(rt)?);
 
     let reports = reports();
-    let mut body = [0; 320];
+    let mut body = [0; LONGEST_MESSAGE];
     let first = write_first(&mut body, &reports);
     let is_right = body.starts_with(ACKNOWLEDGEMENT) && first == ACKNOWLEDGEMENT.len();
     let begun = Instant::now(rt)?;

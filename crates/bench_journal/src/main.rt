@@ -12,7 +12,8 @@ use crate::appending::{append_again, block_of, file_length};
 use crate::fault::Fault;
 use crate::rate::Rate;
 use crate::words::read_folder;
-use journal::{Journal, SystemFolder, open_journal};
+use disks::SystemFolder;
+use journal::{Journal, open_journal};
 use std::process::ExitCode;
 use std::{env, fs};
 
