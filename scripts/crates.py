@@ -35,8 +35,8 @@ def library(crate):
     return f"{ROOT}/crates/{crate}/out/rlib/{crate}.rlib"
 
 
-def words(crate, crates, toolchain):
-    """What a check of a crate by one process is told, in the crate's folder or in a copy of it."""
+def words(crate, crates, toolchain, jobs=1):
+    """What a check of a crate by so many processes is told, in the crate's folder or in a copy of it."""
     rlibs = f"{toolchain}/rlibs"
     root = "src/main.rt" if os.path.isfile(f"{ROOT}/crates/{crate}/src/main.rt") else "src/lib.rt"
     told = ["--crate-name", crate, root]
@@ -45,4 +45,4 @@ def words(crate, crates, toolchain):
     for folder in [rlibs, *(os.path.dirname(library(name)) for name in below(crate, crates))]:
         told += ["-L", f"dependency={folder}"]
     told += ["--antt-project", f"{toolchain}/rattle/logic/antt-project.json", "--logic-built", f"{toolchain}/logic_built"]
-    return [*told, "--links", f"{crate}=", "--jobs", "1"]
+    return [*told, "--links", f"{crate}=", "--jobs", str(jobs)]

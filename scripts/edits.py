@@ -32,6 +32,7 @@ import sys
 import tempfile
 import threading
 
+import needs_python  # (in front of what an older Python can't read)
 import crates
 from crates import ROOT
 
@@ -448,14 +449,18 @@ def listed(chosen):
 
 
 def promises(taken):
-    """Prints a Markdown list of all edits by crate and function, those in must-fail in bold type."""
+    """Prints a Markdown list of all edits by crate and function, those in must-fail in bold type. Gives the status."""
+    faults = []
     for crate in taken:
         rows = {}
         for place, mark in ("must-fail", "**"), ("edits", ""):
             for edit in crate.edits(place):
-                crate.look(edit)
-                first = min(edit.before & {*crate.functions}, key=lambda it: it.short)
-                rows.setdefault(first.short, []).append(f"{mark}`{edit.name}`{mark}")
+                try:
+                    crate.look(edit)
+                    first = min(edit.before & {*crate.functions}, key=lambda it: it.short)
+                    rows.setdefault(first.short, []).append(f"{mark}`{edit.name}`{mark}")
+                except (BadEdit, ValueError) as why:
+                    faults.append(f"edits.py: {crate.name}/{edit.name} is of no function: {why}")
         if rows:
             print(f"### {crate.name}\n")
         for name in sorted(rows):
@@ -467,6 +472,9 @@ def promises(taken):
             print("\n".join(lines))
         if rows:
             print()
+    sys.stdout.flush()
+    print("\n".join(faults), end="\n" * bool(faults), file=sys.stderr)
+    return 1 if faults else 0
 
 
 def arguments():

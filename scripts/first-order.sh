@@ -2,6 +2,14 @@
 # Sends venued a Logon and one order, buy 100 ABC at 50, and prints its two answers, each on a line, with the byte 01
 # as |. It takes the program that scripts/build has built, and else runs the sources at once, without their proofs.
 set -euo pipefail
+
+usage="scripts/first-order.sh: sends venued a Logon and one order, and prints its two answers. It takes no words.
+It runs the program that scripts/build has built, and else the sources at once, without their proofs (half a minute)."
+if [[ $# -gt 0 ]]; then
+    [[ $# -eq 1 && ($1 == -h || $1 == --help) ]] || { echo "$usage" >&2; exit 1; }
+    echo "$usage"
+    exit 0
+fi
 cd "$(dirname "${BASH_SOURCE[0]}")/.."
 
 program="$PWD/crates/venued/out/venued"

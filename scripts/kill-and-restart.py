@@ -25,6 +25,7 @@ import sys
 import tempfile
 import time
 
+import needs_python  # (in front of what an older Python can't read)
 from traders import Member, Rounds, started_again
 from venues import VENUED, Client, Trouble, free_port, need_programs, replay
 

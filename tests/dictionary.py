@@ -12,7 +12,12 @@ import re
 import sys
 import xml.etree.ElementTree as xml
 
-DOCS = os.path.join(os.path.dirname(os.path.dirname(os.path.abspath(__file__))), "docs")
+ROOT = os.path.dirname(os.path.dirname(os.path.abspath(__file__)))
+sys.path.insert(0, os.path.join(ROOT, "scripts"))
+
+import needs_python  # (in front of what an older Python can't read)
+
+DOCS = os.path.join(ROOT, "docs")
 CODED = ("39", "40", "54", "59", "102", "103", "150", "372", "373", "434")  # Tags whose values the tables list.
 NAMED_TAG = re.compile(r"\b([A-Z]\w+) \((\d+)\)")
 NAMED_TYPE = re.compile(r"\b([A-Z]\w+) \(`(\w)`\)")
@@ -186,6 +191,9 @@ def compared(profile, dictionary):
 
 
 def main():
+    if set(sys.argv[1:]) & {"-h", "--help"}:
+        print(__doc__.strip())
+        return
     dictionary = sys.argv[1] if len(sys.argv) > 1 else os.path.join(DOCS, "FIX44-gikvand.xml")
     profile = sys.argv[2] if len(sys.argv) > 2 else os.path.join(DOCS, "PROFILE.md")
     try:

@@ -21,6 +21,7 @@ VENUE_REPLAY.
 """
 import collections
 import signal
+import sys
 
 from refusals import FRESH, LOGON, answered, answers, check_history, contents, journal_of, listens, orders, printed_report
 from refusals import put, ran, run_tests, standard
@@ -165,4 +166,6 @@ def replays(sweeps):
 
 
 if __name__ == "__main__":
+    if set(sys.argv[1:]) & {"-h", "--help"}:
+        sys.exit(print(__doc__.strip()))
     run_tests("failing_device", [standard_session, first_sync, listening, replays])

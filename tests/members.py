@@ -19,6 +19,7 @@ import time
 ROOT = os.path.dirname(os.path.dirname(os.path.abspath(__file__)))
 sys.path.insert(0, os.path.join(ROOT, "scripts"))
 
+import needs_python  # (in front of what an older Python can't read)
 from venues import HOST, PATIENCE, VENUED, Client, Trouble, Venue, framed, free_port, kill_all, message, need_programs
 from venues import order, replay, started, value
 
@@ -125,17 +126,18 @@ def played(name):
     days, told = {}, []
     with open(os.path.join(ROOT, "tests", f"{name}.play"), encoding="utf-8") as file:
         for line in filter(None, map(str.strip, file)):
-            match line.split(" ", 4):
-                case "#", *_:
-                    continue
-                case "entry", journal, member, kind, body:
-                    days.setdefault(journal, ([], {}))[0].append((int(member), kind, body))
-                case "run", "venue-replay", journal, what, _:
-                    told = days[journal][1].setdefault(what, [])
-                case "prints", *_:
-                    told.append(line.removeprefix("prints "))
-                case _:
-                    raise Trouble(f"{name} has a line of another kind: {line}")
+            if line.startswith("# "):
+                continue
+            kind, *words = line.split(" ", 4)
+            if kind == "entry" and len(words) == 4:
+                journal, member, message_type, body = words
+                days.setdefault(journal, ([], {}))[0].append((int(member), message_type, body))
+            elif kind == "run" and words[:1] == ["venue-replay"] and len(words) == 4:
+                told = days[words[1]][1].setdefault(words[2], [])
+            elif kind == "prints":
+                told.append(line.removeprefix("prints "))
+            else:
+                raise Trouble(f"{name} has a line of another kind: {line}")
     return days
 
 

@@ -1,5 +1,5 @@
 #!/usr/bin/env python3
-"""Checks that the sources have what docs/PROMISES.md cites: functions and clauses, definitions and their fields.
+"""Checks that the sources have what docs/PROMISES.md cites: functions and clauses, definitions and their fields, edits.
 
     tests/promises.py [PROMISES]
 
@@ -12,15 +12,23 @@ Citations stand in backquotes, in each item `- **Clauses**:` and in the section 
     (`one`, `two`)                  right behind a function or a trait: clauses of it, or conditions
     (`one`: `Record` with `two`)    behind a colon, up to a semicolon: definitions, and fields of these
 
+The wrong bodies in each item `- **Refused**:` are edits that there are. And each edit that there is stands in the list
+that `scripts/edits.py --promises` prints, under the function that it changes.
+
 Each citation that isn't there has a line of its own; the last line is `N passed, M failed`, and the status is 1 where
 one failed. The benchmarks promise nothing and aren't looked at.
 """
+import collections
 import glob
 import os
 import re
+import subprocess
 import sys
 
 ROOT = os.path.dirname(os.path.dirname(os.path.abspath(__file__)))
+sys.path.insert(0, os.path.join(ROOT, "scripts"))
+
+import needs_python  # (in front of what an older Python can't read)
 
 TRAIT = re.compile(r"pub trait (\w+)")
 IMPL = re.compile(r"impl\b(?:<[^{]*?>)? (?:(?:\w+::)*(?P<trait>\w+)(?:<[^{]*>)? for )?(?:\w+::)*(?P<type>\w+)")
@@ -33,10 +41,12 @@ FIELD = re.compile(r"( *)pub (\w+) :")
 
 PROMISE = re.compile(r"## \d+\. ")
 CLAUSES = "- **Clauses**:"
+REFUSED = "- **Refused**:"
 PARTS = "## The parts, by crate"
 CRATE = re.compile(r"\*\*`(\w+)`\*\*$")
 CITATION = re.compile(r"`([^`]+)`(?:\s+\(([^()]*)\))?")
 QUOTED = re.compile(r"`([^`]+)`")
+EDIT = re.compile(r"`([a-z]\w*)`")
 
 
 class Function:
@@ -185,7 +195,28 @@ def items_of(lines):
             item.append(line)
 
 
+def refused_in(lines):
+    """The wrong bodies that the promises name, with the number of the line that each is on."""
+    is_inside = False
+    for number, line in enumerate(lines, 1):
+        is_inside = line.startswith(REFUSED) or is_inside and line.startswith("  ")
+        if is_inside:
+            yield from ((number, name) for name in EDIT.findall(line))
+
+
+def edits():
+    """The names of all edits, and those that the list of edits by function has too seldom or too often."""
+    there = collections.Counter(os.path.basename(it)[:-5] for it in glob.glob(f"{ROOT}/crates/*/*/*.edit"))
+    words = [sys.executable, f"{ROOT}/scripts/edits.py", "--promises"]
+    printed = subprocess.run(words, stdout=subprocess.PIPE, text=True).stdout
+    listed = collections.Counter(name for item in printed.split("\n- ") for name in EDIT.findall(item.partition(": ")[2]))
+    return {*there}, sorted((there - listed) + (listed - there))
+
+
 def main():
+    if set(sys.argv[1:]) & {"-h", "--help"}:
+        print(__doc__.strip())
+        return
     path = sys.argv[1] if len(sys.argv) > 1 else f"{ROOT}/docs/PROMISES.md"
     lines, check = lines_of(path), Check(Sources())
     promises = sum(1 for line in lines if PROMISE.match(line))
@@ -194,6 +225,10 @@ def main():
     check.count(1, None if PARTS in lines else f"no section '{PARTS}'")
     for item in items_of(lines):
         check.read(*item)
+    known, unlisted = edits()
+    for number, name in refused_in(lines):
+        check.count(number, None if name in known else f"no wrong body `{name}`")
+    check.count(1, f"not listed by function as they are: {', '.join(unlisted)}" if unlisted else None)
     for line, fault in check.faults:
         print(f"{os.path.relpath(path)}:{line}: {fault}")
     print(f"{check.passed} passed, {len(check.faults)} failed")

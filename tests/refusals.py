@@ -10,6 +10,7 @@ import tempfile
 ROOT = os.path.dirname(os.path.dirname(os.path.abspath(__file__)))
 sys.path.insert(0, os.path.join(ROOT, "scripts"))
 
+import needs_python  # (in front of what an older Python can't read)
 from rules import Book, Judged, told
 from venues import COUNTS, PATIENCE, TRIES, VENUED, Trouble, Venue, free_port, kill_all, message, need_programs, order
 from venues import printed, replay

@@ -84,16 +84,6 @@ module _ {X : Type 0} where
       let rest = sum_by-append f xs ys in
       omega (arith, whole, more, rest)
 
-  -- one less
-  pub each-without : (P : X → Type 0) (xs ys : List X) (x : X) → AllByRecursion P (xs ++ x ∷ ys) → AllByRecursion P (xs ++ ys)
-  each-without P [] ys x all = all.1
-  each-without P (y ∷ xs) ys x all = (all.0, each-without P xs ys x all.1)
-
   pub length-without : (xs ys : List X) (x : X) → length (xs ++ x ∷ ys) ≡ suc (length (xs ++ ys))
   length-without [] ys x = refl
   length-without (y ∷ xs) ys x = ap suc (length-without xs ys x)
-
-  -- what stands in the middle
-  pub get_or-middle : (xs ys : List X) (x d : X) → get_or (xs ++ x ∷ ys) (length xs) d ≡ x
-  get_or-middle [] ys x d = refl
-  get_or-middle (y ∷ xs) ys x d = get_or-middle xs ys x d

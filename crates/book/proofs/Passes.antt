@@ -67,13 +67,6 @@ live-front o zs = elim (is_live o) as
     [ true ↦ refl | false ↦ refl ]
 
 module _ (i o : Order) (us vs : List Order) (first : First i o us vs) (apart : ahead o o ≡ false) where
-  -- the crossing orders around the first one, and the queues before and behind the fill
-  cus : List Order
-  cus = filter (crosses i) us
-
-  cvs : List Order
-  cvs = filter (crosses i) vs
-
   abbrev before : List Order
   before = filter (crosses i) us ++ o ∷ filter (crosses i) vs
 

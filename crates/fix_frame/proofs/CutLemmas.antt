@@ -27,15 +27,6 @@ pub lacks_append : (mark : ℕ) (xs ys : List ℕ) → Lacks mark xs → Lacks m
 lacks_append mark [] ys l m = m
 lacks_append mark (x ∷ xs) ys l m = (l.0, lacks_append mark xs ys l.1 m)
 
-pub lacks_back : (mark : ℕ) (xs ys : List ℕ) → Lacks mark (xs ++ ys) → Lacks mark ys
-lacks_back mark [] ys l = l
-lacks_back mark (x ∷ xs) ys l = lacks_back mark xs ys l.1
-
--- the mark stands there
-pub not_lacks : (mark : ℕ) (xs ys : List ℕ) → Lacks mark (xs ++ mark ∷ ys) → ⊥
-not_lacks mark [] ys l = l.0 refl
-not_lacks mark (x ∷ xs) ys l = not_lacks mark xs ys l.1
-
 -- what stands before the first place of the mark lacks it
 lacks_below : (mark : ℕ) (xs : List ℕ) (i : ℕ) → i ≤ length xs → ((k : ℕ) → k < i → get_or xs k 0 ≢ mark)
     → Lacks mark (take i xs)

@@ -31,18 +31,6 @@ module _ (bytes front : List ℕ) (byte v : ℕ) (e : bytes ≡ front ++ byte �
   longer : length bytes ≡ length front + 1
   longer = ap length e ∙ length_push front byte
 
-  -- the byte of the opening that is due
-  pub opening_byte : length front < 12 → byte ≡ get_or opening (length front) 0 → IsHeading bytes 0
-  opening_byte early right = record {
-    opens = λ _. (
-      e ∙ ap (λ k. k ++ byte ∷ []) (h.opens (omega arith)).0 ∙
-          ap (λ b. take (length front) opening ++ b ∷ []) right ∙ sym (take_more opening (length front) 0 early) ∙
-          ap (λ k. take k opening) (sym longer),
-      refl,
-    );
-    counts = λ late. absurd (omega (arith, longer));
-  }
-
   -- another byte
   pub no_opening : length front < 12 → byte ≢ get_or opening (length front) 0 → NoHead bytes
   no_opening early other n more rest is same =

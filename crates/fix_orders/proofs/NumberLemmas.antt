@@ -22,18 +22,6 @@ digit_range b is = grind (arith, nat_tests)
 pub digit_is : (b : ℕ) → is_digit b ≡ true → digit_value b + 48 ≡ b
 digit_is b is = digit_value_digit b (digit_range b is)
 
--- one more byte: a digit counts, another byte doesn't
-pub value_digit : (bytes : List ℕ) (i : ℕ) → i < length bytes → is_digit (get_or bytes i 0) ≡ true
-    → value_of (filter is_digit (take (i + 1) bytes)) ≡ value_of (filter is_digit (take i bytes)) * 10 + digit_value (get_or bytes i 0)
-value_digit bytes i within is =
-    ap value_of (filter_more is_digit bytes i 0 within ∙ ap (λ b. filter is_digit (take i bytes) ++ cond b (get_or bytes i 0 ∷ []) []) is)
-    ∙ digits_value_push 10 (filter is_digit (take i bytes)) (get_or bytes i 0)
-
-pub value_other : (bytes : List ℕ) (i : ℕ) → i < length bytes → is_digit (get_or bytes i 0) ≡ false
-    → value_of (filter is_digit (take (i + 1) bytes)) ≡ value_of (filter is_digit (take i bytes))
-value_other bytes i within isnt =
-    ap value_of (filter_more is_digit bytes i 0 within ∙ ap (λ b. filter is_digit (take i bytes) ++ cond b (get_or bytes i 0 ∷ []) []) isnt ∙ append-nil (filter is_digit (take i bytes)))
-
 -- one more digit of a number that is cut at the most
 pub capped : (v n b d : ℕ) → n ≡ min v MOST → d + 48 ≡ b → min (n * 10 + (b - 48)) MOST ≡ min (v * 10 + d) MOST
 capped v n b d cut digit = omega arith
@@ -46,27 +34,6 @@ filter_digits (b ∷ bytes) all =
     ap (λ r. cond r (b ∷ filter is_digit bytes) (filter is_digit bytes)) parts.0
     ∙ ap (λ bs. b ∷ bs) (filter_digits bytes parts.1)
 
--- the digits among some bytes, and how many they are
-digits_kept : (b : ℕ) (digits : List ℕ) (n : ℕ) (r : Bool) → is_digit b ≡ r
-    → AllDigits 10 digits × (length digits ≤ n)
-    → AllDigits 10 (cond r (b ∷ digits) digits) × (length (cond r (b ∷ digits) digits) ≤ suc n)
-digits_kept b digits n true is kept =
-    ((omega (arith, digit_is b is, digit_range b is), kept.0), omega (arith, kept.1))
-digits_kept b digits n false isnt kept = (kept.0, omega (arith, kept.1))
-
-digits_among : (bytes : List ℕ)
-    → AllDigits 10 (filter is_digit bytes) × (length (filter is_digit bytes) ≤ length bytes)
-digits_among [] = (tt, omega arith)
-digits_among (b ∷ bytes) = digits_kept b (filter is_digit bytes) (length bytes) (is_digit b) refl (digits_among bytes)
-
--- so few bytes write no more than that
-pub value_small : (bytes : List ℕ) (k : ℕ) → length bytes ≤ k → value_of (filter is_digit bytes) < 10 ^ k
-value_small bytes k short =
-    let few = digits_among bytes in
-    let below = digits_value-lt 10 (filter is_digit bytes) few.0 in
-    let power : 10 ^ length (filter is_digit bytes) ≤ 10 ^ k = pow-le-pow_right (omega arith) (omega (arith, few.1)) in
-    omega (arith, below, power)
-
 -- one more digit behind digits
 pub value_more : (bytes : List ℕ) (i : ℕ) → i < length bytes
     → value_of (take (i + 1) bytes) ≡ value_of (take i bytes) * 10 + digit_value (get_or bytes i 0)
@@ -76,19 +43,6 @@ value_more bytes i within =
 pub digits_more : (bytes : List ℕ) (i : ℕ) → i < length bytes → list_all is_digit (take i bytes) ≡ true
     → is_digit (get_or bytes i 0) ≡ true → list_all is_digit (take (i + 1) bytes) ≡ true
 digits_more bytes i within all is = list_all_more is_digit bytes i 0 within ∙ and_from _ _ all is
-
--- what is a number is read as one
-pub no_number : (read value : List ℕ) → read ≡ value → IsFalse (is_number read) → IsTrue (is_number value) → ⊥
-no_number read value same none is = let there = ap is_number same in cc
-
--- a digit more of so few bytes still fits
-pub value_fits : (bytes : List ℕ) (i : ℕ) → length bytes ≤ 17
-    → value_of (filter is_digit (take i bytes)) < 100000000000000000
-value_fits bytes i few = value_small (take i bytes) 17 (omega (arith, length-take i bytes))
-
--- one more byte of some, of which the digits count
-pub value_step : (n v b d : ℕ) → n ≡ v → d + 48 ≡ b → n * 10 + (b - 48) ≡ v * 10 + d
-value_step n v b d is digit = omega arith
 
 -- each of digits is one
 right_or_not : (b : Bool) → (b ≡ false → ⊥) → b ≡ true

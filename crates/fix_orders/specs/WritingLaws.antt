@@ -105,10 +105,6 @@ number_digits n h = length-decimal-le 20 n (omega arith) (omega arith) h
 pub length_digit : (n : ℕ) → n < 10 → length (decimal n) ≡ 1
 length_digit n small = ap length (decimal_digit n small)
 
-pub length_digits : (n : ℕ) → 10 ≤ n → n < 2 ^ 64 → length (decimal n) ≡ length (decimal (n / 10)) + 1
-length_digits n large fits =
-    ap length (decimal_step n large fits) ∙ length-append (decimal (n / 10)) ((48 + n % 10) ∷ [])
-
 -- tag, equals sign, value and SOH are a field
 pub puts_field : {a b c d e : List ℕ} {i j k l m : ℕ} (tag : ℕ) (value : List ℕ) → Puts a b i j (decimal tag)
     → Puts b c j k (61 ∷ []) → Puts c d k l value → Puts d e l m (1 ∷ []) → PutsFields a e i m (field tag value ∷ [])

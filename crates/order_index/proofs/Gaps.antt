@@ -21,9 +21,6 @@ module _ (at : ℕ → Option Entry) (start gap step : ℕ) (closing : IsClosing
       let one = steps-apart start k closing.behind few (omega (arith, closing.behind_few, closing.ahead_far, closing.ahead_few)) (same ∙ closing.gap_is) in
       omega (arith, one, closing.behind_few)
 
-  pub gap-few : closing.behind < 8192
-  gap-few = omega (arith, closing.behind_few, closing.ahead_far, closing.ahead_few)
-
   -- at a free slot the gap is closed
   pub closed : step < 8192 → at (slot_from start step) ≡ None → IsProbed at
   closed few free = record {

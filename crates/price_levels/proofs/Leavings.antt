@@ -196,6 +196,3 @@ module _ (nodes : List Node) (levels : List Level) (are : AreLevels nodes levels
       in_order = changes.order;
       left = left-gone;
     }
-
-    pub gone-seen : Seen nodes nodes' p None
-    gone-seen = seen

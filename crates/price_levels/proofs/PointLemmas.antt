@@ -15,15 +15,6 @@ pub leads : (x : Option Order) (o : Order) (neighbour : Option ℕ) (p : ℕ) (k
 leads x o None p k is key = ap (λ y. leads_to y None p) is ∙ ap End key
 leads x o (Some q) p k is key = ap (λ y. leads_to y (Some q) p) is
 
--- a place that an end or a neighbour leads to
-pub leads-at : (neighbour : Option ℕ) (k : Key) (q : ℕ) → end_to neighbour k ≡ At q → neighbour ≡ Some q
-leads-at None k q e = let f : End k ≡ At q = e in absurd (cc)
-leads-at (Some p) k q e = ap Some (at-apart p q e)
-
-pub leads-end : (neighbour : Option ℕ) (k : Key) → end_to neighbour k ≡ End k → neighbour ≡ None
-leads-end None k e = refl
-leads-end (Some p) k e = let f : At p ≡ End k = e in absurd (cc)
-
 -- The neighbour on one side of the point that a neighbour or an end of the level gives, is another now, or else the outmost
 -- one of the level.
 pub record Turns (order : ℕ → Option Order) (link link' : ℕ → Option ℕ) (outmost outmost' : Key → Option ℕ) (p : ℕ) (k : Key)

@@ -314,31 +314,6 @@ module _ (t : Order → Bool) where
       let cons = left-cons o (standing places) in
       omega (arith, rest, put, cons)
 
--- stamps that differ rise
-below-all : (m n : ℕ) (xs : List Order) → m < n → AllByRecursion (λ x. n < x.stamp) xs → AllByRecursion (λ x. m < x.stamp) xs
-below-all m n [] lt all = tt
-below-all m n (x ∷ xs) lt all = (let here = all.0 in omega (arith, lt, here), below-all m n xs lt all.1)
-
-rising-put : (o : Order) (xs : List Order) → AllByRecursion (λ x. x.stamp ≢ o.stamp) xs → AreRising xs → AreRising (insert_by_stamp o xs)
-rising-put o [] differ rising = (tt, tt)
-rising-put o (x ∷ xs) differ rising = elim (nat_lt o.stamp x.stamp) as (λ t. nat_lt o.stamp x.stamp ≡ t → AreRising
-    (if t then o ∷ x ∷ xs else x ∷ insert_by_stamp o xs)) [
-      | true ↦ λ h. let lt = earlier o.stamp x.stamp h in ((lt, below-all o.stamp x.stamp xs lt rising.0), rising)
-      | false ↦ λ h.
-          let le = not-earlier o.stamp x.stamp h in
-          let other : x.stamp ≢ o.stamp = differ.0 in
-          (each-put (λ y. x.stamp < y.stamp) o xs (omega (arith, le, other)) rising.0, rising-put o xs differ.1 rising.1)
-    ] refl
-
-pub rising-listed : (places : Places) → StampsApart places → AreRising (by_stamp places)
-rising-listed [] apart = tt
-rising-listed (None ∷ places) apart = rising-listed places (λ p o is q x other there. apart (suc p) o is (suc q) x (λ e. other
-    (let f : suc q ≡ suc p = e in omega (arith, f))) there)
-rising-listed (Some o ∷ places) apart = rising-put o (by_stamp places)
-    (each-listed (λ x. x.stamp ≢ o.stamp) places (λ q x is. apart 0 o refl (suc q) x (λ e. let f : suc q ≡ 0 = e in omega (arith, f)) is))
-    (rising-listed places (λ p y is q x other there. apart (suc p) y is (suc q) x (λ e. other (let f : suc q ≡ suc p = e in omega
-    (arith, f))) there))
-
 -- an order stands within the places
 pub is-within : (places : Places) (p : ℕ) (o : Order) → IsAt places p o → p < length places
 is-within [] p o is = absurd (let e : None ≡ Some o = is in cc)
@@ -389,14 +364,3 @@ apart-pushed places p o apart last = apart-set places p (Some o) apart (λ x e q
     let stamp : o.stamp ≡ x.stamp = ap (λ (w : Order). w.stamp) f in
     let earlier = last q z at_q in
     omega (arith, stamp, equal, earlier))
-
--- the best order of a symbol and side in the list: it leads all others of them
-pub best-seated : (symbol : List ℕ) (side : Side) (places : Places) (p : ℕ) (best : BestOf symbol side places p) → StampsApart places →
-    Seated places p best.order
-best-seated symbol side places p best apart =
-    seated places p best.order (is-within places p best.order best.stands) best.stands (apart p best.order best.stands)
-
-pub best-leads : (symbol : List ℕ) (side : Side) (places : Places) (p : ℕ) (best : BestOf symbol side places p) (seat : Seated places p best.order) →
-    AllByRecursion (λ x. IsOf symbol side x → Leads best.order x) seat.before × AllByRecursion (λ x. IsOf symbol side x → Leads best.order x) seat.behind
-best-leads symbol side places p best seat =
-    others (λ x. IsOf symbol side x → Leads best.order x) places p best.order seat (λ q x other is of. best.leads q x other is of)

@@ -232,9 +232,6 @@ module _ (places : Places) (entries : List Entry) (count : ℕ) (kept : AreKept 
               ∙ ap (λ k. seat.before ++ (live_alone (filled o k o.price) ++ seat.behind)) quantity;
         }
 
-    pub has-its-name : place_of entries o.client o.cl_ord_id ≢ None
-    has-its-name none = let there = kept.indexed.named p o stands in cc
-
     pub kept-whole : (after : Places) → after ≡ slice_set places p None → (new : List Entry)
         → place_of new ≡ without_name o.client o.cl_ord_id (place_of entries)
         → length new + 1 ≡ length entries → AreKept after new (count - 1)

@@ -81,14 +81,3 @@ module _ (places : Places) (entries : List Entry) (c n p : ℕ) (sits : Sits pla
       → by_stamp (slice_set places p (Some (f sits.order))) ≡ map (λ o. if is_named c n o then f o else o) (by_stamp places)
   changes-it f stamp = sits.seat.changed (f sits.order) stamp ∙ sym (ap (map (λ o. if is_named c n o then f o else o)) sits.seat.split
       ∙ map-middle (is_named c n) f sits.seat.before sits.seat.behind sits.order sits.is_it sits.not_before sits.not_behind)
-
--- the index finds what the list has
-pub finds-named : (places : Places) (entries : List Entry) (count : ℕ) → AreKept places entries count → (c n : ℕ) (o : Option ℕ)
-    → place_of entries c n ≡ o
-    → (found : Option Order) → ((p : ℕ) → o ≡ Some p → at places p ≡ found) → (o ≡ None → found ≡ None)
-    → found ≡ find (is_named c n) (by_stamp places)
-finds-named places entries count kept c n None is found some none =
-    none refl ∙ sym (find-none (is_named c n) (by_stamp places) (none-named places entries kept.indexed c n is))
-finds-named places entries count kept c n (Some p) is found some none =
-    let its = sits places entries count kept c n p is in
-    sym (some p refl) ∙ its.stands ∙ sym (finds-it places entries c n p its)

@@ -71,10 +71,6 @@ kept_now values ls i j x inside is kept = subst (λ (place : ℕ). AreTaken (set
       (λ other. get_or-set_other values i k (Some x) None other ∙ kept.1 k few ∙ sym (last_stays (taken (suc k)) (taken (suc i)) None x ls (λ (e : taken (suc i) ≡ taken (suc k)). other (omega arith)))),
 )
 
--- a bound on the claim values loaded is one on those loaded before the last load
-pub claims_before : (p : Person) (k y x : ℕ) → ClaimsUpTo (looked p k y) x → ClaimsUpTo p x
-claims_before p k y x most i l there = most i l (at_longer p.loads (load_of k y ∷ []) i l there)
-
 -- a bound on the claim values loaded is one on the claim value that was just loaded
 pub claim_just_loaded : (p : Person) (s x : ℕ) → ClaimsUpTo (looked p claim s) x → s ≤ x
 claim_just_loaded p s x most = most (length p.loads) (load_of claim s) (at_behind p.loads (load_of claim s ∷ []) 0 (length p.loads) _ (omega arith) refl) refl

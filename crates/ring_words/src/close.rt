@@ -1,14 +1,15 @@
 //! How the rings end: all seats come back, and the last words are read.
 ghost use Rattle.std.specs.Prelude.{◌≡◌, ℕ, ◌<◌, false, true, slice_index_or};
 
-use crate::marshal_seat::MarshalSeat;
 use crate::places::{PROCESSED, PUBLISHED};
 use crate::plays::Together;
-use crate::process_seat::ProcessSeat;
-use crate::reader_seat::{JournalSeat, ReaderSeat, UnmarshalSeat};
 use crate::report::Slot;
 use crate::rings::Rings;
-use crate::seats::{GatewaySeat, Seats};
+use crate::seats::Seats;
+use crate::seats::gateway::GatewaySeat;
+use crate::seats::marshaller::MarshalSeat;
+use crate::seats::processor::ProcessSeat;
+use crate::seats::reader::{JournalSeat, ReaderSeat, UnmarshalSeat};
 use crate::view::View;
 use atomic_table::{Closed, Seat};
 use std::alloc::Global;

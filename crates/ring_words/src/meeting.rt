@@ -6,10 +6,10 @@ ghost use Rattle.ring_words.specs.Meeting.{longer, met, AreMet, MeetsJournal};
 
 use crate::places::PROCESSED;
 use crate::plays::{Meet, MeetJournal, Parted, Spare, Together};
-use crate::reader_seat::JournalSeat;
 use crate::report::Slot;
 use crate::rings::Rings;
-use crate::seats::GatewaySeat;
+use crate::seats::gateway::GatewaySeat;
+use crate::seats::reader::JournalSeat;
 use crate::view::View;
 use atomic_table::Seat;
 use std::mem;

@@ -106,13 +106,6 @@ pub record WroteUpTo {L : Type 0} (n m : ℕ) (outputs : List Message → List O
 
 module _ {L : Type 0} (n m : ℕ) (outputs : List Message → List Output) (v u : At L) (next s : ℕ) (is_next : next ≡ v.who.own)
     (so_far : WroteUpTo n m outputs v u next s) where
-  -- so the row of s may be written
-  pub may_write : MayWriteText outputs text_bytes u.who s
-  may_write = by_last so_far.last where
-    by_last : (s ≡ next) ⊎ ((s ≡ suc u.who.part.sequence) × ((o : Output) × WroteText outputs text_bytes u.who o)) → MayWriteText outputs text_bytes u.who s
-    by_last (inl none) = inl (none ∙ is_next ∙ sym so_far.own)
-    by_last (inr some_written) = inr (inr some_written)
-
   -- and then one more is written
   pub one_more : (w : At L) (o : Output) → get_elem? (outputs v.who.seen) s ≡ some o → w ≡ seated u w.who → w.who ≡ after_text n m u.who s o
       → WroteText outputs text_bytes w.who o → WroteUpTo n m outputs v w next (s + 1)

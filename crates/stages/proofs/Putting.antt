@@ -221,9 +221,6 @@ module _ (g m : ℕ) (v u : At Symbols) (room : ℕ) (looked : OnlyLooked v.who 
     has_logic = ap (λ (z : At Symbols). z.logic) u_is ∙ follows.logic
 
     module _ (most : ℕ) (within : most ≤ length left) (w : At Symbols) (w_is : w ≡ seated u (ahead u.who most)) where
-      pub all_view : w ≡ seated v (ahead u.who most)
-      all_view = w_is ∙ ap (λ (z : At Symbols). seated z (ahead u.who most)) u_is
-
       put_is : w.who ≡ record v.who { loads = w.who.loads; part = w.who.part }
       put_is = let is = ap (λ (s : At _). s.who) w_is ∙ (ahead_is u.who most).0 in
           is ∙ ap (λ (q : Person). record q { part = (ahead u.who most).part }) looked.loads

@@ -56,13 +56,6 @@ pub record WroteUpTo {L : Type 0} (n : ℕ) (v u : At L) (next s : ℕ) : Type 0
   pub last : (s ≡ next) ⊎ ((s ≡ suc u.who.part.sequence) × ((e : Message) × WroteCommand as_read u.who e))
 
 module _ {L : Type 0} (n : ℕ) (v u : At L) (next s : ℕ) (is_next : next ≡ v.who.own) (so_far : WroteUpTo n v u next s) where
-  -- so the row of s may be written
-  pub may_write : MayWrite as_read u.who s
-  may_write = by_last so_far.last where
-    by_last : (s ≡ next) ⊎ ((s ≡ suc u.who.part.sequence) × ((e : Message) × WroteCommand as_read u.who e)) → MayWrite as_read u.who s
-    by_last (inl none) = inl (none ∙ is_next ∙ sym so_far.own)
-    by_last (inr some_written) = inr (inr some_written)
-
   -- and then one more is written
   pub one_more : (w : At L) (e : Message) → get_elem? v.who.seen s ≡ some e → w ≡ seated u w.who → w.who ≡ after_writing n u.who s e
       → WroteCommand as_read w.who e → WroteUpTo n v w next (s + 1)

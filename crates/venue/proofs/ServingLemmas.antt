@@ -116,7 +116,3 @@ module _ {L : Type 0} (rings : Opened L) (seat : At L) where
 
   pub are_spent : (items : List (At L)) → items ≡ seat ∷ [] → seat.who.claims ≡ [] → AreSpent items
   are_spent items is none = subst (λ (all : List (At L)). AreSpent all) (sym is) (one_spent none)
-
--- new stages are at the rings
-pub new_at : {D : Type 0} (rings : Opened Symbols) (crew : OneCrew D) → IsNewCrew rings crew → AreAt rings crew
-new_at rings crew new = subst (AreAt rings) (sym new.crew_is) (record { unmarshaller = refl; journaller = refl; processor = refl; marshaller = refl })

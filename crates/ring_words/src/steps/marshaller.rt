@@ -9,10 +9,10 @@ ghost use Rattle.ring_words.specs.At.{IsAt, Steps};
 ghost use Rattle.ring_words.specs.Steps.{GoesOn, Shows, WroteText, MayWriteText};
 ghost use Rattle.ring_words.specs.Finds.{FindsPublished};
 
-use crate::marshal_seat::MarshalSeat;
 use crate::places::{MARSHALLED, PUBLISHED, TEXT};
 use crate::plays::{GiveReport, MoveOwn, SeePublished, StoreText, TakeReport};
 use crate::rings::Rings;
+use crate::seats::marshaller::MarshalSeat;
 use venue_model::{Logic, Output};
 
 impl<L: Logic, const N: usize, const M: usize, const G: usize> Rings<L, N, M, G> {

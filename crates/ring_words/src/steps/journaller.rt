@@ -1,0 +1,26 @@
+//! The single step that is the journaller's alone: it says how far entries are kept.
+ghost use Rattle.std.specs.Prelude.{◌≤◌, length, take};
+ghost use Rattle.ring_words.specs.Seats.{moved};
+ghost use Rattle.ring_words.specs.At.{IsAt, Steps};
+
+use crate::places::JOURNALLED;
+use crate::plays::MoveOwn;
+use crate::rings::Rings;
+use crate::seats::reader::JournalSeat;
+use venue_model::{Kept, Logic};
+
+impl<L: Logic, const N: usize, const M: usize, const G: usize> Rings<L, N, M, G> {
+    /// Stores the journaller's word: all sequences below it are kept.
+    pub fn store_journalled<K: Kept>(&self, seat: &mut JournalSeat<L>, upto: u64, kept: &K)
+        requires at { IsAt self.now seat.old }
+        requires from { seat.old.who.own ≤ upto }
+        requires to { upto ≤ length seat.old.who.seen }
+        requires kept { K.keeps kept.now (take upto seat.old.who.seen) }
+        ensures step { Steps seat.old (moved seat.old.who upto) seat.new }
+    {
+        self.table
+            .shared
+            .store::<MoveOwn>(&mut seat.seat, JOURNALLED, upto);
+        seat.own = upto;
+    }
+}
