@@ -93,17 +93,17 @@ module _ (symbols : Symbols) (greatest : List ℕ) (client name : ℕ) (os : Lis
       })
 
 -- an order that is found by its name stands in the book
-pub stands : (book : Book) (client name : ℕ) (o : Order) → IsBook book.symbols book.state.orders book.state.greatest →
+pub stands : (book : Book) (client name : ℕ) (o : Order) → IsBook book.limits.symbols book.state.orders book.state.greatest →
     find (is_named client name) book.state.orders ≡ Some o → Stands book client o
 stands book client name o is_book is =
     let its = found client name book.state.orders o is_book.apart is in
     record {
-      rests = its-rests book.symbols book.state.greatest client name book.state.orders o its is_book;
-      belongs = its-belongs book.symbols book.state.greatest client name book.state.orders o its is_book;
-      its_client = its-client book.symbols book.state.greatest client name book.state.orders o its is_book;
+      rests = its-rests book.limits.symbols book.state.greatest client name book.state.orders o its is_book;
+      belongs = its-belongs book.limits.symbols book.state.greatest client name book.state.orders o its is_book;
+      its_client = its-client book.limits.symbols book.state.greatest client name book.state.orders o its is_book;
     }
 
-pub named-stands : (book : Book) (client name : ℕ) (named : Option Order) → IsBook book.symbols book.state.orders book.state.greatest →
+pub named-stands : (book : Book) (client name : ℕ) (named : Option Order) → IsBook book.limits.symbols book.state.orders book.state.greatest →
     named ≡ find (is_named client name) book.state.orders → MatchOption named ⊤ (Stands book client)
 named-stands book client name None is_book is = tt
 named-stands book client name (Some o) is_book is = stands book client name o is_book (sym is)

@@ -21,9 +21,9 @@ use Rattle.venue_model.specs.declared.outputs.CxlRejReason.{CxlRejReason}
 use Rattle.venue_model.specs.declared.outputs.CxlRejReason.TheVariants.{BrokerOption, DuplicateClOrdId}
 use Rattle.venue_model.specs.Orders.{meets, same_side}
 use Rattle.venue_model.specs.Match.{matched}
-use Rattle.venue_model.specs.Requests.{Symbols, State, is_day, greatest_of, accepted, new_refusal, new_answered, entering, is_named, named, others, unfit, cancel_refusal, cancel_answered, order_canceled, replace_fits, replace_refusal, replace_answered, keeps_place, amended_in_place, restamped, amended, order_replaced}
-use Rattle.venue_model.specs.Step.{Request, cause, obey, step, empty, state_from, state, requests_from, requests}
-use Rattle.fix_orders.specs.Reading.{reads}
+use Rattle.venue_model.specs.Requests.{Limits, Symbols, State, is_day, greatest_of, accepted, new_refusal, new_answered, entering, is_named, named, others, unfit, cancel_refusal, cancel_answered, order_canceled, replace_fits, replace_refusal, replace_answered, keeps_place, amended_in_place, restamped, amended, order_replaced}
+use Rattle.venue_model.specs.Step.{Request, cause, obey, step, empty, state_from, state, requests_from}
+use Rattle.book.specs.Histories.{reads_at, requests_of, state_of}
 use Rattle.venue_model.specs.History.{Message, IsMessage}
 use Rattle.book.specs.Standing.{Rising}
 use Rattle.book.specs.Laws.{IsFromGateway, Pairwise, RestBeside, CanRest, IsOrderly, IsUncrossed}
@@ -341,6 +341,6 @@ pub from-gateways : (read : ℕ → Message → Command) (sequence : ℕ) (h : L
 from-gateways read sequence [] all = tt
 from-gateways read sequence (m ∷ ms) all = (record { from = all.0.from; to = all.0.to }, from-gateways read (sequence + 1) ms all.1)
 
-pub history-uncrossed : (symbols : Symbols) (h : List Message) → AllByRecursion IsMessage h →
-    IsUncrossed (state symbols (requests (λ sequence m. reads m.bytes) h)).orders
-history-uncrossed symbols h all = state-uncrossed symbols (requests (λ sequence m. reads m.bytes) h) (from-gateways (λ sequence m. reads m.bytes) 0 h all)
+pub history-uncrossed : (limits : Limits) (h : List Message) → AllByRecursion IsMessage h →
+    IsUncrossed (state_of limits h).orders
+history-uncrossed limits h all = state-uncrossed limits.symbols (requests_of limits h) (from-gateways (reads_at limits) 0 h all)

@@ -4,7 +4,6 @@ use Rattle.std.specs.Prelude.{⊤, MatchOption, if◌then◌else◌}
 use Rattle.std.specs.List.{AllByRecursion}
 use mathlib.Core.Option.{some, some-injective, some-ne-none}
 use lib.ListN.{get_elem?}
-use Rattle.fix_orders.specs.Reading.{reads}
 use Rattle.fix_orders.specs.RangeLaws.{NamesSymbol, reads_names}
 use Rattle.fix_orders.specs.TextLaws.{TellsSpelled, body_each}
 use Rattle.venue_model.specs.History.{Message}
@@ -24,9 +23,10 @@ use Rattle.venue_model.specs.declared.outputs.OrdRejReason.{OrdRejReason}
 use Rattle.venue_model.specs.declared.outputs.Output.{Output}
 use Rattle.venue_model.specs.Orders.{leaves, is_live, crosses}
 use Rattle.venue_model.specs.Match.{crossing, after_fill, done, settled, rest, exec, trade, trades, can_fill, live_alone, matched, canceled_rest, match_outputs}
-use Rattle.venue_model.specs.Requests.{Symbols, State, Stepped, new_refusal, new_answered, entering, is_named, named, others, cancel_refusal, cancel_answered, order_canceled, amended, restamped, replace_refusal, replace_answered, order_replaced}
-use Rattle.venue_model.specs.Step.{Request, cause, obey, step, empty, outputs_from, outputs, requests_from, requests}
+use Rattle.venue_model.specs.Requests.{Limits, Symbols, State, Stepped, new_refusal, new_answered, entering, is_named, named, others, cancel_refusal, cancel_answered, order_canceled, amended, restamped, replace_refusal, replace_answered, order_replaced}
+use Rattle.venue_model.specs.Step.{Request, cause, obey, step, empty, outputs_from, requests_from}
 use Rattle.venue_model.specs.ReplacedLaws.{either_way}
+use Rattle.book.specs.Histories.{reads_at, request_at, outputs_of}
 use Rattle.book.specs.Laws.{TellsFields}
 use Rattle.book.proofs.Lists.{each-append, each-map, each-filter}
 use Rattle.book.proofs.LawLimits.{each-trade}
@@ -135,20 +135,20 @@ step-keeps symbols s sequence r names all = obeyed r.command names
 
 -- ANY HISTORY
 
-from-tells : (symbols : Symbols) (sequence : ℕ) (s : State) (h : List Message) → AllByRecursion Spelled s.orders →
-    AllByRecursion Tells (outputs_from symbols sequence s (requests_from (λ at m. reads m.bytes) sequence h))
-from-tells symbols sequence s [] all = tt
-from-tells symbols sequence s (m ∷ h) all =
-    let r : Request = record { gateway = m.gateway; command = reads m.bytes } in
-    let kept = step-keeps symbols s sequence r (reads_names m.bytes) all in
-    each-append Tells (step symbols s sequence r).outputs
-    (outputs_from symbols (sequence + 1) (step symbols s sequence r).state (requests_from (λ at m. reads m.bytes) (sequence + 1) h)) kept.tells
-    (from-tells symbols (sequence + 1) (step symbols s sequence r).state h kept.rests)
+from-tells : (limits : Limits) (sequence : ℕ) (s : State) (h : List Message) → AllByRecursion Spelled s.orders →
+    AllByRecursion Tells (outputs_from limits.symbols sequence s (requests_from (reads_at limits) sequence h))
+from-tells limits sequence s [] all = tt
+from-tells limits sequence s (m ∷ h) all =
+    let r : Request = request_at limits sequence m in
+    let kept = step-keeps limits.symbols s sequence r (reads_names m.bytes) all in
+    each-append Tells (step limits.symbols s sequence r).outputs
+    (outputs_from limits.symbols (sequence + 1) (step limits.symbols s sequence r).state (requests_from (reads_at limits) (sequence + 1) h)) kept.tells
+    (from-tells limits (sequence + 1) (step limits.symbols s sequence r).state h kept.rests)
 
 -- the text of each output of a history is fields
-pub texts-fields : (symbols : Symbols) (h : List Message) → AllByRecursion TellsFields (outputs symbols (requests (λ sequence m. reads m.bytes) h))
-texts-fields symbols h = each-map Tells TellsFields (λ o is place. body_each o.report (place + 1) is) (outputs symbols (requests (λ sequence m. reads m.bytes) h))
-    (from-tells symbols 0 empty h tt)
+pub texts-fields : (limits : Limits) (h : List Message) → AllByRecursion TellsFields (outputs_of limits h)
+texts-fields limits h = each-map Tells TellsFields (λ o is place. body_each o.report (place + 1) is) (outputs_of limits h)
+    (from-tells limits 0 empty h tt)
 
 -- what holds of each holds of one of them
 at-place : (xs : List Output) (i : ℕ) (o : Output) → get_elem? xs i ≡ some o → AllByRecursion TellsFields xs → TellsFields o
@@ -157,6 +157,6 @@ at-place (x ∷ xs) zero o at all = subst TellsFields (some-injective x o at) al
 at-place (x ∷ xs) (suc i) o at all = at-place xs i o at all.1
 
 -- so is the text of one
-pub tells-fields : (symbols : Symbols) (h : List Message) (i : ℕ) (o : Output) → get_elem? (outputs symbols (requests (λ sequence m. reads m.bytes) h)) i ≡ some o
+pub tells-fields : (limits : Limits) (h : List Message) (i : ℕ) (o : Output) → get_elem? (outputs_of limits h) i ≡ some o
     → TellsFields o
-tells-fields symbols h i o at = at-place (outputs symbols (requests (λ sequence m. reads m.bytes) h)) i o at (texts-fields symbols h)
+tells-fields limits h i o at = at-place (outputs_of limits h) i o at (texts-fields limits h)

@@ -4,15 +4,15 @@ use Rattle.std.specs.List.{AllByRecursion, list_any}
 use Rattle.std.specs.Str.{bytes_eq}
 use Rattle.venue_model.specs.declared.orders.Order.{Order}
 use Rattle.venue_model.specs.declared.commands.OrderCancelReplaceRequest.{OrderCancelReplaceRequest}
-use Rattle.venue_model.specs.Requests.{Symbols, State, is_named, named, others, replace_fits, keeps_place}
+use Rattle.venue_model.specs.Requests.{Limits, Symbols, State, is_named, named, others, replace_fits, keeps_place}
 use Rattle.venue_model.specs.Step.{Request, step}
 use Rattle.book.specs.Standing.{Rests, Standing, Below}
 use Rattle.book.specs.Reads.{Reads}
 pub use Rattle.book.specs.Standing.{NoneNamed}
 
--- the venue's symbols, the state, and how many resting orders the last command read
+-- the venue's limits, the state, and how many resting orders the last command read
 pub record Book : Type 0 where
-  pub symbols : Symbols
+  pub limits : Limits
   pub state : State
   pub reads : ℕ
 
@@ -38,7 +38,7 @@ pub record IsBook (symbols : Symbols) (orders : List Order) (greatest : List ℕ
 -- an order of this client that stands in the book
 pub record Stands (book : Book) (client : ℕ) (o : Order) : Type 0 where
   pub rests : Rests o
-  pub belongs : Belongs book.symbols book.state.greatest o
+  pub belongs : Belongs book.limits.symbols book.state.greatest o
   pub its_client : o.client ≡ client
 
 -- a replace that fits an order amends it where it stands
@@ -54,7 +54,7 @@ pub record TakesOut (client name : ℕ) (old new : Book) (o : Order) : Type 0 wh
 -- What the request at this sequence asks is done in the book, whose orders all came before the next sequence, and few of
 -- them were read.
 pub record Follows (old new : Book) (sequence : ℕ) (request : Request) : Type 0 where
-  pub symbols : new.symbols ≡ old.symbols
-  pub state : new.state ≡ (step old.symbols old.state sequence request).state
+  pub limits : new.limits ≡ old.limits
+  pub state : new.state ≡ (step old.limits.symbols old.state sequence request).state
   pub below : Below (sequence + 1) new.state.orders
-  pub reads : Reads old.symbols old.state sequence request new.reads
+  pub reads : Reads old.limits.symbols old.state sequence request new.reads

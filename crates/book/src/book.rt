@@ -15,7 +15,7 @@ use std::marker::Model;
 use venue_model::{Cause, Command, Limits, MOST_GATEWAYS, Malformed, Output, Report};
 
 /// The resting orders, each client's greatest accepted ClOrdID, and how many resting orders the last command read.
-/// Contracts see the venue's symbols, the state, in which the orders stand in the order of their stamps, and that number.
+/// Contracts see the venue's limits, the state, in which the orders stand in the order of their stamps, and that number.
 #[derive(Drop)]
 pub struct Book {
     pub(crate) logic: BookLogic,
@@ -29,16 +29,16 @@ impl Model for Book {
 
     ghost Value = { Book };
 
-    ghost view = { λ b. record { symbols = b.logic; state = record { orders = b.orders; greatest = b.greatest }; reads = b.reads } };
+    ghost view = { λ b. record { limits = b.logic; state = record { orders = b.orders; greatest = b.greatest }; reads = b.reads } };
 
-    ghost invariant = { λ b. IsBook b.logic b.orders b.greatest };
+    ghost invariant = { λ b. IsBook b.logic.symbols b.orders b.greatest };
 }
 
 impl Book {
     /// The empty book of a venue with these symbols. Room for all orders that can rest is made here, and no other call
     /// asks for memory.
     pub fn new(alloc: Global, limits: &Limits) -> Result<Book, AllocError>
-        ensures { IfOk result (λ b. b ≡ record { symbols = limits.now; state = empty; reads = 0 }) }
+        ensures { IfOk result (λ b. b ≡ record { limits = limits.now; state = empty; reads = 0 }) }
     {
         let orders = RestingOrders::new(alloc, limits.symbols())?;
         Ok(Book {
@@ -73,7 +73,7 @@ impl Book {
         requires room { (out.old.items ≡ []) × (8194 ≤ vec_capacity out.old) }
         ensures succeeds { IsOk result × (vec_capacity out.new ≡ vec_capacity out.old) }
         ensures state { Follows self.old self.new sequence (record { gateway = gateway; command = command.now }) }
-        ensures told { out.new.items ≡ (step self.old.symbols self.old.state sequence (record { gateway = gateway; command = command.now })).outputs }
+        ensures told { out.new.items ≡ (step self.old.limits.symbols self.old.state sequence (record { gateway = gateway; command = command.now })).outputs }
     {
         let mut reads = 0;
         self.obey(sequence, gateway, command, out, &mut reads);
@@ -98,11 +98,11 @@ impl Book {
         requires empty { out.old.items ≡ [] }
         requires room { 8194 ≤ vec_capacity out.old }
         requires reads { reads.old ≡ 0 }
-        ensures symbols { self.new.symbols ≡ self.old.symbols }
-        ensures state { self.new.state ≡ (step self.old.symbols self.old.state sequence (record { gateway = gateway; command = command.now })).state }
+        ensures limits { self.new.limits ≡ self.old.limits }
+        ensures state { self.new.state ≡ (step self.old.limits.symbols self.old.state sequence (record { gateway = gateway; command = command.now })).state }
         ensures below { Below (sequence + 1) self.new.state.orders }
-        ensures told { out.new.items ≡ (step self.old.symbols self.old.state sequence (record { gateway = gateway; command = command.now })).outputs }
-        ensures reads { Reads self.old.symbols self.old.state sequence (record { gateway = gateway; command = command.now }) reads.new }
+        ensures told { out.new.items ≡ (step self.old.limits.symbols self.old.state sequence (record { gateway = gateway; command = command.now })).outputs }
+        ensures reads { Reads self.old.limits.symbols self.old.state sequence (record { gateway = gateway; command = command.now }) reads.new }
         ensures room { vec_capacity out.new ≡ vec_capacity out.old }
     {
         match command {

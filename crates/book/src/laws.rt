@@ -3,7 +3,6 @@
 ghost use Rattle.std.specs.Prelude.{◌≡◌, ℕ, ◌+◌, ◌≤◌, min, nat_lt, true, false, List, [], ◌∷◌, ◌++◌, length, map, filter, sum_by};
 ghost use Rattle.std.specs.List.{AllByRecursion};
 ghost use Rattle.std.specs.List.Sorted.{IsPermutation};
-ghost use Rattle.fix_orders.specs.Reading.{reads};
 ghost use Rattle.venue_model.specs.History.{History, IsMessage};
 ghost use Rattle.venue_model.specs.declared.commands.TimeInForce.TheVariants.{FillOrKill};
 ghost use Rattle.venue_model.specs.declared.orders.Order.{Order};
@@ -11,8 +10,9 @@ ghost use Rattle.venue_model.specs.declared.orders.Side.TheVariants.{Buy, Sell};
 ghost use Rattle.venue_model.specs.declared.outputs.Cause.{Cause};
 ghost use Rattle.venue_model.specs.Orders.{leaves, is_live, ahead};
 ghost use Rattle.venue_model.specs.Match.{crossing, fill, settled, done, filled_orders, trades, can_fill, canceled_rest, matched, match_outputs};
-ghost use Rattle.venue_model.specs.Requests.{Symbols, State};
-ghost use Rattle.venue_model.specs.Step.{Request, step, state, outputs_from, outputs, requests};
+ghost use Rattle.venue_model.specs.Requests.{Limits, Symbols, State};
+ghost use Rattle.venue_model.specs.Step.{Request, step, state, outputs_from, outputs};
+ghost use Rattle.book.specs.Histories.{state_of, outputs_of};
 ghost use Rattle.book.specs.Standing.{Rising, Below};
 ghost use Rattle.book.specs.Laws.{AreCrossed, GoesFirst, IsAheadOf, KeepsLimit, KeepsPrice, KeepsTotal, IsFromGateway, Pairwise, IsOrderly, IsUncrossed, TellsFields, quantity_traded, money_traded};
 
@@ -110,8 +110,8 @@ pub fn fill_or_kill_is_whole()
 pub fn the_book_is_never_crossed()
     ensures uncrossed { (symbols : Symbols) (rs : List Request) → AllByRecursion IsFromGateway rs
         → IsUncrossed (state symbols rs).orders }
-    ensures history { (symbols : Symbols) (h : History) → AllByRecursion IsMessage h
-        → IsUncrossed (state symbols (requests (λ sequence m. reads m.bytes) h)).orders }
+    ensures history { (limits : Limits) (h : History) → AllByRecursion IsMessage h
+        → IsUncrossed (state_of limits h).orders }
     ensures rising { (symbols : Symbols) (rs : List Request) → AllByRecursion IsFromGateway rs
         → Rising (state symbols rs).orders }
     ensures orderly { (symbols : Symbols) (rs : List Request) → AllByRecursion IsFromGateway rs
@@ -130,12 +130,10 @@ pub fn no_order_is_overfilled()
 /// many messages, all stamps are below their number. So the next command's sequence is behind them all.
 pub fn stamps_are_sequences()
     ensures commands { (symbols : Symbols) (rs : List Request) → Below (length rs) (state symbols rs).orders }
-    ensures history { (symbols : Symbols) (h : History) →
-        Below (length h) (state symbols (requests (λ sequence m. reads m.bytes) h)).orders }
+    ensures history { (limits : Limits) (h : History) → Below (length h) (state_of limits h).orders }
 {}
 
 /// Each output's text is fields, whatever messages the history has: so who takes an output can write it as a frame.
 pub fn every_text_is_fields()
-    ensures { (symbols : Symbols) (h : History) →
-        AllByRecursion TellsFields (outputs symbols (requests (λ sequence m. reads m.bytes) h)) }
+    ensures { (limits : Limits) (h : History) → AllByRecursion TellsFields (outputs_of limits h) }
 {}

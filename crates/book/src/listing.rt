@@ -21,11 +21,11 @@ impl Book {
     /// A call looks the order's name up and, behind the last order of a price, searches the price levels once for that
     /// order and once for each later symbol and side (at most 16 in all), until an order is there.
     pub fn after(&self, from: Option<Order>) -> Option<Order>
-        ensures first { from ≡ None → result ≡ slice_get (listing self.now.symbols self.now.state.orders) 0 }
+        ensures first { from ≡ None → result ≡ slice_get (listing self.now.limits.symbols self.now.state.orders) 0 }
         ensures next { (before behind : List Order) (o : Order) → from ≡ Some o →
-            listing self.now.symbols self.now.state.orders ≡ before ++ o ∷ behind
+            listing self.now.limits.symbols self.now.state.orders ≡ before ++ o ∷ behind
             → result ≡ slice_get behind 0 }
-        ensures once { IsPermutation self.now.state.orders (listing self.now.symbols self.now.state.orders) }
+        ensures once { IsPermutation self.now.state.orders (listing self.now.limits.symbols self.now.state.orders) }
     {
         next(self.logic.symbols(), &self.orders, &from)
     }

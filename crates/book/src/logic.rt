@@ -9,7 +9,7 @@ use venue_model::{Limits, Logic, MOST_SYMBOLS, Symbol};
 
 /// The meaning of a history of entries for a venue with these symbols (1 to 8): each entry's command by the rules of
 /// reading, and the outputs of one book of one thread. It is copied freely and takes no memory. Contracts see the
-/// symbols.
+/// limits.
 #[derive(Clone, Copy)]
 pub struct BookLogic {
     symbols: [Symbol; MOST_SYMBOLS],
@@ -18,16 +18,16 @@ pub struct BookLogic {
 
 impl Model for BookLogic {
     ghost use Rattle.std.specs.Prelude.{length, take};
-    ghost use Rattle.venue_model.specs.Requests.{Symbols};
+    ghost use Rattle.venue_model.specs.Requests.{Limits};
     ghost use Rattle.book.specs.Tables.{KeepsTable, in_eight, in_eight-take, kept_count};
 
-    ghost Value = { Symbols };
+    ghost Value = { Limits };
 
-    ghost view = { λ l. take l.count l.symbols };
+    ghost view = { λ l. record { symbols = take l.count l.symbols } };
 
     ghost invariant = { λ l. KeepsTable l.symbols l.count };
 
-    ghost inverse = { λ names. record { symbols = in_eight names; count = length names } };
+    ghost inverse = { λ limits. record { symbols = in_eight limits.symbols; count = length limits.symbols } };
 
     ghost inverse_ok = { λ l keeps i. record {
       symbols = in_eight-take l.symbols l.count keeps i;
@@ -49,34 +49,33 @@ impl BookLogic {
 
     /// The symbols, in the order of the command line.
     pub fn symbols(&self) -> &[Symbol]
-        ensures value { result.now ≡ self.now }
-        ensures table { AreSymbols self.now }
+        ensures value { result.now ≡ self.now.symbols }
+        ensures table { AreSymbols self.now.symbols }
     {
         &self.symbols[..self.count]
     }
 
     /// Whether the venue trades the symbol.
     pub(crate) fn has(&self, symbol: &Symbol) -> bool
-        ensures { result ≡ list_any (bytes_eq symbol.now) self.now }
+        ensures { result ≡ list_any (bytes_eq symbol.now) self.now.symbols }
     {
         self.symbols().iter().any(|known| symbol.is(known))
     }
 }
 
 impl Logic for BookLogic {
-    ghost use Rattle.fix_orders.specs.Reading.{reads};
-    ghost use Rattle.venue_model.specs.Step.{requests, outputs};
+    ghost use Rattle.book.specs.Histories.{reads_at, outputs_of};
     ghost use Rattle.std.proofs.Common.{refl};
     ghost use Rattle.fix_orders.specs.Text.{text_bytes};
     ghost use Rattle.venue_model.specs.HistoryLaws.{grows};
 
-    ghost reads = { λ symbols sequence m. reads m.bytes };
+    ghost reads = { reads_at };
 
-    ghost outputs = { λ symbols h. outputs symbols (requests (λ sequence m. reads m.bytes) h) };
+    ghost outputs = { outputs_of };
 
-    ghost text = { λ symbols o place. text_bytes o place };
+    ghost text = { λ limits o place. text_bytes o place };
 
-    ghost nothing = { λ symbols. refl };
+    ghost nothing = { λ limits. refl };
 
-    ghost grows = { grows (λ sequence m. reads m.bytes) };
+    ghost grows = { λ limits. grows (reads_at limits) limits.symbols };
 }

@@ -45,7 +45,7 @@ impl Book {
     fn new_refusal(&self, client: u8, order: &NewOrderSingle) -> Option<OrdRejReason>
         requires from { 1 ≤ client }
         requires to { client ≤ 8 }
-        ensures { result ≡ new_refusal self.now.symbols self.now.state client order.now }
+        ensures { result ≡ new_refusal self.now.limits.symbols self.now.state client order.now }
     {
         if order.cl_ord_id <= self.greatest_of(client) {
             Some(OrdRejReason::DuplicateOrder)
@@ -66,7 +66,7 @@ impl Book {
         ensures value { self.new ≡ record self.old { state = accepted self.old.state client name self.old.state.orders } }
         ensures greatest { greatest_of self.new.state client ≡ name }
         ensures fresh { NoneNamed client name self.old.state.orders }
-        ensures book { IsBook self.new.symbols self.new.state.orders self.new.state.greatest }
+        ensures book { IsBook self.new.limits.symbols self.new.state.orders self.new.state.greatest }
     {
         self.greatest[client as usize - 1] = name;
     }
@@ -97,11 +97,11 @@ impl Book {
         requires quantity { IsAmount request.now.quantity }
         requires room { vec_len out.old + 8194 ≤ vec_capacity out.old }
         requires reads { reads.old ≡ 0 }
-        ensures state { self.new ≡ record self.old { state = (on_new self.old.symbols self.old.state cause request.now).state } }
-        ensures told { out.new.items ≡ out.old.items ++ (on_new self.old.symbols self.old.state cause request.now).outputs }
+        ensures state { self.new ≡ record self.old { state = (on_new self.old.limits.symbols self.old.state cause request.now).state } }
+        ensures told { out.new.items ≡ out.old.items ++ (on_new self.old.limits.symbols self.old.state cause request.now).outputs }
         ensures behind { Below (cause.sequence + 1) self.new.state.orders }
         ensures room { vec_capacity out.new ≡ vec_capacity out.old }
-        ensures reads { NewReads self.old.symbols self.old.state cause request.now reads.new }
+        ensures reads { NewReads self.old.limits.symbols self.old.state cause request.now reads.new }
     {
         let order = entering(cause, request);
         if let Some(reason) = self.new_refusal(cause.gateway, request) {
@@ -132,7 +132,7 @@ impl Book {
         requires from { 1 ≤ order.now.client }
         requires to { order.now.client ≤ 8 }
         requires later { greatest_of self.old.state order.now.client < order.now.cl_ord_id }
-        requires known { list_any (bytes_eq order.now.symbol) self.old.symbols ≡ true }
+        requires known { list_any (bytes_eq order.now.symbol) self.old.limits.symbols ≡ true }
         requires in_range { InRange order.now }
         requires some { 0 < leaves order.now }
         requires behind { Below order.now.stamp self.old.state.orders }

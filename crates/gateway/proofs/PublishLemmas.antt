@@ -1,7 +1,7 @@
 -- A try to publish: what it tells the session.
 use Rattle.std.proofs.Common.{◌≡◌, inl, inr, ℕ, List, [], ◌∷◌, ◌++◌, map, refl, ap, ◌∙◌}
 use Rattle.std.proofs.lemmas.List.{append_assoc, map-append}
-use Rattle.venue_model.specs.Requests.{Symbols}
+use Rattle.venue_model.specs.Requests.{Limits}
 use Rattle.ring_words.specs.At.{At, Steps, seated, number}
 use Rattle.ring_words.specs.declared.view.Load.{Load}
 use Rattle.ring_words.specs.declared.view.Sent.{Sent}
@@ -16,14 +16,14 @@ use Rattle.gateway.specs.Seats.{messages_of, ledger_of, from_gateway, Published,
 in_order : (xs ls : List Load) (l m : Load) → ((xs ++ l ∷ []) ++ ls) ++ m ∷ [] ≡ xs ++ (l ∷ ls ++ m ∷ [])
 in_order xs ls l m = append_assoc (xs ++ l ∷ []) ls (m ∷ []) ∙ append_assoc xs (l ∷ []) (ls ++ m ∷ [])
 
-module _ (n : ℕ) (s t : At Symbols) (bytes : List ℕ) where
+module _ (n : ℕ) (s t : At Limits) (bytes : List ℕ) where
   -- a message was published
   pub tells_done : Published n s t bytes → PublishTells (ledger_of n s) (ledger_of n t) bytes Done
   tells_done done =
       let p : ℕ = done.claimed.0 in let more = done.claimed.1 in let a : ℕ = done.sequence in
       let e = from_gateway (number s) bytes in
       let claimed = with_claim (looked (seats.loading (looked s.who claim a) more.0) claim a) a in
-      let is : t ≡ seated s (marked claimed a e) = done.published ∙ ap (λ (z : At Symbols). seated z (marked z.who a e)) more.2 in
+      let is : t ≡ seated s (marked claimed a e) = done.published ∙ ap (λ (z : At Limits). seated z (marked z.who a e)) more.2 in
       let loads = in_order s.who.loads more.0 (load_of claim a) (load_of claim a) in
       let sends : messages_of (s.who.mine ++ sent_of a e ∷ []) ≡ messages_of s.who.mine ++ bytes ∷ [] =
       map-append (λ (m : Sent). m.entry.bytes) s.who.mine (sent_of a e ∷ []) in (

@@ -2,7 +2,7 @@
 use Rattle.std.proofs.Common.{◌≡◌, ◌≢◌, inl, ℕ, suc, ◌+◌, ◌^◌, ◌≤◌, List, [], ◌∷◌, ◌++◌, length, refl, ap, sym, subst, ◌∙◌, arith}
 use Rattle.fix_orders.specs.Text.{Said, text, text_bytes}
 use Rattle.venue_model.specs.History.{Message}
-use Rattle.venue_model.specs.Requests.{Symbols}
+use Rattle.venue_model.specs.Requests.{Limits}
 use Rattle.venue_model.specs.declared.outputs.Output.{Output}
 use Rattle.book.specs.Histories.{outputs_of}
 use Rattle.book.proofs.LawTexts.{tells-fields}
@@ -15,39 +15,39 @@ use Rattle.barrier.specs.Taking.{TakesNext, Says, SaysOutput}
 use Rattle.barrier.specs.declared.taking.Take.{Take}
 use Rattle.barrier.specs.declared.taking.Take.TheVariants.{Mine, Passed, Nothing}
 use Rattle.gateway.specs.Ledgers.{loading, TakeTells}
-use Rattle.gateway.specs.Seats.{symbols_of, given, HasSeen, messages_of, taken_by, ledger_of, TakesOne, Looks, StaysSeated, MayEnter, MayLook, Uses}
+use Rattle.gateway.specs.Seats.{limits_of, given, HasSeen, messages_of, taken_by, ledger_of, TakesOne, Looks, StaysSeated, MayEnter, MayLook, Uses}
 use Rattle.gateway.proofs.Carried.{carried}
 use Rattle.gateway.proofs.TakenLemmas.{taken_mine, taken_other, still_within, still_small}
 
 -- a holder who has seen and taken as much, and has no claim left, knows as much
-knows_still : (s : At Symbols) (q : Person) → q.own ≡ s.who.own → q.seen ≡ s.who.seen → q.claims ≡ [] → HasSeen s → HasSeen (seated s q)
+knows_still : (s : At Limits) (q : Person) → q.own ≡ s.who.own → q.seen ≡ s.who.seen → q.claims ≡ [] → HasSeen s → HasSeen (seated s q)
 knows_still s q own seen spent knows = record {
   logic = knows.logic;
   from = subst (λ (n : ℕ). given s ≤ n) (sym own) knows.from;
   few = subst (λ (n : ℕ). n ≤ 2 ^ 62) (sym own) knows.few;
-  to = subst (λ (n : ℕ). n ≤ length (outputs_of (symbols_of s) q.seen)) (sym own)
-      (subst (λ (h : List Message). s.who.own ≤ length (outputs_of (symbols_of s) h)) (sym seen) knows.to);
+  to = subst (λ (n : ℕ). n ≤ length (outputs_of (limits_of s) q.seen)) (sym own)
+      (subst (λ (h : List Message). s.who.own ≤ length (outputs_of (limits_of s) h)) (sym seen) knows.to);
   spent = spent;
 }
 
 -- the seat of these rings knows their logic
-logic_at : (rings : Opened Symbols) (s : At Symbols) → IsAt rings s → symbols_of s ≡ rings.logic
-logic_at rings s at = ap (λ (a : At Symbols). symbols_of a) at
+logic_at : (rings : Opened Limits) (s : At Limits) → IsAt rings s → limits_of s ≡ rings.logic
+logic_at rings s at = ap (λ (a : At Limits). limits_of a) at
 
-base_at : (rings : Opened Symbols) (s : At Symbols) → IsAt rings s → rings.base ≡ s.base
-base_at rings s at = sym (ap (λ (a : At Symbols). a.base) at)
+base_at : (rings : Opened Limits) (s : At Limits) → IsAt rings s → rings.base ≡ s.base
+base_at rings s at = sym (ap (λ (a : At Limits). a.base) at)
 
 -- the clause of a call that took an output or passed it over
-abbrev pub Takes : Opened Symbols → At Symbols → At Symbols → Take → List ℕ → Type 0
+abbrev pub Takes : Opened Limits → At Limits → At Limits → Take → List ℕ → Type 0
 Takes rings s t take body = (history : List Message) × TakesNext (length rings.base) s.who history t.who
     × SaysOutput (outputs_of rings.logic history) text_bytes s take body
 
-module _ (rings : Opened Symbols) (s t : At Symbols) (at : IsAt rings s) (step : Steps s t.who t) where
+module _ (rings : Opened Limits) (s t : At Limits) (at : IsAt rings s) (step : Steps s t.who t) where
   -- the output and its history
   one : (take : Take) (body : List ℕ) → Takes rings s t take body
       → (o : Output) × TakesOne s t o × Says (number s) o (text_bytes o s.who.own) take body
   one take body (history, takes, says) =
-      let said = subst (λ (l : Symbols). SaysOutput (outputs_of l history) text_bytes s take body) (sym (logic_at rings s at)) says in (
+      let said = subst (λ (l : Limits). SaysOutput (outputs_of l history) text_bytes s take body) (sym (logic_at rings s at)) says in (
         said.0,
         record {
           history = history;
@@ -62,13 +62,13 @@ module _ (rings : Opened Symbols) (s t : At Symbols) (at : IsAt rings s) (step :
       → (take ≢ Nothing → Takes rings s t take body) → Looks s t body take
   looks_so (Mine head) body nothing taken =
       let o = one (Mine head) body (taken (λ is. cc)) in
-      (o.0, o.1, o.2.0, carried head body o.0 s.who.own (tells-fields (symbols_of s) o.1.history s.who.own o.0 o.1.next) o.2.1)
+      (o.0, o.1, o.2.0, carried head body o.0 s.who.own (tells-fields (limits_of s) o.1.history s.who.own o.0 o.1.next) o.2.1)
   looks_so Passed body nothing taken = let o = one Passed body (taken (λ is. cc)) in (o.0, o.1, o.2)
   looks_so Nothing body nothing taken = step ∙ ap (seated s) (nothing refl)
 
-module _ (n : ℕ) (s t : At Symbols) (knows : HasSeen s) (o : Output) (one : TakesOne s t o) where
+module _ (n : ℕ) (s t : At Limits) (knows : HasSeen s) (o : Output) (one : TakesOne s t o) where
   small : s.who.own + 1 ≤ 2 ^ 62
-  small = still_small (number s) (symbols_of s) s.base one.history s.who t.who o (length s.base) one.takes one.next
+  small = still_small (number s) (limits_of s) s.base one.history s.who t.who o (length s.base) one.takes one.next
 
   taken_keeps : HasSeen t
   taken_keeps =
@@ -77,13 +77,13 @@ module _ (n : ℕ) (s t : At Symbols) (knows : HasSeen s) (o : Output) (one : Ta
       subst HasSeen (sym one.others) (record {
         logic = knows.logic;
         from = omega (arith, from, own);
-        to = still_within (number s) (symbols_of s) s.base one.history s.who t.who o (length s.base) one.takes one.next;
+        to = still_within (number s) (limits_of s) s.base one.history s.who t.who o (length s.base) one.takes one.next;
         few = let most = small in omega (arith, most, own);
         spent = ap (λ (p : Person). p.claims) one.takes.taken ∙ knows.spent;
       })
 
   -- the ledger with one output more, of these texts
-  retold : (texts : List Said) → taken_by (number s) (symbols_of s) s.base t.who ≡ texts → (ls : List Load)
+  retold : (texts : List Said) → taken_by (number s) (limits_of s) s.base t.who ≡ texts → (ls : List Load)
       × (ledger_of n t ≡ record (loading (ledger_of n s) ls) { taken = texts; count = s.who.own + 1 })
   retold texts told =
       let sends : messages_of t.who.mine ≡ messages_of s.who.mine = ap (λ (p : Person). messages_of p.mine) one.takes.taken in
@@ -92,18 +92,18 @@ module _ (n : ℕ) (s t : At Symbols) (knows : HasSeen s) (o : Output) (one : Ta
       let ls : List Load = load_of marshalled one.takes.value ∷ one.takes.loads in
       let loads : t.who.loads ≡ s.who.loads ++ ls = ap (λ (p : Person). p.loads) one.takes.taken in
       let role : number_of t.who.role ≡ number s = ap (λ (p : Person). number_of p.role) one.takes.taken in
-      let now : taken_by (number_of t.who.role) (symbols_of s) s.base t.who ≡ texts = ap (λ (k : ℕ). taken_by k (symbols_of s) s.base t.who) role ∙ told in (
+      let now : taken_by (number_of t.who.role) (limits_of s) s.base t.who ≡ texts = ap (λ (k : ℕ). taken_by k (limits_of s) s.base t.who) role ∙ told in (
         ls,
         ap (ledger_of n) one.others ∙ (λ i. record { rows = n; published = sends i; taken = now i; count = count i; loads = loads i }),
       )
 
-  taken_more : o.to ≡ number s → taken_by (number s) (symbols_of s) s.base t.who ≡ taken_by (number s) (symbols_of s) s.base s.who ++ text o s.who.own ∷ []
-  taken_more is = taken_mine (number s) (symbols_of s) s.base one.history s.who t.who o (length s.base) one.takes one.next knows.from knows.to is
+  taken_more : o.to ≡ number s → taken_by (number s) (limits_of s) s.base t.who ≡ taken_by (number s) (limits_of s) s.base s.who ++ text o s.who.own ∷ []
+  taken_more is = taken_mine (number s) (limits_of s) s.base one.history s.who t.who o (length s.base) one.takes one.next knows.from knows.to is
 
-  taken_same : o.to ≢ number s → taken_by (number s) (symbols_of s) s.base t.who ≡ taken_by (number s) (symbols_of s) s.base s.who
-  taken_same other = taken_other (number s) (symbols_of s) s.base one.history s.who t.who o (length s.base) one.takes one.next knows.from knows.to other
+  taken_same : o.to ≢ number s → taken_by (number s) (limits_of s) s.base t.who ≡ taken_by (number s) (limits_of s) s.base s.who
+  taken_same other = taken_other (number s) (limits_of s) s.base one.history s.who t.who o (length s.base) one.takes one.next knows.from knows.to other
 
-module _ (n : ℕ) (s t : At Symbols) (knows : HasSeen s) where
+module _ (n : ℕ) (s t : At Limits) (knows : HasSeen s) where
   pub looks_keeps : (take : Take) (body : List ℕ) → Looks s t body take → HasSeen t
   looks_keeps (Mine head) body (o, one, is, carries) = taken_keeps n s t knows o one
   looks_keeps Passed body (o, one, other) = taken_keeps n s t knows o one
@@ -119,25 +119,25 @@ module _ (n : ℕ) (s t : At Symbols) (knows : HasSeen s) where
   looks_tells Nothing body is = ap (ledger_of n) is
 
 -- a look leaves the seat at its rings, and its gateway's
-pub looks_stays : (s t : At Symbols) (take : Take) (body : List ℕ) → Looks s t body take → StaysSeated s t
+pub looks_stays : (s t : At Limits) (take : Take) (body : List ℕ) → Looks s t body take → StaysSeated s t
 looks_stays s t (Mine head) body (o, one, is, carries) = record { rings = one.others; role = ap (λ (p : Person). p.role) one.takes.taken }
 looks_stays s t Passed body (o, one, other) = record { rings = one.others; role = ap (λ (p : Person). p.role) one.takes.taken }
 looks_stays s t Nothing body is =
-    let who : t.who ≡ looked s.who marshalled s.who.own = ap (λ (a : At Symbols). a.who) is in
+    let who : t.who ≡ looked s.who marshalled s.who.own = ap (λ (a : At Limits). a.who) is in
     record { rings = is ∙ ap (seated s) (sym who); role = ap (λ (p : Person). p.role) who }
 
 -- a seat that stays as it is
-pub seat_still : (s : At Symbols) → StaysSeated s s
+pub seat_still : (s : At Limits) → StaysSeated s s
 seat_still s = record { rings = refl; role = refl }
 
 -- a seat that wasn't used
-pub unused : (n : ℕ) (s t : At Symbols) → t ≡ s → Uses n s t
+pub unused : (n : ℕ) (s t : At Limits) → t ≡ s → Uses n s t
 unused n s t still = subst (Uses n s) (sym still) (record { stays = seat_still s; between = s; enters = inl refl; looks = inl refl })
 
 -- a seat that was used for a try to publish, and then for a look
-pub used : (n : ℕ) (s t u v : At Symbols) → StaysSeated s t → MayEnter n s t → StaysSeated t u → MayLook t u → v ≡ u → Uses n s v
+pub used : (n : ℕ) (s t u v : At Limits) → StaysSeated s t → MayEnter n s t → StaysSeated t u → MayLook t u → v ≡ u → Uses n s v
 used n s t u v first enters next looks still = subst (Uses n s) (sym still) (record {
-  stays = record { rings = next.rings ∙ ap (λ (x : At Symbols). seated x u.who) first.rings; role = next.role ∙ first.role };
+  stays = record { rings = next.rings ∙ ap (λ (x : At Limits). seated x u.who) first.rings; role = next.role ∙ first.role };
   between = t;
   enters = enters;
   looks = looks;

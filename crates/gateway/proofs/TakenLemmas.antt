@@ -5,16 +5,15 @@ use Rattle.std.proofs.lemmas.Bool.Decides.{nat_tests}
 use Rattle.std.proofs.lemmas.List.{length-take-le, take-append-le, drop-append-le}
 use mathlib.Core.Option.{some}
 use lib.ListN.{get_elem?}
-use Rattle.fix_orders.specs.Reading.{reads}
 use Rattle.fix_orders.specs.Text.{Said, text}
 use Rattle.venue_model.specs.History.{Message}
-use Rattle.venue_model.specs.Requests.{Symbols}
+use Rattle.venue_model.specs.Requests.{Limits}
 use Rattle.venue_model.specs.declared.outputs.Output.{Output}
 use Rattle.venue_model.specs.ListLaws.{within}
 use Rattle.venue_model.specs.GrowthLaws.{grows-by, few-told-by}
 use Rattle.ring_words.specs.declared.view.Person.{Person}
 use Rattle.barrier.specs.Taking.{TakesNext}
-use Rattle.book.specs.Histories.{outputs_of}
+use Rattle.book.specs.Histories.{reads_at, outputs_of}
 use Rattle.gateway.proofs.Lists.{take_next}
 use Rattle.gateway.specs.Seats.{texts_to, taken_by}
 
@@ -65,45 +64,45 @@ others k place o other = ap (λ (b : Bool). if b then text o place ∷ [] else [
 
 -- TAKING
 
-module _ (k : ℕ) (symbols : Symbols) (base history : List Message) (p q : Person) (o : Output) (start : ℕ) (takes : TakesNext start p history q)
-    (next : get_elem? (outputs_of symbols history) p.own ≡ some o) where
+module _ (k : ℕ) (limits : Limits) (base history : List Message) (p q : Person) (o : Output) (start : ℕ) (takes : TakesNext start p history q)
+    (next : get_elem? (outputs_of limits history) p.own ≡ some o) where
   abbrev given : ℕ
-  given = length (outputs_of symbols base)
+  given = length (outputs_of limits base)
 
   -- the count stays within the outputs of what the gateway has seen
-  pub still_within : q.own ≤ length (outputs_of symbols q.seen)
+  pub still_within : q.own ≤ length (outputs_of limits q.seen)
   still_within =
-      let there = within (outputs_of symbols history) p.own o next in
+      let there = within (outputs_of limits history) p.own o next in
       let own : q.own ≡ suc p.own = ap (λ (w : Person). w.own) takes.taken in
-      let seen : length (outputs_of symbols q.seen) ≡ length (outputs_of symbols history)
-      = ap (λ (w : Person). length (outputs_of symbols w.seen)) takes.taken in
+      let seen : length (outputs_of limits q.seen) ≡ length (outputs_of limits history)
+      = ap (λ (w : Person). length (outputs_of limits w.seen)) takes.taken in
       omega (arith, there, own, seen)
 
   -- and is a small number, since the history is short
   pub still_small : p.own + 1 ≤ 2 ^ 62
   still_small =
-      let there = within (outputs_of symbols history) p.own o next in
+      let there = within (outputs_of limits history) p.own o next in
       let few = takes.few in
-      let told = few-told-by (λ sequence m. reads m.bytes) symbols history in
+      let told = few-told-by (reads_at limits) limits.symbols history in
       omega (arith, there, few, told)
 
-  module _ (from : given ≤ p.own) (to : p.own ≤ length (outputs_of symbols p.seen)) where
+  module _ (from : given ≤ p.own) (to : p.own ≤ length (outputs_of limits p.seen)) where
     -- what was taken before stays as the history grows
-    stays : texts_to k given (drop given (take p.own (outputs_of symbols history))) ≡ taken_by k symbols base p
+    stays : texts_to k given (drop given (take p.own (outputs_of limits history))) ≡ taken_by k limits base p
     stays =
         let rest : List Message = drop (length p.seen) history in
         let grown : history ≡ p.seen ++ rest = sym (take-append-drop (length p.seen) history) ∙ ap (λ (h : List Message). h ++ rest) (sym takes.begins) in
-        let more = grows-by (λ sequence m. reads m.bytes) symbols p.seen rest in
-        ap (λ (h : List Message). texts_to k given (drop given (take p.own (outputs_of symbols h)))) grown
+        let more = grows-by (reads_at limits) limits.symbols p.seen rest in
+        ap (λ (h : List Message). texts_to k given (drop given (take p.own (outputs_of limits h)))) grown
         ∙ ap (λ (os : List Output). texts_to k given (drop given (take p.own os))) more.1
-        ∙ ap (λ (os : List Output). texts_to k given (drop given os)) (take-append-le p.own (outputs_of symbols p.seen) more.0 to)
+        ∙ ap (λ (os : List Output). texts_to k given (drop given os)) (take-append-le p.own (outputs_of limits p.seen) more.0 to)
 
-    one_more : taken_by k symbols base q ≡ taken_by k symbols base p ++ one_text k p.own o
-    one_more = ap (taken_by k symbols base) takes.taken ∙ taken-one_more k given (outputs_of symbols history) p.own o next from
+    one_more : taken_by k limits base q ≡ taken_by k limits base p ++ one_text k p.own o
+    one_more = ap (taken_by k limits base) takes.taken ∙ taken-one_more k given (outputs_of limits history) p.own o next from
         ∙ ap (λ (ts : List Said). ts ++ one_text k p.own o) stays
 
-    pub taken_mine : o.to ≡ k → taken_by k symbols base q ≡ taken_by k symbols base p ++ text o p.own ∷ []
-    taken_mine is = one_more ∙ ap (λ (ts : List Said). taken_by k symbols base p ++ ts) (mine k p.own o is)
+    pub taken_mine : o.to ≡ k → taken_by k limits base q ≡ taken_by k limits base p ++ text o p.own ∷ []
+    taken_mine is = one_more ∙ ap (λ (ts : List Said). taken_by k limits base p ++ ts) (mine k p.own o is)
 
-    pub taken_other : o.to ≢ k → taken_by k symbols base q ≡ taken_by k symbols base p
-    taken_other other = one_more ∙ ap (λ (ts : List Said). taken_by k symbols base p ++ ts) (others k p.own o other) ∙ append-nil (taken_by k symbols base p)
+    pub taken_other : o.to ≢ k → taken_by k limits base q ≡ taken_by k limits base p
+    taken_other other = one_more ∙ ap (λ (ts : List Said). taken_by k limits base p ++ ts) (others k p.own o other) ∙ append-nil (taken_by k limits base p)

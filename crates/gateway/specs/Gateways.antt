@@ -1,6 +1,6 @@
 -- A gateway at its rings: what contracts see of it, and what its fields stand for.
 use Rattle.std.specs.Prelude.{◌≡◌, ℕ, ◌<◌, true, false, []}
-use Rattle.venue_model.specs.Requests.{Symbols}
+use Rattle.venue_model.specs.Requests.{Limits}
 use Rattle.ring_words.specs.At.{At, number}
 use Rattle.gateway.specs.declared.ending.Turned.{Turned}
 use Rattle.gateway.specs.declared.ending.Turned.TheVariants.{Worked, Quiet, Ended}
@@ -15,7 +15,7 @@ use Rattle.gateway.specs.TurnParts.{PassesOver}
 -- its side towards the client, and its seat
 pub record AtRings : Type 0 where
   pub front : Front
-  pub seat : At Symbols
+  pub seat : At Limits
 
 -- what there is around it, at an input ring of n rows and a wire that tells this
 abbrev pub around : ℕ → AtRings → Told → World

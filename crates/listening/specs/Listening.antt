@@ -1,6 +1,6 @@
 -- What a run of the listening mode comes to.
 use Rattle.std.specs.Prelude.{◌≡◌, ◌⊎◌, ℕ, Bool, true, false, List, length, Result, Ok, Err}
-use Rattle.venue_model.specs.Requests.{Symbols}
+use Rattle.venue_model.specs.Requests.{Limits}
 use Rattle.ring_words.specs.At.{Opened, At}
 use Rattle.ring_words.specs.declared.close.Summary.{Summary}
 use Rattle.disks.specs.Disk.{OnlyRead}
@@ -24,14 +24,14 @@ end_of false false = Err fault.Memory
 module _ {D : Type 0} where
   -- Members were served behind the journal's history. The stages went on from there, the journaller with all that it was told, and all g gateways'
   -- seats came back; one log tells of all of them, of which the disk keeps what was answered.
-  pub record Listens (symbols : Symbols) (device : Device D) (g : ℕ) (old new : D) (status : ℕ) : Type 0 where
-    pub rings : Opened Symbols
+  pub record Listens (limits : Limits) (device : Device D) (g : ℕ) (old new : D) (status : ℕ) : Type 0 where
+    pub rings : Opened Limits
     pub begun : OneCrew D
     pub ended : OneCrew D
-    pub seats : List (At Symbols)
+    pub seats : List (At Limits)
     pub ready : Bool
     pub summary : Summary
-    pub behind : AreBehind symbols rings.base rings
+    pub behind : AreBehind limits rings.base rings
     pub crew : IsNewCrew rings begun
     pub counts : device.failed (disk_of begun) ≡ device.failed old
     pub opened : IsOpened (device.honest old) (device.honest (disk_of begun)) (device.tells old) (device.tells (disk_of begun)) rings.base
@@ -42,7 +42,7 @@ module _ {D : Type 0} where
     pub status_is : status ≡ status_of_end (end_of ended.journaller.journal.failed ready)
 
   -- what the program's status says: 1 where nobody was served and the disk was only read, and else how it ended
-  abbrev pub EndsListening : Symbols → Device D → ℕ → D → D → ℕ → Type 0
-  EndsListening symbols device g old new status =
+  abbrev pub EndsListening : Limits → Device D → ℕ → D → D → ℕ → Type 0
+  EndsListening limits device g old new status =
       ((status ≡ 1) × OnlyRead (device.honest old) (device.honest new) (device.tells old) (device.tells new))
-      ⊎ Listens symbols device g old new status
+      ⊎ Listens limits device g old new status

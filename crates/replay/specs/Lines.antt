@@ -10,11 +10,11 @@ use Rattle.venue_model.specs.History.{History}
 use Rattle.venue_model.specs.declared.orders.Order.{Order}
 use Rattle.venue_model.specs.declared.outputs.Output.{Output}
 use Rattle.venue_model.specs.Orders.{leaves}
-use Rattle.venue_model.specs.Requests.{Symbols}
+use Rattle.venue_model.specs.Requests.{Limits}
 use Rattle.book.specs.Listing.{listing}
 use Rattle.replay.specs.declared.job.Subject.{Subject}
 use Rattle.replay.specs.declared.job.Subject.TheVariants.{Book, Client}
-use Rattle.replay.specs.Replays.{state_of, outputs_of}
+use Rattle.book.specs.Histories.{state_of, outputs_of}
 
 abbrev pub newline : List ℕ
 newline = 10 ∷ []
@@ -55,19 +55,19 @@ client_lines client place (o ∷ os) = line_to client place o ++ client_lines cl
 abbrev pub counts_line : ℕ → ℕ → List ℕ
 counts_line commands outputs = codes "commands " ++ decimal commands ++ codes " outputs " ++ decimal outputs ++ newline
 
--- the lines about the subject, of a history and a venue with these symbols
-abbrev pub subject_lines : Symbols → History → Subject → List ℕ
-subject_lines symbols h Book = flat_map order_line (listing symbols (state_of symbols h).orders)
-subject_lines symbols h (Client n) = client_lines n 0 (outputs_of symbols h)
+-- the lines about the subject, of a history and a venue with these limits
+abbrev pub subject_lines : Limits → History → Subject → List ℕ
+subject_lines limits h Book = flat_map order_line (listing limits.symbols (state_of limits h).orders)
+subject_lines limits h (Client n) = client_lines n 0 (outputs_of limits h)
 
 -- the whole report
-abbrev pub report_text : Symbols → History → Subject → List ℕ
-report_text symbols h subject = subject_lines symbols h subject ++ counts_line (length h) (length (outputs_of symbols h))
+abbrev pub report_text : Limits → History → Subject → List ℕ
+report_text limits h subject = subject_lines limits h subject ++ counts_line (length h) (length (outputs_of limits h))
 
 -- One history, of at most 2^48 entries, and the report of it stands behind what `out` held, where that is known. Where the disk is honest,
 -- its file is the journal of that history.
-pub record Reports (honest : Type 0) (file : List ℕ) (symbols : Symbols) (subject : Subject) (old new : Option (List ℕ)) : Type 0 where
+pub record Reports (honest : Type 0) (file : List ℕ) (limits : Limits) (subject : Subject) (old new : Option (List ℕ)) : Type 0 where
   pub history : History
   pub few : length history ≤ 2 ^ 48
   pub journal : honest → IsJournal file history
-  pub printed : Appends old new (report_text symbols history subject)
+  pub printed : Appends old new (report_text limits history subject)

@@ -30,7 +30,7 @@ pub struct Job {
 impl Job {
     /// Reads the words behind the program's name.
     pub fn read(alloc: Global, words: &[String]) -> Result<Job, ReplayFault>
-        ensures said { IfOk result (λ job. AreWords (map string_bytes words.now) (string_bytes job.journal) job.subject job.limits) }
+        ensures said { IfOk result (λ job. AreWords (map string_bytes words.now) (string_bytes job.journal) job.subject job.limits.symbols) }
         ensures wrong { IsErrOf result ReplayFault.Usage → (journal : List ℕ) (subject : Subject) (symbols : List (List ℕ))
             → AreWords (map string_bytes words.now) journal subject symbols → ⊥ }
         ensures fault { IfErr result (λ fault. (fault ≡ ReplayFault.Usage) ⊎ (fault ≡ ReplayFault.Memory)) }

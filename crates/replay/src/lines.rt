@@ -122,7 +122,7 @@ pub(crate) fn write_outputs<W: Write>(out: &mut W, client: u8, outputs: &[Output
 pub(crate) fn write_orders<W: Write>(out: &mut W, book: &Book) -> io::Result<()>
     requires { length book.now.state.orders ≤ 4096 }
     ensures { OnOk result (Appends (W.contents out.old) (W.contents out.new)
-        (flat_map order_line (listing book.now.symbols book.now.state.orders))) }
+        (flat_map order_line (listing book.now.limits.symbols book.now.state.orders))) }
 {
     let mut from = None;
     for _ in 0..MOST_RESTING {

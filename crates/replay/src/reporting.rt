@@ -45,8 +45,8 @@ pub fn report<D: JournalDisk, O: Write, E: Write>(
 fn print<O: Write>(out: &mut O, subject: Subject, replayed: &Replayed) -> u8
     requires { length replayed.now.book.state.orders ≤ 4096 }
     ensures status { (result ≡ 0) ⊎ (result ≡ 1) }
-    ensures printed { result ≡ 0 → (h : History) → IsReplay replayed.now.book.symbols h replayed.now →
-        Appends (O.contents out.old) (O.contents out.new) (report_text replayed.now.book.symbols h subject) }
+    ensures printed { result ≡ 0 → (h : History) → IsReplay replayed.now.book.limits h replayed.now →
+        Appends (O.contents out.old) (O.contents out.new) (report_text replayed.now.book.limits h subject) }
 {
     match write_report(out, subject, replayed) {
         Ok(()) => 0,
@@ -57,8 +57,8 @@ fn print<O: Write>(out: &mut O, subject: Subject, replayed: &Replayed) -> u8
 /// Writes the lines about the subject, and the counts, and flushes.
 fn write_report<O: Write>(out: &mut O, subject: Subject, replayed: &Replayed) -> io::Result<()>
     requires { length replayed.now.book.state.orders ≤ 4096 }
-    ensures { OnOk result ((h : History) → IsReplay replayed.now.book.symbols h replayed.now →
-        Appends (O.contents out.old) (O.contents out.new) (report_text replayed.now.book.symbols h subject)) }
+    ensures { OnOk result ((h : History) → IsReplay replayed.now.book.limits h replayed.now →
+        Appends (O.contents out.old) (O.contents out.new) (report_text replayed.now.book.limits h subject)) }
 {
     match subject {
         Subject::Book => write_orders(out, &replayed.book)?,

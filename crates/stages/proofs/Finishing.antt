@@ -4,7 +4,7 @@ use Rattle.std.proofs.lemmas.List.{length-take}
 use mathlib.Core.Option.{some, some-ne-none, some-injective}
 use lib.ListN.{get_elem?}
 use Rattle.venue_model.specs.History.{History, Message}
-use Rattle.venue_model.specs.Requests.{Symbols}
+use Rattle.venue_model.specs.Requests.{Limits}
 use Rattle.disks.specs.Disk.{Told}
 use Rattle.journal.specs.Journals.{IsJournalFrom}
 use Rattle.ring_words.specs.At.{Opened}
@@ -57,7 +57,7 @@ survives kept log own of_log file (k, least, most, journal) = record {
 }
 
 -- the venue is finished: one log tells of these seats
-pub finished : {D : Type 0} (rings : Opened Symbols) (crew : OneCrew D) (honest : Type 0) (disk : Told) (s : Summary) (seats : Seats Symbols)
+pub finished : {D : Type 0} (rings : Opened Limits) (crew : OneCrew D) (honest : Type 0) (disk : Told) (s : Summary) (seats : Seats Limits)
     → seats.unmarshal.who ≡ crew.unmarshaller.who → seats.journal.who ≡ crew.journaller.seat.who → seats.process.who ≡ crew.processor.seat.who
     → seats.marshal.who ≡ crew.marshaller.who → Ended (outputs_of rings.logic) rings.base seats s → s.commands ≡ seats.process.who.own
     → s.outputs ≡ seats.process.who.part.sequence → (honest → KeepsDone disk crew.journaller.seat.who)

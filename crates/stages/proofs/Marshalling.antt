@@ -3,7 +3,7 @@ use Rattle.std.proofs.Common.{◌≡◌, ◌⊎◌, inl, inr, ℕ, zero, suc, �
 use mathlib.Core.Option.{some}
 use lib.ListN.{get_elem?}
 use Rattle.venue_model.specs.History.{Message}
-use Rattle.venue_model.specs.Requests.{Symbols}
+use Rattle.venue_model.specs.Requests.{Limits}
 use Rattle.venue_model.specs.Texts.{Text, msg_type_of}
 use Rattle.venue_model.specs.declared.outputs.Output.{Output}
 use Rattle.venue_model.specs.declared.outputs.OutputType.{OutputType}
@@ -131,41 +131,41 @@ module _ {L : Type 0} (n m : ℕ) (outputs : List Message → List Output) (v u 
 
 -- A POLL
 
-module _ (symbols : Symbols) (v u : At Symbols) (next r : ℕ) (rest : List Message) (is : u ≡ seated v (knowing (looked v.who published r) rest))
-    (most : r ≤ length (outputs_of symbols (v.who.seen ++ rest))) (own_is : next ≡ v.who.own) where
+module _ (limits : Limits) (v u : At Limits) (next r : ℕ) (rest : List Message) (is : u ≡ seated v (knowing (looked v.who published r) rest))
+    (most : r ≤ length (outputs_of limits (v.who.seen ++ rest))) (own_is : next ≡ v.who.own) where
   -- the look for outputs leaves the own word
   pub next_stays : next ≡ u.who.own
-  next_stays = own_is ∙ sym (ap (λ (z : At Symbols). z.who.own) is)
+  next_stays = own_is ∙ sym (ap (λ (z : At Limits). z.who.own) is)
 
   -- shows all outputs that are published
   pub shown_below : (q : ℕ) → q < r → Shows published u.who q
-  shown_below q below = subst (λ (z : At Symbols). Shows published z.who q) (sym is) (just_shown v.who published r q rest below)
+  shown_below q below = subst (λ (z : At Limits). Shows published z.who q) (sym is) (just_shown v.who published r q rest below)
 
   -- and knows them
-  pub known_below : r ≤ length (outputs_of symbols u.who.seen)
-  known_below = subst (λ (z : At Symbols). r ≤ length (outputs_of symbols z.who.seen)) (sym is) most
+  pub known_below : r ≤ length (outputs_of limits u.who.seen)
+  known_below = subst (λ (z : At Limits). r ≤ length (outputs_of limits z.who.seen)) (sym is) most
 
   -- they were marshalled
-  pub marshals_all : (n m : ℕ) (q w : Person) → next < r → WroteTexts n m (outputs_of symbols u.who.seen) u.who (r - next) q → w ≡ moved q r
-      → Marshals n m symbols (Did (r - next)) v.who w
+  pub marshals_all : (n m : ℕ) (q w : Person) → next < r → WroteTexts n m (outputs_of limits u.who.seen) u.who (r - next) q → w ≡ moved q r
+      → Marshals n m limits (Did (r - next)) v.who w
   marshals_all n m q w below all released =
       let behind : r ≡ v.who.own + (r - next) = omega (arith, own_is, below) in
-      let written = subst (λ (z : At Symbols). WroteTexts n m (outputs_of symbols z.who.seen) z.who (r - next) q) is all in (
+      let written = subst (λ (z : At Limits). WroteTexts n m (outputs_of limits z.who.seen) z.who (r - next) q) is all in (
         omega (arith, below),
         record {
           rest = rest;
-          known = subst (λ (x : ℕ). x ≤ length (outputs_of symbols (v.who.seen ++ rest))) behind most;
+          known = subst (λ (x : ℕ). x ≤ length (outputs_of limits (v.who.seen ++ rest))) behind most;
           last = q;
-          written = subst (λ (x : ℕ). WroteTexts n m (outputs_of symbols (v.who.seen ++ rest)) (knowing (looked v.who published x) rest) (r - next) q) behind written;
+          written = subst (λ (x : ℕ). WroteTexts n m (outputs_of limits (v.who.seen ++ rest)) (knowing (looked v.who published x) rest) (r - next) q) behind written;
           released = released ∙ ap (moved q) behind;
         },
       )
 
   -- or there was none
-  pub none_next : (n m : ℕ) → r ≤ next → v.who.own ≤ r → Marshals n m symbols Idle v.who u.who
+  pub none_next : (n m : ℕ) → r ≤ next → v.who.own ≤ r → Marshals n m limits Idle v.who u.who
   none_next n m near far = let same : r ≡ v.who.own = omega (arith, near, far, own_is) in
       record {
         rest = rest;
-        known = subst (λ (x : ℕ). x ≤ length (outputs_of symbols (v.who.seen ++ rest))) same most;
-        only = ap (λ (s : At Symbols). s.who) is ∙ ap (λ (x : ℕ). knowing (looked v.who published x) rest) same;
+        known = subst (λ (x : ℕ). x ≤ length (outputs_of limits (v.who.seen ++ rest))) same most;
+        only = ap (λ (s : At Limits). s.who) is ∙ ap (λ (x : ℕ). knowing (looked v.who published x) rest) same;
       }

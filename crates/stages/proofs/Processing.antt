@@ -6,10 +6,9 @@ use lib.ListN.{get_elem?}
 use Rattle.venue_model.specs.History.{Message}
 use Rattle.venue_model.specs.declared.commands.Command.{Command}
 use Rattle.venue_model.specs.declared.outputs.Output.{Output}
-use Rattle.venue_model.specs.Requests.{Symbols, State, Stepped}
-use Rattle.venue_model.specs.Step.{Request, IsCommand, requests, state, outputs, step}
+use Rattle.venue_model.specs.Requests.{Limits, State, Stepped}
+use Rattle.venue_model.specs.Step.{Request, IsCommand, state, outputs, step}
 use Rattle.venue_model.specs.HistoryLaws.{requests_from-more, state-more, outputs-one}
-use Rattle.fix_orders.specs.Reading.{reads}
 use Rattle.fix_orders.specs.RangeLaws.{reads_within}
 use Rattle.ring_words.specs.declared.view.Person.{Person}
 use Rattle.ring_words.specs.Log.{IsEntry}
@@ -23,7 +22,7 @@ use Rattle.book.specs.Books.{Book}
 use Rattle.book.specs.Standing.{Below}
 use Rattle.book.proofs.LawStamps.{history-behind, length-requests}
 use Rattle.stages.specs.Turns.{after_reading}
-use Rattle.book.specs.Histories.{state_of, outputs_of}
+use Rattle.book.specs.Histories.{reads_at, request_at, requests_of, state_of, outputs_of}
 use Rattle.stages.specs.Processed.{entries_done}
 use Rattle.stages.specs.Processes.{to_put}
 use Rattle.stages.specs.Stations.{AtBook}
@@ -42,68 +41,65 @@ length-first zero l = omega arith
 length-first (suc i) [] = omega arith
 length-first (suc i) (x ∷ xs) = let most = length-first i xs in omega (arith, most)
 
--- what the entry asks
-abbrev pub asks : Message → Request
-asks e = record { gateway = e.gateway; command = reads e.bytes }
+module _ (limits : Limits) (p : Person) (e : Message) (at : get_elem? p.seen p.own ≡ some e) (known : p.own < length p.seen) where
+  -- what the entry asks
+  abbrev ask : Request
+  ask = request_at limits p.own e
 
-abbrev asked : List Message → List Request
-asked h = requests (λ sequence m. reads m.bytes) h
-
-module _ (symbols : Symbols) (p : Person) (e : Message) (at : get_elem? p.seen p.own ≡ some e) (known : p.own < length p.seen) where
   abbrev next : Stepped
-  next = step symbols (state_of symbols (entries_done p)) p.own (asks e)
+  next = step limits.symbols (state_of limits (entries_done p)) p.own ask
 
-  place : length (asked (entries_done p)) ≡ p.own
-  place = length-requests (λ sequence m. reads m.bytes) 0 (entries_done p) ∙ length-take-le p.own p.seen (omega arith)
+  place : length (requests_of limits (entries_done p)) ≡ p.own
+  place = length-requests (reads_at limits) 0 (entries_done p) ∙ length-take-le p.own p.seen (omega arith)
 
-  one_more : asked (take (suc p.own) p.seen) ≡ asked (entries_done p) ++ asks e ∷ []
-  one_more = ap asked (take_next p.seen p.own e at) ∙ requests_from-more (λ sequence m. reads m.bytes) 0 (entries_done p) e
+  one_more : requests_of limits (take (suc p.own) p.seen) ≡ requests_of limits (entries_done p) ++ ask ∷ []
+  one_more = ap (requests_of limits) (take_next p.seen p.own e at) ∙ requests_from-more (reads_at limits) 0 (entries_done p) e
 
   -- the state with one entry more, and the outputs
-  next_state : state_of symbols (take (suc p.own) p.seen) ≡ next.state
-  next_state = ap (state symbols) one_more ∙ state-more symbols (asked (entries_done p)) (asks e)
-      ∙ ap (λ (n : ℕ). (step symbols (state_of symbols (entries_done p)) n (asks e)).state) place
+  next_state : state_of limits (take (suc p.own) p.seen) ≡ next.state
+  next_state = ap (state limits.symbols) one_more ∙ state-more limits.symbols (requests_of limits (entries_done p)) ask
+      ∙ ap (λ (n : ℕ). (step limits.symbols (state_of limits (entries_done p)) n ask).state) place
 
-  next_outputs : outputs_of symbols (take (suc p.own) p.seen) ≡ outputs_of symbols (entries_done p) ++ next.outputs
-  next_outputs = ap (outputs symbols) one_more ∙ outputs-one symbols (asked (entries_done p)) (asks e)
-      ∙ ap (λ (n : ℕ). outputs_of symbols (entries_done p) ++ (step symbols (state_of symbols (entries_done p)) n (asks e)).outputs) place
+  next_outputs : outputs_of limits (take (suc p.own) p.seen) ≡ outputs_of limits (entries_done p) ++ next.outputs
+  next_outputs = ap (outputs limits.symbols) one_more ∙ outputs-one limits.symbols (requests_of limits (entries_done p)) ask
+      ∙ ap (λ (n : ℕ). outputs_of limits (entries_done p) ++ (step limits.symbols (state_of limits (entries_done p)) n ask).outputs) place
 
 -- what rests after the first entries was stamped before the next one
-pub behind : (symbols : Symbols) (k : ℕ) (h : List Message) (s : State) → s ≡ state_of symbols (take k h) → Below k s.orders
-behind symbols k h s is = subst (λ (z : State). Below k z.orders) (sym is)
-    (history-behind (λ sequence m. reads m.bytes) symbols (take k h) k (length-first k h))
+pub behind : (limits : Limits) (k : ℕ) (h : List Message) (s : State) → s ≡ state_of limits (take k h) → Below k s.orders
+behind limits k h s is = subst (λ (z : State). Below k z.orders) (sym is)
+    (history-behind (reads_at limits) limits.symbols (take k h) k (length-first k h))
 
 -- A COMMAND THAT WAS READ
 
 -- it is that of the next entry
-pub record Took (n : ℕ) (v r : At Symbols) (s gateway : ℕ) (command : Command) : Type 0 where
+pub record Took (n : ℕ) (limits : Limits) (v r : At Limits) (s gateway : ℕ) (command : Command) : Type 0 where
   pub place : s ≡ v.who.own
   pub known : v.who.own < length v.who.seen
   pub entry : Message
   pub at : get_elem? v.who.seen v.who.own ≡ some entry
   pub from : gateway ≡ entry.gateway
-  pub command_is : command ≡ reads entry.bytes
-  pub view : r ≡ seated v (after_reading n v.who entry)
+  pub command_is : command ≡ reads_at limits v.who.own entry
+  pub view : r ≡ seated v (after_reading n limits v.who entry)
 
 -- the entry at s is e, of which these are gateway and command
-abbrev Reads : At Symbols → ℕ → ℕ → Command → Type 0
-Reads v s gateway command = (e : Message) → get_elem? v.who.seen s ≡ some e →
-    (gateway ≡ e.gateway) × (command ≡ reads e.bytes) × IsEntry e
+abbrev Reads : Limits → At Limits → ℕ → ℕ → Command → Type 0
+Reads limits v s gateway command = (e : Message) → get_elem? v.who.seen s ≡ some e →
+    (gateway ≡ e.gateway) × (command ≡ reads_at limits s e) × IsEntry e
 
 -- reading it led to the view r
-abbrev Loads : ℕ → At Symbols → At Symbols → ℕ → Type 0
-Loads n v r s = (e : Message) → get_elem? v.who.seen s ≡ some e →
-    r ≡ seated v (after_command n v.who s (command_words e.gateway (reads e.bytes)))
+abbrev Loads : ℕ → Limits → At Limits → At Limits → ℕ → Type 0
+Loads n limits v r s = (e : Message) → get_elem? v.who.seen s ≡ some e →
+    r ≡ seated v (after_command n v.who s (command_words e.gateway (reads_at limits s e)))
 
-module _ (v : At Symbols) (s gateway : ℕ) (command : Command)
-    (known : s < length v.who.seen) (is : Reads v s gateway command) where
+module _ (limits : Limits) (v : At Limits) (s gateway : ℕ) (command : Command)
+    (known : s < length v.who.seen) (is : Reads limits v s gateway command) where
   -- the book may be asked to do it
   pub may_apply : (1 ≤ gateway) × (gateway ≤ 8) × IsCommand command
   may_apply = let stood = stands v.who.seen s known in let read = is stood.0 stood.1 in
       let from = read.0 in let entry = read.2.message in
       (omega (arith, from, entry.from), omega (arith, from, entry.to), subst IsCommand (sym read.1) (reads_within stood.0.bytes))
 
-  pub took : (n : ℕ) (r : At Symbols) → s ≡ v.who.own → Loads n v r s → Took n v r s gateway command
+  pub took : (n : ℕ) (r : At Limits) → s ≡ v.who.own → Loads n limits v r s → Took n limits v r s gateway command
   took n r place loads = let stood = stands v.who.seen s known in let e = stood.0 in let read = is e stood.1 in
       record {
         place = place;
@@ -111,9 +107,9 @@ module _ (v : At Symbols) (s gateway : ℕ) (command : Command)
         entry = e;
         at = subst (λ (t : ℕ). get_elem? v.who.seen t ≡ some e) place stood.1;
         from = read.0;
-        command_is = read.1;
+        command_is = read.1 ∙ ap (λ (t : ℕ). reads_at limits t e) place;
         view = loads e stood.1
-            ∙ ap (λ (t : ℕ). seated v (after_command n v.who t (command_words e.gateway (reads e.bytes)))) place;
+            ∙ ap (λ (t : ℕ). seated v (after_command n v.who t (command_words e.gateway (reads_at limits t e)))) place;
       }
 
 -- WHAT THE PROCESSOR KEEPS
@@ -126,17 +122,17 @@ pub record MayTake (p : AtBook) (s : ℕ) : Type 0 where
   pub synced : s < last_from journalled 0 p.seat.who.loads
 
 -- while the command behind those done is under way, its outputs are to be put
-pub left_to_put : (v : At Symbols) (book : Book) (applied : ℕ) (left : List Output) → Follows v book applied left → applied ≡ suc v.who.own
-    → to_put book.symbols v.who ≡ left
+pub left_to_put : (v : At Limits) (book : Book) (applied : ℕ) (left : List Output) → Follows v book applied left → applied ≡ suc v.who.own
+    → to_put book.limits v.who ≡ left
 left_to_put v book applied left follows one =
-    ap (λ (k : ℕ). drop v.who.part.sequence (outputs_of book.symbols (take k v.who.seen))) (sym one) ∙ follows.rest
+    ap (λ (k : ℕ). drop v.who.part.sequence (outputs_of book.limits (take k v.who.seen))) (sym one) ∙ follows.rest
 
 -- the message of the next sequence was read
-abbrev pub HasRead : ℕ → Person → Person → Type 0
-HasRead n v w = (e : Message) × (get_elem? v.seen v.own ≡ some e) × (w ≡ after_reading n v e)
+abbrev pub HasRead : ℕ → Limits → Person → Person → Type 0
+HasRead n limits v w = (e : Message) × (get_elem? v.seen v.own ≡ some e) × (w ≡ after_reading n limits v e)
 
 -- where no outputs are left of them
-pub at_rest : (v : At Symbols) (book : Book) (applied s : ℕ) (left : List Output) → Follows v book applied left → applied ≡ s → left ≡ [] → Follows v book s []
+pub at_rest : (v : At Limits) (book : Book) (applied s : ℕ) (left : List Output) → Follows v book applied left → applied ≡ s → left ≡ [] → Follows v book s []
 at_rest v book applied s left follows at none = subst (λ (k : ℕ). Follows v book k []) at (subst (Follows v book applied) none follows)
 
 -- of a list that goes on, what is behind it
@@ -144,49 +140,49 @@ drop_front : {A : Type 0} (xs ys : List A) (n : ℕ) → length xs ≡ n → dro
 drop_front [] ys n is = ap (λ (k : ℕ). drop k ys) (sym is)
 drop_front (x ∷ xs) ys n is = ap (λ (k : ℕ). drop k (x ∷ xs ++ ys)) (sym is) ∙ drop_front xs ys (length xs) refl
 
-module _ (n : ℕ) (v r : At Symbols) (s gateway : ℕ) (command : Command) (took : Took n v r s gateway command) (book : Book)
+module _ (n : ℕ) (v r : At Limits) (s gateway : ℕ) (command : Command) (book : Book) (took : Took n book.limits v r s gateway command)
     (follows : Follows v book s []) where
   abbrev this_step : Stepped
-  this_step = step book.symbols book.state s (record { gateway = gateway; command = command })
+  this_step = step book.limits.symbols book.state s (record { gateway = gateway; command = command })
 
   before : Follows v book v.who.own []
   before = subst (λ (k : ℕ). Follows v book k []) took.place follows
 
   -- the book was asked what the entry asks, in the state of those before it
-  asked_so : this_step ≡ next book.symbols v.who took.entry took.at took.known
-  asked_so = ap (λ (t : ℕ). step book.symbols book.state t (record { gateway = gateway; command = command })) took.place
-      ∙ ap (λ (k : ℕ). step book.symbols book.state v.who.own (record { gateway = k; command = command })) took.from
-      ∙ ap (λ (d : Command). step book.symbols book.state v.who.own (record { gateway = took.entry.gateway; command = d })) took.command_is
-      ∙ ap (λ (z : State). step book.symbols z v.who.own (asks took.entry)) before.state
+  asked_so : this_step ≡ next book.limits v.who took.entry took.at took.known
+  asked_so = ap (λ (t : ℕ). step book.limits.symbols book.state t (record { gateway = gateway; command = command })) took.place
+      ∙ ap (λ (k : ℕ). step book.limits.symbols book.state v.who.own (record { gateway = k; command = command })) took.from
+      ∙ ap (λ (d : Command). step book.limits.symbols book.state v.who.own (record { gateway = took.entry.gateway; command = d })) took.command_is
+      ∙ ap (λ (z : State). step book.limits.symbols z v.who.own (request_at book.limits v.who.own took.entry)) before.state
 
-  grown : outputs_of book.symbols (take (suc v.who.own) v.who.seen) ≡ outputs_of book.symbols (entries_done v.who) ++ this_step.outputs
-  grown = next_outputs book.symbols v.who took.entry took.at took.known
-      ∙ ap (λ (t : Stepped). outputs_of book.symbols (entries_done v.who) ++ t.outputs) (sym asked_so)
+  grown : outputs_of book.limits (take (suc v.who.own) v.who.seen) ≡ outputs_of book.limits (entries_done v.who) ++ this_step.outputs
+  grown = next_outputs book.limits v.who took.entry took.at took.known
+      ∙ ap (λ (t : Stepped). outputs_of book.limits (entries_done v.who) ++ t.outputs) (sym asked_so)
 
   -- all before were published
-  all_out : length (outputs_of book.symbols (entries_done v.who)) ≡ v.who.part.sequence
+  all_out : length (outputs_of book.limits (entries_done v.who)) ≡ v.who.part.sequence
   all_out = let all = before.published in omega (arith, all)
 
-  -- whatever else is said of a book, of these symbols and in this state it follows
-  same_book : {w : At Symbols} {k : ℕ} {left : List Output} (book' : Book) → book'.symbols ≡ book.symbols → book'.state ≡ this_step.state
+  -- whatever else is said of a book, of these limits and in this state it follows
+  same_book : {w : At Limits} {k : ℕ} {left : List Output} (book' : Book) → book'.limits ≡ book.limits → book'.state ≡ this_step.state
       → Follows w (record book { state = this_step.state }) k left → Follows w book' k left
-  same_book book' symbols stepped f = record {
-    logic = f.logic ∙ ap Some (sym symbols);
-    state = rw (symbols, stepped) f.state;
-    rest = rw symbols f.rest;
-    published = rw symbols f.published;
+  same_book book' limits stepped f = record {
+    logic = f.logic ∙ ap Some (sym limits);
+    state = rw (limits, stepped) f.state;
+    rest = rw limits f.rest;
+    published = rw limits f.published;
   }
 
   -- the book follows with one entry more, and its outputs are left
-  pub follows_on : (book' : Book) (left : List Output) (k : ℕ) → k ≡ suc s → book'.symbols ≡ book.symbols → book'.state ≡ this_step.state
+  pub follows_on : (book' : Book) (left : List Output) (k : ℕ) → k ≡ suc s → book'.limits ≡ book.limits → book'.state ≡ this_step.state
       → left ≡ this_step.outputs → Follows r book' k left
-  follows_on book' left k k_is symbols stepped told =
-      subst (λ (z : At Symbols). Follows z book' k left) (sym took.view) (same_book book' symbols stepped
-      (subst (λ (i : ℕ). Follows (seated v (after_reading n v.who took.entry)) (record book { state = this_step.state }) i left)
+  follows_on book' left k k_is limits stepped told =
+      subst (λ (z : At Limits). Follows z book' k left) (sym took.view) (same_book book' limits stepped
+      (subst (λ (i : ℕ). Follows (seated v (after_reading n book.limits v.who took.entry)) (record book { state = this_step.state }) i left)
       (sym (k_is ∙ ap suc took.place)) (record {
         logic = follows.logic;
-        state = ap (λ (t : Stepped). t.state) asked_so ∙ sym (next_state book.symbols v.who took.entry took.at took.known);
+        state = ap (λ (t : Stepped). t.state) asked_so ∙ sym (next_state book.limits v.who took.entry took.at took.known);
         rest = ap (drop v.who.part.sequence) grown ∙ drop_front _ _ _ all_out ∙ sym told;
-        published = ap length grown ∙ length-append (outputs_of book.symbols (entries_done v.who)) this_step.outputs
+        published = ap length grown ∙ length-append (outputs_of book.limits (entries_done v.who)) this_step.outputs
             ∙ ap (λ (i : ℕ). i + length this_step.outputs) all_out ∙ ap (λ (l : List Output). v.who.part.sequence + length l) (sym told);
       })))

@@ -8,11 +8,10 @@ use mathlib.Core.Logic.{dite}
 use native.Mathlib.Decide.{dec_lt}
 use lib.ListN.{get_elem?}
 use Rattle.venue_model.specs.History.{Message}
-use Rattle.venue_model.specs.Requests.{Symbols}
+use Rattle.venue_model.specs.Requests.{Limits}
 use Rattle.venue_model.specs.Step.{step}
 use Rattle.venue_model.specs.declared.commands.Command.{Command}
 use Rattle.venue_model.specs.declared.outputs.Output.{Output}
-use Rattle.fix_orders.specs.Reading.{reads}
 use Rattle.ring_words.specs.declared.view.Load.{Load}
 use Rattle.ring_words.specs.declared.view.Person.{Person}
 use Rattle.command_words.specs.Packing.{command_words}
@@ -26,7 +25,7 @@ use Rattle.barrier.specs.Availability.{Gated}
 use Rattle.barrier.specs.Commands.{command_loads}
 use Rattle.sequencer.specs.Rooms.{taken_loads, SeesRoomFor}
 use Rattle.book.specs.Books.{Book}
-use Rattle.book.specs.Histories.{state_of, outputs_of}
+use Rattle.book.specs.Histories.{reads_at, state_of, outputs_of}
 use Rattle.stages.specs.Turns.{after_reading}
 use Rattle.stages.specs.Processes.{to_put, TakesUp, ahead, Puts, PutsAll}
 use Rattle.stages.specs.Stations.{AtBook}
@@ -73,32 +72,32 @@ last_shows k q p above = by_case (last_stood k 0 q p.loads above) where
   by_case (inr found) = found
 
 -- where a command was read that was seen journalled, it still is
-pub read_leaves : (n : ℕ) (v r : At Symbols) (s gateway : ℕ) (command : Command) → Took n v r s gateway command
+pub read_leaves : (n : ℕ) (limits : Limits) (v r : At Limits) (s gateway : ℕ) (command : Command) → Took n limits v r s gateway command
     → s < last_from journalled 0 v.who.loads → r.who.own < last_from journalled 0 r.who.loads
-read_leaves n v r s gateway command took above =
+read_leaves n limits v r s gateway command took above =
     let place = took.place in
-    let own : r.who.own ≡ v.who.own = ap (λ (z : At Symbols). z.who.own) took.view in
+    let own : r.who.own ≡ v.who.own = ap (λ (z : At Limits). z.who.own) took.view in
     let last : last_from journalled 0 r.who.loads ≡ last_from journalled 0 v.who.loads =
-    ap (λ (z : At Symbols). last_from journalled 0 z.who.loads) took.view
-    ∙ commands_leave n v.who.own 0 0 (command_words took.entry.gateway (reads took.entry.bytes)) v.who.loads in
+    ap (λ (z : At Limits). last_from journalled 0 z.who.loads) took.view
+    ∙ commands_leave n v.who.own 0 0 (command_words took.entry.gateway (reads_at limits v.who.own took.entry)) v.who.loads in
     omega (arith, above, place, own, last)
 
 -- the processor with that command taken up, done in the book, and its outputs left
-pub works_on : (n : ℕ) (p : AtBook) (r : At Symbols) (s gateway : ℕ) (command : Command) → IsWorking p → MayTake p s
-    → Took n p.seat r s gateway command → (book : Book) (left : List Output)
-    → book.symbols ≡ p.book.symbols → book.state ≡ (step p.book.symbols p.book.state s (record { gateway = gateway; command = command })).state
-    → left ≡ (step p.book.symbols p.book.state s (record { gateway = gateway; command = command })).outputs
+pub works_on : (n : ℕ) (p : AtBook) (r : At Limits) (s gateway : ℕ) (command : Command) → IsWorking p → MayTake p s
+    → Took n p.book.limits p.seat r s gateway command → (book : Book) (left : List Output)
+    → book.limits ≡ p.book.limits → book.state ≡ (step p.book.limits.symbols p.book.state s (record { gateway = gateway; command = command })).state
+    → left ≡ (step p.book.limits.symbols p.book.state s (record { gateway = gateway; command = command })).outputs
     → IsWorking (record { seat = r; book = book; applied = s + 1; left = left })
-works_on n p r s gateway command working may took book left symbols stepped told =
+works_on n p r s gateway command working may took book left limits stepped told =
     let follows = at_rest p.seat p.book p.applied s p.left working.follows may.all (working.whole (may.all ∙ may.next)) in
     let place = took.place in let known = took.known in
-    let own : r.who.own ≡ p.seat.who.own = ap (λ (z : At Symbols). z.who.own) took.view in
-    let seen : length r.who.seen ≡ length p.seat.who.seen = ap (λ (z : At Symbols). length z.who.seen) took.view in
+    let own : r.who.own ≡ p.seat.who.own = ap (λ (z : At Limits). z.who.own) took.view in
+    let seen : length r.who.seen ≡ length p.seat.who.seen = ap (λ (z : At Limits). length z.who.seen) took.view in
     record {
-      follows = follows_on n p.seat r s gateway command took p.book follows book left (s + 1) (add-one s) symbols stepped told;
+      follows = follows_on n p.seat r s gateway command p.book took follows book left (s + 1) (add-one s) limits stepped told;
       counts = (omega (arith, place, own), omega (arith, place, own), omega (arith, place, known, seen));
       whole = λ is. absurd (omega (arith, is, place, own));
-      synced = λ _. read_leaves n p.seat r s gateway command took may.synced;
+      synced = λ _. read_leaves n p.book.limits p.seat r s gateway command took may.synced;
     }
 
 -- OUTPUTS ONE BEHIND THE OTHER
@@ -122,12 +121,12 @@ read_stands [] i a is below = absurd (omega (arith, below))
 read_stands (x ∷ xs) zero a is below = ap some (sym is)
 read_stands (x ∷ xs) (suc i) a is below = read_stands xs i a is (omega (arith, below))
 
-module _ (v u : At Symbols) (k : ℕ) (is : u ≡ seated v (ahead v.who k)) where
+module _ (v u : At Limits) (k : ℕ) (is : u ≡ seated v (ahead v.who k)) where
   person_is : u.who ≡ record v.who { part = (ahead v.who k).part }
   person_is = ap (λ (s : At _). s.who) is ∙ (ahead_is v.who k).0
 
   place_is : u.who.part.sequence ≡ v.who.part.sequence + k
-  place_is = ap (λ (z : At Symbols). z.who.part.sequence) is ∙ ahead_place v.who k
+  place_is = ap (λ (z : At Limits). z.who.part.sequence) is ∙ ahead_place v.who k
 
   -- there is room for one more
   pub room_behind : (g m : ℕ) → HasOutputRoom g m v.who (v.who.part.sequence + k) → HasOutputRoom g m u.who u.who.part.sequence
@@ -139,15 +138,15 @@ module _ (v u : At Symbols) (k : ℕ) (is : u ≡ seated v (ahead v.who k)) wher
   synced_behind shown = subst (λ (q : Person). Shows journalled q q.own) (sym person_is) shown
 
   -- and it is the next output
-  pub next_behind : (symbols : Symbols) (o : Output)
-      → get_elem? (outputs_of symbols (take (suc v.who.own) v.who.seen)) (v.who.part.sequence + k) ≡ some o
-      → get_elem? (outputs_of symbols (take (suc u.who.own) u.who.seen)) u.who.part.sequence ≡ some o
-  next_behind symbols o at = subst (λ (q : Person). get_elem? (outputs_of symbols (take (suc q.own) q.seen)) u.who.part.sequence ≡ some o) (sym person_is)
-      (subst (λ (s : ℕ). get_elem? (outputs_of symbols (take (suc v.who.own) v.who.seen)) s ≡ some o) (sym place_is) at)
+  pub next_behind : (limits : Limits) (o : Output)
+      → get_elem? (outputs_of limits (take (suc v.who.own) v.who.seen)) (v.who.part.sequence + k) ≡ some o
+      → get_elem? (outputs_of limits (take (suc u.who.own) u.who.seen)) u.who.part.sequence ≡ some o
+  next_behind limits o at = subst (λ (q : Person). get_elem? (outputs_of limits (take (suc q.own) q.seen)) u.who.part.sequence ≡ some o) (sym person_is)
+      (subst (λ (s : ℕ). get_elem? (outputs_of limits (take (suc v.who.own) v.who.seen)) s ≡ some o) (sym place_is) at)
 
 -- the logic of a seat's rings is the one that it is known to have
-pub same_logic : (rings : Opened Symbols) (v : At Symbols) (symbols : Symbols) → IsAt rings v → v.logic ≡ Some symbols → symbols ≡ rings.logic
-same_logic rings v symbols of_rings by = let same : Some symbols ≡ Some rings.logic = sym by ∙ ap (λ (s : At Symbols). s.logic) of_rings in cc
+pub same_logic : (rings : Opened Limits) (v : At Limits) (limits : Limits) → IsAt rings v → v.logic ≡ Some limits → limits ≡ rings.logic
+same_logic rings v limits of_rings by = let same : Some limits ≡ Some rings.logic = sym by ∙ ap (λ (s : At Limits). s.logic) of_rings in cc
 
 -- ONE LOOK FOR ROOM
 
@@ -187,7 +186,7 @@ put_or_left A B most n few were = by_answer (nat_eq most n) refl where
   by_answer true is = were.0
   by_answer false is = were.1 (dite (dec_lt most n) (λ less. less) (λ (more : ¬ (most < n)). absurd (let all = eq-eqb most n (omega arith) in let t : true ≡ false = sym all ∙ is in cc)))
 
-module _ (g m : ℕ) (v u : At Symbols) (room : ℕ) (looked : OnlyLooked v.who u.who) (u_is : u ≡ seated v u.who) where
+module _ (g m : ℕ) (v u : At Limits) (room : ℕ) (looked : OnlyLooked v.who u.who) (u_is : u ≡ seated v u.who) where
   looked_place : u.who.part.sequence ≡ v.who.part.sequence
   looked_place = ap (λ (q : Person). q.part.sequence) looked.loads
 
@@ -210,24 +209,24 @@ module _ (g m : ℕ) (v u : At Symbols) (room : ℕ) (looked : OnlyLooked v.who 
   module _ (book : Book) (applied : ℕ) (left : List Output) (follows : Follows v book applied left) (one : applied ≡ suc v.who.own) where
     -- what is left are the next outputs
     pub are_next : (most : ℕ) (i : ℕ) (o : Output) → get_elem? (take most left) i ≡ some o
-        → get_elem? (outputs_of book.symbols (take (suc u.who.own) u.who.seen)) (u.who.part.sequence + i) ≡ some o
+        → get_elem? (outputs_of book.limits (take (suc u.who.own) u.who.seen)) (u.who.part.sequence + i) ≡ some o
     are_next most i o at =
-        subst (λ (q : Person). get_elem? (outputs_of book.symbols (take (suc q.own) q.seen)) (q.part.sequence + i) ≡ some o) (sym looked.loads)
-        (subst (λ (k : ℕ). get_elem? (outputs_of book.symbols (take k v.who.seen)) (v.who.part.sequence + i) ≡ some o) one
-        (sym (at_drop v.who.part.sequence (outputs_of book.symbols (take applied v.who.seen)) i)
+        subst (λ (q : Person). get_elem? (outputs_of book.limits (take (suc q.own) q.seen)) (q.part.sequence + i) ≡ some o) (sym looked.loads)
+        (subst (λ (k : ℕ). get_elem? (outputs_of book.limits (take k v.who.seen)) (v.who.part.sequence + i) ≡ some o) one
+        (sym (at_drop v.who.part.sequence (outputs_of book.limits (take applied v.who.seen)) i)
         ∙ ap (λ (l : List Output). get_elem? l i) follows.rest ∙ at_front most left i o at))
 
-    pub has_logic : u.logic ≡ Some book.symbols
-    has_logic = ap (λ (z : At Symbols). z.logic) u_is ∙ follows.logic
+    pub has_logic : u.logic ≡ Some book.limits
+    has_logic = ap (λ (z : At Limits). z.logic) u_is ∙ follows.logic
 
-    module _ (most : ℕ) (within : most ≤ length left) (w : At Symbols) (w_is : w ≡ seated u (ahead u.who most)) where
+    module _ (most : ℕ) (within : most ≤ length left) (w : At Limits) (w_is : w ≡ seated u (ahead u.who most)) where
       put_is : w.who ≡ record v.who { loads = w.who.loads; part = w.who.part }
       put_is = let is = ap (λ (s : At _). s.who) w_is ∙ (ahead_is u.who most).0 in
           is ∙ ap (λ (q : Person). record q { part = (ahead u.who most).part }) looked.loads
           ∙ (λ i. record v.who { loads = (sym (ap (λ (q : Person). q.loads) (is ∙ ap (λ (q : Person). record q { part = (ahead u.who most).part }) looked.loads))) i; part = (sym (ap (λ (q : Person). q.part) is)) i })
 
       place_after : w.who.part.sequence ≡ v.who.part.sequence + most
-      place_after = ap (λ (z : At Symbols). z.who.part.sequence) w_is ∙ ahead_place u.who most ∙ ap (λ (s : ℕ). s + most) looked_place
+      place_after = ap (λ (z : At Limits). z.who.part.sequence) w_is ∙ ahead_place u.who most ∙ ap (λ (s : ℕ). s + most) looked_place
 
       own_after : w.who.own ≡ v.who.own
       own_after = ap (λ (q : Person). q.own) put_is
@@ -236,20 +235,20 @@ module _ (g m : ℕ) (v u : At Symbols) (room : ℕ) (looked : OnlyLooked v.who 
       seen_after = ap (λ (q : Person). q.seen) put_is
 
       last_after : last_from journalled 0 w.who.loads ≡ last_from journalled 0 v.who.loads
-      last_after = ap (λ (z : At Symbols). last_from journalled 0 z.who.loads) w_is
+      last_after = ap (λ (z : At Limits). last_from journalled 0 z.who.loads) w_is
           ∙ ap (last_from journalled 0) (ahead_loads u.who most) ∙ last_same
 
-      outs_after : outputs_of book.symbols (take applied w.who.seen) ≡ outputs_of book.symbols (take applied v.who.seen)
-      outs_after = ap (λ h. outputs_of book.symbols (take applied h)) seen_after
+      outs_after : outputs_of book.limits (take applied w.who.seen) ≡ outputs_of book.limits (take applied v.who.seen)
+      outs_after = ap (λ h. outputs_of book.limits (take applied h)) seen_after
 
       -- the book follows, and the others are left
       pub follows_after : Follows w book applied (drop most left)
       follows_after = record {
-        logic = ap (λ (z : At Symbols). z.logic) w_is ∙ has_logic;
-        state = follows.state ∙ ap (λ h. state_of book.symbols (take applied h)) (sym seen_after);
-        rest = ap (λ (k : ℕ). drop k (outputs_of book.symbols (take applied w.who.seen))) place_after
+        logic = ap (λ (z : At Limits). z.logic) w_is ∙ has_logic;
+        state = follows.state ∙ ap (λ h. state_of book.limits (take applied h)) (sym seen_after);
+        rest = ap (λ (k : ℕ). drop k (outputs_of book.limits (take applied w.who.seen))) place_after
             ∙ ap (drop (v.who.part.sequence + most)) outs_after
-            ∙ sym (drop-drop most v.who.part.sequence (outputs_of book.symbols (take applied v.who.seen)))
+            ∙ sym (drop-drop most v.who.part.sequence (outputs_of book.limits (take applied v.who.seen)))
             ∙ ap (drop most) follows.rest;
         published = let all = follows.published in let long = length-drop most left in let place = place_after in let outs = ap length outs_after in
             omega (arith, all, long, place, outs, within);
@@ -268,7 +267,7 @@ pub all_lent : (put most : ℕ) (items now : List Output) → now ≡ items → 
 all_lent put most items now is within = ap length (lent put most items now is) ∙ length-take-le most (drop put items) within
 
 -- what the processor is when so many were put of those left
-pub record AreGone (m g : ℕ) (p : AtBook) (w : At Symbols) (most : ℕ) : Type 0 where
+pub record AreGone (m g : ℕ) (p : AtBook) (w : At Limits) (most : ℕ) : Type 0 where
   pub follows : Follows w p.book p.applied (drop most p.left)
   pub own : w.who.own ≡ p.seat.who.own
   pub seen : length w.who.seen ≡ length p.seat.who.seen
@@ -276,7 +275,7 @@ pub record AreGone (m g : ℕ) (p : AtBook) (w : At Symbols) (most : ℕ) : Type
   pub puts : PutsAll m g p.seat.who p.left w.who × (most < length p.left → Puts m g p.seat.who p.left w.who)
 
 -- those left are the outputs from one place on, of which as many as there is room for are lent and put
-pub are_gone : (m g : ℕ) (p : AtBook) (u w : At Symbols) (wanted room most put : ℕ) (items now : List Output) → IsWorking p → p.left ≡ drop put items
+pub are_gone : (m g : ℕ) (p : AtBook) (u w : At Limits) (wanted room most put : ℕ) (items now : List Output) → IsWorking p → p.left ≡ drop put items
     → p.seat.who.own < p.applied → SeesRoomFor g m p.seat.who wanted room u.who → wanted ≡ length p.left → u ≡ seated p.seat u.who → now ≡ items
     → 0 < length p.left → most ≡ min room (length p.left)
     → w ≡ seated u (ahead u.who (length (take (put + most - put) (drop put now)))) → AreGone m g p w most
@@ -297,7 +296,7 @@ are_gone m g p u w wanted room most put items now working left_is under_way sees
     }
 
 -- the processor with the others left
-pub works_behind : (m g : ℕ) (p : AtBook) (w : At Symbols) (most : ℕ) (rest : List Output) → IsWorking p → p.seat.who.own < p.applied
+pub works_behind : (m g : ℕ) (p : AtBook) (w : At Limits) (most : ℕ) (rest : List Output) → IsWorking p → p.seat.who.own < p.applied
     → drop most p.left ≡ rest → AreGone m g p w most → IsWorking (record { seat = w; book = p.book; applied = p.applied; left = rest })
 works_behind m g p w most rest working under_way is gone =
     let counts = working.counts in let above = working.synced under_way in let own = gone.own in let seen = gone.seen in let last = gone.last in
@@ -335,39 +334,43 @@ gated_synced v u s gated known =
     omega (arith, low, last, long, known)
 
 -- what a command is taken up with leaves the own word
-pub took_own : (n applied : ℕ) (v u : Person) → TakesUp n applied v u → u.own ≡ v.own
-took_own n applied v u (inl next) = ap (λ (p : Person). p.own) next.1.2.2 ∙ gated_own v next.1.0 next.1.1
-took_own n applied v u (inr on) = ap (λ (p : Person). p.own) on.1
+pub took_own : (n applied : ℕ) (limits : Limits) (v u : Person) → TakesUp n limits applied v u → u.own ≡ v.own
+took_own n applied limits v u (inl next) = ap (λ (p : Person). p.own) next.1.2.2 ∙ gated_own v next.1.0 next.1.1
+took_own n applied limits v u (inr on) = ap (λ (p : Person). p.own) on.1
 
 -- a command is under way: it was taken up, or had been
 pub record UnderWay (n : ℕ) (p b : AtBook) : Type 0 where
-  pub taken : TakesUp n p.applied p.seat.who b.seat.who
-  pub same : b.book.symbols ≡ p.book.symbols
+  pub taken : TakesUp n p.book.limits p.applied p.seat.who b.seat.who
+  pub same : b.book.limits ≡ p.book.limits
   pub one : b.applied ≡ suc b.seat.who.own
   pub working : IsWorking b
 
 pub took_one : (n next : ℕ) (p b : AtBook) (u : Person) → p.applied ≡ next → next ≡ p.seat.who.own → Gated p.seat.who u
-    → (e : Message) × (get_elem? u.seen u.own ≡ some e) × (b.seat.who ≡ after_reading n u e)
-    → (b.applied ≡ suc next) × (b.book.symbols ≡ p.book.symbols) → IsWorking b → UnderWay n p b
+    → (e : Message) × (get_elem? u.seen u.own ≡ some e) × (b.seat.who ≡ after_reading n p.book.limits u e)
+    → (b.applied ≡ suc next) × (b.book.limits ≡ p.book.limits) → IsWorking b → UnderWay n p b
 took_one n next p b u all own gated read applied working =
-    let taken : TakesUp n p.applied p.seat.who b.seat.who = inl (all ∙ own, (u, gated, read)) in
-    record { taken = taken; same = applied.1; one = applied.0 ∙ ap suc (own ∙ sym (took_own n p.applied _ _ taken)); working = working }
+    let taken : TakesUp n p.book.limits p.applied p.seat.who b.seat.who = inl (all ∙ own, (u, gated, read)) in
+    record { taken = taken; same = applied.1; one = applied.0 ∙ ap suc (own ∙ sym (took_own n p.applied p.book.limits _ _ taken)); working = working }
 
 pub goes_on : (n : ℕ) (p : AtBook) → IsWorking p → p.seat.who.own < p.applied → UnderWay n p p
 goes_on n p working under_way =
     let counts = working.counts in record { taken = inr (under_way, refl); same = refl; one = omega (arith, counts, under_way); working = working }
 
-module _ (n m g : ℕ) (symbols : Symbols) (p b : AtBook) (is : p.book.symbols ≡ symbols) (begun : UnderWay n p b) where
+module _ (n m g : ℕ) (limits : Limits) (p b : AtBook) (is : p.book.limits ≡ limits) (begun : UnderWay n p b) where
+  -- it was taken up by these limits
+  pub taken_up : TakesUp n limits p.applied p.seat.who b.seat.who
+  taken_up = subst (λ (l : Limits). TakesUp n l p.applied p.seat.who b.seat.who) is begun.taken
+
   -- then its outputs that aren't published are those left
-  are_left : to_put symbols b.seat.who ≡ b.left
-  are_left = ap (λ (s : Symbols). to_put s b.seat.who) (sym (begun.same ∙ is)) ∙ left_to_put b.seat b.book b.applied b.left begun.working.follows begun.one
+  are_left : to_put limits b.seat.who ≡ b.left
+  are_left = ap (λ (s : Limits). to_put s b.seat.who) (sym (begun.same ∙ is)) ∙ left_to_put b.seat b.book b.applied b.left begun.working.follows begun.one
 
   -- and they were put, or some of them
-  pub put_all : (w : Person) (t : Bool) → MatchBool t (PutsAll m g b.seat.who b.left w) (Puts m g b.seat.who b.left w) → t ≡ true → PutsAll m g b.seat.who (to_put symbols b.seat.who) w
+  pub put_all : (w : Person) (t : Bool) → MatchBool t (PutsAll m g b.seat.who b.left w) (Puts m g b.seat.who b.left w) → t ≡ true → PutsAll m g b.seat.who (to_put limits b.seat.who) w
   put_all w t puts is = subst (λ (l : List Output). PutsAll m g b.seat.who l w) (sym are_left)
       (subst (λ (t : Bool). MatchBool t (PutsAll m g b.seat.who b.left w) (Puts m g b.seat.who b.left w)) is puts)
 
-  pub put_some : (w : Person) (t : Bool) → MatchBool t (PutsAll m g b.seat.who b.left w) (Puts m g b.seat.who b.left w) → t ≡ false → Puts m g b.seat.who (to_put symbols b.seat.who) w
+  pub put_some : (w : Person) (t : Bool) → MatchBool t (PutsAll m g b.seat.who b.left w) (Puts m g b.seat.who b.left w) → t ≡ false → Puts m g b.seat.who (to_put limits b.seat.who) w
   put_some w t puts is = subst (λ (l : List Output). Puts m g b.seat.who l w) (sym are_left)
       (subst (λ (t : Bool). MatchBool t (PutsAll m g b.seat.who b.left w) (Puts m g b.seat.who b.left w)) is puts)
 
@@ -376,6 +379,6 @@ module _ (n m g : ℕ) (symbols : Symbols) (p b : AtBook) (is : p.book.symbols �
     still_one = kept.0 ∙ begun.one ∙ ap suc (sym own)
 
     -- what is left then is to be put
-    pub still_left : to_put symbols q.seat.who ≡ q.left
-    still_left = ap (λ (s : Symbols). to_put s q.seat.who) (sym (ap (λ (b : Book). b.symbols) kept.1 ∙ begun.same ∙ is))
+    pub still_left : to_put limits q.seat.who ≡ q.left
+    still_left = ap (λ (s : Limits). to_put s q.seat.who) (sym (ap (λ (b : Book). b.limits) kept.1 ∙ begun.same ∙ is))
         ∙ left_to_put q.seat q.book q.applied q.left working.follows still_one

@@ -3,6 +3,7 @@ use Rattle.std.proofs.Common.{◌≡◌, ◌⊎◌, inl, inr, ℕ, suc, ◌+◌,
 use mathlib.Core.Option.{some}
 use lib.ListN.{get_elem?}
 use Rattle.venue_model.specs.History.{Message}
+use Rattle.venue_model.specs.Requests.{Limits}
 use Rattle.venue_model.specs.declared.commands.Command.{Command}
 use Rattle.ring_words.specs.declared.raw.Raw.{Raw}
 use Rattle.ring_words.specs.Raw.{raw_count}
@@ -12,53 +13,54 @@ use Rattle.ring_words.specs.At.{At, seated}
 use Rattle.ring_words.specs.Steps.{WroteCommand, MayWrite}
 use Rattle.barrier.specs.Reading.{after_loads, Reads}
 use Rattle.fix_orders.specs.Reading.{reads}
-use Rattle.stages.specs.Turns.{as_read, after_writing, Wrote}
+use Rattle.book.specs.Histories.{reads_at}
+use Rattle.stages.specs.Turns.{after_writing, Wrote}
 
 -- loads leave which rows may be written
-pub still_may : {L : Type 0} (n : ℕ) (v a : At L) (s : ℕ) (e : Message) → a ≡ seated v (after_loads n v.who s e (raw_count e)) → MayWrite as_read v.who s → MayWrite as_read a.who s
-still_may n v a s e loaded may = subst (λ (z : At _). MayWrite as_read z.who s) (sym loaded) (by_row may) where
-  by_row : MayWrite as_read v.who s → MayWrite as_read (after_loads n v.who s e (raw_count e)) s
+pub still_may : {L : Type 0} (n : ℕ) (limits : Limits) (v a : At L) (s : ℕ) (e : Message) → a ≡ seated v (after_loads n v.who s e (raw_count e)) → MayWrite (reads_at limits) v.who s → MayWrite (reads_at limits) a.who s
+still_may n limits v a s e loaded may = subst (λ (z : At _). MayWrite (reads_at limits) z.who s) (sym loaded) (by_row may) where
+  by_row : MayWrite (reads_at limits) v.who s → MayWrite (reads_at limits) (after_loads n v.who s e (raw_count e)) s
   by_row (inl first) = inl first
   by_row (inr (inl on)) = inr (inl on)
   by_row (inr (inr (next, (d, whole)))) = inr (inr (next, (d, record { row = whole.row; entry = whole.entry; words = whole.words; packable = whole.packable })))
 
 -- one sequence
-module _ {L : Type 0} (n : ℕ) (v a b : At L) (s : ℕ) (e : Message) (raw : Raw) (buf : List ℕ) (command : Command)
+module _ {L : Type 0} (n : ℕ) (limits : Limits) (v a b : At L) (s : ℕ) (e : Message) (raw : Raw) (buf : List ℕ) (command : Command)
     (read : Reads e raw buf) (decoded : command ≡ reads (take raw.len buf)) (loaded : a ≡ seated v (after_loads n v.who s e (raw_count e)))
     (stored : b ≡ seated a (wrote a.who s (command_words raw.gateway command))) where
   -- the command that was decoded is the entry's
-  is_its_command : command ≡ reads e.bytes
+  is_its_command : command ≡ reads_at limits s e
   is_its_command = decoded ∙ ap reads read.bytes
 
   -- its message was read and its command stored
-  pub is_written : b ≡ seated v (after_writing n v.who s e)
+  pub is_written : b ≡ seated v (after_writing n limits v.who s e)
   is_written = stored
       ∙ ap (λ (z : At L). seated z (wrote z.who s (command_words raw.gateway command))) loaded
       ∙ ap (λ (k : ℕ). seated v (wrote (after_loads n v.who s e (raw_count e)) s (command_words k command))) read.head.gateway
       ∙ ap (λ (d : Command). seated v (wrote (after_loads n v.who s e (raw_count e)) s (command_words e.gateway d))) is_its_command
 
   -- the command stands whole
-  pub is_whole : v.who.own ≤ s → get_elem? v.who.seen s ≡ some e → IsPackable raw.gateway command → WroteCommand as_read b.who e
-  is_whole from there packable = subst (λ (z : At L). WroteCommand as_read z.who e) (sym is_written) (record {
+  pub is_whole : v.who.own ≤ s → get_elem? v.who.seen s ≡ some e → IsPackable raw.gateway command → WroteCommand (reads_at limits) b.who e
+  is_whole from there packable = subst (λ (z : At L). WroteCommand (reads_at limits) z.who e) (sym is_written) (record {
     row = from;
     entry = there;
     words = refl;
-    packable = subst (λ (k : ℕ). IsPackable k (reads e.bytes)) read.head.gateway (subst (IsPackable raw.gateway) is_its_command packable);
+    packable = subst (λ (k : ℕ). IsPackable k (reads_at limits s e)) read.head.gateway (subst (IsPackable raw.gateway) is_its_command packable);
   })
 
 -- the commands of all sequences from the next one up to s were written
-pub record WroteUpTo {L : Type 0} (n : ℕ) (v u : At L) (next s : ℕ) : Type 0 where
+pub record WroteUpTo {L : Type 0} (n : ℕ) (limits : Limits) (v u : At L) (next s : ℕ) : Type 0 where
   pub from : next ≤ s
   pub place : u ≡ seated v u.who
   pub own : u.who.own ≡ v.who.own
   pub seen : u.who.seen ≡ v.who.seen
-  pub all : Wrote n v.who (s - next) u.who
-  pub last : (s ≡ next) ⊎ ((s ≡ suc u.who.part.sequence) × ((e : Message) × WroteCommand as_read u.who e))
+  pub all : Wrote n limits v.who (s - next) u.who
+  pub last : (s ≡ next) ⊎ ((s ≡ suc u.who.part.sequence) × ((e : Message) × WroteCommand (reads_at limits) u.who e))
 
-module _ {L : Type 0} (n : ℕ) (v u : At L) (next s : ℕ) (is_next : next ≡ v.who.own) (so_far : WroteUpTo n v u next s) where
+module _ {L : Type 0} (n : ℕ) (limits : Limits) (v u : At L) (next s : ℕ) (is_next : next ≡ v.who.own) (so_far : WroteUpTo n limits v u next s) where
   -- and then one more is written
-  pub one_more : (w : At L) (e : Message) → get_elem? v.who.seen s ≡ some e → w ≡ seated u w.who → w.who ≡ after_writing n u.who s e
-      → WroteCommand as_read w.who e → WroteUpTo n v w next (s + 1)
+  pub one_more : (w : At L) (e : Message) → get_elem? v.who.seen s ≡ some e → w ≡ seated u w.who → w.who ≡ after_writing n limits u.who s e
+      → WroteCommand (reads_at limits) w.who e → WroteUpTo n limits v w next (s + 1)
   one_more w e there place written whole =
       let from = so_far.from in let here : s ≡ v.who.own + (s - next) = omega arith in
       let longer : suc (s - next) ≡ s + 1 - next = omega arith in
@@ -67,13 +69,13 @@ module _ {L : Type 0} (n : ℕ) (v u : At L) (next s : ℕ) (is_next : next ≡ 
         place = place ∙ ap (λ (z : At L). seated z w.who) so_far.place;
         own = ap (λ p. p.own) written ∙ so_far.own;
         seen = ap (λ p. p.seen) written ∙ so_far.seen;
-        all = subst (λ (k : ℕ). Wrote n v.who k w.who) longer (
+        all = subst (λ (k : ℕ). Wrote n limits v.who k w.who) longer (
           u.who,
           so_far.all,
           (
             e,
             subst (λ (t : ℕ). get_elem? v.who.seen t ≡ some e) here there,
-            written ∙ ap (λ (t : ℕ). after_writing n u.who t e) here,
+            written ∙ ap (λ (t : ℕ). after_writing n limits u.who t e) here,
           ),
         );
         last = inr (omega arith, (e, whole));

@@ -1,6 +1,6 @@
 -- The four stages of one venue together: where they are, how they are at the start, and what one poll of each does.
 use Rattle.std.specs.Prelude.{◌≡◌, length}
-use Rattle.venue_model.specs.Requests.{Symbols}
+use Rattle.venue_model.specs.Requests.{Limits}
 use Rattle.ring_words.specs.At.{Opened, at, IsAt}
 use Rattle.ring_words.specs.Rule.{newcomer, processor}
 use Rattle.ring_words.specs.declared.view.Role.TheVariants.{Unmarshal, Journal, Marshal}
@@ -19,14 +19,14 @@ AreIdle turns = (turns.unmarshaller ≡ Idle) × (turns.journaller ≡ Idle) × 
 
 module _ {D : Type 0} where
   -- all four are of these rings
-  pub record AreAt (rings : Opened Symbols) (crew : OneCrew D) : Type 0 where
+  pub record AreAt (rings : Opened Limits) (crew : OneCrew D) : Type 0 where
     pub unmarshaller : IsAt rings crew.unmarshaller
     pub journaller : IsAt rings crew.journaller.seat
     pub processor : IsAt rings crew.processor.seat
     pub marshaller : IsAt rings crew.marshaller
 
   -- at rings as they were opened: each has done just the history at the start, which is that of this journal and of this book
-  abbrev pub new_crew : Opened Symbols → OneJournal D → Book → OneCrew D
+  abbrev pub new_crew : Opened Limits → OneJournal D → Book → OneCrew D
   new_crew rings journal book = record {
     unmarshaller = at rings (newcomer Unmarshal rings.base (length rings.base));
     journaller = record { seat = at rings (newcomer Journal rings.base (length rings.base)); journal = journal };
@@ -35,9 +35,9 @@ module _ {D : Type 0} where
   }
 
   -- each polled once, with these turns
-  pub record Polls (s : Sizes) (symbols : Symbols) (old new : OneCrew D) (turns : Turns) : Type 0 where
-    pub unmarshals : Unmarshals s.rows turns.unmarshaller old.unmarshaller.who new.unmarshaller.who
+  pub record Polls (s : Sizes) (limits : Limits) (old new : OneCrew D) (turns : Turns) : Type 0 where
+    pub unmarshals : Unmarshals s.rows limits turns.unmarshaller old.unmarshaller.who new.unmarshaller.who
     pub journals : Journals s.rows turns.journaller old.journaller.seat.who new.journaller.seat.who
-    pub processes : Processes s symbols turns.processor (working old.processor.seat.who old.processor.applied)
+    pub processes : Processes s limits turns.processor (working old.processor.seat.who old.processor.applied)
         (working new.processor.seat.who new.processor.applied)
-    pub marshals : Marshals s.rows s.output_rows symbols turns.marshaller old.marshaller.who new.marshaller.who
+    pub marshals : Marshals s.rows s.output_rows limits turns.marshaller old.marshaller.who new.marshaller.who

@@ -3,7 +3,7 @@ use Rattle.std.specs.Prelude.{◌≡◌, ℕ, List, [], ◌∷◌}
 use mathlib.Core.Option.{some}
 use lib.ListN.{get_elem?}
 use Rattle.venue_model.specs.History.{History}
-use Rattle.venue_model.specs.Requests.{Symbols}
+use Rattle.venue_model.specs.Requests.{Limits}
 use Rattle.book.specs.Histories.{outputs_of}
 use Rattle.disks.specs.Disk.{Told}
 use Rattle.journal.specs.Format.{IsJournal}
@@ -29,13 +29,13 @@ people_of crew = crew.processor.seat.who ∷ crew.unmarshaller.who ∷ crew.jour
 -- The seats have come back, of these gateways and of the stages, and one log tells of all of them. Whatever a crash leaves of an honest disk from now
 -- on is the journal of a beginning of that log which has all that the journaller handed on; and no gateway has seen more than that. So it has each
 -- message that was answered.
-pub record Finished {D : Type 0} (rings : Opened Symbols) (gateways : List (At Symbols)) (crew : OneCrew D) (honest : Type 0) (disk : Told)
+pub record Finished {D : Type 0} (rings : Opened Limits) (gateways : List (At Limits)) (crew : OneCrew D) (honest : Type 0) (disk : Told)
     (s : Summary) : Type 0 where
-  pub seats : Seats Symbols
+  pub seats : Seats Limits
   pub gateways_are : seats.gateways.items ≡ gateways
   pub stages : stages_of seats ≡ people_of crew
   pub ended : Ended (outputs_of rings.logic) rings.base seats s
   pub commands : s.commands ≡ crew.processor.seat.who.own
   pub outputs : s.outputs ≡ crew.processor.seat.who.part.sequence
   pub survives : honest → (file : List ℕ) → disk.may_leave file → Survives ended.log (entries_done crew.journaller.seat.who) file
-  pub holds : (i : ℕ) (seat : At Symbols) → get_elem? gateways i ≡ some seat → IsBeginning seat.who.seen (entries_done crew.journaller.seat.who)
+  pub holds : (i : ℕ) (seat : At Limits) → get_elem? gateways i ≡ some seat → IsBeginning seat.who.seen (entries_done crew.journaller.seat.who)

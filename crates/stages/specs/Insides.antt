@@ -1,7 +1,7 @@
 -- What holds of the fields of a stage that holds more than a seat.
 use Rattle.std.specs.Prelude.{◌≡◌, ℕ, suc, ◌+◌, ◌<◌, ◌≤◌, false, List, [], length, take, drop, Some}
 use Rattle.venue_model.specs.History.{History}
-use Rattle.venue_model.specs.Requests.{Symbols}
+use Rattle.venue_model.specs.Requests.{Limits}
 use Rattle.venue_model.specs.declared.outputs.Output.{Output}
 use Rattle.ring_words.specs.declared.view.Person.{Person}
 use Rattle.ring_words.specs.Places.{journalled}
@@ -22,11 +22,11 @@ pub record IsKeeping {D : Type 0} (honest : Type 0) (disk : Told) (who : Person)
   pub keeps : honest → ∥ KeepsDone disk who ∥₁
 
 -- the book is that of the first entries, so many; of their outputs all but those left are published
-pub record Follows (v : At Symbols) (book : Book) (applied : ℕ) (left : List Output) : Type 0 where
-  pub logic : v.logic ≡ Some book.symbols
-  pub state : book.state ≡ state_of book.symbols (take applied v.who.seen)
-  pub rest : drop v.who.part.sequence (outputs_of book.symbols (take applied v.who.seen)) ≡ left
-  pub published : length (outputs_of book.symbols (take applied v.who.seen)) ≡ v.who.part.sequence + length left
+pub record Follows (v : At Limits) (book : Book) (applied : ℕ) (left : List Output) : Type 0 where
+  pub logic : v.logic ≡ Some book.limits
+  pub state : book.state ≡ state_of book.limits (take applied v.who.seen)
+  pub rest : drop v.who.part.sequence (outputs_of book.limits (take applied v.who.seen)) ≡ left
+  pub published : length (outputs_of book.limits (take applied v.who.seen)) ≡ v.who.part.sequence + length left
 
 -- So it is of the entries that are done, or of one more, which was seen journalled, of which some outputs may be left.
 pub record IsWorking (p : AtBook) : Type 0 where

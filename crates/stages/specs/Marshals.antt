@@ -3,7 +3,7 @@ use Rattle.std.specs.Prelude.{◌≡◌, ℕ, zero, suc, ◌+◌, ◌≤◌, Lis
 use mathlib.Core.Option.{some}
 use lib.ListN.{get_elem?}
 use Rattle.venue_model.specs.History.{Message}
-use Rattle.venue_model.specs.Requests.{Symbols}
+use Rattle.venue_model.specs.Requests.{Limits}
 use Rattle.venue_model.specs.declared.outputs.Output.{Output}
 use Rattle.fix_orders.specs.Text.{text_bytes}
 use Rattle.ring_words.specs.declared.view.Person.{Person}
@@ -26,22 +26,22 @@ WroteTexts n m outputs v (suc k) w = (u : Person) × WroteTexts n m outputs v k 
 
 -- published was loaded and showed so many outputs more, which are those of a history that goes on from what was known; the texts of all of
 -- them are written, and all are handed on at once
-pub record MarshalsAll (n m : ℕ) (symbols : Symbols) (k : ℕ) (v w : Person) : Type 0 where
+pub record MarshalsAll (n m : ℕ) (limits : Limits) (k : ℕ) (v w : Person) : Type 0 where
   pub rest : List Message
-  pub known : v.own + k ≤ length (outputs_of symbols (v.seen ++ rest))
+  pub known : v.own + k ≤ length (outputs_of limits (v.seen ++ rest))
   pub last : Person
-  pub written : WroteTexts n m (outputs_of symbols (v.seen ++ rest)) (knowing (looked v published (v.own + k)) rest) k last
+  pub written : WroteTexts n m (outputs_of limits (v.seen ++ rest)) (knowing (looked v published (v.own + k)) rest) k last
   pub released : w ≡ moved last (v.own + k)
 
 -- published was loaded, and was the stage's own word
-pub record NothingPublished (symbols : Symbols) (v w : Person) : Type 0 where
+pub record NothingPublished (limits : Limits) (v w : Person) : Type 0 where
   pub rest : List Message
-  pub known : v.own ≤ length (outputs_of symbols (v.seen ++ rest))
+  pub known : v.own ≤ length (outputs_of limits (v.seen ++ rest))
   pub only : w ≡ knowing (looked v published v.own) rest
 
 -- so many outputs were marshalled, which are all that the look showed; or there was none
-abbrev pub Marshals : ℕ → ℕ → Symbols → Turn → Person → Person → Type 0
-Marshals n m symbols (Did k) v w = (1 ≤ k) × MarshalsAll n m symbols k v w
-Marshals n m symbols Idle v w = NothingPublished symbols v w
-Marshals n m symbols OutFull v w = ⊥
-Marshals n m symbols JournalFailed v w = ⊥
+abbrev pub Marshals : ℕ → ℕ → Limits → Turn → Person → Person → Type 0
+Marshals n m limits (Did k) v w = (1 ≤ k) × MarshalsAll n m limits k v w
+Marshals n m limits Idle v w = NothingPublished limits v w
+Marshals n m limits OutFull v w = ⊥
+Marshals n m limits JournalFailed v w = ⊥

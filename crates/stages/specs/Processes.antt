@@ -3,7 +3,7 @@ use Rattle.std.specs.Prelude.{◌≡◌, ◌≢◌, ◌⊎◌, ℕ, zero, suc, m
 use mathlib.Core.Option.{some}
 use lib.ListN.{get_elem?}
 use Rattle.venue_model.specs.History.{Message}
-use Rattle.venue_model.specs.Requests.{Symbols}
+use Rattle.venue_model.specs.Requests.{Limits}
 use Rattle.venue_model.specs.declared.outputs.Output.{Output}
 use Rattle.ring_words.specs.declared.view.Person.{Person}
 use Rattle.ring_words.specs.Places.{unmarshalled, journalled}
@@ -23,14 +23,14 @@ NothingHandedOn v w =
     (length v.seen ≡ v.own) × ((u j : ℕ) × (lesser u j ≡ v.own) × (w ≡ looked (looked v unmarshalled u) journalled j))
 
 -- the outputs of the entries that are done and of the next one, but for those that are published
-abbrev pub to_put : Symbols → Person → List Output
-to_put symbols p = drop p.part.sequence (outputs_of symbols (take (suc p.own) p.seen))
+abbrev pub to_put : Limits → Person → List Output
+to_put limits p = drop p.part.sequence (outputs_of limits (take (suc p.own) p.seen))
 
 -- Where the book has no entry but those that are done, a command is taken up: that of the next sequence was read, which a look for new ones had left
 -- known. Else one is under way.
-abbrev pub TakesUp : ℕ → ℕ → Person → Person → Type 0
-TakesUp n applied v u =
-    ((applied ≡ v.own) × ((q : Person) × Gated v q × ((e : Message) × (get_elem? q.seen q.own ≡ some e) × (u ≡ after_reading n q e))))
+abbrev pub TakesUp : ℕ → Limits → ℕ → Person → Person → Type 0
+TakesUp n limits applied v u =
+    ((applied ≡ v.own) × ((q : Person) × Gated v q × ((e : Message) × (get_elem? q.seen q.own ≡ some e) × (u ≡ after_reading n limits q e))))
     ⊎ ((v.own < applied) × (u ≡ v))
 
 -- so many outputs more are published, one after another
@@ -70,12 +70,12 @@ working who applied = record { who = who; applied = applied }
 
 -- A command's outputs were put, and it is done when all of them are; or some are left, for which there was no room; or there was no command, which
 -- the look for one showed.
-abbrev pub Processes : Sizes → Symbols → Turn → Working → Working → Type 0
-Processes s symbols (Did k) v w =
-    (k ≡ 1) × ((u q : Person) × TakesUp s.rows v.applied v.who u × PutsAll s.output_rows s.gateways u (to_put symbols u) q × (to_put symbols q ≡ [])
+abbrev pub Processes : Sizes → Limits → Turn → Working → Working → Type 0
+Processes s limits (Did k) v w =
+    (k ≡ 1) × ((u q : Person) × TakesUp s.rows limits v.applied v.who u × PutsAll s.output_rows s.gateways u (to_put limits u) q × (to_put limits q ≡ [])
     × (w.who ≡ done q) × (w.applied ≡ w.who.own))
-Processes s symbols Idle v w = (v.applied ≡ v.who.own) × NothingHandedOn v.who w.who × (w.applied ≡ v.applied)
-Processes s symbols OutFull v w =
-    (u : Person) × TakesUp s.rows v.applied v.who u × Puts s.output_rows s.gateways u (to_put symbols u) w.who × (to_put symbols w.who ≢ [])
+Processes s limits Idle v w = (v.applied ≡ v.who.own) × NothingHandedOn v.who w.who × (w.applied ≡ v.applied)
+Processes s limits OutFull v w =
+    (u : Person) × TakesUp s.rows limits v.applied v.who u × Puts s.output_rows s.gateways u (to_put limits u) w.who × (to_put limits w.who ≢ [])
     × (w.applied ≡ suc w.who.own)
-Processes s symbols JournalFailed v w = ⊥
+Processes s limits JournalFailed v w = ⊥

@@ -3,8 +3,7 @@ use Rattle.std.specs.Prelude.{◌≡◌, ◌≢◌, ◌⊎◌, ℕ, zero, suc, �
 use mathlib.Core.Option.{some}
 use lib.ListN.{get_elem?}
 use Rattle.venue_model.specs.History.{History, Message}
-use Rattle.venue_model.specs.declared.commands.Command.{Command}
-use Rattle.fix_orders.specs.Reading.{reads}
+use Rattle.venue_model.specs.Requests.{Limits}
 use Rattle.ring_words.specs.declared.view.Load.{Load}
 use Rattle.ring_words.specs.declared.view.Person.{Person}
 use Rattle.ring_words.specs.Places.{in_row}
@@ -14,6 +13,7 @@ use Rattle.ring_words.specs.Seats.{looked, wrote, moved}
 use Rattle.barrier.specs.Availability.{Shown}
 use Rattle.barrier.specs.Commands.{after_command}
 use Rattle.barrier.specs.Reading.{word_loads, after_loads}
+use Rattle.book.specs.Histories.{reads_at}
 use Rattle.stages.specs.declared.turn.Turn.{Turn}
 use Rattle.stages.specs.declared.turn.Turn.TheVariants.{Did, Idle, OutFull, JournalFailed}
 
@@ -26,31 +26,27 @@ NothingShown n v w = (length v.seen ≡ v.own) × ((x : ℕ) × (x ≢ suc v.own
 abbrev pub done : Person → Person
 done v = moved v (suc v.own)
 
--- what the venue's logic reads of an entry, wherever it stands
-abbrev pub as_read : ℕ → Message → Command
-as_read s e = reads e.bytes
-
 -- the message of sequence s was read, and the command that it is read as was stored in its row
-abbrev pub after_writing : ℕ → Person → ℕ → Message → Person
-after_writing n v s e = wrote (after_loads n v s e (raw_count e)) s (command_words e.gateway (reads e.bytes))
+abbrev pub after_writing : ℕ → Limits → Person → ℕ → Message → Person
+after_writing n limits v s e = wrote (after_loads n v s e (raw_count e)) s (command_words e.gateway (reads_at limits s e))
 
 -- so it was with k sequences, one after another, the first of them the next one
-abbrev pub Wrote : ℕ → Person → ℕ → Person → Type 0
-Wrote n v zero w = w ≡ v
-Wrote n v (suc k) w = (u : Person) × Wrote n v k u
-    × ((e : Message) × (get_elem? v.seen (v.own + k) ≡ some e) × (w ≡ after_writing n u (v.own + k) e))
+abbrev pub Wrote : ℕ → Limits → Person → ℕ → Person → Type 0
+Wrote n limits v zero w = w ≡ v
+Wrote n limits v (suc k) w = (u : Person) × Wrote n limits v k u
+    × ((e : Message) × (get_elem? v.seen (v.own + k) ≡ some e) × (w ≡ after_writing n limits u (v.own + k) e))
 
 -- the command of the next sequence was read
-abbrev pub after_reading : ℕ → Person → Message → Person
-after_reading n v e = after_command n v v.own (command_words e.gateway (reads e.bytes))
+abbrev pub after_reading : ℕ → Limits → Person → Message → Person
+after_reading n limits v e = after_command n v v.own (command_words e.gateway (reads_at limits v.own e))
 
 -- the unmarshaller did all sequences that the look for new ones left known, so many, and handed them on at once; or that showed nothing new
-abbrev pub Unmarshals : ℕ → Turn → Person → Person → Type 0
-Unmarshals n (Did k) v w = (1 ≤ k) × ((u : Person) × Shown n v u × (length u.seen ≡ u.own + k)
-    × ((q : Person) × Wrote n u k q × (w ≡ moved q (u.own + k))))
-Unmarshals n Idle v w = NothingShown n v w
-Unmarshals n OutFull v w = ⊥
-Unmarshals n JournalFailed v w = ⊥
+abbrev pub Unmarshals : ℕ → Limits → Turn → Person → Person → Type 0
+Unmarshals n limits (Did k) v w = (1 ≤ k) × ((u : Person) × Shown n v u × (length u.seen ≡ u.own + k)
+    × ((q : Person) × Wrote n limits u k q × (w ≡ moved q (u.own + k))))
+Unmarshals n limits Idle v w = NothingShown n v w
+Unmarshals n limits OutFull v w = ⊥
+Unmarshals n limits JournalFailed v w = ⊥
 
 -- one load for each word of these messages, which stand in the rows of s, s + 1, .. of a ring of n rows
 abbrev pub message_loads : ℕ → ℕ → List Message → List Load

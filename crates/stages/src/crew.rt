@@ -81,7 +81,7 @@ impl<D: JournalDisk> Crew<D> {
         book: Book,
     ) -> Result<CrewAndGateways<D>, Journal<D>>
         requires seats { AreNew G rings.now seats }
-        requires book { (book.symbols ≡ rings.now.logic) × (book.state ≡ state_of rings.now.logic rings.now.base) }
+        requires book { (book.limits ≡ rings.now.logic) × (book.state ≡ state_of rings.now.logic rings.now.base) }
         requires given { rings.now.given ≡ length (outputs_of rings.now.logic rings.now.base) }
         requires journal { (journal.failed ≡ false) × (journal.count ≡ length rings.now.base) }
         requires holds { D.honest journal.disk → Holds (D.tells journal.disk) rings.now.base }

@@ -4,7 +4,7 @@ use mathlib.Core.Option.{some, some-ne-none, some-injective}
 use lib.ListN.{get_elem?}
 use Rattle.venue_model.specs.Counts.{Rose}
 use Rattle.venue_model.specs.History.{History}
-use Rattle.venue_model.specs.Requests.{Symbols}
+use Rattle.venue_model.specs.Requests.{Limits}
 use Rattle.disks.specs.Disk.{Told, LeavesOnly}
 use Rattle.journal.specs.Journals.{OneJournal, IsJournalFrom}
 use Rattle.disks.specs.MomentLaws.{started, joined, weaker}
@@ -87,7 +87,7 @@ told_again start front old new desk c gave took delivers = record {
 }
 
 -- a session that is begun at the seat of gateway 1
-pub began : (rings : Opened Symbols) (g h : AtRings) (seat : At Symbols) → g ≡ record { front = record (begun (number seat) 0) { live = false }; seat = seat }
+pub began : (rings : Opened Limits) (g h : AtRings) (seat : At Limits) → g ≡ record { front = record (begun (number seat) 0) { live = false }; seat = seat }
     → h ≡ record g { front = begun (number g.seat) g.front.passed } → IsFirst rings seat → (h.front ≡ begun 1 0) × (h.seat ≡ seat)
 began rings g h seat made new first =
     let one : number seat ≡ 1 = ap number first in (

@@ -1,7 +1,7 @@
 -- What holds of the venue's rings, seats and stages as they are opened behind a history.
 use Rattle.std.specs.Prelude.{◌≡◌, ℕ, false, length}
 use Rattle.venue_model.specs.History.{History}
-use Rattle.venue_model.specs.Requests.{Symbols}
+use Rattle.venue_model.specs.Requests.{Limits}
 use Rattle.ring_words.specs.At.{Opened}
 use Rattle.ring_words.specs.Crew.{AreNew}
 use Rattle.ring_words.specs.declared.seats.Seats.{Seats}
@@ -11,24 +11,24 @@ use Rattle.stages.specs.Stations.{OneCrew}
 use Rattle.stages.specs.Crews.{new_crew}
 
 -- the rings are those of this logic behind this history, whose outputs are given
-pub record AreBehind (symbols : Symbols) (base : History) (rings : Opened Symbols) : Type 0 where
-  pub logic : rings.logic ≡ symbols
+pub record AreBehind (limits : Limits) (base : History) (rings : Opened Limits) : Type 0 where
+  pub logic : rings.logic ≡ limits
   pub base_is : rings.base ≡ base
-  pub given : rings.given ≡ length (outputs_of symbols base)
+  pub given : rings.given ≡ length (outputs_of limits base)
 
 -- the book is that of the history that the rings were opened with
-pub record IsBookOf (rings : Opened Symbols) (book : Book) : Type 0 where
-  pub symbols : book.symbols ≡ rings.logic
+pub record IsBookOf (rings : Opened Limits) (book : Book) : Type 0 where
+  pub limits : book.limits ≡ rings.logic
   pub state : book.state ≡ state_of rings.logic rings.base
 
 -- the rings, all seats of these, as they are at the start, and the book
-pub record IsRecovered (symbols : Symbols) (base : History) (g : ℕ) (rings : Opened Symbols) (seats : Seats Symbols) (book : Book) : Type 0 where
-  pub behind : AreBehind symbols base rings
+pub record IsRecovered (limits : Limits) (base : History) (g : ℕ) (rings : Opened Limits) (seats : Seats Limits) (book : Book) : Type 0 where
+  pub behind : AreBehind limits base rings
   pub seats_are : AreNew g rings seats
   pub book_is : IsBookOf rings book
 
 -- the stages at these rings, as they are at the start, with a journal that hasn't failed
-pub record IsNewCrew {D : Type 0} (rings : Opened Symbols) (crew : OneCrew D) : Type 0 where
+pub record IsNewCrew {D : Type 0} (rings : Opened Limits) (crew : OneCrew D) : Type 0 where
   pub crew_is : crew ≡ new_crew rings crew.journaller.journal crew.processor.book
   pub ready : crew.journaller.journal.failed ≡ false
   pub book_is : IsBookOf rings crew.processor.book

@@ -2,7 +2,7 @@
 use Rattle.std.specs.Prelude.{◌≡◌, ◌⊎◌, ℕ, [], ◌∷◌, Result}
 use Rattle.venue_model.specs.Counts.{Rose}
 use Rattle.venue_model.specs.History.{History}
-use Rattle.venue_model.specs.Requests.{Symbols}
+use Rattle.venue_model.specs.Requests.{Limits}
 use Rattle.gateway.specs.Delivers.{Course, Delivers, starts}
 use Rattle.gateway.specs.Gateways.{begun}
 use Rattle.gateway.specs.Seats.{ledger_of}
@@ -37,9 +37,9 @@ pub record Outside (D : Type 0) : Type 0 where
 
 module _ {D : Type 0} where
   -- Gateway 1 has begun a session, and nothing was done: the venue stands behind the journal's history, and so does the gateway's seat.
-  pub record Opens (symbols : Symbols) (device : Device D) (old : Outside D) (s : Venue D) : Type 0 where
+  pub record Opens (limits : Limits) (device : Device D) (old : Outside D) (s : Venue D) : Type 0 where
     pub crew : IsNewCrew s.rings s.crew
-    pub behind : AreBehind symbols s.rings.base s.rings
+    pub behind : AreBehind limits s.rings.base s.rings
     pub seat : IsFirst s.rings s.gateway.seat
     pub session : s.gateway.front ≡ begun 1 0
     pub wire : s.wire ≡ old.wire
@@ -47,10 +47,10 @@ module _ {D : Type 0} where
 
   -- The session was served. It ended by itself (or 2 ^ 64 - 1 rounds were taken), or the journal failed. What the client sent, was given and was written
   -- is the course of the session; and one log tells of all.
-  pub record Serves (symbols : Symbols) (device : Device D) (old new : Outside D) (result : Result (Unit {0}) ServeFault) : Type 0 where
+  pub record Serves (limits : Limits) (device : Device D) (old new : Outside D) (result : Result (Unit {0}) ServeFault) : Type 0 where
     pub start : Venue D
     pub end : Venue D
-    pub opens : Opens symbols device old start
+    pub opens : Opens limits device old start
     pub serves : Served device start end result
     pub course : Course
     pub delivers : Delivers (starts 1024 start.gateway start.wire) end.gateway.front end.wire (ledger_of 1024 end.gateway.seat) course
@@ -60,7 +60,7 @@ module _ {D : Type 0} where
     pub disk_is : new.disk ≡ disk_of end.crew
 
   -- what the program's status says: 1 where the session didn't begin, and the disk was only read; and else how it ended
-  abbrev pub EndsWith : Symbols → Device D → Outside D → Outside D → ℕ → Type 0
-  EndsWith symbols device old new status =
+  abbrev pub EndsWith : Limits → Device D → Outside D → Outside D → ℕ → Type 0
+  EndsWith limits device old new status =
       ((status ≡ 1) × OnlyRead (device.honest old.disk) (device.honest new.disk) (device.tells old.disk) (device.tells new.disk))
-      ⊎ ((result : Result (Unit {0}) ServeFault) × (status ≡ status_of_end result) × Serves symbols device old new result)
+      ⊎ ((result : Result (Unit {0}) ServeFault) × (status ≡ status_of_end result) × Serves limits device old new result)

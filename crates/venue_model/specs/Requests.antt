@@ -26,6 +26,10 @@ use Rattle.venue_model.specs.Match.{output, exec, matched, match_outputs}
 abbrev pub Symbols : Type 0
 Symbols = List (List ℕ)
 
+-- what a venue is started with, and keeps for a run
+pub record Limits : Type 0 where
+  pub symbols : Symbols
+
 -- the resting orders, and each client's greatest accepted ClOrdID: client k's at place k - 1, 0 before the first
 pub record State : Type 0 where
   pub orders : List Order

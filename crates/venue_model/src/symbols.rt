@@ -21,19 +21,19 @@ pub enum LimitsFault {
     Memory,
 }
 
-/// The symbols (1 to 8) in the order of the command line, numbered by place. Contracts see the list.
+/// The symbols (1 to 8) in the order of the command line, numbered by place. Contracts see a record with the list.
 #[derive(Drop)]
 pub struct Limits {
     symbols: IndexSet<Symbol>,
 }
 
 impl Model for Limits {
-    ghost use Rattle.std.specs.Prelude.{List, ℕ};
+    ghost use Rattle.venue_model.specs.Requests.{Limits};
     ghost use Rattle.venue_model.specs.Spelling.{AreSymbols};
 
-    ghost Value = { List (List ℕ) };
+    ghost Value = { Limits };
 
-    ghost view = { λ l. l.symbols.keys };
+    ghost view = { λ l. record { symbols = l.symbols.keys } };
 
     ghost invariant = { λ l. AreSymbols l.symbols.keys };
 }
@@ -41,7 +41,7 @@ impl Model for Limits {
 impl Limits {
     /// The table of these names. `Memory` says nothing of the names.
     pub fn new(alloc: Global, names: &[String]) -> Result<Limits, LimitsFault>
-        ensures names { IfOk result (λ limits. limits ≡ map string_bytes names.now) }
+        ensures names { IfOk result (λ limits. limits ≡ record { symbols = map string_bytes names.now }) }
         ensures good { IfOk result (λ _. AreSymbols (map string_bytes names.now)) }
         ensures bad { IsErrOf result LimitsFault.BadSymbol → AreSymbols (map string_bytes names.now) → ⊥ }
     {
@@ -59,15 +59,15 @@ impl Limits {
 
     /// The symbols, in order.
     pub fn symbols(&self) -> &[Symbol]
-        ensures value { result.now ≡ self.now }
-        ensures table { AreSymbols self.now }
+        ensures value { result.now ≡ self.now.symbols }
+        ensures table { AreSymbols self.now.symbols }
     {
         self.symbols.as_slice()
     }
 
     /// Whether the venue trades the symbol.
     pub fn has(&self, symbol: &Symbol) -> bool
-        ensures { result ≡ list_any (bytes_eq symbol.now) self.now }
+        ensures { result ≡ list_any (bytes_eq symbol.now) self.now.symbols }
     {
         self.symbols.contains(symbol)
     }

@@ -77,7 +77,7 @@ impl Words {
     /// Reads the words behind the program's name.
     pub fn read(alloc: Global, words: &[String]) -> Result<Words, WordsFault>
         ensures said { IfOk result (λ w.
-            AreWords (map string_bytes words.now) w.mode (string_bytes w.journal) w.limits) }
+            AreWords (map string_bytes words.now) w.mode (string_bytes w.journal) w.limits.symbols) }
         ensures range { IfOk result (λ w. IsInRange w.mode) }
         ensures wrong { IsErrOf result WordsFault.Usage
             → (mode : Mode) (journal : List ℕ) (symbols : List (List ℕ))

@@ -1,4 +1,4 @@
-use Rattle.fix_orders.specs.Reading.{reads}
+use Rattle.book.specs.Histories.{reads_at}
 use Rattle.book.proofs.LawStamps.{state-below, history-below}
 use Rattle.book.proofs.laws.stamps_are_sequences.Goals as goal
 
@@ -6,4 +6,4 @@ pub returns-clause-commands : goal.returns-clause-commands
 returns-clause-commands c = state-below
 
 pub returns-clause-history : goal.returns-clause-history
-returns-clause-history c = history-below (λ sequence m. reads m.bytes)
+returns-clause-history c = λ limits. history-below (reads_at limits) limits.symbols

@@ -9,8 +9,8 @@ use Rattle.replay.proofs.lines.write_orders.Given as goal
 
 abbrev pub invariant-loop : goal.invariant-loop
 invariant-loop g l = record {
-  at : IsAt (listing l.book.symbols l.book.state.orders) l.counter l.from;
+  at : IsAt (listing l.book.limits.symbols l.book.state.orders) l.counter l.from;
   written : Appends (g.W.Write.contents l.fn.out) (g.W.Write.contents l.out)
-      (flat_map order_line (take l.counter (listing l.book.symbols l.book.state.orders)));
-  once : 1 ≤ l.counter → IsPermutation l.book.state.orders (listing l.book.symbols l.book.state.orders);
+      (flat_map order_line (take l.counter (listing l.book.limits.symbols l.book.state.orders)));
+  once : 1 ≤ l.counter → IsPermutation l.book.state.orders (listing l.book.limits.symbols l.book.state.orders);
 }

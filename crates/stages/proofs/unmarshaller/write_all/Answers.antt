@@ -12,5 +12,5 @@ loop-sequence-preserved g c = let v = c.args.seat.now in let s : ℕ = c.loop-se
     let written = c.write.ensures.written stood.0 (ap (λ h. get_elem? h s) so_far.seen ∙ stood.1) in (
       still_at c.args.rings.now c.loop-sequence.seat _ _ c.loop-sequence.invariant.0 c.write.ensures.step,
       omega arith,
-      one_more g.row.N v c.loop-sequence.seat c.args.next s c.requires.next.0 so_far c.write.new.seat stood.0 stood.1 c.write.ensures.step written.0 written.1,
+      one_more g.row.N c.args.rings.now.logic v c.loop-sequence.seat c.args.next s c.requires.next.0 so_far c.write.new.seat stood.0 stood.1 c.write.ensures.step written.0 written.1,
     )

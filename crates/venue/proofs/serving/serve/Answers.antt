@@ -2,7 +2,7 @@
 use Rattle.std.proofs.Common.{[], ◌∷◌, inr, refl, subst, sym}
 use Rattle.gateway.specs.Delivers.{nothing_yet, starts}
 use Rattle.ring_words.specs.At.{At}
-use Rattle.venue_model.specs.Requests.{Symbols}
+use Rattle.venue_model.specs.Requests.{Limits}
 use Rattle.stages.specs.Stations.{disk_of}
 use Rattle.stages.specs.Finishing.{Finished}
 use Rattle.venue.specs.Serving.{LeavesFrom}
@@ -34,7 +34,7 @@ returns-clause-served g c =
         opens = record {
           crew = opened.opened.1;
           behind = opened.opened.0;
-          seat = subst (λ (s : At Symbols). IsFirst rings s) (sym first.1) c.first_seat-seat.ensures.seat;
+          seat = subst (λ (s : At Limits). IsFirst rings s) (sym first.1) c.first_seat-seat.ensures.seat;
           session = first.0;
           wire = refl;
           disk_is = opened.disk;
@@ -43,7 +43,7 @@ returns-clause-served g c =
         course = course.0;
         delivers = course.1;
         summary = c.finish-disk-2.result.0;
-        finished = subst (λ (s : At Symbols). Finished rings (s ∷ []) end.crew (g.D.JournalDisk.honest device) (g.D.JournalDisk.tells device) c.finish-disk-2.result.0)
+        finished = subst (λ (s : At Limits). Finished rings (s ∷ []) end.crew (g.D.JournalDisk.honest device) (g.D.JournalDisk.tells device) c.finish-disk-2.result.0)
             c.end.ensures.seat c.finish-disk-2.ensures.finished;
         wire = refl;
         disk_is = c.finish-disk-2.ensures.disk;

@@ -10,10 +10,10 @@ pub invariant_of-self : goal.invariant_of-self
 invariant_of-self c =
     let i = c.args.order.now in
     let accepted_is = c.self.view_is ∙ c.accept.ensures.value in
-    let symbols_are : c.self.inside.logic ≡ c.args.self.now.symbols = ap (λ (b : Book). b.symbols) accepted_is in
+    let symbols_are : c.self.inside.logic.symbols ≡ c.args.self.now.limits.symbols = ap (λ (b : Book). b.limits.symbols) accepted_is in
     let orders_are : c.self.inside.orders ≡ c.args.self.now.state.orders = ap (λ (b : Book). b.state.orders) accepted_is in
     let greatest = ap (λ (b : Book). greatest_of b.state i.client) c.self.view_is ∙ c.accept.ensures.greatest in
-    rw c.enter.ensures.orders (book-entered c.self.inside.logic c.self.inside.greatest i c.self.inside.orders c.self.invariant
+    rw c.enter.ensures.orders (book-entered c.self.inside.logic.symbols c.self.inside.greatest i c.self.inside.orders c.self.invariant
     (record { from = c.requires.from; to = c.requires.to; name = omega (arith, greatest); symbol = rw symbols_are c.requires.known })
     (rw orders_are c.accept.ensures.fresh) c.args.terms (rw (← c.enter.ensures.orders) c.enter.ensures.standing))
 

@@ -8,7 +8,7 @@ use Rattle.book.proofs.book.Book.named.Goals as goal
 pub returns-clause-stands : goal.returns-clause-stands
 returns-clause-stands c =
     let b : Book = record {
-      symbols = c.self.inside.logic;
+      limits = c.self.inside.logic;
       state = record { orders = c.self.inside.orders; greatest = c.self.inside.greatest };
       reads = c.self.inside.reads;
     } in

@@ -10,7 +10,7 @@ use Rattle.book.proofs.book.Book.take_out.Goals as goal
 
 pub invariant_of-self : goal.invariant_of-self
 invariant_of-self c =
-    rw c.take_out.ensures.orders (book-some c.self.inside.logic c.self.inside.greatest (λ o. not (is_named c.args.client c.args.name o)) c.self.inside.orders c.self.invariant)
+    rw c.take_out.ensures.orders (book-some c.self.inside.logic.symbols c.self.inside.greatest (λ o. not (is_named c.args.client c.args.name o)) c.self.inside.orders c.self.invariant)
 
 pub returns-clause-below : goal.returns-clause-below
 returns-clause-below c = λ sequence below.

@@ -1,7 +1,7 @@
 -- A read, and a feed, are one step.
 use Rattle.std.proofs.Common.{◌≡◌, ◌⊎◌, inl, inr, [], ap, refl, sym, ◌∙◌, subst, true≢false, rules}
 use Rattle.ring_words.specs.At.{At}
-use Rattle.venue_model.specs.Requests.{Symbols}
+use Rattle.venue_model.specs.Requests.{Limits}
 use Rattle.gateway.specs.declared.gateway.Heard.TheVariants.{Failed, Something}
 use Rattle.gateway.specs.Gateways.{AtRings, at_rings, around}
 use Rattle.gateway.specs.Seats.{ledger_of}
@@ -25,7 +25,7 @@ returns-then-eq-clause-hears g c =
       | then-eq-via-else-eq+then-is_empty w ↦
           inr (sym (ap (λ (a : AtRings). a.front.waiting) c.self-2.view_is) ∙ w.is_empty.ensures.0 w.if-is_empty.true)
     ] in
-    subst (λ (s : At Symbols). Hears (around n old (tells c.args.wire.now))
+    subst (λ (s : At Limits). Hears (around n old (tells c.args.wire.now))
     (world read.front (tells c.read-read.new.wire) (ledger_of n s)) c.read-read.result)
     (sym c.read-read.ensures.seat)
     (read-hears old.front read.front (tells c.args.wire.now) (tells c.read-read.new.wire) (ledger_of n old.seat)
@@ -44,7 +44,7 @@ returns-clause-hears g c =
     c.read-read.result)
     (sym c.self-2.view_is) c.read-read.ensures.reads in
     let seat : mid.seat ≡ old.seat = ap (λ (a : AtRings). a.seat) c.self-2.view_is ∙ c.read-read.ensures.seat in
-    subst (λ (s : At Symbols). Hears (around n old (tells c.args.wire.now))
+    subst (λ (s : At Limits). Hears (around n old (tells c.args.wire.now))
     (world new.front (tells c.read-read.new.wire) (ledger_of n s)) Something) (sym seat)
     (fed-hears old.front mid.front (tells c.args.wire.now) (tells c.read-read.new.wire) (ledger_of n old.seat)
     c.requires.open free c.requires.silent c.read-read.result reads

@@ -1,7 +1,7 @@
 -- A turn is its parts, one behind the other.
 use Rattle.std.proofs.Common.{ap, refl, inl, sym, ◌∙◌, subst, false, true≢false, rules}
 use Rattle.ring_words.specs.At.{At}
-use Rattle.venue_model.specs.Requests.{Symbols}
+use Rattle.venue_model.specs.Requests.{Limits}
 use Rattle.gateway.specs.declared.ending.Turned.{Turned}
 use Rattle.gateway.specs.Delivers.{Proceeds}
 use Rattle.gateway.specs.Gateways.{AtRings, at_rings, around}
@@ -39,7 +39,7 @@ returns-in-Full-clause-turn g c =
     let live = ap (λ (a : AtRings). a.front.live) c.self.view_is ∙ c.requires.live in
     subst (λ (a : AtRings). Proceeds n a c.stuck.new.self before behind c.stuck.result) c.self.view_is
     (proceeds n old c.stuck.new.self before behind c.stuck.result
-    (subst (λ (s : At Symbols). Turn (around n old before) (world c.stuck.new.self.front behind (ledger_of n s))
+    (subst (λ (s : At Limits). Turn (around n old before) (world c.stuck.new.self.front behind (ledger_of n s))
     c.stuck.result) (sym c.stuck.ensures.seat)
     (turn-stuck old.front c.flush-flushed.new.session c.stuck.new.self.front before behind (ledger_of n old.seat)
     _ c.stuck.result c.flush-flushed.ensures.others live c.in-Full.ensures.bytes (search rules) c.stuck.ensures.stuck)))
@@ -95,7 +95,7 @@ returns-clause-turn g c =
     let live = ap (λ (a : AtRings). a.front.live) c.self.view_is ∙ c.requires.live in
     subst (λ (a : AtRings). Proceeds n a c.rest.new.self before behind c.rest.result) c.self.view_is
     (proceeds n old c.rest.new.self before behind c.rest.result
-    (subst (λ (s : At Symbols). Turn (around n old before) (world c.rest.new.self.front behind (ledger_of n s))
+    (subst (λ (s : At Limits). Turn (around n old before) (world c.rest.new.self.front behind (ledger_of n s))
     c.rest.result) (sym c.rest.ensures.seat)
     (turn-rested old.front heard.front c.flush-flushed.new.session before flushed behind (ledger_of n old.seat)
     (ledger_of n heard.seat)

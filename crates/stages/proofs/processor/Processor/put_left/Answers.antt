@@ -3,7 +3,7 @@ use Rattle.std.proofs.Common.{rules, ◌≡◌, ◌+◌, ◌-◌, ◌<◌, suc, 
 use Rattle.std.proofs.lemmas.List.{drop-drop}
 use mathlib.Core.Option.{some}
 use lib.ListN.{get_elem?}
-use Rattle.venue_model.specs.Requests.{Symbols}
+use Rattle.venue_model.specs.Requests.{Limits}
 use Rattle.venue_model.specs.declared.outputs.Output.{Output}
 use Rattle.ring_words.specs.At.{IsAt}
 use Rattle.book.specs.Histories.{outputs_of}
@@ -18,7 +18,7 @@ put_all-requires g c = let p = c.self.inside in let v = p.seat in let u = c.room
     let at = subst (λ (w : AtBook). IsAt c.args.rings.now w.seat) (sym c.self.view_is) c.requires.at in
     let one : p.applied ≡ suc v.who.own = omega (arith, counts, under_way) in
     let looked = only_looked g.row.G g.row.M v.who _ _ u.who c.room.ensures.looked in let view = c.room.ensures.step in let most = c.min-most.ensures in
-    let same : p.book.symbols ≡ c.args.rings.now.logic = same_logic c.args.rings.now v p.book.symbols at working.follows.logic in (
+    let same : p.book.limits ≡ c.args.rings.now.logic = same_logic c.args.rings.now v p.book.limits at working.follows.logic in (
       omega arith,
       (
         search rules,
@@ -26,7 +26,7 @@ put_all-requires g c = let p = c.self.inside in let v = p.seat in let u = c.room
           room_for_all g.row.G g.row.M v u c.room.result looked view c.room.ensures.free _ (omega (arith, most)),
           (
             still_synced g.row.G g.row.M v u c.room.result looked view (working.synced under_way),
-            λ i o at. subst (λ (logic : Symbols). get_elem? (outputs_of logic (take (suc u.who.own) u.who.seen)) (u.who.part.sequence + i) ≡ some o) same
+            λ i o at. subst (λ (logic : Limits). get_elem? (outputs_of logic (take (suc u.who.own) u.who.seen)) (u.who.part.sequence + i) ≡ some o) same
                 (are_next g.row.G g.row.M v u c.room.result looked view p.book p.applied _ working.follows one c.min-most.result i o
                 (sym (ap (λ (l : List Output). get_elem? l i) (lent p.put c.min-most.result p.pending.items _ c.deref.ensures.value)) ∙ at)),
           ),
