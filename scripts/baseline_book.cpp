@@ -1,5 +1,5 @@
 // What the book's figures are compared with: a plain C++ book of price levels that is asked the same commands as
-// bench_book asks, and has the same outputs. Build and run it beside that program, on one quiet machine:
+// `bench book` asks, and has the same outputs. Build and run it beside that program, on one quiet machine:
 //
 //   c++ -O2 -std=c++17 -o /tmp/baseline_book scripts/baseline_book.cpp
 //   /tmp/baseline_book RESTING COMMANDS
@@ -199,7 +199,7 @@ struct Book {
     }
 };
 
-// The flow of bench_book, number by number.
+// The flow of `bench book`, number by number.
 constexpr u64 PLACES = 4096, NO_PLACE = 4095, MIDDLE = 10000, PRICES = 32;
 struct Resting { bool is; u8 client, side; Symbol symbol; u64 name; };
 static u64 state = 1;

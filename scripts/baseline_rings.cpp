@@ -1,4 +1,4 @@
-// What the figures of the rings are compared with: a plain C++ venue that does what bench_stages does, with the same words
+// What the figures of the rings are compared with: a plain C++ venue that does what `bench stages` does, with the same words
 // (docs/RINGS.md) and the same batches. Build and run it beside that program, on one quiet machine of x86-64:
 //
 //   c++ -O2 -std=c++17 -pthread -o /tmp/baseline_rings scripts/baseline_rings.cpp

@@ -66,7 +66,7 @@ class Sources:
 
     def __init__(self):
         self.functions, self.kept, self.types, self.fields, self.others = [], {}, set(), {}, set()
-        for crate in sorted(it for it in os.listdir(f"{ROOT}/crates") if not it.startswith("bench_")):
+        for crate in sorted(it for it in os.listdir(f"{ROOT}/crates") if it != "bench"):
             self.others.add(crate)
             for path in sorted(glob.glob(f"{ROOT}/crates/{crate}/src/**/*.rt", recursive=True)):
                 self.others.add(os.path.basename(path))

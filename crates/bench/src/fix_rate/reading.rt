@@ -1,0 +1,43 @@
+//! An order, framed and decoded again and again.
+use crate::orders::ORDER;
+use fix_frame::Framer;
+use fix_orders::command_of;
+use venue_model::{Command, Side, TimeInForce};
+
+/// The sum of what is read of the order: SendingTime, ClOrdID, Price, OrderQty, and how long Symbol is.
+pub const SUM: u64 = 20_250_102_093_000 + 1 + 50 + 100 + 3;
+
+/// Frames and decodes the order so many times, and answers the sum of all that was read.
+pub fn read_orders(framer: &mut Framer, copies: u32) -> u64 {
+    let mut sum = 0u64;
+    for _ in 0..copies {
+        sum = sum.wrapping_add(sum_of(&read_order(framer)));
+    }
+    sum
+}
+
+/// Frames and decodes the order once.
+fn read_order(framer: &mut Framer) -> Command {
+    let Ok(_) = framer.feed(ORDER) else {
+        return Command::Void;
+    };
+    match framer.next() {
+        Some(frame) => command_of(&frame),
+        None => Command::Void,
+    }
+}
+
+/// The sum of what a new order to buy has, so that all of it is read; of anything else nothing.
+fn sum_of(command: &Command) -> u64 {
+    match command {
+        Command::New {
+            sending_time,
+            order,
+        } if order.side == Side::Buy && order.time_in_force == TimeInForce::Day => sending_time
+            .wrapping_add(order.cl_ord_id)
+            .wrapping_add(order.price)
+            .wrapping_add(order.quantity)
+            .wrapping_add(order.symbol.as_bytes().len() as u64),
+        _ => 0,
+    }
+}
