@@ -8,7 +8,7 @@ ghost use Rattle.ring_words.specs.At.{IsAt, Steps};
 ghost use Rattle.barrier.specs.Reading.{IsHead, Reads, after_loads};
 
 use ring_words::{Raw, Reader, ReaderSeat, Rings};
-use venue_model::Logic;
+use venue_model::{LONGEST_MESSAGE, Logic};
 
 /// Loads word 0 of the row.
 fn read_head<L: Logic, R: Reader, const N: usize, const M: usize, const G: usize>(
@@ -31,7 +31,7 @@ pub fn read_raw<L: Logic, R: Reader, const N: usize, const M: usize, const G: us
     rings: &Rings<L, N, M, G>,
     seat: &mut ReaderSeat<L, R>,
     sequence: u64,
-    buf: &mut [u8; 320],
+    buf: &mut [u8; LONGEST_MESSAGE],
 ) -> Raw
     requires at { IsAt rings.now seat.old }
     requires from { seat.old.who.own ≤ sequence }

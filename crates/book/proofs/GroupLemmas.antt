@@ -13,6 +13,7 @@ use Rattle.venue_model.specs.declared.orders.Side.{Side}
 use Rattle.venue_model.specs.declared.orders.Side.TheVariants.{Buy, Sell}
 use Rattle.venue_model.specs.declared.orders.Order.{Order}
 use Rattle.venue_model.specs.Orders.{same_side}
+use Rattle.venue_model.specs.SideLaws.{one_side, side_itself}
 use Rattle.venue_model.specs.Requests.{Symbols}
 use Rattle.venue_model.specs.Spelling.{all_differ}
 use Rattle.book.specs.Listing.{is_of}
@@ -92,18 +93,6 @@ pub record Of (s : List ℕ) (t : Side) (o : Order) : Type 0 where
   pub symbol : bytes_eq o.symbol s ≡ true
   pub side : o.side ≡ t
 
-one_side : (a b : Side) → same_side a b ≡ true → a ≡ b
-one_side Buy Buy h = refl
-one_side Sell Sell h = refl
-one_side Buy Sell h = cc
-one_side Sell Buy h = cc
-
-own-side : (a b : Side) → a ≡ b → same_side a b ≡ true
-own-side Buy Buy h = refl
-own-side Sell Sell h = refl
-own-side Buy Sell h = cc
-own-side Sell Buy h = cc
-
 pub of-test : (symbol : List ℕ) (side : Side) (o : Order) → is_of symbol side o ≡ true → Of symbol side o
 of-test symbol side o h =
     let both = and_parts (bytes_eq o.symbol symbol) (same_side o.side side) h in
@@ -157,7 +146,7 @@ module _ (ss : Symbols) (differ : all_differ ss ≡ true) where
         subst (λ n. bytes_eq x.symbol (get_or ss n symbol) ≡ true) parts.0
         (passes_at_first (bytes_eq x.symbol) ss symbol inside) in
         ap (λ s. bytes_eq x.symbol s && same_side x.side side) at
-        ∙ ap (λ b. b && same_side x.side side) there ∙ own-side x.side side parts.1;
+        ∙ ap (λ b. b && same_side x.side side) there ∙ side_itself x.side side parts.1;
   }
 
   -- the group that has a symbol at half its number

@@ -8,14 +8,14 @@ use Rattle.std.proofs.lemmas.Bool.Decides.{nat_tests}
 use Rattle.venue_model.specs.declared.orders.Side.{Side}
 use Rattle.venue_model.specs.declared.orders.Side.TheVariants.{Buy, Sell}
 use Rattle.venue_model.specs.declared.orders.Order.{Order}
-use Rattle.venue_model.specs.Orders.{crosses, is_better, ahead}
+use Rattle.venue_model.specs.Orders.{opposite, crosses, is_better, ahead}
 use Rattle.venue_model.specs.Match.{crossing, fill, insert_by_priority, by_priority, filled_orders}
 use Rattle.book.specs.Standing.{Rising}
 use Rattle.book.specs.Passes.{Leads}
 use Rattle.book.specs.Laws.{Pairwise}
 use Rattle.book.proofs.Lists.{each-map, each-of, each-filter, each-passes}
 use Rattle.book.proofs.Priority.{each-insert, each-by_priority}
-use Rattle.book.proofs.Sides.{other_side, crossed-side, leads-trans}
+use Rattle.book.proofs.Sides.{crossed-side, leads-trans}
 use Rattle.book.proofs.LawPairs.{each-both}
 use Rattle.book.proofs.LawSums.{IsOf, rising-filter}
 
@@ -63,9 +63,9 @@ in_order side (x ∷ xs) rising sides = insert-in_order x (by_priority xs)
 pub filled-in_order : (i : Order) (orders : List Order) (q : ℕ) → Rising orders → Pairwise (λ a b. ahead a b ≡ true) (filled_orders q (crossing i orders))
 filled-in_order i orders q rising =
     let gets : Order → Bool = λ o. nat_lt 0 (fill q (crossing i orders) o) in
-    in_order (other_side i.side) (filter gets (crossing i orders)) (rising-filter gets (crossing i orders) (rising-filter (crosses i) orders rising))
-    (each-filter (IsOf (other_side i.side)) gets (crossing i orders)
-    (each-passes (IsOf (other_side i.side)) (crosses i) orders (each-of (λ x. crosses i x ≡ true → IsOf (other_side i.side) x) (crossed-side i) orders)))
+    in_order (opposite i.side) (filter gets (crossing i orders)) (rising-filter gets (crossing i orders) (rising-filter (crosses i) orders rising))
+    (each-filter (IsOf (opposite i.side)) gets (crossing i orders)
+    (each-passes (IsOf (opposite i.side)) (crosses i) orders (each-of (λ x. crosses i x ≡ true → IsOf (opposite i.side) x) (crossed-side i) orders)))
 
 -- and they are all that get something
 pub insert-same : (o : Order) (xs : List Order) → IsPermutation (o ∷ xs) (insert_by_priority o xs)

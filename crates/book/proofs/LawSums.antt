@@ -5,12 +5,12 @@ use Rattle.std.specs.List.{AllByRecursion}
 use Rattle.std.proofs.lemmas.List.Sums.{sum_by-cons}
 use Rattle.venue_model.specs.declared.orders.Side.{Side}
 use Rattle.venue_model.specs.declared.orders.Order.{Order}
-use Rattle.venue_model.specs.Orders.{leaves, crosses, ahead}
+use Rattle.venue_model.specs.Orders.{opposite, leaves, crosses, ahead}
 use Rattle.venue_model.specs.Match.{crossing, fill, after_fill, settled, done}
 use Rattle.book.specs.Passes.{Leads}
 use Rattle.book.specs.Standing.{Rising}
 use Rattle.book.proofs.Lists.{same_sum, each-append, each-front, each-back, each-map, each-of, each-filter, each-passes, sum-middle}
-use Rattle.book.proofs.Sides.{ahead-self, other_side, crossed-side, leads-of, leads-trans, leads-earlier}
+use Rattle.book.proofs.Sides.{ahead-self, crossed-side, leads-of, leads-trans, leads-earlier}
 use Rattle.book.proofs.LawPairs.{each-mapped}
 use Rattle.book.proofs.Fills.{ahead-more, fill-first}
 
@@ -130,8 +130,8 @@ rising-filter p (x ∷ xs) rising = elim (p x) as (λ b. Rising (if b then x ∷
 -- the orders that an incoming one crosses fill as much as both sides have
 pub sum-crossed : (i : Order) (orders : List Order) (q : ℕ) → Rising orders →
     sum_by (fill q (crossing i orders)) (crossing i orders) ≡ min q (sum_by leaves (crossing i orders))
-sum-crossed i orders q rising = sum-fills (other_side i.side) q (crossing i orders) (rising-filter (crosses i) orders rising)
-    (each-passes (IsOf (other_side i.side)) (crosses i) orders (each-of (λ x. crosses i x ≡ true → IsOf (other_side i.side) x) (crossed-side i) orders))
+sum-crossed i orders q rising = sum-fills (opposite i.side) q (crossing i orders) (rising-filter (crosses i) orders rising)
+    (each-passes (IsOf (opposite i.side)) (crosses i) orders (each-of (λ x. crosses i x ≡ true → IsOf (opposite i.side) x) (crossed-side i) orders))
 
 -- BOTH SIDES
 

@@ -1,11 +1,12 @@
 -- Price-time priority among orders of one side: strict, transitive, and total where stamps differ.
-use Rattle.std.proofs.Common.{◌≡◌, ℕ, ◌<◌, Bool, true, false, ◌&&◌, ◌||◌, nat_eq, nat_lt, refl, ap, sym, ◌∙◌, arith}
+use Rattle.std.proofs.Common.{◌≡◌, ℕ, ◌<◌, Bool, true, false, ◌&&◌, ◌||◌, nat_eq, nat_lt, ap, sym, ◌∙◌, arith}
 use Rattle.std.proofs.lemmas.Bool.Decides.{nat_tests}
 use Rattle.std.specs.Str.{bytes_eq}
 use Rattle.venue_model.specs.declared.orders.Side.{Side}
 use Rattle.venue_model.specs.declared.orders.Side.TheVariants.{Buy, Sell}
 use Rattle.venue_model.specs.declared.orders.Order.{Order}
-use Rattle.venue_model.specs.Orders.{crosses, meets, is_better, ahead}
+use Rattle.venue_model.specs.Orders.{opposite, crosses, is_better, ahead}
+use Rattle.venue_model.specs.SideLaws.{met_side}
 use Rattle.book.specs.Passes.{Leads}
 
 -- the same of prices and stamps alone
@@ -47,23 +48,12 @@ pub leads-earlier : (a b : Order) → a.side ≡ b.side → a.stamp < b.stamp �
 leads-earlier a b one_side earlier h = leads-of a b one_side
     (prior-earlier a.side a.price a.stamp b.price b.stamp earlier (ap (λ s. prior s b.price b.stamp a.price a.stamp) one_side ∙ h))
 
--- the side that an order of this side crosses
-abbrev pub other_side : Side → Side
-other_side Buy = Sell
-other_side Sell = Buy
-
 and_right : (a b : Bool) → (a && b) ≡ true → b ≡ true
 and_right true b h = h
 and_right false b h = cc
 
-meets-side : (side : Side) (p : ℕ) (other : Side) (q : ℕ) → meets side p other q ≡ true → other ≡ other_side side
-meets-side Buy p Buy q h = cc
-meets-side Buy p Sell q h = refl
-meets-side Sell p Buy q h = refl
-meets-side Sell p Sell q h = cc
-
-pub crossed-side : (i o : Order) → crosses i o ≡ true → o.side ≡ other_side i.side
-crossed-side i o h = meets-side i.side i.price o.side o.price (and_right (bytes_eq i.symbol o.symbol) _ h)
+pub crossed-side : (i o : Order) → crosses i o ≡ true → o.side ≡ opposite i.side
+crossed-side i o h = met_side i.side i.price o.side o.price (and_right (bytes_eq i.symbol o.symbol) _ h)
 
 -- all orders that one crosses are of one side
 pub one-side : (i a b : Order) → crosses i a ≡ true → crosses i b ≡ true → a.side ≡ b.side

@@ -12,14 +12,7 @@ use crate::reports::{output, put};
 use resting::RestingOrders;
 use std::alloc::{AllocError, Global};
 use std::marker::Model;
-use venue_model::{Cause, Command, Limits, Malformed, Output, Report};
-
-/// How many orders rest at most.
-pub const MOST_RESTING: usize = 4096;
-
-/// How many outputs a command has at most: that it was accepted, two for a fill with each order that rests, and that
-/// what is left was canceled.
-pub const MOST_OUTPUTS: usize = 8194;
+use venue_model::{Cause, Command, Limits, MOST_GATEWAYS, Malformed, Output, Report};
 
 /// The resting orders, each client's greatest accepted ClOrdID, and how many resting orders the last command read.
 /// Contracts see the venue's symbols, the state, in which the orders stand in the order of their stamps, and that number.
@@ -27,7 +20,7 @@ pub const MOST_OUTPUTS: usize = 8194;
 pub struct Book {
     pub(crate) logic: BookLogic,
     pub(crate) orders: RestingOrders,
-    pub(crate) greatest: [u64; 8],
+    pub(crate) greatest: [u64; MOST_GATEWAYS],
     pub(crate) reads: u64,
 }
 
@@ -51,7 +44,7 @@ impl Book {
         Ok(Book {
             logic: BookLogic::of(limits),
             orders,
-            greatest: [0; 8],
+            greatest: [0; MOST_GATEWAYS],
             reads: 0,
         })
     }

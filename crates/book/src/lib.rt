@@ -7,12 +7,11 @@ mod laws;
 mod listing;
 mod logic;
 mod matching;
-mod orders;
 mod refusals;
 mod reports;
 mod requests;
 
-pub use book::{Book, MOST_OUTPUTS, MOST_RESTING};
+pub use book::Book;
 pub use laws::{
     both_sides_trade_the_same, every_text_is_fields, fill_or_kill_is_whole, fills_come_in_order,
     no_order_is_overfilled, outputs_only_grow, priority_holds, stamps_are_sequences,
@@ -20,3 +19,4 @@ pub use laws::{
 };
 pub use listing::every_order_is_listed_once;
 pub use logic::BookLogic;
+pub use venue_model::{MOST_OUTPUTS, MOST_RESTING};

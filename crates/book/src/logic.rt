@@ -5,14 +5,14 @@ ghost use Rattle.std.specs.Str.{bytes_eq};
 ghost use Rattle.venue_model.specs.Spelling.{AreSymbols};
 
 use std::marker::Model;
-use venue_model::{Limits, Logic, Symbol};
+use venue_model::{Limits, Logic, MOST_SYMBOLS, Symbol};
 
 /// The meaning of a history of entries for a venue with these symbols (1 to 8): each entry's command by the rules of
 /// reading, and the outputs of one book of one thread. It is copied freely and takes no memory. Contracts see the
 /// symbols.
 #[derive(Clone, Copy)]
 pub struct BookLogic {
-    symbols: [Symbol; 8],
+    symbols: [Symbol; MOST_SYMBOLS],
     count: usize,
 }
 
@@ -42,7 +42,7 @@ impl BookLogic {
     {
         let names = limits.symbols();
         let count = names.len();
-        let mut symbols = [names[0]; 8];
+        let mut symbols = [names[0]; MOST_SYMBOLS];
         symbols[..count].copy_from_slice(names);
         BookLogic { symbols, count }
     }

@@ -12,7 +12,6 @@ ghost use Rattle.book.specs.Books.{NoneNamed};
 ghost use Rattle.book.specs.Passes.{incoming_after, reports, Over};
 ghost use Rattle.book.specs.Reads.{fills, filled_by, IsMatched};
 
-use crate::orders::{filled, leaves};
 use crate::reports::tell;
 use resting::RestingOrders;
 use std::cmp::min;
@@ -28,7 +27,7 @@ fn next_fill(orders: &mut RestingOrders, incoming: &Order, reads: &mut u64) -> O
         (λ o. FillsFirst incoming.now orders.old orders.new o × (0 < leaves incoming.now)) }
     ensures reads { MatchOption result ((reads.old ≤ reads.new) × (reads.new ≤ reads.old + 1)) (λ o. reads.new ≡ reads.old + 1) }
 {
-    if leaves(incoming) == 0 {
+    if incoming.leaves() == 0 {
         None
     } else {
         orders.fill_first(incoming, reads)
@@ -48,9 +47,9 @@ fn told_fill(incoming: &Order, order: &Order, cause: Cause, out: &mut Vec<Output
     ensures room { vec_capacity out.new ≡ vec_capacity out.old }
 {
     let last_px = order.price;
-    let quantity = min(leaves(order), leaves(incoming));
-    let resting = filled(order, quantity, last_px);
-    let next = filled(incoming, quantity, last_px);
+    let quantity = min(order.leaves(), incoming.leaves());
+    let resting = order.filled(quantity, last_px);
+    let next = incoming.filled(quantity, last_px);
     let exec_type = ExecType::Trade {
         last_qty: quantity,
         last_px,
@@ -121,18 +120,18 @@ pub(crate) fn enter(
     match terms {
         TimeInForce::Day => {
             let left = sweep(orders, incoming, cause, out, reads);
-            if leaves(&left) != 0 {
+            if left.leaves() != 0 {
                 orders.push(&left);
             }
         }
         TimeInForce::ImmediateOrCancel => {
             let left = sweep(orders, incoming, cause, out, reads);
-            if leaves(&left) != 0 {
+            if left.leaves() != 0 {
                 tell(out, cause, canceled(), &left);
             }
         }
         TimeInForce::FillOrKill => {
-            if leaves(incoming) <= orders.crossing_total(incoming) {
+            if incoming.leaves() <= orders.crossing_total(incoming) {
                 sweep(orders, incoming, cause, out, reads);
             } else {
                 tell(out, cause, canceled(), incoming);

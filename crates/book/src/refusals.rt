@@ -1,10 +1,8 @@
 //! Why a request is refused: the first reason that holds.
 ghost use Rattle.std.specs.Prelude.{◌≡◌, nat_le, Some, if◌then◌else◌};
-ghost use Rattle.venue_model.specs.Orders.{same_side};
 ghost use Rattle.venue_model.specs.Requests.{cancel_fits, replace_fits, unfit};
 
-use crate::orders::is_day;
-use venue_model::{CxlRejReason, Order, OrderCancelReplaceRequest, OrderCancelRequest, Side};
+use venue_model::{CxlRejReason, Order, OrderCancelReplaceRequest, OrderCancelRequest};
 
 /// Why a cancel is refused, where this is the order that it names and this the client's greatest ClOrdID.
 pub(crate) fn cancel_refusal(
@@ -48,7 +46,7 @@ pub(crate) fn replace_refusal(
 fn cancel_fits(request: &OrderCancelRequest, order: &Order) -> bool
     ensures { result ≡ cancel_fits request.now order.now }
 {
-    request.symbol.is(&order.symbol) && same_side(request.side, order.side)
+    request.symbol.is(&order.symbol) && request.side.is(order.side)
 }
 
 /// A replace fits an order of its symbol and side that is to stay a day order with something left.
@@ -56,14 +54,7 @@ fn replace_fits(request: &OrderCancelReplaceRequest, order: &Order) -> bool
     ensures { result ≡ replace_fits request.now order.now }
 {
     request.symbol.is(&order.symbol)
-        && same_side(request.side, order.side)
-        && is_day(request.time_in_force)
+        && request.side.is(order.side)
+        && request.time_in_force.rests()
         && order.cum < request.quantity
-}
-
-/// Whether both are of one side.
-fn same_side(side: Side, other: Side) -> bool
-    ensures { result ≡ same_side side other }
-{
-    side == other
 }

@@ -7,14 +7,14 @@ ghost use Rattle.book.specs.Standing.{Below};
 ghost use Rattle.book.specs.Books.{NoneNamed, IsBook, Stands, StaysInPlace, TakesOut};
 ghost use Rattle.book.specs.Reads.{fills, named_reads, NewReads, ReplaceReads};
 
-use crate::book::{Book, MOST_RESTING};
+use crate::book::Book;
 use crate::matching::enter;
-use crate::orders::is_day;
 use crate::refusals::{cancel_refusal, replace_refusal};
 use crate::reports::{output, put, tell};
 use venue_model::{
-    Cause, CxlRejReason, CxlRejResponseTo, ExecType, NewOrderSingle, OrdRejReason, Order,
-    OrderCancelReject, OrderCancelReplaceRequest, OrderCancelRequest, Output, Report, TimeInForce,
+    Cause, CxlRejReason, CxlRejResponseTo, ExecType, MOST_RESTING, NewOrderSingle, OrdRejReason,
+    Order, OrderCancelReject, OrderCancelReplaceRequest, OrderCancelRequest, Output, Report,
+    TimeInForce,
 };
 
 impl Book {
@@ -47,7 +47,7 @@ impl Book {
             Some(OrdRejReason::DuplicateOrder)
         } else if !self.logic.has(&order.symbol) {
             Some(OrdRejReason::UnknownSymbol)
-        } else if is_day(order.time_in_force) && MOST_RESTING <= self.orders.len() {
+        } else if order.time_in_force.rests() && MOST_RESTING <= self.orders.len() {
             Some(OrdRejReason::BookFull)
         } else {
             None
@@ -210,7 +210,7 @@ impl Book {
         let exec_type = ExecType::Replaced {
             orig_cl_ord_id: request.orig_cl_ord_id,
         };
-        let amended = amended(request, order);
+        let amended = order.amended(request);
         if keeps_place(request, order) {
             self.accept(cause.gateway, request.cl_ord_id);
             self.amend_in_place(cause.gateway, request);
@@ -324,18 +324,6 @@ fn keeps_place(request: &OrderCancelReplaceRequest, order: &Order) -> bool
     ensures { result ≡ keeps_place request.now order.now }
 {
     request.price == order.price && request.quantity <= order.total
-}
-
-/// The order with the request's name, price and total.
-fn amended(request: &OrderCancelReplaceRequest, order: &Order) -> Order
-    ensures { result ≡ amended request.now order.now }
-{
-    Order {
-        cl_ord_id: request.cl_ord_id,
-        price: request.price,
-        total: request.quantity,
-        ..*order
-    }
 }
 
 /// The same order behind all that came before this command.

@@ -3,7 +3,7 @@ use Rattle.std.specs.Prelude.{ℕ, ◌+◌, ◌/◌, ◌==◌, if◌then◌else�
 use Rattle.std.specs.Fmt.{decimal}
 use Rattle.fix_frame.specs.Grammar.{Field, print_fields}
 use Rattle.venue_model.specs.Orders.{leaves}
-use Rattle.venue_model.specs.Texts.{Text}
+use Rattle.venue_model.specs.Texts.{Text, msg_type_of}
 use Rattle.venue_model.specs.declared.commands.Malformed.{Malformed}
 use Rattle.venue_model.specs.declared.commands.SessionRejectReason.{SessionRejectReason}
 use Rattle.venue_model.specs.declared.commands.SessionRejectReason.TheVariants.{RequiredTagMissing, TagNotDefined, ValueIncorrect, IncorrectFormat, TagAppearsMoreThanOnce}
@@ -170,11 +170,11 @@ reject_fields fault =
     number 45 fault.ref_seq ∷ number 371 fault.tag ∷ field 372 (type_code fault.ref_type)
     ∷ field 373 (reject_code fault.reason) ∷ []
 
--- MsgType (35) of a report
-abbrev pub kind_of : Report → List ℕ
-kind_of (Exec r) = codes "8"
-kind_of (CancelReject r) = codes "9"
-kind_of (SessionReject fault) = codes "3"
+-- MsgType (35)
+abbrev pub msg_type_code : OutputType → List ℕ
+msg_type_code types.ExecutionReport = codes "8"
+msg_type_code types.OrderCancelReject = codes "9"
+msg_type_code types.Reject = codes "3"
 
 -- the body of a report; ExecID (17) is for the execution report alone
 abbrev pub body_fields : Report → ℕ → List Field
@@ -192,21 +192,15 @@ pub record Said : Type 0 where
 -- output's place is 0.
 abbrev pub text : Output → ℕ → Said
 text output place = record {
-  kind = kind_of output.report;
+  kind = msg_type_code (msg_type_of output.report);
   time = time_text output.sending_time;
   body = body_fields output.report (place + 1);
 }
 
--- MsgType (35) of a report, as a type
-abbrev pub type_of : Report → OutputType
-type_of (Exec r) = types.ExecutionReport
-type_of (CancelReject r) = types.OrderCancelReject
-type_of (SessionReject fault) = types.Reject
-
 -- the same, as it goes through the rings: the body in bytes
 abbrev pub text_bytes : Output → ℕ → Text
 text_bytes output place = record {
-  msg_type = type_of output.report;
+  msg_type = msg_type_of output.report;
   sending_time = output.sending_time;
   body = print_fields (body_fields output.report (place + 1));
 }

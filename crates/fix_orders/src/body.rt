@@ -10,12 +10,13 @@ ghost use Rattle.fix_orders.specs.Writing.{PutsFields};
 use crate::codes;
 use crate::put::{put_field, put_number};
 use venue_model::{
-    ExecType, ExecutionReport, Malformed, OrdRejReason, Order, OrderCancelReject, Output, Report,
+    ExecType, ExecutionReport, LONGEST_MESSAGE, Malformed, OrdRejReason, Order, OrderCancelReject,
+    Output, Report,
 };
 
 /// Writes the body of a report at the front of the buffer, and answers its length. ExecID (17) is one
 /// more than the output's place in the list of all outputs.
-pub fn body_of(output: &Output, exec_id: u64, buf: &mut [u8; 320]) -> usize
+pub fn body_of(output: &Output, exec_id: u64, buf: &mut [u8; LONGEST_MESSAGE]) -> usize
     ensures body { take result buf.new ≡ print_fields (body_fields output.now.report exec_id) }
     ensures fields { AllByRecursion IsField (body_fields output.now.report exec_id) }
     ensures within { result ≤ 320 }
@@ -121,7 +122,7 @@ fn leaves_after(kind: ExecType, order: &Order) -> u64
 {
     match kind {
         ExecType::Canceled { .. } | ExecType::Rejected { .. } => 0,
-        _ => order.total.saturating_sub(order.cum),
+        _ => order.leaves(),
     }
 }
 

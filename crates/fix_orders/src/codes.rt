@@ -1,10 +1,25 @@
 //! Codes of reports: how the values of an enum are spelled (docs/PROFILE.md, "Reports").
-ghost use Rattle.std.specs.Prelude.{◌≡◌, ◌≤◌, length};
-ghost use Rattle.fix_orders.specs.Text.{side_code, exec_code, status_code, resting_status, named_status, response_code, cancel_reject_code, type_code, reject_code};
+ghost use Rattle.std.specs.Prelude.{◌≡◌, ◌≢◌, ◌≤◌, ℕ, [], ◌∷◌, length};
+ghost use Rattle.fix_frame.specs.Ascii.{soh};
+ghost use Rattle.fix_orders.specs.Text.{side_code, exec_code, status_code, resting_status, named_status, response_code, cancel_reject_code, type_code, reject_code, msg_type_code};
 
 use venue_model::{
-    CxlRejReason, CxlRejResponseTo, ExecType, Order, RefMsgType, SessionRejectReason, Side,
+    CxlRejReason, CxlRejResponseTo, ExecType, Order, OutputType, RefMsgType, SessionRejectReason,
+    Side,
 };
+
+/// MsgType (35) of an output.
+pub fn msg_type_code(kind: OutputType) -> &'static [u8]
+    ensures value { result.now ≡ msg_type_code kind }
+    ensures byte { (b : ℕ) × (b ≢ soh) × (result.now ≡ b ∷ []) }
+    ensures short { length result.now ≤ 1 }
+{
+    match kind {
+        OutputType::ExecutionReport => b"8",
+        OutputType::OrderCancelReject => b"9",
+        OutputType::Reject => b"3",
+    }
+}
 
 /// Side (54).
 pub fn side_code(side: Side) -> &'static [u8]
@@ -46,7 +61,7 @@ pub fn status_code(kind: ExecType, order: &Order) -> &'static [u8]
 {
     match kind {
         ExecType::New => b"0",
-        ExecType::Trade { .. } if order.total <= order.cum => b"2",
+        ExecType::Trade { .. } if order.leaves() == 0 => b"2",
         ExecType::Trade { .. } => b"1",
         ExecType::Canceled { .. } => b"4",
         ExecType::Replaced { .. } => resting_status(order),

@@ -16,6 +16,7 @@ mod time;
 mod values;
 
 pub use body::body_of;
+pub use codes::msg_type_code;
 pub use command::{command_of, decode};
 pub use header::{Header, read_header};
 pub use laws::{exactly_one_frame, numbers_are_in_range, times_are_kept};

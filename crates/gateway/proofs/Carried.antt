@@ -1,26 +1,18 @@
 -- A text that came through the output ring in bytes says what the output says in fields.
-use Rattle.std.proofs.Common.{◌≡◌, ℕ, List, refl, ap, sym, ◌∙◌}
+use Rattle.std.proofs.Common.{ℕ, List, ap, sym}
 use Rattle.fix_orders.specs.Formats.{time_text}
-use Rattle.fix_orders.specs.Text.{kind_of, type_of, text, text_bytes}
+use Rattle.fix_orders.specs.Text.{msg_type_code, text, text_bytes}
 use Rattle.venue_model.specs.declared.outputs.Output.{Output}
-use Rattle.venue_model.specs.declared.outputs.Report.{Report}
-use Rattle.venue_model.specs.declared.outputs.Report.TheVariants.{Exec, CancelReject, SessionReject}
 use Rattle.book.specs.Laws.{TellsFields}
 use Rattle.sequencer.specs.declared.take.Head.{Head}
 use Rattle.sequencer.specs.Outputs as outputs
-use Rattle.gateway.specs.Ledgers.{Carries, type_text}
-
--- MsgType, in bytes
-same_kind : (report : Report) → kind_of report ≡ type_text (type_of report)
-same_kind (Exec r) = refl
-same_kind (CancelReject r) = refl
-same_kind (SessionReject fault) = refl
+use Rattle.gateway.specs.Ledgers.{Carries}
 
 -- head and body say the output
 pub carried : (head : Head) (body : List ℕ) (o : Output) (place : ℕ) → TellsFields o → outputs.Carries head body (text_bytes o place)
     → Carries head body (text o place)
 carried head body o place fields read = record {
-  type = same_kind o.report ∙ ap type_text (sym read.head_is.msg_type);
+  type = ap msg_type_code (sym read.head_is.msg_type);
   time = ap time_text (sym read.head_is.sending_time);
   bytes = sym read.body;
   fields = fields place;

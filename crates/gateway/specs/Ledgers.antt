@@ -1,11 +1,9 @@
 -- What a gateway's seat at the rings tells its session, and what each of the session's two calls tells.
-use Rattle.std.specs.Prelude.{◌≡◌, ◌⊎◌, ℕ, ◌+◌, ◌^◌, ◌<◌, ◌≤◌, List, [], ◌∷◌, ◌++◌, take, codes}
+use Rattle.std.specs.Prelude.{◌≡◌, ◌⊎◌, ℕ, ◌+◌, ◌^◌, ◌<◌, ◌≤◌, List, [], ◌∷◌, ◌++◌, take}
 use Rattle.std.specs.List.{AllByRecursion}
 use Rattle.fix_frame.specs.Grammar.{IsField, print_fields}
 use Rattle.fix_orders.specs.Formats.{time_text}
-use Rattle.fix_orders.specs.Text.{Said}
-use Rattle.venue_model.specs.declared.outputs.OutputType.{OutputType}
-use Rattle.venue_model.specs.declared.outputs.OutputType.TheVariants.{ExecutionReport, OrderCancelReject, Reject}
+use Rattle.fix_orders.specs.Text.{Said, msg_type_code}
 use Rattle.ring_words.specs.declared.view.Load.{Load}
 use Rattle.ring_words.specs.Places.{claim, processed, marshalled}
 use Rattle.ring_words.specs.Seats.{load_of}
@@ -53,15 +51,9 @@ PublishTells old new message Done = (ls : List Load) × IsClaimed old.rows old.l
 PublishTells old new message Refused = (ls : List Load) × IsRefused old.rows old.loads ls × (new ≡ loading old ls)
 PublishTells old new message Exhausted = (ls : List Load) × IsExhausted ls × (new ≡ loading old ls)
 
--- MsgType (35)
-abbrev pub type_text : OutputType → List ℕ
-type_text ExecutionReport = codes "8"
-type_text OrderCancelReject = codes "9"
-type_text Reject = codes "3"
-
 -- a head and the bytes of a body say this
 pub record Carries (head : Head) (body : List ℕ) (said : Said) : Type 0 where
-  pub type : said.kind ≡ type_text head.msg_type
+  pub type : said.kind ≡ msg_type_code head.msg_type
   pub time : said.time ≡ time_text head.sending_time
   pub bytes : print_fields said.body ≡ take head.len body
   pub fields : AllByRecursion IsField said.body

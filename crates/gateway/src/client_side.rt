@@ -14,6 +14,7 @@ use ring_words::{GatewaySeat, Rings};
 use sequencer::Take;
 use std::alloc::{AllocError, Global};
 use std::marker::Model;
+use venue_model::LONGEST_MESSAGE;
 
 /// After so many turns in a row in which the wire took no byte of those that stood to be written a session is over.
 const MOST_DEAF: u32 = 100_000;
@@ -31,7 +32,7 @@ pub struct ClientSide {
     idle: u32,
     passed: u64,
     live: bool,
-    body: [u8; 320],
+    body: [u8; LONGEST_MESSAGE],
 }
 
 impl Model for ClientSide {
@@ -79,7 +80,7 @@ impl ClientSide {
             idle: 0,
             passed: 0,
             live: false,
-            body: [0; 320],
+            body: [0; LONGEST_MESSAGE],
         })
     }
 

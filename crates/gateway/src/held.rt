@@ -5,14 +5,12 @@ ghost use Rattle.gateway.specs.Hears.{Holds};
 
 use crate::hearing::Judged;
 use std::marker::Model;
-
-/// How many bytes a message has at most.
-const MOST: usize = 320;
+use venue_model::LONGEST_MESSAGE;
 
 /// A message, or none. Contracts see an option.
 #[derive(Drop)]
 pub struct Held {
-    bytes: [u8; 320],
+    bytes: [u8; LONGEST_MESSAGE],
     len: usize,
 }
 
@@ -33,7 +31,7 @@ impl Held {
         ensures { result ≡ None }
     {
         Held {
-            bytes: [0; MOST],
+            bytes: [0; LONGEST_MESSAGE],
             len: 0,
         }
     }

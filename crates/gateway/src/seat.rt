@@ -1,15 +1,14 @@
 //! A gateway's seat at the rings, as its session uses it: one call publishes what the client sent, the other looks for what the venue
 //! has for it. Behind them stand the input ring and the output ring.
-ghost use Rattle.std.specs.Prelude.{◌≡◌, ◌≤◌, length};
-ghost use Rattle.gateway.specs.Ledgers.{PublishTells, TakeTells, type_text};
-ghost use Rattle.gateway.specs.Messages.{IsTypeText};
+ghost use Rattle.std.specs.Prelude.{◌≤◌, length};
+ghost use Rattle.gateway.specs.Ledgers.{PublishTells, TakeTells};
 ghost use Rattle.ring_words.specs.At.{IsAt};
 ghost use Rattle.gateway.specs.Seats.{HasSeen, StaysSeated, Enters, Looks, ledger_of};
 
 use book::BookLogic;
 use ring_words::{GatewaySeat, Rings};
 use sequencer::{ClaimRefusal, Take, take_output, try_claim};
-use venue_model::OutputType;
+use venue_model::LONGEST_MESSAGE;
 
 /// What came of a message that was to be published.
 #[derive(Clone, Copy, Debug, PartialEq, Eq)]
@@ -51,7 +50,7 @@ pub fn try_publish<const N: usize, const M: usize, const G: usize>(
 pub fn take<const N: usize, const M: usize, const G: usize>(
     rings: &Rings<BookLogic, N, M, G>,
     seat: &mut GatewaySeat<BookLogic>,
-    body: &mut [u8; 320],
+    body: &mut [u8; LONGEST_MESSAGE],
 ) -> Take
     requires at { IsAt rings.now seat.old }
     requires seen { HasSeen seat.old }
@@ -61,16 +60,4 @@ pub fn take<const N: usize, const M: usize, const G: usize>(
     ensures tells { TakeTells (ledger_of N seat.old) (ledger_of N seat.new) body.new result }
 {
     take_output(rings, seat, body)
-}
-
-/// The text of MsgType (35).
-pub fn type_text(msg_type: OutputType) -> &'static [u8]
-    ensures value { result.now ≡ type_text msg_type }
-    ensures valid { IsTypeText result.now }
-{
-    match msg_type {
-        OutputType::ExecutionReport => b"8",
-        OutputType::OrderCancelReject => b"9",
-        OutputType::Reject => b"3",
-    }
 }

@@ -10,13 +10,14 @@ use crate::hearing::{Heard, Judged, hear};
 use crate::held::Held;
 use crate::outgoing::Outgoing;
 use crate::refusal::Refusal;
-use crate::seat::{TryPublish, type_text};
+use crate::seat::TryPublish;
 use crate::wire::Wire;
 use fix_frame::Framer;
-use fix_orders::put_field;
+use fix_orders::{msg_type_code, put_field};
 use sequencer::Head;
 use std::alloc::{AllocError, Global};
 use std::marker::Model;
+use venue_model::LONGEST_MESSAGE;
 
 /// One session of a gateway's client. Contracts see a `Standing`.
 #[derive(Drop)]
@@ -296,7 +297,7 @@ impl Session {
     }
 
     /// Hands an output to the client, who is logged on.
-    pub fn hand_on(&mut self, head: Head, body: &[u8; 320])
+    pub fn hand_on(&mut self, head: Head, body: &[u8; LONGEST_MESSAGE])
         requires carries { (said : Said) × Carries head body.now said }
         requires room { length self.old.outgoing ≤ 512 }
         requires number { self.old.number < 2 ^ 63 }
@@ -304,7 +305,7 @@ impl Session {
     {
         let body = &body[..];
         self.say(
-            type_text(head.msg_type),
+            msg_type_code(head.msg_type),
             head.sending_time,
             &body[..head.len],
         );

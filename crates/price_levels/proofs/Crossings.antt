@@ -6,12 +6,12 @@ use Rattle.std.proofs.lemmas.List.{length-map}
 use Rattle.std.proofs.lemmas.List.Sums.{sum_by-cons, sum_by-append}
 use Rattle.venue_model.specs.declared.orders.Side.{Side}
 use Rattle.venue_model.specs.declared.orders.Order.{Order}
-use Rattle.venue_model.specs.Orders.{leaves}
+use Rattle.venue_model.specs.Orders.{opposite, leaves}
 use Rattle.price_levels.specs.declared.keys.Key.{Key}
 use Rattle.price_levels.specs.declared.keys.Level.{Level}
 use Rattle.price_levels.specs.declared.nodes.Node.{Node}
 use Rattle.price_levels.specs.Places.{Places, at, standing, crosses_at, crossing_leaves}
-use Rattle.price_levels.specs.Keys.{key_of, same_key, key_before, before_side, InOrder, opposite, key_crossed}
+use Rattle.price_levels.specs.Keys.{key_of, same_key, key_before, before_side, InOrder, key_crossed}
 use Rattle.price_levels.specs.Arena.{order_at, places_of, left_in, AreLevels, crossed_left}
 use Rattle.price_levels.proofs.KeyLemmas.{key-is}
 use Rattle.price_levels.proofs.LevelLists.{all-map, order-back}

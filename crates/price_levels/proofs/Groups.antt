@@ -7,13 +7,14 @@ use Rattle.std.proofs.lemmas.Bool.Decides.{nat_tests}
 use Rattle.venue_model.specs.declared.orders.Side.{Side}
 use Rattle.venue_model.specs.declared.orders.Side.TheVariants.{Buy, Sell}
 use Rattle.venue_model.specs.declared.orders.Order.{Order}
-use Rattle.venue_model.specs.Orders.{same_side, meets, is_better, ahead}
+use Rattle.venue_model.specs.Orders.{opposite, same_side, meets, is_better, ahead}
+use Rattle.venue_model.specs.SideLaws.{one_side, side_itself, met_side}
 use Rattle.price_levels.specs.declared.keys.Key.{Key}
 use Rattle.price_levels.specs.declared.keys.Level.{Level}
 use Rattle.price_levels.specs.Places.{IsOf, Leads}
-use Rattle.price_levels.specs.Keys.{key_of, key_before, before_side, symbol_before, opposite, key_crossed}
+use Rattle.price_levels.specs.Keys.{key_of, key_before, before_side, symbol_before, key_crossed}
 use Rattle.price_levels.specs.Arena.{of_side, first_in}
-use Rattle.price_levels.proofs.KeyLemmas.{Before, before-means, before-is, both, side-is, side-itself, symbol-apart, same-bytes, better-not, key-made}
+use Rattle.price_levels.proofs.KeyLemmas.{Before, before-means, before-is, both, symbol-apart, same-bytes, better-not, key-made}
 use Rattle.price_levels.proofs.SearchLemmas.{side-means, side-is-before, side-down}
 
 pub false-if : (t : Bool) → (t ≡ true → ⊥) → t ≡ false
@@ -29,12 +30,12 @@ buy-not-sell d buy sell = true≢false (ap (same_side Buy) (sym buy ∙ sell))
 module _ (symbol : List ℕ) (side : Side) where
   pub of-means : (k : Key) → of_side symbol side k ≡ true → (k.symbol ≡ symbol) × (k.side ≡ side)
   of-means k h = let parts = both (bytes_eq k.symbol symbol) (same_side k.side side) h in
-      ((bytes_eq-Decides k.symbol symbol).0 parts.0, side-is k.side side parts.1)
+      ((bytes_eq-Decides k.symbol symbol).0 parts.0, one_side k.side side parts.1)
 
   pub of-is : (k : Key) → k.symbol ≡ symbol → k.side ≡ side → of_side symbol side k ≡ true
   of-is k symbols sides =
       ap (λ t. t && same_side k.side side) (same-bytes k.symbol symbol symbols) ∙ ap (λ d. same_side k.side d) (sym sides)
-      ∙ side-itself k.side
+      ∙ side_itself k.side k.side refl
 
   -- a level of theirs isn't before them
   pub of-not-before : (k : Key) → of_side symbol side k ≡ true → before_side symbol side k ≡ true → ⊥
@@ -134,17 +135,11 @@ ahead-means o x is h = elim (ahead-by (is_better o.side o.price x.price) (nat_eq
 
 -- what an order would cross: the levels of the other side, as far as its price goes
 module _ (symbol : List ℕ) (side : Side) (price : ℕ) where
-  meets-side : (d e : Side) (p q : ℕ) → meets d p e q ≡ true → e ≡ opposite d
-  meets-side Buy Sell p q h = refl
-  meets-side Sell Buy p q h = refl
-  meets-side Buy Buy p q h = absurd (true≢false (sym h))
-  meets-side Sell Sell p q h = absurd (true≢false (sym h))
-
   pub crossed-means : (k : Key) → key_crossed symbol side price k ≡ true → (k.symbol ≡ symbol) × ((k.side ≡ opposite side) ×
       (meets side price k.side k.price ≡ true))
   crossed-means k h =
       let parts = both (bytes_eq symbol k.symbol) (meets side price k.side k.price) h in
-      (sym ((bytes_eq-Decides symbol k.symbol).0 parts.0), (meets-side side k.side price k.price parts.1, parts.1))
+      (sym ((bytes_eq-Decides symbol k.symbol).0 parts.0), (met_side side price k.side k.price parts.1, parts.1))
 
   pub crossed-of : (k : Key) → key_crossed symbol side price k ≡ true → of_side symbol (opposite side) k ≡ true
   crossed-of k h = let is = crossed-means k h in of-is symbol (opposite side) k is.0 is.1.0

@@ -14,19 +14,10 @@ use Rattle.std.proofs.Math.Decide.{ℕ_discrete}
 use Rattle.venue_model.specs.declared.orders.Side.{Side}
 use Rattle.venue_model.specs.declared.orders.Side.TheVariants.{Buy, Sell}
 use Rattle.venue_model.specs.Orders.{same_side, is_better}
+use Rattle.venue_model.specs.SideLaws.{one_side, side_itself}
 use Rattle.price_levels.specs.declared.keys.Key.{Key}
 use Rattle.price_levels.specs.Keys.{same_key, side_before, symbol_before, key_before}
 use Rattle.price_levels.specs.Arena.{Point, At, End}
-
-pub side-is : (a b : Side) → same_side a b ≡ true → a ≡ b
-side-is Buy Buy e = refl
-side-is Sell Sell e = refl
-side-is Buy Sell e = cc
-side-is Sell Buy e = cc
-
-pub side-itself : (a : Side) → same_side a a ≡ true
-side-itself Buy = refl
-side-itself Sell = refl
 
 pub both : (a b : Bool) → (a && b) ≡ true → (a ≡ true) × (b ≡ true)
 both true b e = (refl, e)
@@ -46,13 +37,13 @@ key-is a b e =
     let parts = both (bytes_eq a.symbol b.symbol) (same_side a.side b.side && nat_eq a.price b.price) e in
     let more = both (same_side a.side b.side) (nat_eq a.price b.price) parts.1 in
     let price : a.price ≡ b.price = grind (arith, nat_tests, more.1) in
-    key-made a b ((bytes_eq-Decides a.symbol b.symbol).0 parts.0) (side-is a.side b.side more.0) price
+    key-made a b ((bytes_eq-Decides a.symbol b.symbol).0 parts.0) (one_side a.side b.side more.0) price
 
 pub key-itself : (a : Key) → same_key a a ≡ true
 key-itself a =
     let price : nat_eq a.price a.price ≡ true = grind (arith, nat_tests) in
     ap (λ t. t && (same_side a.side a.side && nat_eq a.price a.price)) ((bytes_eq-Decides a.symbol a.symbol).1 refl)
-    ∙ ap (λ t. t && nat_eq a.price a.price) (side-itself a.side) ∙ price
+    ∙ ap (λ t. t && nat_eq a.price a.price) (side_itself a.side a.side refl) ∙ price
 
 pub same_if : (a b : Key) → a ≡ b → same_key a b ≡ true
 same_if a b is = ap (λ k. same_key a k) (sym is) ∙ key-itself a

@@ -11,7 +11,7 @@ use Rattle.price_levels.specs.declared.keys.Level.{Level}
 use Rattle.price_levels.specs.declared.ladders.Fence.{Fence}
 use Rattle.price_levels.specs.declared.ladders.Home.{Home}
 use Rattle.price_levels.specs.declared.ladders.Rung.{Rung}
-use Rattle.price_levels.specs.Keys.{opposite}
+use Rattle.venue_model.specs.Orders.{opposite}
 use Rattle.price_levels.specs.Arena.{holds, first_in, of_side, crossed_left, levels_with}
 use Rattle.price_levels.specs.Ladders.{Laddered, joined, all, number, around, beyond, items_of, Belongs, AreParted, AreLadders}
 use Rattle.price_levels.proofs.LevelLists.{all-append}

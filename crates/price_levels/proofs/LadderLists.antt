@@ -9,7 +9,8 @@ use Rattle.std.proofs.lemmas.Bool.{cases_lt}
 use Rattle.venue_model.specs.declared.orders.Side.{Side}
 use Rattle.price_levels.specs.declared.keys.Key.{Key}
 use Rattle.price_levels.specs.declared.keys.Level.{Level}
-use Rattle.price_levels.specs.Keys.{same_key, opposite, key_crossed}
+use Rattle.venue_model.specs.Orders.{opposite}
+use Rattle.price_levels.specs.Keys.{same_key, key_crossed}
 use Rattle.price_levels.specs.Arena.{holds, first_in, of_side, crossed_left, levels_with}
 use Rattle.price_levels.specs.Ladders.{joined}
 use Rattle.price_levels.proofs.LevelLists.{all-append}

@@ -15,7 +15,8 @@ use Rattle.price_levels.specs.declared.keys.Level.{Level}
 use Rattle.price_levels.specs.Keys.{key_before, before_side, side_before, symbol_before, InOrder, count_better, BetterFirst}
 use Rattle.price_levels.specs.Arena.{of_side}
 use Rattle.venue_model.specs.Orders.{same_side, is_better}
-use Rattle.price_levels.proofs.KeyLemmas.{before-means, Before, both, side-is, sides-same, key-trans, symbol-trans, symbol-apart, same-bytes, other-bytes}
+use Rattle.venue_model.specs.SideLaws.{one_side}
+use Rattle.price_levels.proofs.KeyLemmas.{before-means, Before, both, sides-same, key-trans, symbol-trans, symbol-apart, same-bytes, other-bytes}
 
 pub all-at : {X : Type 0} (P : X → Type 0) (xs : List X) (j : ℕ) (d : X) → j < length xs → AllByRecursion P xs → P (get_or xs j d)
 all-at P [] j d within all = absurd (omega (arith, within))
@@ -100,7 +101,7 @@ side-down symbol side a b before h = side-is-before symbol side a (down symbol s
 pub by-price : (a k : Key) → of_side k.symbol k.side a ≡ true → key_before a k ≡ is_better k.side a.price k.price
 by-price a k of =
     let parts = both (bytes_eq a.symbol k.symbol) (same_side a.side k.side) of in
-    let sides = side-is a.side k.side parts.1 in
+    let sides = one_side a.side k.side parts.1 in
     ap (λ t. if t then side_before a.side k.side (is_better a.side a.price k.price) else symbol_before a.symbol k.symbol) parts.0
     ∙ ap (λ d. side_before d k.side (is_better d a.price k.price)) sides ∙ sides-same k.side (is_better k.side a.price k.price)
 

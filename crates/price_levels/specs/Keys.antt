@@ -19,10 +19,6 @@ key_of o = record { symbol = o.symbol; side = o.side; price = o.price }
 abbrev pub same_key : Key → Key → Bool
 same_key a b = bytes_eq a.symbol b.symbol && (same_side a.side b.side && nat_eq a.price b.price)
 
-abbrev pub opposite : Side → Side
-opposite Buy = Sell
-opposite Sell = Buy
-
 -- an order of this symbol, side and price crosses the orders of a level
 abbrev pub key_crossed : List ℕ → Side → ℕ → Key → Bool
 key_crossed symbol side price k = bytes_eq symbol k.symbol && meets side price k.side k.price

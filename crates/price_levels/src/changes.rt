@@ -1,13 +1,12 @@
 //! Orders that come, leave and change in the arena: nodes, free places and levels together.
 ghost use Rattle.std.specs.Prelude.{◌≡◌, ◌≢◌, ◌<◌, ◌≤◌, ◌+◌, ℕ, List, None, Some, length, slice_set, get_or, true};
 ghost use Rattle.std.specs.Vec.{vec_len, vec_capacity};
-ghost use Rattle.venue_model.specs.Orders.{leaves};
 ghost use Rattle.price_levels.specs.Keys.{key_of};
 ghost use Rattle.price_levels.specs.Places.{standing, ComesLater};
 ghost use Rattle.price_levels.specs.Arena.{IsWithin, IsArena, AreLevels, IsLevels, IsChange, places_of, order_at, nodes_with, nodes_without, level_without, levels_with};
 ghost use Rattle.price_levels.specs.Ladders.{IsOn, all, number};
 
-use crate::keys::{Level, key_of, leaves};
+use crate::keys::{Level, key_of};
 use crate::ladders::{Ladders, Rung};
 use crate::nodes::{Node, VACANT, set_next, set_prev};
 use venue_model::Order;
@@ -51,7 +50,7 @@ pub(crate) fn push(
         seat(nodes, Some(level.last), place, order);
         let longer = Level {
             last: place,
-            left: level.left + leaves(order),
+            left: level.left + order.leaves(),
             ..level
         };
         ladders.set(rung, longer);
@@ -61,7 +60,7 @@ pub(crate) fn push(
             key,
             first: place,
             last: place,
-            left: leaves(order),
+            left: order.leaves(),
         };
         ladders.insert(rung, alone);
     }
@@ -135,7 +134,7 @@ pub(crate) fn take_out(
     let node = nodes[place];
     let order = node.order.unwrap();
     let rung = ladders.search(&key_of(&order));
-    shorten(ladders, rung, node.prev, node.next, leaves(&order));
+    shorten(ladders, rung, node.prev, node.next, order.leaves());
     unseat(nodes, place, node.prev, node.next);
     free.push_reserved(place);
     order
@@ -155,7 +154,7 @@ pub(crate) fn change(nodes: &mut Vec<Node>, ladders: &mut Ladders, place: usize,
     let rung = ladders.search(&key_of(order));
     let level = ladders.level(rung);
     let level = Level {
-        left: level.left.saturating_sub(leaves(&old)) + leaves(order),
+        left: level.left.saturating_sub(old.leaves()) + order.leaves(),
         ..level
     };
     ladders.set(rung, level);

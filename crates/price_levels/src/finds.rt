@@ -1,12 +1,11 @@
 //! What is found among the levels: the best order of a symbol and side, the next one, and what an order would cross.
 ghost use Rattle.std.specs.Prelude.{◌≡◌, ◌≢◌, ◌<◌, ◌^◌, None, MatchOption};
-ghost use Rattle.venue_model.specs.Orders.{meets};
 ghost use Rattle.price_levels.specs.Places.{NoneOf, BestOf, NoneBehind, NextBehind, crossing_leaves};
 ghost use Rattle.price_levels.specs.Keys.{key_crossed};
 ghost use Rattle.price_levels.specs.Arena.{AreLevels, crossed_left, of_side, first_in, holds, places_of, order_at};
 ghost use Rattle.price_levels.specs.Ladders.{all};
 
-use crate::keys::{Key, Level, key_of, meets, opposite, same_key, same_side};
+use crate::keys::{Key, Level, key_of, same_key};
 use crate::ladders::{Ladders, Rung};
 use crate::nodes::Node;
 use venue_model::{Order, Side, Symbol};
@@ -22,7 +21,7 @@ pub(crate) fn holds(levels: &[Level], at: usize, key: &Key) -> bool
 pub(crate) fn is_of(level: &Level, symbol: &Symbol, side: Side) -> bool
     ensures { result ≡ of_side symbol.now side level.now.key }
 {
-    level.key.symbol.is(symbol) && same_side(level.key.side, side)
+    level.key.symbol.is(symbol) && level.key.side.is(side)
 }
 
 /// The place of the first order of the level at this place, if that is one of the symbol and side.
@@ -79,7 +78,7 @@ pub(crate) fn after(nodes: &Vec<Node>, ladders: &Ladders, place: usize) -> Optio
 fn is_crossed(level: &Level, symbol: &Symbol, side: Side, price: u64) -> bool
     ensures { result ≡ key_crossed symbol.now side price level.now.key }
 {
-    symbol.is(&level.key.symbol) && meets(side, price, level.key.side, level.key.price)
+    symbol.is(&level.key.symbol) && side.meets(price, level.key.side, level.key.price)
 }
 
 /// What the levels have left that it crosses, up to the first that it doesn't.
@@ -108,6 +107,6 @@ pub(crate) fn crossing_total(
     requires { AreLevels nodes.now.items (all ladders.now) }
     ensures { result ≡ crossing_leaves symbol.now side price (places_of nodes.now.items) }
 {
-    let from = ladders.search_side(symbol, opposite(side));
+    let from = ladders.search_side(symbol, side.opposite());
     ladders.crossed_left(from, symbol, side, price)
 }

@@ -2,9 +2,9 @@
 //! place among them is found by halving; among levels of its symbol and side, those of a better price are counted.
 ghost use Rattle.std.specs.Prelude.{◌≡◌, ◌<◌, ◌≤◌, ◌+◌, length, take, drop, true, false, if◌then◌else◌};
 ghost use Rattle.std.specs.List.{AllByRecursion};
-ghost use Rattle.venue_model.specs.Orders.{same_side, is_better, meets, leaves};
+ghost use Rattle.venue_model.specs.Orders.{is_better};
 ghost use Rattle.price_levels.specs.Arena.{of_side};
-ghost use Rattle.price_levels.specs.Keys.{key_of, same_key, key_before, opposite, symbol_before, before_side, InOrder, count_better, BetterFirst};
+ghost use Rattle.price_levels.specs.Keys.{key_of, same_key, key_before, symbol_before, before_side, InOrder, count_better, BetterFirst};
 
 use std::cmp::Ordering;
 use venue_model::{Order, Side, Symbol};
@@ -40,49 +40,11 @@ pub(crate) fn key_of(order: &Order) -> Key
     }
 }
 
-/// What is left of an order.
-pub(crate) fn leaves(order: &Order) -> u64
-    ensures { result ≡ leaves order.now }
-{
-    order.total.saturating_sub(order.cum)
-}
-
-/// Whether both are one side.
-pub(crate) fn same_side(side: Side, other: Side) -> bool
-    ensures { result ≡ same_side side other }
-{
-    match (side, other) {
-        (Side::Buy, Side::Buy) | (Side::Sell, Side::Sell) => true,
-        _ => false,
-    }
-}
-
-/// The other side.
-pub(crate) fn opposite(side: Side) -> Side
-    ensures { result ≡ opposite side }
-{
-    match side {
-        Side::Buy => Side::Sell,
-        Side::Sell => Side::Buy,
-    }
-}
-
-/// Whether an order of this side and price accepts the price of one of the other side.
-pub(crate) fn meets(side: Side, price: u64, other: Side, its_price: u64) -> bool
-    ensures { result ≡ meets side price other its_price }
-{
-    match (side, other) {
-        (Side::Buy, Side::Sell) => its_price <= price,
-        (Side::Sell, Side::Buy) => price <= its_price,
-        _ => false,
-    }
-}
-
 /// Whether both are one level's.
 pub(crate) fn same_key(key: &Key, other: &Key) -> bool
     ensures { result ≡ same_key key.now other.now }
 {
-    key.symbol.is(&other.symbol) && same_side(key.side, other.side) && key.price == other.price
+    key.symbol.is(&other.symbol) && key.side.is(other.side) && key.price == other.price
 }
 
 /// Whether a symbol stands before another.

@@ -2,7 +2,8 @@
 //! moved alone. Contracts see which level stands where, in the order of all.
 ghost use Rattle.std.specs.Prelude.{◌≡◌, ◌<◌, ◌≤◌, ◌+◌, ◌^◌, List, [], true, false, length, take, drop, get_or, slice_set, IfOk, IfSome};
 ghost use Rattle.std.specs.List.{AllByRecursion, insert};
-ghost use Rattle.price_levels.specs.Keys.{key_before, before_side, opposite, InOrder};
+ghost use Rattle.venue_model.specs.Orders.{opposite};
+ghost use Rattle.price_levels.specs.Keys.{key_before, before_side, InOrder};
 ghost use Rattle.price_levels.specs.Arena.{holds, of_side, first_in, crossed_left, levels_with};
 ghost use Rattle.price_levels.specs.declared.ladders.Fence.{Fence};
 ghost use Rattle.price_levels.specs.Ladders.{Belongs, IsRung, IsOn, IsHome, IsHomeOf, IsEmpty, all, number};

@@ -140,11 +140,7 @@ impl Levels {
         ensures { self.new ≡ changed (reduced by) self.old place.number }
     {
         let order = self.nodes[place.number].order.unwrap();
-        let order = Order {
-            cum: order.cum + by,
-            notional: order.notional + by * order.price,
-            ..order
-        };
+        let order = order.filled(by, order.price);
         change(&mut self.nodes, &mut self.ladders, place.number, &order);
     }
 

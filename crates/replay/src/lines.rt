@@ -3,15 +3,15 @@ ghost use Rattle.std.specs.Prelude.{◌≡◌, ◌+◌, ◌^◌, ◌<◌, ◌≤
 ghost use Rattle.std.specs.List.{flat_map};
 ghost use Rattle.std.specs.Io.KnownBytes.{Appends};
 ghost use Rattle.fix_frame.specs.Grammar.{print_fields};
-ghost use Rattle.fix_orders.specs.Text.{kind_of, side_code, text};
+ghost use Rattle.fix_orders.specs.Text.{side_code, text};
 ghost use Rattle.book.specs.Listing.{listing};
 ghost use Rattle.replay.specs.Lines.{order_line, order_terms, order_names, bar, said_fields, line_to, client_lines, counts_line};
 
 use book::{Book, MOST_RESTING};
-use fix_orders::{body_of, put_bytes, put_field, time_text};
+use fix_orders::{body_of, msg_type_code, put_bytes, put_field, time_text};
 use std::io;
 use std::io::Write;
-use venue_model::{Order, Output, Report, Side};
+use venue_model::{LONGEST_MESSAGE, Order, Output, Side};
 
 /// Writes the counts of all commands and outputs.
 pub(crate) fn write_counts<W: Write>(out: &mut W, commands: u64, outputs: usize) -> io::Result<()>
@@ -35,7 +35,7 @@ fn write_terms<W: Write>(out: &mut W, order: &Order) -> io::Result<()>
 {
     let side = side_code(order.side);
     let price = order.price;
-    let leaves = order.total.saturating_sub(order.cum);
+    let leaves = order.leaves();
     write!(out, " {side} {price} {leaves}")
 }
 
@@ -83,23 +83,11 @@ fn put_output(line: &mut [u8; 512], output: &Output, place: u64) -> usize
     ensures fields { take result line.new ≡ print_fields (said_fields (text output.now place)) }
     ensures within { result ≤ 512 }
 {
-    let mut body = [0; 320];
+    let mut body = [0; LONGEST_MESSAGE];
     let len = body_of(output, place + 1, &mut body);
-    let end = put_field(line, 0, 35, type_of(&output.report));
+    let end = put_field(line, 0, 35, msg_type_code(output.report.msg_type()));
     let end = put_field(line, end, 52, &time_text(output.sending_time));
     put_bytes(line, end, &body[..len])
-}
-
-/// MsgType (35).
-fn type_of(report: &Report) -> &'static [u8]
-    ensures value { result.now ≡ kind_of report.now }
-    ensures short { length result.now ≤ 1 }
-{
-    match report {
-        Report::Exec(_) => b"8",
-        Report::CancelReject(_) => b"9",
-        Report::SessionReject(_) => b"3",
-    }
 }
 
 /// Puts a bar in the place of each SOH.

@@ -8,10 +8,10 @@ use Rattle.std.proofs.Math.Nat.{mul-le-mul_left}
 use Rattle.venue_model.specs.declared.orders.Order.{Order}
 use Rattle.venue_model.specs.declared.orders.Side.{Side}
 use Rattle.venue_model.specs.declared.orders.Side.TheVariants.{Buy, Sell}
-use Rattle.venue_model.specs.Orders.{leaves, crosses, meets, is_better, ahead, is_live}
+use Rattle.venue_model.specs.Orders.{opposite, leaves, crosses, meets, is_better, ahead, is_live}
+use Rattle.venue_model.specs.SideLaws.{met_side}
 use Rattle.venue_model.specs.Match.{filled, live_alone}
 use Rattle.venue_model.specs.Requests.{is_named}
-use Rattle.price_levels.specs.Keys.{opposite}
 use Rattle.price_levels.specs.Places.{Places, at, IsAt, standing, IsOf, Leads, NoneOf, BestOf, HoldsAt, LeavesSome, reduced, changed}
 use Rattle.price_levels.specs.Stamps.{by_stamp, Seated}
 use Rattle.price_levels.specs.StampLaws.{seated, others, is-within, at-set, each-listed, apart-changed, length-listed}
@@ -23,12 +23,6 @@ use Rattle.resting.specs.Keeping.{AreKept}
 use Rattle.resting.proofs.Keepings.{at-here, at-there, kept-leave}
 use Rattle.resting.proofs.Lists.{some-same, and-first, and-last, not-true, same-or-not}
 
-met : (side : Side) (p : ℕ) (other : Side) (q : ℕ) → meets side p other q ≡ true → other ≡ opposite side
-met Buy p Buy q h = cc
-met Buy p Sell q h = refl
-met Sell p Buy q h = refl
-met Sell p Sell q h = cc
-
 -- what meets a price meets a better one
 met-better : (side : Side) (p q r s t : ℕ) → meets side p (opposite side) q ≡ true
     → (is_better (opposite side) r q || (nat_eq r q && nat_lt s t)) ≡ true
@@ -39,7 +33,7 @@ met-better Sell p q r s t h k = grind (arith, nat_tests)
 pub crossed-of : (i x : Order) → crosses i x ≡ true → IsOf i.symbol (opposite i.side) x
 crossed-of i x h = record {
   symbol_is = sym ((bytes_eq-Decides i.symbol x.symbol).0 (and-first (bytes_eq i.symbol x.symbol) (meets i.side i.price x.side x.price) h));
-  side_is = met i.side i.price x.side x.price (and-last (bytes_eq i.symbol x.symbol) (meets i.side i.price x.side x.price) h);
+  side_is = met_side i.side i.price x.side x.price (and-last (bytes_eq i.symbol x.symbol) (meets i.side i.price x.side x.price) h);
 }
 
 -- where one behind it is crossed, so is the one ahead

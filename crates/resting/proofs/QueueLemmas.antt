@@ -1,5 +1,5 @@
 -- The first order of a symbol and side, and the next, by the places and in the list.
-use Rattle.std.proofs.Common.{◌≡◌, ℕ, true, false, ◌&&◌, ◌||◌, nat_eq, nat_lt, List, refl, ap, sym, subst, ◌∙◌, inl, inr, Some, arith}
+use Rattle.std.proofs.Common.{◌≡◌, ℕ, true, false, ◌&&◌, ◌||◌, nat_eq, nat_lt, List, ap, sym, subst, ◌∙◌, inl, inr, Some, arith}
 use Rattle.std.specs.List.{AllByRecursion}
 use Rattle.std.specs.Str.{bytes_eq}
 use Rattle.std.proofs.lemmas.Slice.Eq.{bytes_eq-Decides}
@@ -8,6 +8,7 @@ use Rattle.venue_model.specs.declared.orders.Order.{Order}
 use Rattle.venue_model.specs.declared.orders.Side.{Side}
 use Rattle.venue_model.specs.declared.orders.Side.TheVariants.{Buy, Sell}
 use Rattle.venue_model.specs.Orders.{same_side, is_better, ahead}
+use Rattle.venue_model.specs.SideLaws.{one_side, side_itself}
 use Rattle.price_levels.specs.Places as levels
 use Rattle.price_levels.specs.Places.{Places, at, IsAt, IsOf, Leads, BestOf, StandsBehind, NextBehind}
 use Rattle.price_levels.specs.Stamps.{by_stamp, Seated}
@@ -17,27 +18,15 @@ use Rattle.resting.specs.Keeping.{AreKept}
 use Rattle.resting.specs.Queues.{is_of, NoneOf, IsFirst, NoneBehind, IsNext}
 use Rattle.resting.proofs.Lists.{some-same, and-first, and-last, not-true, same-or-not}
 
-side-is : (a b : Side) → same_side a b ≡ true → a ≡ b
-side-is Buy Buy h = refl
-side-is Sell Sell h = refl
-side-is Buy Sell h = cc
-side-is Sell Buy h = cc
-
-same-side : (a b : Side) → a ≡ b → same_side a b ≡ true
-same-side Buy Buy h = refl
-same-side Sell Sell h = refl
-same-side Buy Sell h = cc
-same-side Sell Buy h = cc
-
 of-test : (symbol : List ℕ) (side : Side) (x : Order) → is_of symbol side x ≡ true → IsOf symbol side x
 of-test symbol side x h = record {
   symbol_is = (bytes_eq-Decides x.symbol symbol).0 (and-first (bytes_eq x.symbol symbol) (same_side x.side side) h);
-  side_is = side-is x.side side (and-last (bytes_eq x.symbol symbol) (same_side x.side side) h);
+  side_is = one_side x.side side (and-last (bytes_eq x.symbol symbol) (same_side x.side side) h);
 }
 
 test-of : (symbol : List ℕ) (side : Side) (x : Order) → IsOf symbol side x → is_of symbol side x ≡ true
 test-of symbol side x of =
-    ap (λ t. t && same_side x.side side) ((bytes_eq-Decides x.symbol symbol).1 of.symbol_is) ∙ same-side x.side side of.side_is
+    ap (λ t. t && same_side x.side side) ((bytes_eq-Decides x.symbol symbol).1 of.symbol_is) ∙ side_itself x.side side of.side_is
 
 not-itself : (side : Side) (p s : ℕ) → (is_better side p p || (nat_eq p p && nat_lt s s)) ≡ false
 not-itself Buy p s = grind (arith, nat_tests)

@@ -1,12 +1,11 @@
 //! The resting orders: each is found by its client and name, and the one ahead of all others by its level. All room is
 //! made at the start.
 ghost use Rattle.std.specs.Prelude.{◌≡◌, ◌≢◌, ◌<◌, ◌≤◌, ◌+◌, ◌-◌, ◌^◌, not, [], ◌∷◌, ◌++◌, None, Some, length, map, filter, find, sum_by, IfOk, MatchOption, if◌then◌else◌};
-ghost use Rattle.venue_model.specs.Orders.{leaves, crosses, meets};
+ghost use Rattle.venue_model.specs.Orders.{leaves};
 ghost use Rattle.venue_model.specs.Match.{crossing};
 ghost use Rattle.venue_model.specs.Requests.{is_named, most_resting};
 ghost use Rattle.price_levels.specs.Places.{CanAmend, amended};
 ghost use Rattle.resting.specs.Standing.{InRange, Rests, Below, NoneNamed};
-ghost use Rattle.price_levels.specs.Keys.{opposite};
 ghost use Rattle.venue_model.specs.declared.orders.Order.{Order};
 ghost use Rattle.resting.specs.Firsts.{FillsFirst, FillsNone};
 ghost use Rattle.resting.specs.Queues.{NoneOf, IsFirst, NoneBehind, IsNext};
@@ -15,10 +14,7 @@ use order_index::OrderIndex;
 use price_levels::{Levels, Place};
 use std::alloc::{AllocError, Global};
 use std::marker::Model;
-use venue_model::{Order, Side, Symbol};
-
-/// How many orders rest at most.
-const MOST_RESTING: usize = 4096;
+use venue_model::{MOST_RESTING, Order, Side, Symbol};
 
 /// The resting orders, at most 4,096. Contracts see them in the order of their stamps.
 #[derive(Drop)]
@@ -120,13 +116,15 @@ impl RestingOrders {
         ensures first { MatchOption result (FillsNone incoming.now self.old self.new) (FillsFirst incoming.now self.old self.new) }
         ensures reads { MatchOption result ((reads.old ≤ reads.new) × (reads.new ≤ reads.old + 1)) (λ o. reads.new ≡ reads.old + 1) }
     {
-        let place = self.levels.best(&incoming.symbol, opposite(incoming.side))?;
+        let place = self
+            .levels
+            .best(&incoming.symbol, incoming.side.opposite())?;
         let order = self.levels.get(place, reads);
-        if !crosses(incoming, &order) {
+        if !incoming.crosses(&order) {
             return None;
         }
-        let quantity = leaves(incoming);
-        if quantity < leaves(&order) {
+        let quantity = incoming.leaves();
+        if quantity < order.leaves() {
             self.levels.reduce(place, quantity);
             return Some(order);
         }
@@ -161,41 +159,5 @@ impl RestingOrders {
     {
         self.levels
             .crossing_total(&incoming.symbol, incoming.side, incoming.price)
-    }
-}
-
-/// The other side.
-fn opposite(side: Side) -> Side
-    ensures { result ≡ opposite side }
-{
-    match side {
-        Side::Buy => Side::Sell,
-        Side::Sell => Side::Buy,
-    }
-}
-
-/// What is left of an order.
-fn leaves(order: &Order) -> u64
-    ensures { result ≡ leaves order.now }
-{
-    order.total.saturating_sub(order.cum)
-}
-
-/// Whether an incoming order and a resting one can trade.
-fn crosses(incoming: &Order, order: &Order) -> bool
-    ensures { result ≡ crosses incoming.now order.now }
-{
-    incoming.symbol.is(&order.symbol)
-        && meets(incoming.side, incoming.price, order.side, order.price)
-}
-
-/// Whether an order of this side and price accepts the price of one of the other side.
-fn meets(side: Side, price: u64, other: Side, its_price: u64) -> bool
-    ensures { result ≡ meets side price other its_price }
-{
-    match (side, other) {
-        (Side::Buy, Side::Sell) => its_price <= price,
-        (Side::Sell, Side::Buy) => price <= its_price,
-        _ => false,
     }
 }

@@ -11,7 +11,7 @@ ghost use Rattle.ring_words.specs.Steps.{Shows};
 ghost use Rattle.sequencer.specs.Outputs.{OnlyLoads, IsHead, Carries, TakesNext, SaysOutput};
 
 use ring_words::{GatewaySeat, Rings, TextHead};
-use venue_model::{Logic, OutputType};
+use venue_model::{LONGEST_MESSAGE, Logic, OutputType};
 
 /// What stands in front of an output's body: MsgType (35), SendingTime (52) as the number of its 14 digits, and how many bytes the body
 /// has, at most 320.
@@ -52,7 +52,7 @@ fn read_head<L: Logic, const N: usize, const M: usize, const G: usize>(
     Head {
         msg_type,
         sending_time,
-        len: len.min(320),
+        len: len.min(LONGEST_MESSAGE),
     }
 }
 
@@ -62,7 +62,7 @@ fn read_text<L: Logic, const N: usize, const M: usize, const G: usize>(
     rings: &Rings<L, N, M, G>,
     seat: &mut GatewaySeat<L>,
     place: u64,
-    buf: &mut [u8; 320],
+    buf: &mut [u8; LONGEST_MESSAGE],
 ) -> Head
     requires at { IsAt rings.now seat.old }
     requires from { seat.old.who.own ≤ place }
@@ -85,7 +85,7 @@ fn read_text<L: Logic, const N: usize, const M: usize, const G: usize>(
 pub fn take_output<L: Logic, const N: usize, const M: usize, const G: usize>(
     rings: &Rings<L, N, M, G>,
     seat: &mut GatewaySeat<L>,
-    buf: &mut [u8; 320],
+    buf: &mut [u8; LONGEST_MESSAGE],
 ) -> Take
     requires at { IsAt rings.now seat.old }
     ensures step { SamePlace seat.old seat.new }

@@ -4,10 +4,10 @@ use mathlib.Core.Option.{some}
 use lib.ListN.{get_elem?}
 use Rattle.venue_model.specs.History.{Message}
 use Rattle.venue_model.specs.Requests.{Symbols}
-use Rattle.venue_model.specs.Texts.{Text}
+use Rattle.venue_model.specs.Texts.{Text, msg_type_of}
 use Rattle.venue_model.specs.declared.outputs.Output.{Output}
 use Rattle.venue_model.specs.declared.outputs.OutputType.{OutputType}
-use Rattle.fix_orders.specs.Text.{type_of, text_bytes}
+use Rattle.fix_orders.specs.Text.{text_bytes}
 use Rattle.ring_words.specs.declared.view.Person.{Person}
 use Rattle.ring_words.specs.Places.{published}
 use Rattle.ring_words.specs.Slots.{output_words}
@@ -40,7 +40,7 @@ still_shown n m p k q s ws shown = let l = shown.1.0 in (shown.0, (l, at_longer 
 -- ITS TEXT
 
 -- what is written of an output is its text
-pub is_its_text : (o output : Output) (s : ℕ) (kind : OutputType) (body : List ℕ) → output ≡ o → kind ≡ type_of output.report
+pub is_its_text : (o output : Output) (s : ℕ) (kind : OutputType) (body : List ℕ) → output ≡ o → kind ≡ msg_type_of output.report
     → body ≡ (text_bytes output s).body
     → ◌≡◌ {A = Text} (record { msg_type = kind; sending_time = output.sending_time; body = body }) (text_bytes o s)
 is_its_text o output s kind body is kind_is body_is = by_fields ∙ ap (λ (x : Output). text_bytes x s) is where

@@ -2,6 +2,7 @@ pub mod Counts
 pub mod History
 pub mod Spelling
 pub mod Orders
+pub mod SideLaws
 pub mod Match
 pub mod Requests
 pub mod Step

@@ -14,6 +14,11 @@ leaves o = o.total - o.cum
 abbrev pub is_live : Order → Bool
 is_live o = nat_lt 0 (leaves o)
 
+-- the other side
+abbrev pub opposite : Side → Side
+opposite Buy = Sell
+opposite Sell = Buy
+
 abbrev pub same_side : Side → Side → Bool
 same_side Buy Buy = true
 same_side Sell Sell = true

@@ -1,6 +1,7 @@
 //! Commands: what the messages of traders ask of the book, as the unmarshaller reads them.
 
-ghost use Rattle.std.specs.Prelude.{IsTrue, ◌↔◌};
+ghost use Rattle.std.specs.Prelude.{◌≡◌, IsTrue, ◌↔◌};
+ghost use Rattle.venue_model.specs.Requests.{is_day};
 ghost use Rattle.venue_model.specs.Step.{IsName, IsAmount, IsCommand};
 
 use crate::{Side, Symbol};
@@ -14,6 +15,15 @@ pub enum TimeInForce {
     ImmediateOrCancel,
     /// 4: it is filled whole at once, or canceled untouched.
     FillOrKill,
+}
+
+impl TimeInForce {
+    /// Whether what isn't filled of an order on these terms rests: only a day order does.
+    pub fn rests(self) -> bool
+        ensures { result ≡ is_day self }
+    {
+        self == TimeInForce::Day
+    }
 }
 
 /// NewOrderSingle (35=D): a limit order.

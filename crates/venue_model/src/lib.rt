@@ -2,6 +2,7 @@
 //! Each crate above speaks of these; `specs/` has what they mean: the history, the book and its step.
 #![tactic(auto)]
 
+mod bounds;
 mod commands;
 mod entries;
 mod logic;
@@ -10,6 +11,10 @@ mod outputs;
 mod symbol;
 mod symbols;
 
+pub use bounds::{
+    LONGEST_MESSAGE, LONGEST_SYMBOL, MOST_GATEWAYS, MOST_IN_BLOCK, MOST_OUTPUTS, MOST_RESTING,
+    MOST_SYMBOLS,
+};
 pub use commands::{
     Command, Malformed, NewOrderSingle, OrderCancelReplaceRequest, OrderCancelRequest, RefMsgType,
     SessionRejectReason, TimeInForce,

@@ -1,4 +1,6 @@
 //! Outputs: what the book tells a client, as the processor publishes it and the marshaller writes it.
+ghost use Rattle.std.specs.Prelude.{◌≡◌};
+ghost use Rattle.venue_model.specs.Texts.{msg_type_of};
 
 use crate::{Malformed, Order};
 
@@ -80,6 +82,19 @@ pub enum Report {
     CancelReject(OrderCancelReject),
     /// Reject (35=3), of a message with a fault.
     SessionReject(Malformed),
+}
+
+impl Report {
+    /// MsgType (35).
+    pub fn msg_type(&self) -> OutputType
+        ensures { result ≡ msg_type_of self.now }
+    {
+        match self {
+            Report::Exec(_) => OutputType::ExecutionReport,
+            Report::CancelReject(_) => OutputType::OrderCancelReject,
+            Report::SessionReject(_) => OutputType::Reject,
+        }
+    }
 }
 
 /// MsgType (35) of an output.

@@ -4,12 +4,13 @@ ghost use Rattle.std.specs.List.{list_all};
 ghost use Rattle.std.specs.Str.{bytes_eq};
 ghost use Rattle.venue_model.specs.Spelling.{IsSpelling, is_symbol_byte};
 
+use crate::LONGEST_SYMBOL;
 use std::marker::Model;
 
 /// Symbol (55): 1 to 8 bytes of `A` to `Z` and `0` to `9`, kept in place. Contracts see the bytes.
 #[derive(Clone, Copy, PartialEq, Eq, Hash)]
 pub struct Symbol {
-    bytes: [u8; 8],
+    bytes: [u8; LONGEST_SYMBOL],
     len: u8,
 }
 
@@ -48,7 +49,7 @@ impl Symbol {
         requires { IsSpelling name.now }
         ensures { result ≡ name.now }
     {
-        let mut bytes = [0; 8];
+        let mut bytes = [0; LONGEST_SYMBOL];
         bytes[..name.len()].copy_from_slice(name);
         Symbol {
             bytes,
@@ -60,7 +61,7 @@ impl Symbol {
     pub fn is_name(name: &[u8]) -> bool
         ensures { IsTrue result ↔ IsSpelling name.now }
     {
-        0 < name.len() && name.len() <= 8 && has_name_bytes(name)
+        0 < name.len() && name.len() <= LONGEST_SYMBOL && has_name_bytes(name)
     }
 
     /// Whether both are one symbol. It is what `==` answers, said of the names: their eight bytes tell them apart, since

@@ -4,7 +4,7 @@ ghost use Rattle.std.specs.List.{list_any};
 ghost use Rattle.std.specs.Str.{bytes_eq};
 ghost use Rattle.venue_model.specs.Spelling.{AreSymbols, CanJoin};
 
-use crate::Symbol;
+use crate::{MOST_SYMBOLS, Symbol};
 use indexmap::IndexSet;
 use std::alloc::Global;
 use std::marker::Model;
@@ -45,7 +45,7 @@ impl Limits {
         ensures good { IfOk result (λ _. AreSymbols (map string_bytes names.now)) }
         ensures bad { IsErrOf result LimitsFault.BadSymbol → AreSymbols (map string_bytes names.now) → ⊥ }
     {
-        if names.is_empty() || names.len() > 8 {
+        if names.is_empty() || names.len() > MOST_SYMBOLS {
             return Err(LimitsFault::BadSymbol);
         }
         let mut symbols = IndexSet::with_capacity(alloc, names.len()).map_err(

@@ -4,7 +4,7 @@ ghost use Rattle.std.specs.List.{prefix_len};
 ghost use Rattle.venue_model.specs.Spelling.{IsSpelling};
 ghost use Rattle.command_words.specs.Packing.{side_number, time_in_force_number, reason_number, type_number, symbol_word};
 
-use venue_model::{RefMsgType, SessionRejectReason, Side, Symbol, TimeInForce};
+use venue_model::{LONGEST_SYMBOL, RefMsgType, SessionRejectReason, Side, Symbol, TimeInForce};
 
 /// The kind of a void command.
 pub(super) const VOID: u64 = 0;
@@ -179,7 +179,7 @@ pub(crate) fn symbol_word(symbol: &Symbol) -> u64
     ensures spelling { IsSpelling symbol.now }
 {
     let name = symbol.as_bytes();
-    let mut bytes = [0; 8];
+    let mut bytes = [0; LONGEST_SYMBOL];
     bytes[..name.len()].copy_from_slice(name);
     u64::from_be_bytes(bytes)
 }
@@ -193,7 +193,7 @@ pub(crate) fn symbol_in(word: u64) -> Option<Symbol>
 }
 
 /// How many bytes stand before the first 0.
-fn name_length(bytes: &[u8; 8]) -> usize
+fn name_length(bytes: &[u8; LONGEST_SYMBOL]) -> usize
     ensures count { result ≡ prefix_len (λ b. not (nat_eq b 0)) bytes.now }
     ensures most { result ≤ 8 }
 {

@@ -8,6 +8,7 @@ use crate::report::Slot;
 use crate::view::View;
 use atomic_table::Seat;
 use std::marker::Model;
+use venue_model::MOST_GATEWAYS;
 
 /// The processor's place at the table. It holds the length of the history that it knows, its own word, the unmarshalled value that it loaded
 /// last, how many outputs are published, of each gateway the taken value that it loaded last, if any, and a spare box for the next output. The taken
@@ -19,7 +20,7 @@ pub struct ProcessSeat<L> {
     pub(crate) own: u64,
     pub(crate) gate: u64,
     pub(crate) published: u64,
-    pub(crate) taken: [Option<u64>; 8],
+    pub(crate) taken: [Option<u64>; MOST_GATEWAYS],
     pub(crate) spare: Slot,
     ghost alone: { IsAlone seat.me.0 },
     ghost bare: { seat.me.1 ≡ [] },
@@ -32,10 +33,10 @@ pub struct ProcessSeat<L> {
 }
 
 /// No taken word was loaded yet.
-pub(crate) fn no_values() -> [Option<u64>; 8]
+pub(crate) fn no_values() -> [Option<u64>; MOST_GATEWAYS]
     ensures { result ≡ no_values }
 {
-    [None; 8]
+    [None; MOST_GATEWAYS]
 }
 
 impl<L> Model for ProcessSeat<L> {
