@@ -3,3 +3,5 @@ pub mod Gates
 pub mod Words
 pub mod CommandWords
 pub mod TextStores
+pub mod Takings
+pub mod TextReading

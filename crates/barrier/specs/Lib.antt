@@ -1,4 +1,4 @@
 pub mod Availability
 pub mod Commands
 pub mod Reading
-pub mod Outputs
+pub mod Taking

@@ -1,16 +1,11 @@
 //! Outputs on their way through the marshaller: it reads each one out of its row, and writes its text beside it.
-ghost use Rattle.std.specs.Prelude.{◌≡◌, suc, ◌<◌, ◌≤◌, length};
-ghost use mathlib.Core.Option.{some};
-ghost use lib.ListN.{get_elem?};
-ghost use Rattle.venue_model.specs.declared.outputs.Output.{Output};
-ghost use Rattle.ring_words.specs.Slots.{output_words};
+ghost use Rattle.std.specs.Prelude.{◌≤◌, length};
 ghost use Rattle.ring_words.specs.Texts.{text_words, IsPackableText};
-ghost use Rattle.ring_words.specs.Places.{published};
-ghost use Rattle.ring_words.specs.Seats.{wrote, moved};
+ghost use Rattle.ring_words.specs.Places.{published, out_row};
+ghost use Rattle.ring_words.specs.Seats.{wrote};
 ghost use Rattle.ring_words.specs.At.{IsAt, Steps};
-ghost use Rattle.ring_words.specs.Steps.{Shows, WroteText, MayWriteText};
-ghost use Rattle.ring_words.specs.Finds.{FindsPublished};
-ghost use Rattle.barrier.specs.Outputs.{after_output};
+ghost use Rattle.ring_words.specs.Steps.{Shows, MayWriteText};
+ghost use Rattle.ring_words.specs.Finds.{FindsPublished, FindsCopy};
 
 use ring_words::{MarshalSeat, Rings, TextHead, word_at};
 use venue_model::{Logic, Output, OutputType};
@@ -23,7 +18,6 @@ pub fn outputs_available<L: Logic, const N: usize, const M: usize, const G: usiz
 ) -> u64
     requires at { IsAt rings.now seat.old }
     ensures found { FindsPublished (L.outputs rings.now.logic) seat.old result seat.new }
-    ensures own { seat.old.who.own ≤ result }
 {
     rings.load_published(seat)
 }
@@ -37,9 +31,7 @@ pub fn read_output<L: Logic, const N: usize, const M: usize, const G: usize>(
     requires at { IsAt rings.now seat.old }
     requires from { seat.old.who.own ≤ place }
     requires to { Shows published seat.old.who place }
-    ensures output { (o : Output) → get_elem? (L.outputs rings.now.logic seat.old.who.seen) place ≡ some o → result ≡ o }
-    ensures step { (o : Output) → get_elem? (L.outputs rings.now.logic seat.old.who.seen) place ≡ some o
-        → Steps seat.old (after_output N M seat.old.who place (output_words o)) seat.new }
+    ensures copied { FindsCopy (L.outputs rings.now.logic seat.old.who.seen) seat.old (out_row N M place 0) place result seat.new }
 {
     rings.load_output(seat, place)
 }
@@ -71,18 +63,4 @@ pub fn write_text<L: Logic, const N: usize, const M: usize, const G: usize>(
     for index in 0..body.len().div_ceil(8) {
         rings.store_text(seat, place, index + 2, word_at(body, index));
     }
-}
-
-/// Hands all outputs below `upto` on to the gateways, when their texts are written: the last of them is that of the row under way.
-pub fn release_marshalled<L: Logic, const N: usize, const M: usize, const G: usize>(
-    rings: &Rings<L, N, M, G>,
-    seat: &mut MarshalSeat<L>,
-    upto: u64,
-)
-    requires at { IsAt rings.now seat.old }
-    requires last { upto ≡ suc seat.old.who.part.sequence }
-    requires text { (o : Output) × WroteText (L.outputs rings.now.logic) (L.text rings.now.logic) seat.old.who o }
-    ensures step { Steps seat.old (moved seat.old.who upto) seat.new }
-{
-    rings.store_marshalled(seat, upto);
 }

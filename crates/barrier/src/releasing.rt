@@ -1,11 +1,13 @@
-//! How a stage gives rows back: behind the processor gateways may claim them again, behind the others the processor may read.
+//! How a stage gives rows back or hands them on: behind the processor gateways may claim them again, behind unmarshaller and journaller the
+//! processor may read, and behind the marshaller the gateways.
 ghost use Rattle.std.specs.Prelude.{◌≡◌, ◌≤◌, suc, length, take};
 ghost use Rattle.venue_model.specs.History.{Message};
+ghost use Rattle.venue_model.specs.declared.outputs.Output.{Output};
 ghost use Rattle.ring_words.specs.Seats.{moved};
 ghost use Rattle.ring_words.specs.At.{IsAt, Steps};
-ghost use Rattle.ring_words.specs.Steps.{WroteCommand, HasPublished};
+ghost use Rattle.ring_words.specs.Steps.{WroteCommand, WroteText, HasPublished};
 
-use ring_words::{JournalSeat, ProcessSeat, Rings, UnmarshalSeat};
+use ring_words::{JournalSeat, MarshalSeat, ProcessSeat, Rings, UnmarshalSeat};
 use venue_model::{Kept, Logic};
 
 /// Gives the rows of all sequences below `upto` back to the gateways (Disruptor paper, "Sequencing": the sequence by which
@@ -54,4 +56,18 @@ pub fn release_kept<L: Logic, const N: usize, const M: usize, const G: usize, K:
     ensures step { Steps seat.old (moved seat.old.who upto) seat.new }
 {
     rings.store_journalled(seat, upto, kept);
+}
+
+/// Hands all outputs below `upto` on to the gateways, when their texts are written: the last of them is that of the row under way.
+pub fn release_marshalled<L: Logic, const N: usize, const M: usize, const G: usize>(
+    rings: &Rings<L, N, M, G>,
+    seat: &mut MarshalSeat<L>,
+    upto: u64,
+)
+    requires at { IsAt rings.now seat.old }
+    requires last { upto ≡ suc seat.old.who.part.sequence }
+    requires text { (o : Output) × WroteText (L.outputs rings.now.logic) (L.text rings.now.logic) seat.old.who o }
+    ensures step { Steps seat.old (moved seat.old.who upto) seat.new }
+{
+    rings.store_marshalled(seat, upto);
 }

@@ -4,12 +4,12 @@ use Rattle.fix_orders.specs.Formats.{time_text}
 use Rattle.fix_orders.specs.Text.{msg_type_code, text, text_bytes}
 use Rattle.venue_model.specs.declared.outputs.Output.{Output}
 use Rattle.book.specs.Laws.{TellsFields}
-use Rattle.sequencer.specs.declared.take.Head.{Head}
-use Rattle.sequencer.specs.Outputs as outputs
+use Rattle.barrier.specs.declared.taking.Head.{Head}
+use Rattle.barrier.specs.Taking as taking
 use Rattle.gateway.specs.Ledgers.{Carries}
 
 -- head and body say the output
-pub carried : (head : Head) (body : List ℕ) (o : Output) (place : ℕ) → TellsFields o → outputs.Carries head body (text_bytes o place)
+pub carried : (head : Head) (body : List ℕ) (o : Output) (place : ℕ) → TellsFields o → taking.Carries head body (text_bytes o place)
     → Carries head body (text o place)
 carried head body o place fields read = record {
   type = ap msg_type_code (sym read.head_is.msg_type);

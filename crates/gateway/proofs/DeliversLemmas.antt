@@ -3,13 +3,15 @@ use Rattle.std.proofs.Common.{◌≡◌, ℕ, Bool, true, false, List, [], ◌�
 use Rattle.std.specs.List.{flat_map, list_any}
 use Rattle.fix_orders.specs.Text.{Said}
 use Rattle.gateway.specs.Answers.{Logon, Heartbeat, Logout}
-use Rattle.gateway.specs.Session.{Item, Answer, Output, is_logon, is_last, orderly, outputs_in, Standing, At}
+use Rattle.gateway.specs.Standing.{Item, Answer, Output, is_logon, is_last, orderly, outputs_in, Standing, At}
 use Rattle.gateway.specs.Ledgers.{Ledger}
-use Rattle.gateway.specs.Wires.{Told, grown}
+use Rattle.wires.specs.Wires.{Told, grown}
 use Rattle.gateway.specs.Turns.{world, Front, Moved, Takes, Turn}
 use Rattle.gateway.specs.declared.ending.Turned.{Turned}
-use Rattle.gateway.specs.Delivers.{Course, nothing_yet, further, Start, Delivers}
-use Rattle.gateway.proofs.WireLemmas.{grown-append, grown-nil}
+use Rattle.gateway.specs.Delivers.{Course, nothing_yet, further, Start, Delivers, Proceeds}
+use Rattle.gateway.specs.Gateways.{AtRings, around}
+use Rattle.gateway.specs.Seats.{ledger_of}
+use Rattle.wires.specs.WireLaws.{grown-append, grown-nil}
 
 -- where no Logon stands among the items no output does
 none_last : (items : List Item) → is_last items ≡ true → flat_map outputs_in items ≡ []
@@ -101,3 +103,11 @@ module _ (start : Start) (old new : Front) (wire wire' : Told) (desk desk' : Led
 
   pub delivers : Delivers start new wire' desk' (further c m)
   delivers = goes-on new.session.logged_on refl turn.takes
+
+-- a turn goes on with whatever was delivered before it
+pub proceeds : (n : ℕ) (old new : AtRings) (wire wire' : Told) (answer : Turned) → Turn (around n old wire) (around n new wire') answer →
+    Proceeds n old new wire wire' answer
+proceeds n old new wire wire' answer turn = record {
+  turn = turn;
+  delivers = λ start c. delivers start old.front new.front wire wire' (ledger_of n old.seat) (ledger_of n new.seat) answer c turn;
+}

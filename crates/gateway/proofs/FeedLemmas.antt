@@ -12,10 +12,9 @@ use Rattle.gateway.specs.declared.refusal.Refusal.{Refusal}
 use Rattle.gateway.specs.declared.refusal.Refusal.TheVariants as refusal
 use Rattle.gateway.specs.Verdict.{Verdict, Welcome, Beat, Hold, Pass, Leave, Refuse, verdict, refusal_text}
 use Rattle.gateway.specs.Answers.{time_after, Logout}
-use Rattle.gateway.specs.Session.{Standing}
-use Rattle.gateway.specs.Hears.{verdict_of, Holds, IsHeld}
-use Rattle.gateway.specs.Moves.{heard, refusing, replying}
-use Rattle.gateway.specs.Parts.{Listens}
+use Rattle.gateway.specs.Standing.{Standing}
+use Rattle.gateway.specs.Judging.{verdict_of, Holds, IsHeld}
+use Rattle.gateway.specs.SessionCalls.{heard, refusing, replying, Listens}
 
 -- bytes that end a frame are some, where no frame stood before
 some_fed : (under_way piece : List ℕ) (n : ℕ) (frame : List Field) → BeginsNoFrame under_way → IsBody most_in frame →

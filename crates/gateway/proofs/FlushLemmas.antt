@@ -1,7 +1,7 @@
 -- A flush goes on: what went out before, and a front of what is left.
 use Rattle.std.proofs.Common.{◌≡◌, ℕ, List, ◌++◌, take, drop, ap, sym, ◌∙◌, append_assoc, take-append-drop}
-use Rattle.gateway.specs.Wires.{Told, grown}
-use Rattle.gateway.proofs.WireLemmas.{grown-append}
+use Rattle.wires.specs.Wires.{Told, grown}
+use Rattle.wires.specs.WireLaws.{grown-append}
 
 pub flushed-more : (buffer put left written after : List ℕ) (n : ℕ) (old mid new : Told) →
     buffer ≡ put ++ left → mid ≡ record old { took = grown old.took put } → written ≡ left →

@@ -5,10 +5,10 @@ use Rattle.ring_words.specs.declared.view.Load.{Load}
 use Rattle.ring_words.specs.Places.{marshalled}
 use Rattle.ring_words.specs.Seats.{load_of}
 use Rattle.gateway.specs.Ledgers.{Ledger, loading}
-use Rattle.gateway.specs.Session.{Standing, At}
-use Rattle.gateway.specs.Moves.{saying}
+use Rattle.gateway.specs.Standing.{Standing, At}
+use Rattle.gateway.specs.SessionCalls.{saying}
 use Rattle.gateway.specs.Turns.{Front, nothing_moved, Moves, Takes, Counts}
-use Rattle.gateway.specs.Gateways.{HandsOn, PassesOver}
+use Rattle.gateway.specs.TurnParts.{HandsOn, PassesOver}
 use Rattle.gateway.proofs.Standings.{at-handed}
 use Rattle.gateway.proofs.StepLemmas.{at-same, moves-nothing}
 

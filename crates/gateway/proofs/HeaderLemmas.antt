@@ -14,9 +14,8 @@ use Rattle.fix_orders.specs.Text.{Said, field, number}
 use Rattle.fix_orders.specs.Writing.{Puts, PutsFields}
 use Rattle.fix_orders.specs.WritingLaws.{print_fields-append}
 use Rattle.gateway.specs.Verdict.{client_name, venue_name}
-use Rattle.gateway.specs.Session.{message_text}
-use Rattle.gateway.specs.Messages.{IsTypeText, AreFields, Spells}
-use Rattle.gateway.specs.Headings.{header_fields}
+use Rattle.gateway.specs.Standing.{message_text}
+use Rattle.gateway.specs.Messages.{IsTypeText, AreFields, Spells, header_fields}
 use Rattle.gateway.proofs.FrameBytes.{length_field, length_frame}
 
 -- no SOH stands in digits, in what has none, and in a time

@@ -5,23 +5,21 @@ use Rattle.ring_words.specs.declared.view.Load.{Load}
 use Rattle.gateway.specs.declared.ending.Reason.TheVariants as reason
 use Rattle.gateway.specs.declared.seat.TryPublish.{TryPublish}
 use Rattle.gateway.specs.declared.seat.TryPublish.TheVariants.{Done, Refused, Exhausted}
-use Rattle.gateway.specs.declared.client_side.Heard.{Heard}
-use Rattle.gateway.specs.declared.client_side.Heard.TheVariants.{Something, Nothing, Failed}
-use Rattle.gateway.specs.Wires.{Told}
+use Rattle.gateway.specs.declared.gateway.Heard.{Heard}
+use Rattle.gateway.specs.declared.gateway.Heard.TheVariants.{Something, Nothing, Failed}
+use Rattle.wires.specs.Wires.{Told}
 use Rattle.ring_words.specs.Places.{claim, processed}
 use Rattle.ring_words.specs.Seats.{load_of}
-use Rattle.gateway.specs.Ledgers.{Ledger, loading, IsClaimed, IsRefused}
+use Rattle.gateway.specs.Ledgers.{Ledger, loading, IsClaimed, IsRefused, PublishTells}
 use Rattle.gateway.specs.Verdict.{Verdict, Welcome, Beat, Hold, Pass, Leave, Refuse, verdict}
-use Rattle.gateway.specs.Session.{Standing, At}
-use Rattle.gateway.specs.Moves.{heard}
+use Rattle.gateway.specs.Standing.{Standing, At}
+use Rattle.gateway.specs.SessionCalls.{heard, exhausting, Listens, Unheard, HeardFrame, HeardFault}
 use Rattle.gateway.specs.Turns.{world, Front, nothing_moved, Moves, Counts, ClosesBy, farewell}
-use Rattle.gateway.specs.Parts.{Tries, Listens, Unheard, HeardFrame, HeardFault}
-use Rattle.gateway.specs.HeardOf.{heard_of}
-use Rattle.gateway.specs.Gateways.{Hears, HeardSo, Reads, ReadSo}
+use Rattle.gateway.specs.TurnParts.{Hears, HeardSo, Reads, ReadSo}
 use Rattle.gateway.proofs.Opening.{opened}
 use Rattle.gateway.proofs.Standings.{at-published, at-exhausted, at-fed, at-heard, at-faulted}
 use Rattle.gateway.proofs.StepLemmas.{at-same, moves-nothing}
-use Rattle.gateway.proofs.WireLemmas.{grown-nil}
+use Rattle.wires.specs.WireLaws.{grown-nil}
 
 -- nothing was loaded
 unloaded : (l : Ledger) → l ≡ record (loading l []) { published = l.published }
@@ -34,6 +32,25 @@ all_loads desk desk' ls loads = loads ∙ ap (λ x. desk.loads ++ x) (sym (appen
 -- a session that is held something of isn't held nothing
 held_is_some : (s : Standing) (message : List ℕ) → s.held ≡ Some message → s.held ≢ None
 held_is_some s message holds none = cc
+
+-- what comes of a try to publish: the held message is published, or stays held, or is lost because no sequence is left
+abbrev pub Settles : Standing → Standing → TryPublish → Type 0
+Settles old new Done = new ≡ record old { held = None }
+Settles old new Refused = new ≡ old
+Settles old new Exhausted = new ≡ exhausting old
+
+-- it was tried to publish the message held
+pub record Tries (old new : Standing) (desk desk' : Ledger) (answer : TryPublish) : Type 0 where
+  pub message : List ℕ
+  pub holds : old.held ≡ Some message
+  pub tells : PublishTells desk desk' message answer
+  pub settles : Settles old new answer
+
+-- and what it means for the turn
+abbrev pub heard_of : TryPublish → Heard
+heard_of Done = Something
+heard_of Refused = Nothing
+heard_of Exhausted = Nothing
 
 module _ (old new : Front) (desk desk' : Ledger) (is_open : old.session.closing ≡ None) (silent : old.session.outgoing ≡ [])
     (room : length new.session.outgoing ≤ length old.session.outgoing + 412)

@@ -2,7 +2,6 @@ pub mod Lists
 pub mod Speaking
 pub mod Opening
 pub mod Standings
-pub mod WireLemmas
 pub mod FlushLemmas
 pub mod SessionLemmas
 pub mod MessageLemmas
@@ -12,8 +11,6 @@ pub mod StepLemmas
 pub mod HearLemmas
 pub mod HandLemmas
 pub mod TurnLemmas
-mod MemWireLemmas
-mod BufferLemmas
 pub mod NameLemmas
 pub mod FrameBytes
 pub mod HeaderLemmas

@@ -6,7 +6,7 @@ use Rattle.fix_frame.specs.Grammar.{IsField, field_then, print_fields}
 use Rattle.fix_frame.specs.Ascii.{soh}
 use Rattle.fix_orders.specs.Text.{field}
 use Rattle.gateway.specs.Messages.{IsRefusalText}
-use Rattle.gateway.specs.Session.{logon_fields, text_fields}
+use Rattle.gateway.specs.Standing.{logon_fields, text_fields}
 
 -- the Logon's body in bytes
 pub logon_is : print_fields logon_fields ≡ codes "98=0\u{1}108=0\u{1}141=Y\u{1}"

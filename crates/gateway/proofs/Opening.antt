@@ -6,8 +6,8 @@ use Rattle.fix_frame.specs.Stream.{BeginsNoFrame}
 use Rattle.fix_orders.specs.Text.{Said}
 use Rattle.gateway.specs.declared.ending.Reason.{Reason}
 use Rattle.gateway.specs.Answers.{Judgement, judgement, judged, last_time, time_after, no_time, goes_on, replies_of, Ending}
-use Rattle.gateway.specs.Session.{Standing, speaker, Spoken, Held, At}
-use Rattle.gateway.specs.Moves.{fresh}
+use Rattle.gateway.specs.Standing.{Standing, speaker, Spoken, Held, At}
+use Rattle.gateway.specs.SessionCalls.{fresh}
 
 -- one more frame judged
 pub judged-push : (gateway accepted : ℕ) (last : List ℕ) (frames : List (List Field)) (frame : List Field) →

@@ -6,8 +6,8 @@ use Rattle.ring_words.specs.At.{At, Steps, seated, number}
 use Rattle.ring_words.specs.declared.view.Load.{Load}
 use Rattle.ring_words.specs.declared.view.Sent.{Sent}
 use Rattle.ring_words.specs.Places.{claim, processed}
+use Rattle.ring_words.specs.Seats as seats
 use Rattle.ring_words.specs.Seats.{load_of, looked, with_claim, marked, sent_of}
-use Rattle.sequencer.specs.Outputs as sequencer
 use Rattle.gateway.specs.declared.seat.TryPublish.TheVariants.{Done, Refused}
 use Rattle.gateway.specs.Ledgers.{Ledger, loading, PublishTells}
 use Rattle.gateway.specs.Seats.{messages_of, ledger_of, from_gateway, Published, Enters}
@@ -22,7 +22,7 @@ module _ (n : ℕ) (s t : At Symbols) (bytes : List ℕ) where
   tells_done done =
       let p : ℕ = done.claimed.0 in let more = done.claimed.1 in let a : ℕ = done.sequence in
       let e = from_gateway (number s) bytes in
-      let claimed = with_claim (looked (sequencer.loading (looked s.who claim a) more.0) claim a) a in
+      let claimed = with_claim (looked (seats.loading (looked s.who claim a) more.0) claim a) a in
       let is : t ≡ seated s (marked claimed a e) = done.published ∙ ap (λ (z : At Symbols). seated z (marked z.who a e)) more.2 in
       let loads = in_order s.who.loads more.0 (load_of claim a) (load_of claim a) in
       let sends : messages_of (s.who.mine ++ sent_of a e ∷ []) ≡ messages_of s.who.mine ++ bytes ∷ [] =

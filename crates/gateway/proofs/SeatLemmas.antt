@@ -11,11 +11,11 @@ use Rattle.ring_words.specs.declared.view.Load.{Load}
 use Rattle.ring_words.specs.declared.view.Person.{Person}
 use Rattle.ring_words.specs.Places.{marshalled, number_of}
 use Rattle.ring_words.specs.Seats.{looked, load_of}
-use Rattle.sequencer.specs.Outputs.{TakesNext, Says, SaysOutput}
-use Rattle.sequencer.specs.declared.take.Take.{Take}
-use Rattle.sequencer.specs.declared.take.Take.TheVariants.{Mine, Passed, Nothing}
+use Rattle.barrier.specs.Taking.{TakesNext, Says, SaysOutput}
+use Rattle.barrier.specs.declared.taking.Take.{Take}
+use Rattle.barrier.specs.declared.taking.Take.TheVariants.{Mine, Passed, Nothing}
 use Rattle.gateway.specs.Ledgers.{loading, TakeTells}
-use Rattle.gateway.specs.Seats.{symbols_of, given, HasSeen, messages_of, taken_by, ledger_of, TakesOne, Looks, StaysSeated, Uses}
+use Rattle.gateway.specs.Seats.{symbols_of, given, HasSeen, messages_of, taken_by, ledger_of, TakesOne, Looks, StaysSeated, MayEnter, MayLook, Uses}
 use Rattle.gateway.proofs.Carried.{carried}
 use Rattle.gateway.proofs.TakenLemmas.{taken_mine, taken_other, still_within, still_small}
 
@@ -126,6 +126,19 @@ looks_stays s t Nothing body is =
     let who : t.who ≡ looked s.who marshalled s.who.own = ap (λ (a : At Symbols). a.who) is in
     record { rings = is ∙ ap (seated s) (sym who); role = ap (λ (p : Person). p.role) who }
 
+-- a seat that stays as it is
+pub seat_still : (s : At Symbols) → StaysSeated s s
+seat_still s = record { rings = refl; role = refl }
+
 -- a seat that wasn't used
-pub unused : (n : ℕ) (s : At Symbols) → Uses n s s
-unused n s = record { stays = record { rings = refl; role = refl }; between = s; enters = inl refl; looks = inl refl }
+pub unused : (n : ℕ) (s t : At Symbols) → t ≡ s → Uses n s t
+unused n s t still = subst (Uses n s) (sym still) (record { stays = seat_still s; between = s; enters = inl refl; looks = inl refl })
+
+-- a seat that was used for a try to publish, and then for a look
+pub used : (n : ℕ) (s t u v : At Symbols) → StaysSeated s t → MayEnter n s t → StaysSeated t u → MayLook t u → v ≡ u → Uses n s v
+used n s t u v first enters next looks still = subst (Uses n s) (sym still) (record {
+  stays = record { rings = next.rings ∙ ap (λ (x : At Symbols). seated x u.who) first.rings; role = next.role ∙ first.role };
+  between = t;
+  enters = enters;
+  looks = looks;
+})

@@ -2,7 +2,7 @@
 use Rattle.std.proofs.Common.{◌≡◌, ℕ, List, [], Option, None, false, refl}
 use Rattle.fix_orders.specs.Formats.{time_text}
 use Rattle.gateway.specs.Answers.{no_time}
-use Rattle.gateway.specs.Moves.{fresh}
+use Rattle.gateway.specs.SessionCalls.{fresh}
 
 -- the time of number 0 is the one before any message
 pub time_text-zero : time_text 0 ≡ no_time

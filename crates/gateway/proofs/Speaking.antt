@@ -4,7 +4,7 @@ use Rattle.std.specs.Cmp.Derive.{both_true}
 use Rattle.std.specs.List.{list_any}
 use Rattle.fix_orders.specs.Text.{Said}
 use Rattle.gateway.specs.Answers.{Reply, Logon, Heartbeat, Logout}
-use Rattle.gateway.specs.Session.{speaker, Spoken, Item, Answer, Output, said_of, said_by, replies_in, outputs_in, numbered, message_text, is_logon, is_logout, orderly}
+use Rattle.gateway.specs.Standing.{speaker, Spoken, Item, Answer, Output, said_of, said_by, replies_in, outputs_in, numbered, message_text, is_logon, is_logout, orderly}
 use Rattle.gateway.proofs.Lists.{and_left, and_right, flat_map-push, list_any-push, length-push}
 
 -- the bytes of one more item

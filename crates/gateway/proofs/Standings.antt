@@ -10,8 +10,8 @@ use Rattle.gateway.specs.declared.ending.Reason.TheVariants.{LoggedOut, Refused,
 use Rattle.gateway.specs.declared.refusal.Refusal.TheVariants as refusal
 use Rattle.gateway.specs.Verdict.{Verdict, Welcome, Beat, Hold, Pass, Leave, Refuse, verdict, refusal_text}
 use Rattle.gateway.specs.Answers.{Judgement, judgement, judged, last_time, time_after, no_time, goes_on, Reply, Logon, Heartbeat, Logout, replies_of, replies_by, held_of, held_by, fault_judgement, exhausted_judgement, Ending}
-use Rattle.gateway.specs.Session.{Standing, speaker, Spoken, said_by, message_text, Waits, Held, At}
-use Rattle.gateway.specs.Moves.{saying, closing_by, refusing, accepting, heard}
+use Rattle.gateway.specs.Standing.{Standing, speaker, Spoken, said_by, message_text, Waits, Held, At}
+use Rattle.gateway.specs.SessionCalls.{saying, closing_by, refusing, accepting, heard}
 use Rattle.gateway.proofs.Lists.{flat_map-push, list_all-push, AllByRecursion-push, length-push}
 use Rattle.gateway.proofs.Speaking.{spoken-output, spoken-logon, spoken-heartbeat, spoken-logout}
 use Rattle.gateway.proofs.Opening.{Open, opened, closed, judged-push, last_time-push, no_frame_in_nothing}

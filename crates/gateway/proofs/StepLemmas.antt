@@ -1,12 +1,12 @@
 -- Steps of a turn, one after another.
 use Rattle.std.proofs.Common.{◌≡◌, ℕ, List, [], ◌++◌, refl, ap, sym, subst, ◌∙◌, append_assoc, append-nil}
 use Rattle.fix_orders.specs.Text.{Said}
-use Rattle.gateway.specs.Wires.{Told, grown}
+use Rattle.wires.specs.Wires.{Told, grown}
 use Rattle.gateway.specs.Ledgers.{Ledger}
-use Rattle.gateway.specs.Session.{Standing, At}
+use Rattle.gateway.specs.Standing.{Standing, At}
 use Rattle.gateway.specs.Turns.{place, Moved, nothing_moved, Moves, Step}
 use Rattle.gateway.proofs.Standings.{at-flushed}
-use Rattle.gateway.proofs.WireLemmas.{grown-append, grown-nil}
+use Rattle.wires.specs.WireLaws.{grown-append, grown-nil}
 
 -- what moves in two parts
 abbrev pub both : Moved → Moved → Moved

@@ -13,7 +13,7 @@ use Rattle.venue_model.specs.declared.outputs.Output.{Output}
 use Rattle.venue_model.specs.ListLaws.{within}
 use Rattle.venue_model.specs.GrowthLaws.{grows-by, few-told-by}
 use Rattle.ring_words.specs.declared.view.Person.{Person}
-use Rattle.sequencer.specs.Outputs.{TakesNext}
+use Rattle.barrier.specs.Taking.{TakesNext}
 use Rattle.book.specs.Histories.{outputs_of}
 use Rattle.gateway.proofs.Lists.{take_next}
 use Rattle.gateway.specs.Seats.{texts_to, taken_by}

@@ -6,22 +6,22 @@ use Rattle.gateway.specs.declared.ending.Reason.{Reason}
 use Rattle.gateway.specs.declared.ending.Reason.TheVariants.{Closed, WireFailed, LoggedOut, Refused, Stalled, Exhausted}
 use Rattle.gateway.specs.declared.ending.Turned.{Turned}
 use Rattle.gateway.specs.declared.ending.Turned.TheVariants.{Worked, Quiet, Ended}
-use Rattle.gateway.specs.declared.flushing.Flushed.TheVariants as flushed
-use Rattle.gateway.specs.declared.client_side.Heard.{Heard}
-use Rattle.gateway.specs.declared.client_side.Heard.TheVariants.{Something, Nothing, Failed}
+use Rattle.wires.specs.declared.flushed.Flushed.TheVariants as flushed
+use Rattle.gateway.specs.declared.gateway.Heard.{Heard}
+use Rattle.gateway.specs.declared.gateway.Heard.TheVariants.{Something, Nothing, Failed}
 use Rattle.venue_model.specs.Counts.{Rose}
-use Rattle.gateway.specs.Wires.{Told, grown}
+use Rattle.wires.specs.Wires.{Told, grown}
 use Rattle.ring_words.specs.declared.view.Load.{Load}
 use Rattle.ring_words.specs.Places.{claim, marshalled}
 use Rattle.ring_words.specs.Seats.{load_of}
 use Rattle.gateway.specs.Ledgers.{Ledger, loading}
-use Rattle.gateway.specs.Flushing.{Flushes}
-use Rattle.gateway.specs.Session.{Standing}
-use Rattle.gateway.specs.Sessions.{ClosesItself}
-use Rattle.gateway.specs.Turns.{World, place, world, Front, Moved, nothing_moved, Step, Takes, WasRefused, WasExhausted, FoundNone, ClosesBy, Silence, Hearing, IsQuiet, GoesOn, EndedBy, Means, CountsTurns, Attends, Turn, Counts, GoesWith}
-use Rattle.gateway.specs.Gateways.{Hears, HeardSo, HandsOn, TookSo, Waits, Rests, RestsSo, Stuck, StuckSo}
+use Rattle.wires.specs.Flushing.{Flushes}
+use Rattle.gateway.specs.Standing.{Standing}
+use Rattle.gateway.specs.SessionFields.{ClosesItself}
+use Rattle.gateway.specs.Turns.{World, place, world, Front, Moved, nothing_moved, Step, Takes, WasRefused, WasExhausted, FoundNone, ClosesBy, Silence, Hearing, IsQuiet, GoesOn, EndedBy, Means, CountsTurns, Attends, Turn}
+use Rattle.gateway.specs.TurnParts.{Hears, HeardSo, HandsOn, TookSo, Waits, Rests, RestsSo, Stuck, StuckSo}
 use Rattle.gateway.proofs.StepLemmas.{both, step-then, flush-step}
-use Rattle.gateway.proofs.WireLemmas.{grown-nil}
+use Rattle.wires.specs.WireLaws.{grown-nil}
 
 -- no outputs are taken
 no_takes : (on : Bool) (old new : Front) (desk desk' : Ledger) → desk'.taken ≡ desk.taken → new.passed ≡ old.passed → Takes on old new desk desk' []
@@ -256,7 +256,7 @@ later-exhausted : (desk desk' desk'' : Ledger) (more : List Load) → desk''.loa
 later-exhausted desk desk' desk'' more grown (ls, why, rest, loads) =
     (ls, why, rest ++ more, grown ∙ ap (λ x. x ++ more) loads ∙ append_assoc desk.loads (ls ++ rest) more ∙ ap (λ x. desk.loads ++ x) (append_assoc ls rest more))
 
--- the held message and the counts are those of before the flush
+-- the held message is that of before the flush
 module _ (old h : Front) (session : Standing) (wire wire' wire'' : Told) (desk desk' : Ledger) (put : List ℕ) (answer : Heard)
     (split : old.session.outgoing ≡ put ++ session.outgoing)
     (session_is : session ≡ record old.session { outgoing = session.outgoing })
@@ -271,11 +271,6 @@ module _ (old h : Front) (session : Standing) (wire wire' wire'' : Told) (desk d
   heard-step : Step (place old.session old.waiting wire desk) (place h.session h.waiting wire'' desk') heard-moved
   heard-step = step-then old.session session h.session old.waiting old.waiting h.waiting wire wire' wire'' desk desk desk'
       (record nothing_moved { put = put }) hears.moved flush_step hears.step
-
-  heard_counts : Counts old.session desk.count → Counts h.session desk'.count
-  heard_counts counts =
-      let same : desk'.count ≡ desk.count = ap (λ (l : Ledger). l.count) hears.ledger in
-      subst (λ n. Counts h.session n) (sym same) (hears.counts desk.count (subst (λ (s : Standing). Counts s desk.count) (sym session_is) counts))
 
   -- the message held was lost since no sequence was left
   lost_heard : h.session.closing ≡ Some Exhausted → (old.session.held ≢ None) × WasExhausted desk desk'
@@ -314,12 +309,6 @@ module _ (old h : Front) (session : Standing) (wire wire' wire'' : Told) (desk d
         exhausts = λ holds none. heard_exhausts desk' [] (sym (append-nil desk'.loads)) holds none;
         lost = λ is_open is. lost_heard is;
       }
-
-  pub mate-unheard : GoesWith old.session old.passed desk.count → GoesWith h.session h.passed desk'.count
-  mate-unheard mate =
-      let same : desk'.count ≡ desk.count = ap (λ (l : Ledger). l.count) hears.ledger in
-      let passed : h.passed ≡ old.passed = ap (λ (f : Front). f.passed) hears.others in
-      record { number = heard_counts mate.number; passed_over = omega (arith, mate.passed_over); few = omega (arith, mate.few) }
 
   -- all was written, and an output was looked for
   module _ (desk'' : Ledger) (t : Front) (took : Bool) (hands : HandsOn h t desk' desk'' took) where
@@ -582,15 +571,4 @@ module _ (old h : Front) (session : Standing) (wire wire' wire'' : Told) (desk d
           lost = λ open_before is.
               let lost = lost_heard (sym hands.closing ∙ sym (ap (λ (s : Standing). s.closing) session_end) ∙ is) in
               (lost.0, later-exhausted desk desk' desk'' hands.loaded (ap (λ (l : Ledger). l.loads) hands.ledger) lost.1);
-        }
-
-    pub mate-rested : (end : Front) → end ≡ record t { idle = end.idle; live = end.live } → GoesWith old.session old.passed desk.count → GoesWith end.session end.passed desk''.count
-    mate-rested end end_is mate =
-        let passed : h.passed ≡ old.passed = ap (λ (f : Front). f.passed) hears.others in
-        let least : h.passed ≤ desk'.count = omega (arith, mate.passed_over, count_same) in
-        let few : desk'.count ≤ 2 ^ 62 = omega (arith, mate.few, count_same) in
-        record {
-          number = subst (λ (s : Standing). Counts s desk''.count) (sym (ap (λ (f : Front). f.session) end_is)) (hands.counts (heard_counts mate.number));
-          passed_over = subst (λ n. n ≤ desk''.count) (sym (ap (λ (f : Front). f.passed) end_is)) (hands.passed_over least);
-          few = hands.few few;
         }

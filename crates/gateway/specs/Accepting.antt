@@ -1,10 +1,10 @@
 -- An acceptor: its gateway, and the wire of the client that is connected; and what one turn of it does.
 use Rattle.std.specs.Prelude.{◌≡◌, ◌⊎◌, ℕ, zero, suc, Bool, true, false, Option, Some, None}
-use Rattle.gateway.specs.AtRings.{AtRings, Idles}
+use Rattle.gateway.specs.Gateways.{AtRings, Idles}
 use Rattle.gateway.specs.Delivers.{Proceeds}
 use Rattle.gateway.specs.Gateways.{begun}
 use Rattle.gateway.specs.Seats.{Uses, LooksOnce, ledger_of}
-use Rattle.gateway.specs.Wires.{Told}
+use Rattle.wires.specs.Wires.{Told}
 use Rattle.ring_words.specs.At.{number}
 use Rattle.gateway.specs.declared.ending.Turned.{Turned}
 use Rattle.gateway.specs.declared.ending.Turned.TheVariants.{Worked, Quiet, Ended}

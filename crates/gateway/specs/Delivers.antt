@@ -1,13 +1,13 @@
 -- The headline at one gateway: what its session read, published, gave its client and wrote, held against what its seat took of the rings.
 use Rattle.std.specs.Prelude.{◌≡◌, ℕ, ◌+◌, List, [], ◌++◌, length}
 use Rattle.fix_orders.specs.Text.{Said}
-use Rattle.gateway.specs.AtRings.{AtRings}
+use Rattle.gateway.specs.Gateways.{AtRings}
 use Rattle.gateway.specs.Ledgers.{Ledger}
 use Rattle.gateway.specs.Seats.{ledger_of}
-use Rattle.gateway.specs.Session.{At}
+use Rattle.gateway.specs.Standing.{At}
 use Rattle.gateway.specs.Turns.{Front, Moved, world, Turn}
 use Rattle.gateway.specs.declared.ending.Turned.{Turned}
-use Rattle.gateway.specs.Wires.{Told, grown}
+use Rattle.wires.specs.Wires.{Told, grown}
 
 -- the course of a session so far: the bytes fed to it, the messages published, the outputs given to its client, and the bytes written
 pub record Course : Type 0 where

@@ -8,9 +8,9 @@ use Rattle.ring_words.specs.declared.view.Load.{Load}
 use Rattle.ring_words.specs.Places.{claim, processed, marshalled}
 use Rattle.ring_words.specs.Seats.{load_of}
 use Rattle.sequencer.specs.Claims.{last_processed, SeesRoom}
-use Rattle.sequencer.specs.declared.take.Head.{Head}
-use Rattle.sequencer.specs.declared.take.Take.{Take}
-use Rattle.sequencer.specs.declared.take.Take.TheVariants.{Mine, Passed, Nothing}
+use Rattle.barrier.specs.declared.taking.Head.{Head}
+use Rattle.barrier.specs.declared.taking.Take.{Take}
+use Rattle.barrier.specs.declared.taking.Take.TheVariants.{Mine, Passed, Nothing}
 use Rattle.gateway.specs.declared.seat.TryPublish.{TryPublish}
 use Rattle.gateway.specs.declared.seat.TryPublish.TheVariants.{Done, Refused, Exhausted}
 

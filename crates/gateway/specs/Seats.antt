@@ -14,10 +14,10 @@ use Rattle.ring_words.specs.Places as place
 use Rattle.ring_words.specs.Seats.{looked, marked}
 use Rattle.sequencer.specs.Claims as claims
 use Rattle.sequencer.specs.Claims.{Claimed}
-use Rattle.sequencer.specs.Outputs.{TakesNext}
+use Rattle.barrier.specs.Taking.{TakesNext}
 use Rattle.sequencer.specs.declared.claim.ClaimRefusal.TheVariants as refusal
-use Rattle.sequencer.specs.declared.take.Take.{Take}
-use Rattle.sequencer.specs.declared.take.Take.TheVariants.{Mine, Passed, Nothing}
+use Rattle.barrier.specs.declared.taking.Take.{Take}
+use Rattle.barrier.specs.declared.taking.Take.TheVariants.{Mine, Passed, Nothing}
 use Rattle.gateway.specs.declared.seat.TryPublish.{TryPublish}
 use Rattle.gateway.specs.declared.seat.TryPublish.TheVariants.{Done, Refused, Exhausted}
 use Rattle.gateway.specs.Ledgers.{Ledger, Carries}

@@ -6,12 +6,12 @@ use Rattle.gateway.specs.declared.ending.Reason.TheVariants.{Closed, WireFailed,
 use Rattle.gateway.specs.declared.ending.Turned.{Turned}
 use Rattle.gateway.specs.declared.ending.Turned.TheVariants.{Worked, Quiet, Ended}
 use Rattle.venue_model.specs.Counts.{Rose}
-use Rattle.gateway.specs.Wires.{Told, grown}
+use Rattle.wires.specs.Wires.{Told, grown}
 use Rattle.ring_words.specs.declared.view.Load.{Load}
 use Rattle.ring_words.specs.Places.{marshalled}
 use Rattle.ring_words.specs.Seats.{load_of}
 use Rattle.gateway.specs.Ledgers.{Ledger, IsRefused, IsExhausted}
-use Rattle.gateway.specs.Session.{Standing, At}
+use Rattle.gateway.specs.Standing.{Standing, At}
 
 -- A gateway's side towards its client: the session; the bytes read and not yet fed; whether the client has closed its side; how many turns in
 -- a row wrote nothing though bytes stood to be written; how many, since the client closed, wrote nothing and took no output, but for those that

@@ -7,11 +7,11 @@ ghost use Rattle.ring_words.specs.At.{IsAt};
 
 use crate::ending::Turned;
 use crate::gateway::Gateway;
-use crate::wire::Wire;
 use book::BookLogic;
 use ring_words::{GatewaySeat, Rings};
 use std::alloc::{AllocError, Global};
 use std::marker::Model;
+use wires::Wire;
 
 /// A gateway with its client's wire, if there is a client. Contracts see an `Accepting`.
 #[derive(Drop)]

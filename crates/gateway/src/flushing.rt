@@ -1,27 +1,18 @@
-//! Bytes that stand to be written, into the wire: how each turn of a gateway begins.
-ghost use Rattle.gateway.specs.Flushing.{Flushes};
+//! What a session has to say goes into the wire: how each turn of a gateway begins.
+ghost use Rattle.std.specs.Prelude.{◌≡◌};
+ghost use Rattle.wires.specs.Flushing.{Flushes};
 
-use crate::outgoing::Outgoing;
-use crate::wire::{TryWrite, Wire};
+use crate::session::Session;
+use wires::{Flushed, TryWrite, Wire};
 
-/// Why a flush came to its end.
-#[derive(Clone, Copy, Debug, PartialEq, Eq)]
-pub enum Flushed {
-    /// All bytes went out.
-    All,
-    /// The wire answered Nothing, and bytes remain.
-    Full,
-    /// The wire failed.
-    Failed,
-}
-
-/// Writes the bytes until none is left, the wire takes no more, or it fails.
-pub fn flush<W: Wire>(outgoing: &mut Outgoing, wire: &mut W) -> Flushed
-    ensures { Flushes outgoing.old outgoing.new (W.tells wire.old) (W.tells wire.new) result }
+/// Writes the bytes that stand to be written until none is left, the wire takes no more, or it fails.
+pub fn flush<W: Wire>(session: &mut Session, wire: &mut W) -> Flushed
+    ensures bytes { Flushes session.old.outgoing session.new.outgoing (W.tells wire.old) (W.tells wire.new) result }
+    ensures others { session.new ≡ record session.old { outgoing = session.new.outgoing } }
 {
-    'bytes: while outgoing.len() > 0 {
-        match wire.try_write(outgoing.as_slice()) {
-            TryWrite::Put(n) => outgoing.skip(n),
+    'bytes: while !session.unsent().is_empty() {
+        match wire.try_write(session.unsent()) {
+            TryWrite::Put(count) => session.sent(count),
             TryWrite::Nothing => return Flushed::Full,
             TryWrite::Failed => return Flushed::Failed,
         }

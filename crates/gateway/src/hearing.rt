@@ -5,8 +5,7 @@ ghost use Rattle.fix_orders.specs.Formats.{time_text};
 ghost use Rattle.fix_orders.specs.Header.{header as as_header};
 ghost use Rattle.gateway.specs.Verdict.{verdict, header_verdict, first_verdict, later_verdict, test_verdict, is_party, is_type, is_order, is_logon_body};
 ghost use Rattle.gateway.specs.Answers.{time_after};
-ghost use Rattle.gateway.specs.Hears.{verdict_of, CanCount, CanEcho};
-ghost use Rattle.gateway.specs.Logons.{begins_with};
+ghost use Rattle.gateway.specs.Judging.{verdict_of, CanCount, CanEcho, begins_with};
 
 use crate::names::{client_name, venue_name};
 use crate::refusal::Refusal;

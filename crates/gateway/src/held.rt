@@ -1,7 +1,7 @@
 //! The message that a session holds until it is published. Its bytes lie in place: they are copied once, out of the frame
 //! that they came in, and the ring's rows are written from here.
 ghost use Rattle.std.specs.Prelude.{◌≡◌, ◌≢◌, ◌≤◌, Some, None, length, is_some};
-ghost use Rattle.gateway.specs.Hears.{Holds};
+ghost use Rattle.gateway.specs.Judging.{Holds};
 
 use crate::hearing::Judged;
 use std::marker::Model;
@@ -16,7 +16,7 @@ pub struct Held {
 
 impl Model for Held {
     ghost use Rattle.std.specs.Prelude.{ℕ, List, Option, ◌≡◌, ◌≤◌, length, take};
-    ghost use Rattle.gateway.specs.Holding.{message_in};
+    ghost use Rattle.gateway.specs.Messages.{message_in};
 
     ghost Value = { Option (List ℕ) };
 

@@ -4,13 +4,11 @@
 #![tactic(auto)]
 
 mod acceptor;
-mod client_side;
 mod ending;
 mod flushing;
 mod gateway;
 mod hearing;
 mod held;
-mod input;
 mod message;
 mod moment;
 mod names;
@@ -18,11 +16,10 @@ mod outgoing;
 mod refusal;
 mod seat;
 mod session;
-mod wire;
 
 pub use acceptor::Acceptor;
 pub use ending::{Reason, Turned};
 pub use gateway::Gateway;
-pub use wire::{
+pub use wires::{
     Counts, GatheringWire, MemWire, StdWire, StreamWire, TcpWire, TryRead, TryWrite, Wire, tcp_wire,
 };

@@ -2,8 +2,7 @@
 ghost use Rattle.std.specs.Prelude.{◌≡◌, ◌≤◌, ◌++◌, length, take};
 ghost use Rattle.fix_frame.specs.Grammar.{print_fields};
 ghost use Rattle.fix_orders.specs.Writing.{PutsFields};
-ghost use Rattle.gateway.specs.Messages.{IsTypeText};
-ghost use Rattle.gateway.specs.Headings.{header_fields};
+ghost use Rattle.gateway.specs.Messages.{IsTypeText, header_fields};
 
 use crate::names::{client_name, venue_name};
 use fix_orders::{put_bytes, put_field, put_number};

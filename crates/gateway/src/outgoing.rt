@@ -2,7 +2,7 @@
 //! them off the front.
 ghost use Rattle.std.specs.Prelude.{◌≡◌, ◌+◌, ◌≤◌, [], ◌++◌, length, drop};
 ghost use Rattle.fix_orders.specs.Text.{Said};
-ghost use Rattle.gateway.specs.Session.{message_text};
+ghost use Rattle.gateway.specs.Standing.{message_text};
 ghost use Rattle.gateway.specs.Messages.{IsTypeText, AreFields, Spells};
 
 use crate::message::put_fields;
@@ -46,13 +46,6 @@ impl Outgoing {
             fields: [0; FIELDS],
             moment: Moment::new(),
         }
-    }
-
-    /// How many bytes there are.
-    pub fn len(&self) -> usize
-        ensures { result ≡ length self.now }
-    {
-        self.len
     }
 
     /// The bytes.

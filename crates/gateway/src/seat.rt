@@ -5,9 +5,10 @@ ghost use Rattle.gateway.specs.Ledgers.{PublishTells, TakeTells};
 ghost use Rattle.ring_words.specs.At.{IsAt};
 ghost use Rattle.gateway.specs.Seats.{HasSeen, StaysSeated, Enters, Looks, ledger_of};
 
+use barrier::{Take, take_output};
 use book::BookLogic;
 use ring_words::{GatewaySeat, Rings};
-use sequencer::{ClaimRefusal, Take, take_output, try_claim};
+use sequencer::{ClaimRefusal, try_claim};
 use venue_model::LONGEST_MESSAGE;
 
 /// What came of a message that was to be published.

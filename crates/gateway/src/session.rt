@@ -1,23 +1,17 @@
 //! The pure session: it hears a client's frames one by one, answers them, holds an order message until it is published, and
 //! numbers all that is written. It knows no wire and no ring.
-ghost use Rattle.std.specs.Prelude.{◌≡◌, ◌≢◌, ◌+◌, ◌≤◌, ◌<◌, ◌^◌, [], Some, None, IfOk, IsTrue, ◌↔◌, length, is_some};
-ghost use Rattle.gateway.specs.Flushing.{Flushes};
+ghost use Rattle.std.specs.Prelude.{◌≡◌, ◌≢◌, ◌+◌, ◌≤◌, ◌<◌, ◌^◌, [], Some, None, IfOk, length, drop, is_some};
 ghost use Rattle.fix_orders.specs.Text.{Said};
 
 use crate::ending::Reason;
-use crate::flushing::{Flushed, flush};
 use crate::hearing::{Heard, Judged, hear};
 use crate::held::Held;
 use crate::outgoing::Outgoing;
 use crate::refusal::Refusal;
-use crate::seat::TryPublish;
-use crate::wire::Wire;
 use fix_frame::Framer;
-use fix_orders::{msg_type_code, put_field};
-use sequencer::Head;
+use fix_orders::put_field;
 use std::alloc::{AllocError, Global};
 use std::marker::Model;
-use venue_model::LONGEST_MESSAGE;
 
 /// One session of a gateway's client. Contracts see a `Standing`.
 #[derive(Drop)]
@@ -34,11 +28,11 @@ pub struct Session {
 }
 
 impl Model for Session {
-    ghost use Rattle.gateway.specs.Session.{Standing};
+    ghost use Rattle.gateway.specs.Standing.{Standing};
 
     ghost Value = { Standing };
 
-    ghost use Rattle.gateway.specs.Sessions.{standing, KeepsSession};
+    ghost use Rattle.gateway.specs.SessionFields.{standing, KeepsSession};
 
     ghost view = { standing };
 
@@ -51,13 +45,11 @@ impl Session {
     ghost use Rattle.fix_orders.specs.Formats.{time_text};
     ghost use Rattle.fix_orders.specs.Text.{field};
     ghost use Rattle.gateway.specs.Answers.{Logon, Heartbeat, Logout};
-    ghost use Rattle.gateway.specs.Moves.{fresh, saying, replying, heard};
+    ghost use Rattle.gateway.specs.SessionCalls.{fresh, saying, replying, heard, exhausting, Listens};
     ghost use Rattle.std.specs.Prelude.{IfSome};
-    ghost use Rattle.gateway.specs.Sessions.{ClosesItself};
-    ghost use Rattle.gateway.specs.Parts.{Listens, Settles};
-    ghost use Rattle.gateway.specs.Hears.{verdict_of, IsHeld, CanCount, CanEcho};
+    ghost use Rattle.gateway.specs.SessionFields.{ClosesItself};
+    ghost use Rattle.gateway.specs.Judging.{verdict_of, IsHeld, CanCount, CanEcho};
     ghost use Rattle.gateway.specs.Messages.{IsTypeText, AreFields, Spells, IsRefusalText};
-    ghost use Rattle.gateway.specs.Ledgers.{Carries};
 
     /// A session of this gateway's client, begun.
     pub fn new(alloc: Global, gateway: u8) -> Result<Session, AllocError>
@@ -101,19 +93,19 @@ impl Session {
         self.logged_on
     }
 
-    /// How many bytes stand to be written.
-    pub fn unsent(&self) -> usize
-        ensures { result ≡ length self.now.outgoing }
+    /// The bytes that stand to be written.
+    pub fn unsent(&self) -> &[u8]
+        ensures { result.now ≡ self.now.outgoing }
     {
-        self.outgoing.len()
+        self.outgoing.as_slice()
     }
 
-    /// Writes what stands to be written, as far as the wire takes it.
-    pub fn flush<W: Wire>(&mut self, wire: &mut W) -> Flushed
-        ensures bytes { Flushes self.old.outgoing self.new.outgoing (W.tells wire.old) (W.tells wire.new) result }
-        ensures others { self.new ≡ record self.old { outgoing = self.new.outgoing } }
+    /// So many of them, the first, are written.
+    pub fn sent(&mut self, count: usize)
+        requires { count ≤ length self.old.outgoing }
+        ensures { self.new ≡ record self.old { outgoing = drop count self.old.outgoing } }
     {
-        flush(&mut self.outgoing, wire)
+        self.outgoing.skip(count);
     }
 
     /// Begins a new session of the same client.
@@ -250,7 +242,7 @@ impl Session {
     }
 
     /// Says a message: its MsgType (35), SendingTime (52) and body.
-    fn say(&mut self, msg_type: &[u8], time: u64, body: &[u8])
+    pub fn say(&mut self, msg_type: &[u8], time: u64, body: &[u8])
         requires kind { IsTypeText msg_type.now }
         requires fields { AreFields body.now }
         requires most { length body.now ≤ 320 }
@@ -274,40 +266,23 @@ impl Session {
         self.held.message()
     }
 
-    /// Does what the session does when it was tried to publish the message held: it lets go of one that is published, keeps one that was
-    /// refused, and says so where no sequence is left.
-    pub fn settle(&mut self, answer: TryPublish)
-        requires open { self.old.closing ≡ None }
-        requires held { self.old.held ≢ None }
-        requires room { length self.old.outgoing ≤ 512 }
-        requires number { self.old.number < 2 ^ 63 }
-        ensures settles { Settles self.old self.new answer }
-        ensures room { length self.new.outgoing ≤ length self.old.outgoing + 412 }
+    /// The message held is published: it lets go of it.
+    pub fn published(&mut self)
+        ensures { self.new ≡ record self.old { held = None } }
     {
-        match answer {
-            TryPublish::Done => self.held.release(),
-            TryPublish::Refused => {}
-            TryPublish::Exhausted => {
-                self.held.release();
-                self.closing = Some(Reason::Exhausted);
-                let time = self.time;
-                self.say_logout(time, Refusal::Exhausted.text());
-            }
-        }
+        self.held.release();
     }
 
-    /// Hands an output to the client, who is logged on.
-    pub fn hand_on(&mut self, head: Head, body: &[u8; LONGEST_MESSAGE])
-        requires carries { (said : Said) × Carries head body.now said }
+    /// No sequence is left for the message held: it lets go of it, says so, and closes.
+    pub fn exhausted(&mut self)
         requires room { length self.old.outgoing ≤ 512 }
         requires number { self.old.number < 2 ^ 63 }
-        ensures { (said : Said) → Carries head body.now said → self.new ≡ saying said self.old }
+        ensures exhausted { self.new ≡ exhausting self.old }
+        ensures room { length self.new.outgoing ≤ length self.old.outgoing + 412 }
     {
-        let body = &body[..];
-        self.say(
-            msg_type_code(head.msg_type),
-            head.sending_time,
-            &body[..head.len],
-        );
+        self.held.release();
+        self.closing = Some(Reason::Exhausted);
+        let time = self.time;
+        self.say_logout(time, Refusal::Exhausted.text());
     }
 }

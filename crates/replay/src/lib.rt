@@ -8,6 +8,7 @@ mod lines;
 mod replayed;
 mod reporting;
 mod running;
+mod taker;
 
 pub use fault::{ReplayFault, refuse};
 pub use job::{Job, Subject};

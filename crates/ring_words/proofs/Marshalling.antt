@@ -230,6 +230,17 @@ pub exchanged_twice : {L : Type 0} (row j : ℕ) (v : View L) (b d spare : Boxed
 exchanged_twice row j v b d spare one two three one_is found two_is three_is =
     three_is ∙ (λ i. ((two_is i).0, (row, d) ∷ [])) ∙ (λ i. ((one_is i).0, (row, d) ∷ [])) ∙ ap (λ (l : List (ℕ × Boxed)). (v, l)) (sym found ∙ ap (λ (z : Seated Boxed _). z.1) one_is)
 
+-- the box of a slot; d where there is none
+box_of : Boxed → List (ℕ × Boxed) → Boxed
+box_of d [] = d
+box_of d (x ∷ xs) = x.1
+
+-- what the box that came out of the slot holds is the output
+pub copied_output : (row j : ℕ) (b d : Boxed) (o : Output) (q : ℕ) (out : List (ℕ × Boxed)) → out ≡ (j, b) ∷ [] → out ≡ (row, d) ∷ []
+    → b.value ≡ report_of o q → d.value.output ≡ o
+copied_output row j b d o q out took found is = let same = sym took ∙ found in
+    ap (λ (z : Boxed). z.value.output) (sym (ap (box_of d) same)) ∙ ap (λ (f : Report). f.output) is
+
 -- the seat behind both loads of an address, by which an output was copied
 pub copied : {L : Type 0} (n m q slots : ℕ) (outputs : L → List Message → List Output) (me me' me'' : Seated Boxed L) (k x y : ℕ) (b : Boxed) (logic : L) (o : Output)
     → me' ≡ (alone me.0 (with_out (looked (person me.0) k x) (Some b.value)), (q % m, b) ∷ []) → gives_report (readable n m published) outputs (step slots k 0 0 none) me' y me''

@@ -11,7 +11,7 @@ use Rattle.ring_words.specs.Places.{unmarshalled, journalled, marshalled, publis
 use Rattle.ring_words.specs.Log.{IsEntry}
 use Rattle.command_words.specs.Packing.{command_words, IsPackable}
 use Rattle.ring_words.specs.Texts.{text_words, IsPackableText}
-use Rattle.ring_words.specs.Seats.{looked, knowing, saw, last_from}
+use Rattle.ring_words.specs.Seats.{looked, looked_twice, knowing, saw, last_from}
 use Rattle.ring_words.specs.At.{At, Steps}
 use Rattle.ring_words.specs.Steps.{lesser, Reaches, IsLegal}
 
@@ -44,10 +44,15 @@ module _ {L : Type 0} where
   FindsJournalled old x new = (rest : List Message) × Reaches (lesser (last_from unmarshalled 0 old.who.loads) x) old.who.seen rest
       × Steps old (knowing (looked old.who journalled x) rest) new
 
-  -- published was loaded as x: a history is known that has so many outputs
+  -- published was loaded as x, which isn't below the marshaller's word: a history is known that has so many outputs
   abbrev pub FindsPublished : (List Message → List Output) → At L → ℕ → At L → Type 0
   FindsPublished outputs old x new = (rest : List Message) × Steps old (knowing (looked old.who published x) rest) new
-      × (x ≤ length (outputs (old.who.seen ++ rest)))
+      × (x ≤ length (outputs (old.who.seen ++ rest))) × (old.who.own ≤ x)
+
+  -- the answer x is the output at q of those that the person knows; the word at k has its address, and was loaded twice, before the output was
+  -- copied and after that
+  abbrev pub FindsCopy : List Output → At L → ℕ → ℕ → Output → At L → Type 0
+  FindsCopy outputs old k q x new = (o : Output) → get_elem? outputs q ≡ some o → (x ≡ o) × Steps old (looked_twice old.who k o.to) new
 
   -- Marshalled was loaded as x, above the gateway's count. A history is known that goes on from what was seen, is legal for the gateway behind so
   -- many entries of the history at the start, and has an output at the gateway's count

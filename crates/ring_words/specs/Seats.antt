@@ -27,6 +27,10 @@ sent_of s e = record { sequence = s; entry = e }
 abbrev pub looked : Person → ℕ → ℕ → Person
 looked p k x = record p { loads = p.loads ++ load_of k x ∷ [] }
 
+-- it made these loads
+abbrev pub loading : Person → List Load → Person
+loading p ls = record p { loads = p.loads ++ ls }
+
 -- it claimed s
 abbrev pub with_claim : Person → ℕ → Person
 with_claim p s = record p { claims = s ∷ p.claims }

@@ -1,5 +1,5 @@
 -- The slots of the output ring, one for each row. Each holds a box with an output and its place, but while the processor or the marshaller has it out.
-use Rattle.std.specs.Prelude.{Option, Some, ◌≡◌, ℕ, ◌%◌, ◌<◌, List, [], ◌∷◌, length}
+use Rattle.std.specs.Prelude.{Option, Some, ◌≡◌, ℕ, ◌%◌, ◌<◌, List, length}
 use Rattle.std.specs.Global.{Box}
 use mathlib.Core.Option.{Option as Maybe, some}
 use lib.ListN.{get_elem?}
@@ -15,10 +15,6 @@ Boxed = Box Report
 -- the output o, whose place is q
 abbrev pub report_of : Output → ℕ → Report
 report_of o q = record { output = o; place = q }
-
--- the words of an output beside the slot of its row: the gateway that it goes to
-abbrev pub output_words : Output → List ℕ
-output_words o = o.to ∷ []
 
 -- Which report stands for each row, whether its slot is at home or out; which one the processor is about to put, and which one the marshaller copies
 pub record Slots : Type 0 where

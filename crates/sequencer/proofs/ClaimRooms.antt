@@ -4,12 +4,11 @@ use Rattle.venue_model.specs.ListLaws.{at_longer}
 use Rattle.ring_words.specs.declared.view.Load.{Load}
 use Rattle.ring_words.specs.declared.view.Person.{Person}
 use Rattle.ring_words.specs.Places.{claim, processed}
-use Rattle.ring_words.specs.Seats.{looked, with_claim}
+use Rattle.ring_words.specs.Seats.{looked, loading, with_claim}
 use Rattle.ring_words.specs.SeatLaws.{last_stays, claim_just_loaded}
 use Rattle.ring_words.specs.At.{At, Steps, seated}
 use Rattle.ring_words.specs.Steps.{ClaimsUpTo}
 use Rattle.sequencer.specs.Claims.{loaded_both, last_processed, SeesRoom}
-use Rattle.sequencer.specs.Outputs.{loading}
 
 -- a bound on the claim values loaded is one on those loaded before the last loads
 claims_earlier : (p : Person) (ls : List Load) (x : ℕ) → ClaimsUpTo (loading p ls) x → ClaimsUpTo p x

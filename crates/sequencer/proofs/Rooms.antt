@@ -10,7 +10,7 @@ use Rattle.ring_words.specs.Seats.{load_of, looked}
 use Rattle.ring_words.specs.SeatLaws.{output_room_last_loaded}
 use Rattle.ring_words.specs.At.{At, seated}
 use Rattle.ring_words.specs.Steps.{HasOutputRoom}
-use Rattle.sequencer.specs.Outputs.{taken_loads, least_from, least, HasLooked, last_taken, LeavesRoom, KeepsRoom}
+use Rattle.sequencer.specs.Rooms.{taken_loads, least_from, least, HasLooked, last_taken, LeavesRoom, KeepsRoom}
 
 -- one value more is one load more, of the next gateway's word
 taken_more : (k : ℕ) (xs : List ℕ) (x : ℕ) → taken_loads k (xs ++ x ∷ []) ≡ taken_loads k xs ++ load_of (taken (k + length xs)) x ∷ []

@@ -3,9 +3,8 @@ use Rattle.std.specs.Prelude.{⊤, Option, None, Some, ◌≡◌, ◌⊎◌, ℕ
 use Rattle.ring_words.specs.declared.view.Load.{Load}
 use Rattle.ring_words.specs.declared.view.Person.{Person}
 use Rattle.ring_words.specs.Places.{claim, processed}
-use Rattle.ring_words.specs.Seats.{load_of, looked, with_claim, last_of}
+use Rattle.ring_words.specs.Seats.{load_of, looked, loading, with_claim, last_of}
 use Rattle.ring_words.specs.At.{At, Steps}
-use Rattle.sequencer.specs.Outputs.{loading}
 use Rattle.sequencer.specs.declared.claim.ClaimRefusal.{ClaimRefusal}
 use Rattle.sequencer.specs.declared.claim.ClaimRefusal.TheVariants.{Full, Contended, Exhausted}
 

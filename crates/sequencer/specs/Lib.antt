@@ -1,3 +1,3 @@
 pub mod Claims
 pub mod Words
-pub mod Outputs
+pub mod Rooms

@@ -3,11 +3,10 @@ ghost use Rattle.std.specs.Prelude.{Some, ◌≡◌, ℕ, ◌↔◌, ◌+◌, �
 ghost use Rattle.ring_words.specs.declared.view.Load.{Load};
 ghost use Rattle.ring_words.specs.Log.{times};
 ghost use Rattle.ring_words.specs.Places.{processed};
-ghost use Rattle.ring_words.specs.Seats.{looked};
+ghost use Rattle.ring_words.specs.Seats.{looked, loading};
 ghost use Rattle.ring_words.specs.At.{IsAt, Steps};
 ghost use Rattle.ring_words.specs.Steps.{ClaimsUpTo, HasRoom};
 ghost use Rattle.sequencer.specs.Claims.{last_processed, ShowsFull, SeesRoom, Claimed, Refused};
-ghost use Rattle.sequencer.specs.Outputs.{loading};
 
 use ring_words::{GatewaySeat, Rings};
 use std::marker::Model;
@@ -73,8 +72,9 @@ fn keeps_room<L>(seat: &GatewaySeat<L>, at: u64, rows: u64) -> bool
     }
 }
 
-/// Looks whether the sequence `at` has a free row. The processed word only rises, so a value loaded earlier that leaves room is as good as one loaded
-/// now; only where it leaves none, or none was loaded, is the word loaded, whose cache line the processor writes.
+/// Looks whether the sequence `at` has a free row. The processed word only rises, so an earlier value that leaves room is
+/// as good as one loaded now. The word is loaded only where there is no such value, since the processor writes its cache
+/// line.
 fn sees_room<L: Logic, const N: usize, const M: usize, const G: usize>(
     rings: &Rings<L, N, M, G>,
     seat: &mut GatewaySeat<L>,

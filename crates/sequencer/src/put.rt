@@ -6,7 +6,7 @@ ghost use Rattle.ring_words.specs.Places.{journalled};
 ghost use Rattle.ring_words.specs.Rule.{at_place};
 ghost use Rattle.ring_words.specs.At.{IsAt, Steps, SamePlace};
 ghost use Rattle.ring_words.specs.Steps.{HasOutputRoom, Shows};
-ghost use Rattle.sequencer.specs.Outputs.{HasLooked, KeepsRoom, KeepsNoRoom, SeesRoomFor};
+ghost use Rattle.sequencer.specs.Rooms.{HasLooked, KeepsRoom, KeepsNoRoom, SeesRoomFor};
 
 use ring_words::{ProcessSeat, Rings};
 use venue_model::{Logic, Output};
@@ -60,9 +60,10 @@ fn look_for_room<L: Logic, const N: usize, const M: usize, const G: usize>(
     rings.output_rows() - (seat.published() - least)
 }
 
-/// How many outputs more the output ring has room for, where so many are wanted (Disruptor paper, "Sequencing": the producer stays behind the slowest
-/// consumer). The taken words only rise, so values loaded earlier that leave room for all are as good as those loaded now; only where they don't is
-/// the taken word of each gateway loaded, whose cache line that gateway writes.
+/// How many outputs more the output ring has room for, where so many are wanted (Disruptor paper, "Sequencing": the
+/// producer stays behind the slowest consumer). The taken words only rise, so earlier values that leave room for all are
+/// as good as those loaded now. The words are loaded only where there are no such values, since each gateway writes the
+/// cache line of its own.
 pub fn room<L: Logic, const N: usize, const M: usize, const G: usize>(
     rings: &Rings<L, N, M, G>,
     seat: &mut ProcessSeat<L>,

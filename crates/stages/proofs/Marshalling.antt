@@ -9,14 +9,12 @@ use Rattle.venue_model.specs.declared.outputs.Output.{Output}
 use Rattle.venue_model.specs.declared.outputs.OutputType.{OutputType}
 use Rattle.fix_orders.specs.Text.{text_bytes}
 use Rattle.ring_words.specs.declared.view.Person.{Person}
-use Rattle.ring_words.specs.Places.{published}
-use Rattle.ring_words.specs.Slots.{output_words}
+use Rattle.ring_words.specs.Places.{published, out_row}
 use Rattle.ring_words.specs.Texts.{text_words, IsPackableText}
-use Rattle.ring_words.specs.Seats.{load_of, looked, knowing, wrote, moved}
+use Rattle.ring_words.specs.Seats.{load_of, looked, looked_twice, knowing, wrote, moved}
 use Rattle.ring_words.specs.At.{At, seated}
 use Rattle.ring_words.specs.Steps.{Shows, WroteText, MayWriteText}
 use Rattle.venue_model.specs.ListLaws.{at_longer, at_behind}
-use Rattle.barrier.specs.Outputs.{output_loads, after_output}
 use Rattle.book.specs.Histories.{outputs_of}
 use Rattle.stages.specs.Marshals.{after_text, WroteTexts, Marshals}
 use Rattle.stages.specs.declared.turn.Turn.TheVariants.{Did, Idle}
@@ -33,9 +31,10 @@ no_longer (suc i) (x ∷ xs) = let most = no_longer i xs in omega (arith, most)
 pub just_shown : (p : Person) (k x s : ℕ) (rest : List Message) → s < x → Shows k (knowing (looked p k x) rest) s
 just_shown p k x s rest below = (length p.loads, (load_of k x, at_behind p.loads (load_of k x ∷ []) 0 (length p.loads) _ (omega arith) refl, refl, below))
 
--- and the loads of an output's words leave that
-pub still_shown : (n m : ℕ) (p : Person) (k q s : ℕ) (ws : List ℕ) → Shows k p s → Shows k (after_output n m p q ws) s
-still_shown n m p k q s ws shown = let l = shown.1.0 in (shown.0, (l, at_longer (p.loads ++ output_loads n m q 0 ws) _ shown.0 l (at_longer p.loads _ shown.0 l shown.1.1), shown.1.2, shown.1.3))
+-- and the two loads of an output's address leave that
+pub still_shown : (p : Person) (k w x s : ℕ) → Shows k p s → Shows k (looked_twice p w x) s
+still_shown p k w x s shown = let l = shown.1.0 in
+    (shown.0, (l, at_longer (p.loads ++ load_of w x ∷ []) _ shown.0 l (at_longer p.loads _ shown.0 l shown.1.1), shown.1.2, shown.1.3))
 
 -- ITS TEXT
 
@@ -50,15 +49,15 @@ is_its_text o output s kind body is kind_is body_is = by_fields ∙ ap (λ (x : 
 -- ONE OUTPUT
 
 module _ {L : Type 0} (n m : ℕ) (outputs : List Message → List Output) (v a : At L) (s : ℕ) (o : Output)
-    (loaded : a ≡ seated v (after_output n m v.who s (output_words o))) where
+    (loaded : a ≡ seated v (looked_twice v.who (out_row n m s 0) o.to)) where
   -- its words are loaded: the place is shown as before
   pub loaded_shown : Shows published v.who s → Shows published a.who s
-  loaded_shown shown = subst (λ (z : At L). Shows published z.who s) (sym loaded) (still_shown n m v.who published s s (output_words o) shown)
+  loaded_shown shown = subst (λ (z : At L). Shows published z.who s) (sym loaded) (still_shown v.who published (out_row n m s 0) o.to s shown)
 
   -- and so is which rows may be written
   pub still_may : MayWriteText outputs text_bytes v.who s → MayWriteText outputs text_bytes a.who s
   still_may may = subst (λ (z : At L). MayWriteText outputs text_bytes z.who s) (sym loaded) (by_row may) where
-    by_row : MayWriteText outputs text_bytes v.who s → MayWriteText outputs text_bytes (after_output n m v.who s (output_words o)) s
+    by_row : MayWriteText outputs text_bytes v.who s → MayWriteText outputs text_bytes (looked_twice v.who (out_row n m s 0) o.to) s
     by_row (inl first) = inl first
     by_row (inr (inl on)) = inr (inl on)
     by_row (inr (inr (next, (d, whole)))) = inr (inr (
@@ -67,7 +66,7 @@ module _ {L : Type 0} (n m : ℕ) (outputs : List Message → List Output) (v a 
         d,
         record {
           row = whole.row;
-          shown = still_shown n m v.who published s v.who.part.sequence (output_words o) whole.shown;
+          shown = still_shown v.who published (out_row n m s 0) o.to v.who.part.sequence whole.shown;
           output = whole.output;
           words = whole.words;
           packable = whole.packable;
@@ -80,13 +79,13 @@ module _ {L : Type 0} (n m : ℕ) (outputs : List Message → List Output) (v a 
     pub is_written : b ≡ seated v (after_text n m v.who s o)
     is_written = stored
         ∙ ap (λ (z : At L). seated z (wrote z.who s (text_words text))) loaded
-        ∙ ap (λ (t : Text). seated v (wrote (after_output n m v.who s (output_words o)) s (text_words t))) is
+        ∙ ap (λ (t : Text). seated v (wrote (looked_twice v.who (out_row n m s 0) o.to) s (text_words t))) is
 
     -- and stands whole
     pub is_whole : v.who.own ≤ s → Shows published v.who s → get_elem? (outputs v.who.seen) s ≡ some o → IsPackableText text → WroteText outputs text_bytes b.who o
     is_whole from shown there packable = subst (λ (z : At L). WroteText outputs text_bytes z.who o) (sym is_written) (record {
       row = from;
-      shown = still_shown n m v.who published s s (output_words o) shown;
+      shown = still_shown v.who published (out_row n m s 0) o.to s shown;
       output = there;
       words = refl;
       packable = subst IsPackableText is packable;
@@ -117,7 +116,7 @@ module _ {L : Type 0} (n m : ℕ) (outputs : List Message → List Output) (v u 
         place = place ∙ ap (λ (z : At L). seated z w.who) so_far.place;
         own = ap (λ p. p.own) written ∙ so_far.own;
         seen = ap (λ p. p.seen) written ∙ so_far.seen;
-        shown = λ q there. subst (λ p. Shows published p q) (sym written) (still_shown n m u.who published s q (output_words o) (so_far.shown q there));
+        shown = λ q there. subst (λ p. Shows published p q) (sym written) (still_shown u.who published (out_row n m s 0) o.to q (so_far.shown q there));
         all = subst (λ (k : ℕ). WroteTexts n m (outputs v.who.seen) v.who k w.who) longer (
           u.who,
           so_far.all,

@@ -24,7 +24,7 @@ use Rattle.ring_words.specs.Steps.{HasOutputRoom, Shows, lesser}
 use Rattle.ring_words.specs.SeatLaws.{last_kept, last_loaded}
 use Rattle.barrier.specs.Availability.{Gated}
 use Rattle.barrier.specs.Commands.{command_loads}
-use Rattle.sequencer.specs.Outputs.{taken_loads, SeesRoomFor}
+use Rattle.sequencer.specs.Rooms.{taken_loads, SeesRoomFor}
 use Rattle.book.specs.Books.{Book}
 use Rattle.book.specs.Histories.{state_of, outputs_of}
 use Rattle.stages.specs.Turns.{after_reading}

@@ -8,3 +8,5 @@ pub mod Insides
 pub mod Crews
 pub mod Finishing
 pub mod PollLaws
+pub mod Journalling
+pub mod JournallingLaws

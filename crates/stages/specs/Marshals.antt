@@ -7,18 +7,16 @@ use Rattle.venue_model.specs.Requests.{Symbols}
 use Rattle.venue_model.specs.declared.outputs.Output.{Output}
 use Rattle.fix_orders.specs.Text.{text_bytes}
 use Rattle.ring_words.specs.declared.view.Person.{Person}
-use Rattle.ring_words.specs.Places.{published}
-use Rattle.ring_words.specs.Slots.{output_words}
+use Rattle.ring_words.specs.Places.{published, out_row}
 use Rattle.ring_words.specs.Texts.{text_words}
-use Rattle.ring_words.specs.Seats.{looked, knowing, wrote, moved}
-use Rattle.barrier.specs.Outputs.{after_output}
+use Rattle.ring_words.specs.Seats.{looked, looked_twice, knowing, wrote, moved}
 use Rattle.book.specs.Histories.{outputs_of}
 use Rattle.stages.specs.declared.turn.Turn.{Turn}
 use Rattle.stages.specs.declared.turn.Turn.TheVariants.{Did, Idle, OutFull, JournalFailed}
 
--- the output at place q was read, and its text stored in its row
+-- the output at place q was read, between two loads of its address, and its text stored in its row
 abbrev pub after_text : ℕ → ℕ → Person → ℕ → Output → Person
-after_text n m p q o = wrote (after_output n m p q (output_words o)) q (text_words (text_bytes o q))
+after_text n m p q o = wrote (looked_twice p (out_row n m q 0) o.to) q (text_words (text_bytes o q))
 
 -- so it was with k of these outputs, one after another, the first of them the next one
 abbrev pub WroteTexts : ℕ → ℕ → List Output → Person → ℕ → Person → Type 0

@@ -11,7 +11,7 @@ use Rattle.ring_words.specs.Rule.{at_place}
 use Rattle.ring_words.specs.Seats.{looked}
 use Rattle.ring_words.specs.Steps.{lesser}
 use Rattle.barrier.specs.Availability.{Gated}
-use Rattle.sequencer.specs.Outputs.{HasLooked, KeepsRoom, KeepsNoRoom}
+use Rattle.sequencer.specs.Rooms.{HasLooked, KeepsRoom, KeepsNoRoom}
 use Rattle.book.specs.Histories.{outputs_of}
 use Rattle.stages.specs.Turns.{done, after_reading}
 use Rattle.stages.specs.declared.turn.Turn.{Turn}

@@ -6,6 +6,7 @@ mod crew;
 mod journaller;
 mod marshaller;
 mod processor;
+mod stage;
 mod turn;
 mod unmarshaller;
 
@@ -13,5 +14,6 @@ pub use crew::{Crew, CrewAndGateways, Turns};
 pub use journaller::{Journaller, NotMade};
 pub use marshaller::Marshaller;
 pub use processor::{Processor, ProcessorError, Refused};
+pub use stage::Stage;
 pub use turn::Turn;
 pub use unmarshaller::Unmarshaller;

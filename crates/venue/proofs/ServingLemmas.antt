@@ -19,13 +19,13 @@ use Rattle.stages.specs.declared.turn.Turn.{Turn}
 use Rattle.stages.specs.declared.turn.Turn.TheVariants.{Did, Idle, OutFull, JournalFailed}
 use Rattle.stages.specs.Kept.{Fails}
 use Rattle.stages.specs.Turns.{Journals}
-use Rattle.gateway.specs.AtRings.{AtRings}
+use Rattle.gateway.specs.Gateways.{AtRings}
 use Rattle.gateway.specs.Delivers.{Start, Course, Delivers}
 use Rattle.gateway.specs.Gateways.{begun}
 use Rattle.gateway.specs.Ledgers.{Ledger}
 use Rattle.gateway.specs.Turns as turns
 use Rattle.gateway.specs.Turns.{Front}
-use Rattle.gateway.specs.Wires as wires
+use Rattle.wires.specs.Wires as wires
 use Rattle.gateway.specs.declared.ending.Reason.{Reason}
 use Rattle.gateway.specs.declared.ending.Turned.{Turned}
 use Rattle.gateway.specs.declared.ending.Turned.TheVariants.{Worked, Quiet, Ended}

@@ -7,7 +7,7 @@ use Rattle.disks.specs.Disk.{OnlyRead}
 use Rattle.journal.specs.Journals.{IsOpened}
 use Rattle.stages.specs.Stations.{OneCrew, disk_of}
 use Rattle.stages.specs.Finishing.{Finished}
-use Rattle.workers.specs.Journalling.{JournalsOn}
+use Rattle.stages.specs.Journalling.{JournalsOn}
 use Rattle.venue.specs.Faults.{status_of_end}
 use Rattle.venue.specs.Members.{AreBack}
 use Rattle.venue.specs.Opened.{AreBehind, IsNewCrew}

@@ -6,7 +6,7 @@ use Rattle.venue_model.specs.Requests.{Symbols}
 use Rattle.gateway.specs.Delivers.{Course, Delivers, starts}
 use Rattle.gateway.specs.Gateways.{begun}
 use Rattle.gateway.specs.Seats.{ledger_of}
-use Rattle.gateway.specs.Wires as wires
+use Rattle.wires.specs.Wires as wires
 use Rattle.disks.specs.Disk.{Told, LeavesOnly, OnlyRead}
 use Rattle.journal.specs.Format.{IsJournal}
 use Rattle.journal.specs.Journals.{IsOpened}

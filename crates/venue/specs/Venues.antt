@@ -3,8 +3,8 @@ use Rattle.std.specs.Prelude.{ℕ, List, ◌++◌}
 use Rattle.venue_model.specs.History.{History}
 use Rattle.venue_model.specs.Requests.{Symbols}
 use Rattle.ring_words.specs.At.{Opened}
-use Rattle.gateway.specs.AtRings.{AtRings}
-use Rattle.gateway.specs.Wires.{Told}
+use Rattle.gateway.specs.Gateways.{AtRings}
+use Rattle.wires.specs.Wires.{Told}
 use Rattle.disks.specs.Disk as disk
 use Rattle.journal.specs.Format.{IsJournal}
 use Rattle.stages.specs.Stations.{OneCrew}

@@ -6,7 +6,7 @@ ghost use denote.Param.Send.{IsSend};
 ghost use Rattle.disks.specs.Disk.{Both};
 ghost use Rattle.stages.specs.Stations.{disk_of};
 ghost use Rattle.stages.specs.Crews.{AreAt};
-ghost use Rattle.workers.specs.Journalling.{WorksOn};
+ghost use Rattle.stages.specs.Journalling.{WorksOn};
 ghost use Rattle.venue.specs.Members.{ArePosts, AreBack};
 ghost use Rattle.venue.specs.Serving.{LeavesFrom};
 ghost use Rattle.stages.specs.Finishing.{Finished};

@@ -1,84 +1,44 @@
 //! The four stages of one venue, each on a thread of its own.
 ghost use Rattle.ring_words.specs.At.{IsAt};
 ghost use Rattle.stages.specs.Crews.{AreAt};
-ghost use Rattle.workers.specs.Journalling.{JournalsOn, WorksOn};
+ghost use Rattle.stages.specs.Journalling.{JournalsOn, WorksOn};
 ghost use denote.Param.Send.{IsSend, IsSync};
 
-use crate::gate::Gate;
-use crate::keeping::keep;
+use crate::gate::{Gate, Station};
 use crate::signals::Signals;
-use crate::stations::{marshal, process, unmarshal};
+use crate::station::staff;
 use book::BookLogic;
 use journal::JournalDisk;
 use ring_words::Rings;
-use stages::{Crew, Journaller, Marshaller, Processor, Unmarshaller};
+use stages::{Crew, Journaller, Marshaller, Processor, Stage, Unmarshaller};
 use std::rt::Clock;
 use std::thread::{Threads, join};
 
-/// Lets the two stages that read what gateways publish work, each on a thread of its own, until the signals say stop.
-fn read<
-    R: Threads + Clock + Sync,
+/// Lets two stages work at their stations, each on a thread of its own, until the signals say stop.
+fn side_by_side<
+    T: Threads + Clock + Sync,
     Q: Gate + Sync,
-    D: JournalDisk + Drop + Send,
-    const N: usize,
-    const M: usize,
-    const G: usize,
->(
-    rt: &R,
-    gate: &Q,
-    rings: &Rings<BookLogic, N, M, G>,
-    unmarshaller: Unmarshaller,
-    journaller: Journaller<D>,
-    signals: &Signals,
-) -> (Unmarshaller, Journaller<D>)
-    requires unmarshaller { IsAt rings.now unmarshaller }
-    requires journaller { IsAt rings.now journaller.seat }
-    ensures unmarshaller { IsAt rings.now result.0 }
-    ensures journaller { JournalsOn rings.now D.honest D.tells D.failed journaller result.1 }
+    R: Sync,
+    A: Stage<R> + Drop + Send,
+    B: Stage<R> + Drop + Send,
+>(rt: &T, gate: &Q, rings: &R, one: (Station, A), other: (Station, B), signals: &Signals) -> (A, B)
+    requires one { A.sits rings.now one.1 }
+    requires other { B.sits rings.now other.1 }
+    ensures one { A.sits rings.now result.0 × A.goes rings.now one.1 result.0 }
+    ensures other { B.sits rings.now result.1 × B.goes rings.now other.1 result.1 }
 {
+    let (one_station, one) = one;
+    let (other_station, other) = other;
     join(
         rt,
-        move || -> Unmarshaller
-            requires { IsAt rings.now unmarshaller }
-            ensures { IsAt rings.entry.now result }
-        { unmarshal(rt, gate, rings, unmarshaller, signals) },
-        move || -> Journaller<D>
-            requires { IsAt rings.now journaller.seat }
-            ensures { JournalsOn rings.entry.now D.honest D.tells D.failed journaller result }
-        { keep(rt, gate, rings, journaller, signals) },
-    )
-}
-
-/// Lets the two stages behind these work, each on a thread of its own, until the signals say stop.
-fn answer<
-    R: Threads + Clock + Sync,
-    Q: Gate + Sync,
-    const N: usize,
-    const M: usize,
-    const G: usize,
->(
-    rt: &R,
-    gate: &Q,
-    rings: &Rings<BookLogic, N, M, G>,
-    processor: Processor,
-    marshaller: Marshaller,
-    signals: &Signals,
-) -> (Processor, Marshaller)
-    requires processor { IsAt rings.now processor.seat }
-    requires marshaller { IsAt rings.now marshaller }
-    ensures processor { IsAt rings.now result.0.seat }
-    ensures marshaller { IsAt rings.now result.1 }
-{
-    join(
-        rt,
-        move || -> Processor
-            requires { IsAt rings.now processor.seat }
-            ensures { IsAt rings.entry.now result.seat }
-        { process(rt, gate, rings, processor, signals) },
-        move || -> Marshaller
-            requires { IsAt rings.now marshaller }
-            ensures { IsAt rings.entry.now result }
-        { marshal(rt, gate, rings, marshaller, signals) },
+        move || -> A
+            requires { A.sits rings.now one }
+            ensures { A.sits rings.entry.now result × A.goes rings.entry.now one result }
+        { staff(rt, gate, rings, one_station, one, signals) },
+        move || -> B
+            requires { B.sits rings.now other }
+            ensures { B.sits rings.entry.now result × B.goes rings.entry.now other result }
+        { staff(rt, gate, rings, other_station, other, signals) },
     )
 }
 
@@ -108,13 +68,21 @@ pub(crate) fn run_stages<
                 × (IsAt rings.now journaller.seat) }
             ensures { (IsAt rings.entry.now result.0)
                 × JournalsOn rings.entry.now D.honest D.tells D.failed journaller result.1 }
-        { read(rt, gate, rings, unmarshaller, journaller, signals) },
+        {
+            let one = (Station::Unmarshaller, unmarshaller);
+            let other = (Station::Journaller, journaller);
+            side_by_side(rt, gate, rings, one, other, signals)
+        },
         move || -> (Processor, Marshaller)
             requires { IsSync R.row × IsSync Q.row × (IsAt rings.now processor.seat)
                 × (IsAt rings.now marshaller) }
             ensures { (IsAt rings.entry.now result.0.seat)
                 × (IsAt rings.entry.now result.1) }
-        { answer(rt, gate, rings, processor, marshaller, signals) },
+        {
+            let one = (Station::Processor, processor);
+            let other = (Station::Marshaller, marshaller);
+            side_by_side(rt, gate, rings, one, other, signals)
+        },
     );
     Crew {
         unmarshaller,

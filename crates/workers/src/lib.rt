@@ -4,10 +4,9 @@
 
 mod crew;
 mod gate;
-mod keeping;
 mod rest;
 mod signals;
-mod stations;
+mod station;
 mod threads;
 mod worker;
 

@@ -1,6 +1,6 @@
 //! A run: stages, and what is to happen beside them, at the same time.
 ghost use Rattle.stages.specs.Crews.{AreAt};
-ghost use Rattle.workers.specs.Journalling.{WorksOn};
+ghost use Rattle.stages.specs.Journalling.{WorksOn};
 ghost use denote.Param.Send.{IsSend, IsSync};
 
 use crate::crew::run_stages;

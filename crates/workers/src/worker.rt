@@ -1,4 +1,5 @@
-//! A worker, a stage or a gateway at the rings, and the loop in which it takes its turns (Disruptor: an event processor).
+//! A worker, a gateway at the rings, and the loop in which it takes its turns (Disruptor: an event processor). A stage has a
+//! loop of its own, in station.rt.
 ghost use Rattle.std.specs.Prelude.{◌≡◌};
 
 use crate::gate::{Gate, Station};
@@ -17,7 +18,7 @@ pub enum Outcome {
     Over,
 }
 
-/// A stage or a gateway at its rings.
+/// A worker that has turns: a gateway at its rings.
 pub trait Worker {
     /// What turns come to, none or one or many of them: for instance that it is at the same rings.
     ghost goes: { Self → Self → Type 0 };
@@ -28,11 +29,6 @@ pub trait Worker {
     /// And so it is behind one turn more.
     ghost further: { (x y z : Self) → goes x y → goes y z → goes x z };
 
-    /// The number that the gate is told with a turn behind which so many were: of a stage its next sequence.
-    fn seq(&self, turns: u64) -> u64 {
-        turns
-    }
-
     /// Does what is next for it, if there is something. It doesn't wait.
     fn turn(&mut self) -> Outcome
         ensures { goes self.old self.new };
@@ -42,9 +38,9 @@ pub trait Worker {
 fn turn_at<Q: Gate, W: Worker>(gate: &Q, station: Station, worker: &mut W, turns: u64) -> Outcome
     ensures { W.goes worker.old worker.new }
 {
-    gate.enter(station, worker.seq(turns));
+    gate.enter(station, turns);
     let outcome = worker.turn();
-    gate.leave(station, worker.seq(turns));
+    gate.leave(station, turns);
     outcome
 }
 

@@ -2,7 +2,7 @@
 //! ring, and at the output ring it reads every output's address, and the text of those that go to its client.
 ghost use Rattle.std.specs.Prelude.{◌≡◌, ◌≢◌, suc, ◌<◌, ◌≤◌, ◌^◌, ◌+◌, length};
 ghost use Rattle.venue_model.specs.History.{Message};
-ghost use Rattle.ring_words.specs.Places.{claim, processed, marshalled, in_row, out_row};
+ghost use Rattle.ring_words.specs.Places.{claim, processed, marshalled, out_row};
 ghost use Rattle.ring_words.specs.Log.{IsEntry, times};
 ghost use Rattle.ring_words.specs.Raw.{Spells};
 ghost use Rattle.ring_words.specs.At.{IsAt, Steps, number};

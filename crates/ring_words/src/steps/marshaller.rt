@@ -1,13 +1,11 @@
 //! The single steps of the marshaller, which writes the text of each output that is published.
 ghost use Rattle.std.specs.Prelude.{◌≡◌, suc, ◌<◌, ◌≤◌};
-ghost use mathlib.Core.Option.{some};
-ghost use lib.ListN.{get_elem?};
 ghost use Rattle.venue_model.specs.declared.outputs.Output.{Output};
 ghost use Rattle.ring_words.specs.Places.{published, out_row};
-ghost use Rattle.ring_words.specs.Seats.{looked_twice, stored, moved};
+ghost use Rattle.ring_words.specs.Seats.{stored, moved};
 ghost use Rattle.ring_words.specs.At.{IsAt, Steps};
 ghost use Rattle.ring_words.specs.Steps.{GoesOn, Shows, WroteText, MayWriteText};
-ghost use Rattle.ring_words.specs.Finds.{FindsPublished};
+ghost use Rattle.ring_words.specs.Finds.{FindsPublished, FindsCopy};
 
 use crate::places::{MARSHALLED, PUBLISHED, TEXT};
 use crate::plays::{GiveReport, MoveOwn, SeePublished, StoreText, TakeReport};
@@ -20,7 +18,6 @@ impl<L: Logic, const N: usize, const M: usize, const G: usize> Rings<L, N, M, G>
     pub fn load_published(&self, seat: &mut MarshalSeat<L>) -> u64
         requires at { IsAt self.now seat.old }
         ensures found { FindsPublished (L.outputs self.now.logic) seat.old result seat.new }
-        ensures own { seat.old.who.own ≤ result }
     {
         self.table
             .shared
@@ -33,9 +30,7 @@ impl<L: Logic, const N: usize, const M: usize, const G: usize> Rings<L, N, M, G>
         requires at { IsAt self.now seat.old }
         requires from { seat.old.who.own ≤ place }
         requires to { Shows published seat.old.who place }
-        ensures output { (o : Output) → get_elem? (L.outputs self.now.logic seat.old.who.seen) place ≡ some o → result ≡ o }
-        ensures step { (o : Output) → get_elem? (L.outputs self.now.logic seat.old.who.seen) place ≡ some o
-            → Steps seat.old (looked_twice seat.old.who (out_row N M place 0) o.to) seat.new }
+        ensures copied { FindsCopy (L.outputs self.now.logic seat.old.who.seen) seat.old (out_row N M place 0) place result seat.new }
     {
         let row = self.output_row(place);
         let word = self.output_word(place, 0);

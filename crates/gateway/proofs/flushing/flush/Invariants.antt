@@ -1,12 +1,14 @@
--- what went out so far, and what is left
+-- what went out so far, and what is left; of the session nothing else changes
 use Rattle.std.proofs.Common.{◌≡◌, ◌++◌, ℕ, List, length}
-use Rattle.gateway.specs.Wires.{grown}
+use Rattle.wires.specs.Wires.{grown}
 use Rattle.gateway.proofs.flushing.flush.Given as goal
 
 abbrev pub invariant-bytes : goal.invariant-bytes
 invariant-bytes g l =
-    (put : List ℕ) × (l.initial.outgoing ≡ put ++ l.outgoing)
-    × (g.W.Wire.tells l.wire ≡ record (g.W.Wire.tells l.initial.wire) { took = grown (g.W.Wire.tells l.initial.wire).took put })
+    let tells = g.W.Wire.tells in
+    (put : List ℕ) × (l.initial.session.outgoing ≡ put ++ l.session.outgoing)
+    × (tells l.wire ≡ record (tells l.initial.wire) { took = grown (tells l.initial.wire).took put })
+    × (l.session ≡ record l.initial.session { outgoing = l.session.outgoing })
 
 abbrev pub decreases-bytes : goal.decreases-bytes
-decreases-bytes g l = length l.outgoing
+decreases-bytes g l = length l.session.outgoing

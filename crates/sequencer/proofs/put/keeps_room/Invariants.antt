@@ -1,5 +1,5 @@
 use Rattle.std.proofs.Common.{◌+◌, ◌<◌, ◌≤◌, ℕ}
-use Rattle.sequencer.specs.Outputs.{last_taken, LeavesRoom}
+use Rattle.sequencer.specs.Rooms.{last_taken, LeavesRoom}
 use Rattle.sequencer.proofs.put.keeps_room.Given as goal
 
 abbrev pub invariant-loop-gateway : goal.invariant-loop-gateway

@@ -1,5 +1,5 @@
 use Rattle.std.proofs.Common.{ℕ, subst}
-use Rattle.sequencer.specs.Outputs.{KeepsRoom}
+use Rattle.sequencer.specs.Rooms.{KeepsRoom}
 use Rattle.sequencer.proofs.Rooms.{keeps_free}
 use Rattle.sequencer.proofs.put.room.Goals as goal
 

@@ -2,7 +2,7 @@
 use Rattle.std.proofs.Common.{◌≡◌, ◌≢◌, ◌↔◌, ◌∙◌, Bool, true, inl, inr, ap, arith, refl, rules, subst, sym, true≢false}
 use Rattle.gateway.specs.Delivers.{further}
 use Rattle.gateway.specs.Seats.{ledger_of}
-use Rattle.gateway.specs.Wires.{Told}
+use Rattle.wires.specs.Wires.{Told}
 use Rattle.gateway.specs.declared.ending.Turned.TheVariants.{Quiet}
 use Rattle.stages.specs.Kept.{Fails}
 use Rattle.stages.specs.Stations.{disk_of}

@@ -1,10 +1,16 @@
 -- A session that is begun has had no course.
-use Rattle.std.proofs.Common.{ap}
+use Rattle.std.proofs.Common.{[], true, false, subst, sym}
+use Rattle.gateway.specs.Gateways.{at_rings}
 use Rattle.gateway.specs.Seats.{ledger_of}
-use Rattle.gateway.specs.Turns.{Front}
+use Rattle.gateway.specs.Standing.{Standing, At}
 use Rattle.gateway.proofs.DeliversLemmas.{begins}
+use Rattle.gateway.proofs.Opening.{at_beginning}
 use Rattle.gateway.proofs.gateway.Gateway.begin.Goals as goal
 
 pub returns-clause-begins : goal.returns-clause-begins
 returns-clause-begins c n wire =
-    begins c.begin.new.self wire (ledger_of n c.self.inside.seat) c.begin.ensures.at (ap (λ (f : Front). f.waiting) c.begin.ensures.new)
+    let new = at_rings (record c.self.inside
+    { session = c.begin.new.self; waiting = c.new-self-inside.result; closed = false; deaf = 0; idle = 0; live = true }) in
+    begins new.front wire (ledger_of n new.seat)
+    (subst (λ (s : Standing). At s [] [] [] []) (sym c.begin.ensures) (at_beginning c.self.inside.session.gateway))
+    c.new-self-inside.ensures

@@ -1,7 +1,7 @@
 -- The frame of the header's fields and the body stands behind what stood there.
 use Rattle.std.proofs.Common.{◌++◌, take, ap, ◌∙◌, arith}
 use Rattle.fix_orders.specs.Formats.{time_text}
-use Rattle.gateway.specs.Session.{message_text}
+use Rattle.gateway.specs.Standing.{message_text}
 use Rattle.gateway.proofs.HeaderLemmas.{at_time, spelled, message_is, message_length}
 use Rattle.gateway.proofs.OutgoingLemmas.{put_behind, few_behind}
 use Rattle.gateway.proofs.outgoing.Outgoing.put_message.Goals as goal

@@ -2,8 +2,8 @@
 use Rattle.std.proofs.Common.{ap, rules, subst, sym, ◌∙◌}
 use Rattle.fix_frame.specs.Framing.{Framing}
 use Rattle.fix_frame.specs.Stream.{BeginsNoFrame}
-use Rattle.gateway.specs.Moves.{fresh}
-use Rattle.gateway.specs.Session.{Standing}
+use Rattle.gateway.specs.SessionCalls.{fresh}
+use Rattle.gateway.specs.Standing.{Standing}
 use Rattle.gateway.proofs.Opening.{no_frame_in_nothing}
 use Rattle.gateway.proofs.SessionLemmas.{time_text-zero, is_fresh}
 use Rattle.gateway.proofs.session.Session.begin.Goals as goal

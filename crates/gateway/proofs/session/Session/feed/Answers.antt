@@ -4,10 +4,10 @@ use Rattle.fix_frame.specs.Borrowed.{body_fields}
 use Rattle.fix_frame.specs.Framing.{Framing, fresh}
 use Rattle.fix_frame.specs.Stream.{BeginsNoFrame}
 use Rattle.fix_orders.specs.Formats.{time_text}
-use Rattle.gateway.specs.Session.{Standing}
+use Rattle.gateway.specs.Standing.{Standing}
 use Rattle.gateway.specs.declared.refusal.Refusal.TheVariants.{Frame}
-use Rattle.gateway.specs.Parts.{Listens}
-use Rattle.gateway.specs.Sessions.{standing}
+use Rattle.gateway.specs.SessionCalls.{Listens}
+use Rattle.gateway.specs.SessionFields.{standing}
 use Rattle.gateway.proofs.FeedLemmas.{listens-frame, listens-fault, refused_is, fault_now, is_held}
 use Rattle.gateway.proofs.FrameBytes.{has_some_text, has_short_text}
 use Rattle.gateway.proofs.Opening.{no_frame_in_nothing}

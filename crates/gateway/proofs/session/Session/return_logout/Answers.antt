@@ -2,7 +2,7 @@
 use Rattle.std.proofs.Common.{[], refl}
 use Rattle.fix_orders.specs.Formats.{time_text}
 use Rattle.gateway.specs.Answers.{Logout}
-use Rattle.gateway.specs.Session.{said_by}
+use Rattle.gateway.specs.Standing.{said_by}
 use Rattle.gateway.proofs.session.Session.return_logout.Goals as goal
 
 pub say-requires-clause-fields : goal.say-requires-clause-fields

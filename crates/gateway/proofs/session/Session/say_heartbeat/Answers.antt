@@ -3,7 +3,7 @@ use Rattle.std.proofs.Common.{◌∷◌, [], refl, sym}
 use Rattle.fix_orders.specs.Formats.{time_text}
 use Rattle.fix_orders.specs.Text.{field}
 use Rattle.gateway.specs.Answers.{Heartbeat}
-use Rattle.gateway.specs.Session.{said_by}
+use Rattle.gateway.specs.Standing.{said_by}
 use Rattle.gateway.proofs.session.Session.say_heartbeat.Goals as goal
 
 pub say-requires-clause-fields : goal.say-requires-clause-fields

@@ -2,7 +2,7 @@
 use Rattle.std.proofs.Common.{refl}
 use Rattle.fix_orders.specs.Formats.{time_text}
 use Rattle.gateway.specs.Answers.{Logon}
-use Rattle.gateway.specs.Session.{said_by, logon_fields}
+use Rattle.gateway.specs.Standing.{said_by, logon_fields}
 use Rattle.gateway.proofs.MessageLemmas.{logon_is, logon_each}
 use Rattle.gateway.proofs.session.Session.say_logon.Goals as goal
 

@@ -5,7 +5,7 @@ use Rattle.fix_frame.specs.Grammar.{IsField, print_fields}
 use Rattle.fix_orders.specs.Formats.{time_text}
 use Rattle.fix_orders.specs.Text.{field}
 use Rattle.gateway.specs.Answers.{Logout}
-use Rattle.gateway.specs.Session.{said_by}
+use Rattle.gateway.specs.Standing.{said_by}
 use Rattle.gateway.proofs.MessageLemmas.{text_field, text_fields_is}
 use Rattle.gateway.proofs.session.Session.say_logout.Goals as goal
 

@@ -6,8 +6,9 @@ use Rattle.ring_words.specs.Places.{out_row}
 use Rattle.ring_words.specs.Terms.{terms_of}
 use Rattle.ring_words.specs.Seats.{person, alone, looked, looked_twice, with_out}
 use Rattle.ring_words.specs.At.{At, seated}
+use Rattle.ring_words.specs.Steps.{Seated}
 use Rattle.ring_words.proofs.Becomes.{steps}
-use Rattle.ring_words.proofs.Marshalling.{loads_taking_in, loads_giving_back, exchanged_twice, copied}
+use Rattle.ring_words.proofs.Marshalling.{loads_taking_in, loads_giving_back, exchanged_twice, copied_output, copied}
 use Rattle.ring_words.proofs.rings.Rings.load_output.Goals as goal
 
 pub load-requires : goal.load-requires
@@ -31,8 +32,8 @@ load-requires-2 g c = let key = c.self.inside.table.shared.key in let sizes = c.
           seat.role told.1 has,
     )
 
-pub returns-clause-step : goal.returns-clause-step
-returns-clause-step g c = λ o at. let key = c.self.inside.table.shared.key in let seat = c.seat.inside in let p = person seat.seat.me.0 in let q : ℕ = c.args.place in let k : ℕ = c.output_word-word.result in
+pub returns : goal.returns
+returns g c = λ o at. let key = c.self.inside.table.shared.key in let seat = c.seat.inside in let p = person seat.seat.me.0 in let q : ℕ = c.args.place in let k : ℕ = c.output_word-word.result in
     let word_is = c.output_word-word.ensures.place in
     let told = c.load.ensures.2 q (search rules) (search rules) word_is in
     let out : Person = with_out (looked p k c.load.result) (Some told.0.value) in
@@ -41,6 +42,8 @@ returns-clause-step g c = λ o at. let key = c.self.inside.table.shared.key in l
     c.load.new.seat.me c.exchange_report.new.seat.me c.exchange_report-2.new.seat.me took c.exchange_report.ensures.found c.exchange_report.ensures.left c.exchange_report-2.ensures.left in
     let found = told.3 key.logic o (search rules) (search rules) in
     let both = copied g.row.N g.row.M q 0 g.L.Logic.outputs seat.seat.me c.exchange_report-2.new.seat.me c.load-2.new.seat.me k c.load.result c.load-2.result told.0 key.logic o has c.load-2.ensures.2
-    seat.home (search rules) (search rules) (search rules) (search rules) word_is found.0 in
-    steps _ _ seat.seat.me.0 [] c.load-2.new.seat.me (looked_twice p (out_row g.row.N g.row.M q 0) o.to) c.args.seat.now c.seat.view_is (search rules) both
-    ∙ ap (λ (z : Person). seated c.args.seat.now (looked_twice z (out_row g.row.N g.row.M q 0) o.to)) (ap (λ (s : At g.row.L.Denot). s.who) c.seat.view_is)
+    seat.home (search rules) (search rules) (search rules) (search rules) word_is found.0 in (
+      copied_output _ _ told.0 c.exchange_report.new.spare o q c.load.new.seat.me.1 (ap (λ (z : Seated Boxed g.row.L.Denot). z.1) took) c.exchange_report.ensures.found found.1,
+      steps _ _ seat.seat.me.0 [] c.load-2.new.seat.me (looked_twice p (out_row g.row.N g.row.M q 0) o.to) c.args.seat.now c.seat.view_is (search rules) both
+          ∙ ap (λ (z : Person). seated c.args.seat.now (looked_twice z (out_row g.row.N g.row.M q 0) o.to)) (ap (λ (s : At g.row.L.Denot). s.who) c.seat.view_is),
+    )

@@ -1,0 +1,2 @@
+mod MemWireLemmas
+mod BufferLemmas

@@ -1,0 +1,10 @@
+pub mod Wires
+pub mod WireLaws
+pub mod Counting
+pub mod Flushing
+pub mod Inputs
+pub mod Gatherings
+pub mod GatheringWires
+pub mod MemWires
+pub mod StdWires
+pub mod StreamWires

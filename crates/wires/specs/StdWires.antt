@@ -1,0 +1,69 @@
+-- A wire over a reader and a writer: what it tells, and what its calls do to the two.
+use Rattle.std.specs.Prelude.{◌≡◌, ℕ, ◌≤◌, ◌⊎◌, Bool, true, false, List, length, take, Option, None}
+use Rattle.std.specs.Io.KnownBytes.{Keeps, Appends, Consumes, IsAtEnd}
+use Rattle.std.specs.declared.io.ErrorKind.{ErrorKind}
+use Rattle.std.specs.declared.io.ErrorKind.TheVariants.{Interrupted, WouldBlock}
+use Rattle.wires.specs.declared.wire.TryRead.{TryRead}
+use Rattle.wires.specs.declared.wire.TryRead.TheVariants as read
+use Rattle.wires.specs.declared.wire.TryWrite.{TryWrite}
+use Rattle.wires.specs.declared.wire.TryWrite.TheVariants as write
+use Rattle.wires.specs.declared.standard.StdWire.{StdWire}
+use Rattle.wires.specs.Wires.{Told}
+
+-- it tells its counts, and whether it was last told to rest
+abbrev pub told : {R W : Type 0} → StdWire R W → Told
+told w = record {
+  gave = None;
+  took = None;
+  failures = w.counts.failures;
+  empty_reads = w.counts.empty_reads;
+  full_writes = w.counts.full_writes;
+  ends = w.counts.ends;
+  quiet = w.quiet;
+}
+
+-- what it tells before its first call
+abbrev pub untold : Told
+untold = record { gave = None; took = None; failures = 0; empty_reads = 0; full_writes = 0; ends = 0; quiet = true }
+
+abbrev pub reader_of : {R W : Type 0} → StdWire R W → R
+reader_of w = w.reader
+
+abbrev pub writer_of : {R W : Type 0} → StdWire R W → W
+writer_of w = w.writer
+
+-- it was made, or told to rest, since bytes were last read or written: the next read asks the reader
+abbrev pub rested_of : {R W : Type 0} → StdWire R W → Bool
+rested_of w = w.rested
+
+-- an error after which the same call may succeed
+abbrev pub IsPassing : ErrorKind → Type 0
+IsPassing kind = (kind ≡ Interrupted) ⊎ (kind ≡ WouldBlock)
+
+-- what a read with this answer does to the bytes that the reader has left, where those are known
+abbrev pub TakesIn : Option (List ℕ) → Option (List ℕ) → List ℕ → TryRead → Type 0
+TakesIn old new buf (read.Got n) = Consumes old new (take n buf)
+TakesIn old new buf read.End = IsAtEnd new
+TakesIn old new buf read.Nothing = Keeps old new
+TakesIn old new buf read.Failed = Keeps old new
+
+-- what a write of these bytes with this answer does to the bytes that the writer holds, where those are known; one
+-- that failed may have sent a front of them
+abbrev pub SendsOut : Option (List ℕ) → Option (List ℕ) → List ℕ → TryWrite → Type 0
+SendsOut old new bytes (write.Put n) = Appends old new (take n bytes)
+SendsOut old new bytes write.Nothing = Keeps old new
+SendsOut old new bytes write.Failed = (n : ℕ) × (n ≤ length bytes) × Appends old new (take n bytes)
+
+-- whether the wire rests before and after a read with this answer: one that doesn't answers Nothing, and no read makes
+-- it rest
+abbrev pub Rests : Bool → Bool → TryRead → Type 0
+Rests old new (read.Got n) = (old ≡ true) × (new ≡ false)
+Rests old new read.Nothing = new ≡ old
+Rests old new read.End = (old ≡ true) × (new ≡ true)
+Rests old new read.Failed = (old ≡ true) × (new ≡ true)
+
+-- whether it rests before and after a write with this answer
+abbrev pub RestsNot : Bool → Bool → TryWrite → Type 0
+RestsNot old new (write.Put n) = new ≡ false
+RestsNot old new write.Nothing = new ≡ old
+RestsNot old new write.Failed = new ≡ old

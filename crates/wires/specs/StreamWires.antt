@@ -1,0 +1,39 @@
+-- A wire over a stream that never waits: what it tells, and what the stream's answers mean.
+use Rattle.std.specs.Prelude.{◌≡◌, ℕ, ◌<◌, None, Ok, Err}
+use Rattle.std.specs.IoError.{error_kind}
+use Rattle.std.specs.declared.io.Error.{Error}
+use Rattle.std.specs.declared.result.Result.{Result}
+use Rattle.wires.specs.declared.stream.StreamWire.{StreamWire}
+use Rattle.wires.specs.declared.wire.TryRead.{TryRead}
+use Rattle.wires.specs.declared.wire.TryRead.TheVariants as read
+use Rattle.wires.specs.declared.wire.TryWrite.{TryWrite}
+use Rattle.wires.specs.declared.wire.TryWrite.TheVariants as write
+use Rattle.wires.specs.Wires.{Told}
+use Rattle.wires.specs.StdWires.{IsPassing}
+
+-- it tells its counts, and whether it was last told to rest
+abbrev pub told : {S : Type 0} → StreamWire S → Told
+told w = record {
+  gave = None;
+  took = None;
+  failures = w.counts.failures;
+  empty_reads = w.counts.empty_reads;
+  full_writes = w.counts.full_writes;
+  ends = w.counts.ends;
+  quiet = w.quiet;
+}
+
+abbrev pub stream_of : {S : Type 0} → StreamWire S → S
+stream_of w = w.stream
+
+-- what a stream's answer to a read into a buffer with room means: no bytes are the end, and an error may pass
+abbrev pub MeansRead : Result ℕ Error → TryRead → Type 0
+MeansRead (Ok n) answer = (n ≡ 0 → answer ≡ read.End) × (0 < n → answer ≡ read.Got n)
+MeansRead (Err error) answer =
+    (IsPassing (error_kind error) → answer ≡ read.Nothing) × (¬ IsPassing (error_kind error) → answer ≡ read.Failed)
+
+-- and to a write of some bytes: a stream that takes none without an error is as one that failed
+abbrev pub MeansWrite : Result ℕ Error → TryWrite → Type 0
+MeansWrite (Ok n) answer = (n ≡ 0 → answer ≡ write.Failed) × (0 < n → answer ≡ write.Put n)
+MeansWrite (Err error) answer =
+    (IsPassing (error_kind error) → answer ≡ write.Nothing) × (¬ IsPassing (error_kind error) → answer ≡ write.Failed)

@@ -1,0 +1,47 @@
+-- What a wire tells of itself, and what each of its calls tells. It may keep its bytes to itself, but not its counts.
+use Rattle.std.specs.Prelude.{◌≡◌, ℕ, Bool, ◌≤◌, List, ◌++◌, length, take, Option, Some, None}
+use Rattle.venue_model.specs.Counts.{Rose}
+use Rattle.wires.specs.declared.counts.Counts.{Counts}
+use Rattle.wires.specs.declared.wire.TryRead.{TryRead}
+use Rattle.wires.specs.declared.wire.TryRead.TheVariants as read
+use Rattle.wires.specs.declared.wire.TryWrite.{TryWrite}
+use Rattle.wires.specs.declared.wire.TryWrite.TheVariants as write
+
+-- the bytes that it gave and took, each None where it tells none; the calls that failed; the reads and the writes
+-- that answered Nothing; the reads that answered End; and whether it was last told to rest
+pub record Told : Type 0 where
+  pub gave : Option (List ℕ)
+  pub took : Option (List ℕ)
+  pub failures : ℕ
+  pub empty_reads : ℕ
+  pub full_writes : ℕ
+  pub ends : ℕ
+  pub quiet : Bool
+
+-- what it counts
+abbrev pub counts_of : Told → Counts
+counts_of t = record { failures = t.failures; empty_reads = t.empty_reads; full_writes = t.full_writes; ends = t.ends }
+
+-- what is told of some bytes, and then of more
+abbrev pub grown : Option (List ℕ) → List ℕ → Option (List ℕ)
+grown None more = None
+grown (Some bytes) more = Some (bytes ++ more)
+
+-- what a read with this answer tells, where the buffer now holds `buf`
+abbrev pub ReadTells : Told → Told → List ℕ → TryRead → Type 0
+ReadTells old new buf (read.Got n) =
+    (1 ≤ n) × (n ≤ length buf) × (new ≡ record old { gave = grown old.gave (take n buf) })
+ReadTells old new buf read.Nothing =
+    Rose old.empty_reads new.empty_reads × (new ≡ record old { empty_reads = new.empty_reads })
+ReadTells old new buf read.End = Rose old.ends new.ends × (new ≡ record old { ends = new.ends })
+ReadTells old new buf read.Failed =
+    Rose old.failures new.failures × (new ≡ record old { failures = new.failures })
+
+-- what a write of these bytes with this answer tells
+abbrev pub WriteTells : Told → Told → List ℕ → TryWrite → Type 0
+WriteTells old new bytes (write.Put n) =
+    (1 ≤ n) × (n ≤ length bytes) × (new ≡ record old { took = grown old.took (take n bytes) })
+WriteTells old new bytes write.Nothing =
+    Rose old.full_writes new.full_writes × (new ≡ record old { full_writes = new.full_writes })
+WriteTells old new bytes write.Failed =
+    Rose old.failures new.failures × (new ≡ record old { failures = new.failures })

@@ -1,0 +1,206 @@
+//! The two buffers of a wire that gathers: bytes read ahead of the session, and bytes that wait to be sent. Each takes
+//! all its memory as it is made.
+ghost use Rattle.std.specs.Prelude.{◌≡◌, ◌≤◌, ◌-◌, ◌<◌, ◌↔◌, [], ◌++◌, length, take, drop, min, IfOk, IsTrue};
+ghost use Rattle.wires.specs.Flushing.{Flushes};
+ghost use Rattle.wires.specs.Gatherings.{ReadsAhead, HandsOut, SendsSome, Gathers, IfGot, IfPut};
+
+use crate::flushed::Flushed;
+use crate::wire::{TryRead, TryWrite, Wire};
+use std::alloc::{AllocError, Global};
+use std::marker::Model;
+
+/// At most so many bytes are read ahead.
+pub const AHEAD: usize = 16_384;
+
+/// At most so many bytes wait to be sent.
+pub const GATHERED: usize = 65_536;
+
+/// Bytes that were read, and are not yet handed out. Contracts see them in order.
+#[derive(Drop)]
+pub struct Ahead {
+    bytes: Vec<u8>,
+    from: usize,
+    upto: usize,
+}
+
+impl Model for Ahead {
+    ghost use Rattle.std.specs.Prelude.{ℕ, List, ◌<◌, ◌≤◌, length, slice_range};
+
+    ghost Value = { List ℕ };
+
+    ghost view = { λ a. slice_range a.bytes.items a.from a.upto };
+
+    ghost invariant = { λ a. (a.from ≤ a.upto) × (a.upto ≤ length a.bytes.items) × (0 < length a.bytes.items) };
+}
+
+impl Ahead {
+    /// Nothing is read ahead yet.
+    pub fn new(alloc: Global) -> Result<Ahead, AllocError>
+        ensures { IfOk result (λ ahead. ahead ≡ []) }
+    {
+        Ok(Ahead {
+            bytes: vec![in alloc; 0; AHEAD]?,
+            from: 0,
+            upto: 0,
+        })
+    }
+
+    pub fn is_empty(&self) -> bool
+        ensures { IsTrue result ↔ (self.now ≡ []) }
+    {
+        self.from == self.upto
+    }
+
+    /// Reads the wire once.
+    pub fn fill<W: Wire>(&mut self, wire: &mut W) -> TryRead
+        requires { self.old ≡ [] }
+        ensures { ReadsAhead (W.tells wire.old) (W.tells wire.new) self.new result }
+    {
+        let answer = wire.try_read(&mut self.bytes);
+        if let TryRead::Got(count) = answer {
+            self.from = 0;
+            self.upto = count;
+        }
+        answer
+    }
+
+    /// Reads into a buffer that isn't empty: it is handed the first bytes held, and the wire is read where none is.
+    pub fn read<W: Wire>(&mut self, wire: &mut W, buf: &mut [u8]) -> TryRead
+        requires { 0 < length buf.old }
+        ensures hands_out { HandsOut (W.tells wire.old) (W.tells wire.new) self.old self.new buf.new result }
+        ensures count { IfGot result (λ n. (1 ≤ n) × (n ≤ length buf.new)) }
+        ensures held { 0 < length self.old → wire.new ≡ wire.old }
+    {
+        if self.is_empty() {
+            let answer = self.fill(wire);
+            if !matches!(answer, TryRead::Got(_)) {
+                return answer;
+            }
+        }
+        TryRead::Got(self.give(buf))
+    }
+
+    /// Hands out the first bytes, as many as there are or fit, and says how many.
+    pub fn give(&mut self, buf: &mut [u8]) -> usize
+        ensures count { result ≡ min (length self.old) (length buf.old) }
+        ensures gives { self.old ≡ take result buf.new ++ self.new }
+    {
+        let held = &self.bytes[self.from..self.upto];
+        let count = held.len().min(buf.len());
+        buf[..count].copy_from_slice(&held[..count]);
+        self.from += count;
+        count
+    }
+}
+
+/// Bytes that wait to be sent. Contracts see them in order.
+#[derive(Drop)]
+pub struct Waiting {
+    bytes: Vec<u8>,
+}
+
+impl Model for Waiting {
+    ghost use Rattle.std.specs.Prelude.{ℕ, List, ◌≤◌, length, vec_capacity};
+    ghost use Rattle.wires.specs.declared.buffers.TheConstants.{GATHERED};
+
+    ghost Value = { List ℕ };
+
+    ghost view = { λ w. w.bytes.items };
+
+    ghost invariant = { λ w. (length w.bytes.items ≤ GATHERED) × (GATHERED ≤ vec_capacity w.bytes) };
+}
+
+impl Waiting {
+    /// Nothing waits yet.
+    pub fn new(alloc: Global) -> Result<Waiting, AllocError>
+        ensures { IfOk result (λ waiting. waiting ≡ []) }
+    {
+        Ok(Waiting {
+            bytes: Vec::with_capacity(alloc, GATHERED)?,
+        })
+    }
+
+    pub fn is_empty(&self) -> bool
+        ensures { IsTrue result ↔ (self.now ≡ []) }
+    {
+        self.bytes.is_empty()
+    }
+
+    pub fn is_full(&self) -> bool
+        ensures full { IsTrue result ↔ (length self.now ≡ GATHERED) }
+        ensures within { length self.now ≤ GATHERED }
+    {
+        self.bytes.len() == GATHERED
+    }
+
+    pub fn as_slice(&self) -> &[u8]
+        ensures { result.now ≡ self.now }
+    {
+        self.bytes.as_slice()
+    }
+
+    /// Writes some of the first of these bytes, which aren't none: they wait too. Only where there is no room the wire
+    /// is to take some that wait, by one write.
+    pub fn write<W: Wire>(&mut self, wire: &mut W, bytes: &[u8]) -> TryWrite
+        requires { 0 < length bytes.now }
+        ensures gathers { Gathers (W.tells wire.old) (W.tells wire.new) self.old self.new bytes.now result }
+        ensures count { IfPut result (λ n. (1 ≤ n) × (n ≤ length bytes.now)) }
+        ensures room { length self.old < GATHERED → wire.new ≡ wire.old }
+    {
+        if self.is_full() {
+            let answer = self.send_some(wire);
+            if !matches!(answer, TryWrite::Put(_)) {
+                return answer;
+            }
+        }
+        TryWrite::Put(self.put(bytes))
+    }
+
+    /// Sends until nothing waits, the wire takes no more, or it fails.
+    pub fn send<W: Wire>(&mut self, wire: &mut W) -> Flushed
+        ensures { Flushes self.old self.new (W.tells wire.old) (W.tells wire.new) result }
+    {
+        'bytes: while !self.is_empty() {
+            match self.send_some(wire) {
+                TryWrite::Put(_) => {}
+                TryWrite::Nothing => return Flushed::Full,
+                TryWrite::Failed => return Flushed::Failed,
+            }
+        }
+        Flushed::All
+    }
+
+    /// Sends some of the first bytes, by one write of the wire.
+    fn send_some<W: Wire>(&mut self, wire: &mut W) -> TryWrite
+        requires { 0 < length self.old }
+        ensures { SendsSome (W.tells wire.old) (W.tells wire.new) self.old self.new result }
+    {
+        let answer = wire.try_write(self.as_slice());
+        if let TryWrite::Put(count) = answer {
+            self.skip(count);
+        }
+        answer
+    }
+
+    /// Lets the first of these bytes wait too, as many as there is room for, and says how many.
+    pub fn put(&mut self, bytes: &[u8]) -> usize
+        ensures count { result ≡ min (GATHERED - length self.old) (length bytes.now) }
+        ensures puts { self.new ≡ self.old ++ take result bytes.now }
+    {
+        let count = (GATHERED - self.bytes.len()).min(bytes.len());
+        self.bytes.extend_from_slice(&bytes[..count]).unwrap();
+        count
+    }
+
+    /// So many of the first bytes wait no more.
+    pub fn skip(&mut self, count: usize)
+        requires { count ≤ length self.old }
+        ensures { self.new ≡ drop count self.old }
+    {
+        if count == self.bytes.len() {
+            self.bytes.clear();
+        } else {
+            self.bytes.drain(..count);
+        }
+    }
+}

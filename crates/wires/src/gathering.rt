@@ -1,0 +1,127 @@
+//! A wire that gathers: it reads ahead of the session, and what is written waits until it is sent together. It stands
+//! in front of a wire that never waits, as that of a client that came over TCP.
+ghost use Rattle.std.specs.Prelude.{◌≡◌, ◌<◌, ◌↔◌, ◌⊎◌, [], true, false, length, IfOk, IfErr, IsTrue};
+ghost use Rattle.wires.specs.Wires.{ReadTells, WriteTells, counts_of};
+ghost use Rattle.wires.specs.GatheringWires.{told, below_of, ahead_of, waiting_of, broken_of, IsFresh, HoldsSame};
+ghost use Rattle.wires.specs.GatheringWires.{holding, rested, Reads, Writes, Sends};
+ghost use Rattle.wires.specs.declared.buffers.TheConstants.{GATHERED};
+
+use crate::buffers::{Ahead, Waiting};
+use crate::counts::Counts;
+use crate::flushed::Flushed;
+use crate::wire::{TryRead, TryWrite, Wire};
+use std::alloc::{AllocFailed, Global};
+
+/// A wire in front of another one. A read hands out what was read ahead, and the wire below is read only where that is
+/// nothing. What is written waits: it is sent by `flush`, by `rest` where it is told to rest, and, as far as one write
+/// of the wire below takes it, by a write that finds no room. Once a write of the wire below has failed, this one is
+/// broken: each later read and write fails. Bytes that wait as it is dropped are lost. It tells no bytes.
+#[derive(Drop)]
+pub struct GatheringWire<W> {
+    below: W,
+    ahead: Ahead,
+    waiting: Waiting,
+    counts: Counts,
+    quiet: bool,
+    broken: bool,
+}
+
+impl<W: Wire + Drop> GatheringWire<W> {
+    /// A wire in front of this one, which is given back where there is no memory.
+    pub fn new(alloc: Global, below: W) -> Result<GatheringWire<W>, AllocFailed<W>>
+        ensures fresh { IfOk result IsFresh }
+        ensures below { IfOk result (λ wire. below_of wire ≡ below) }
+        ensures err { IfErr result (λ failed. failed.value ≡ below) }
+    {
+        let (Ok(ahead), Ok(waiting)) = (Ahead::new(alloc), Waiting::new(alloc)) else {
+            return Err(AllocFailed { value: below });
+        };
+        Ok(GatheringWire {
+            below,
+            ahead,
+            waiting,
+            counts: Counts::new(),
+            quiet: true,
+            broken: false,
+        })
+    }
+
+    /// The wire below.
+    pub fn below(&self) -> &W
+        ensures { result.now ≡ below_of self.now }
+    {
+        &self.below
+    }
+
+    /// Sends what waits, as far as the wire below takes it, and says whether nothing waits any more.
+    pub fn flush(&mut self) -> bool
+        ensures told { told self.new ≡ told self.old }
+        ensures sends { broken_of self.old ≡ false → Sends (holding W.tells self.old) (holding W.tells self.new) }
+        ensures all { IsTrue result ↔ (waiting_of self.new ≡ []) }
+        ensures broken { broken_of self.old ≡ true → self.new ≡ self.old }
+    {
+        if !self.broken {
+            self.broken = self.waiting.send(&mut self.below) == Flushed::Failed;
+        }
+        self.waiting.is_empty()
+    }
+}
+
+impl<W: Wire + Drop> Wire for GatheringWire<W> {
+    ghost tells = { told };
+
+    fn try_read(&mut self, buf: &mut [u8]) -> TryRead
+        requires { 0 < length buf.old }
+        ensures tells { ReadTells (told self.old) (told self.new) buf.new result }
+        ensures reads { broken_of self.old ≡ false →
+            Reads (holding W.tells self.old) (holding W.tells self.new) buf.new result }
+        ensures held { 0 < length (ahead_of self.old) → below_of self.new ≡ below_of self.old }
+        ensures fails { broken_of self.old ≡ true → (result ≡ TryRead.Failed) × HoldsSame self.old self.new }
+    {
+        let answer = if self.broken {
+            TryRead::Failed
+        } else {
+            self.ahead.read(&mut self.below, buf)
+        };
+        self.counts.count_read(answer);
+        answer
+    }
+
+    fn try_write(&mut self, bytes: &[u8]) -> TryWrite
+        requires { 0 < length bytes.now }
+        ensures tells { WriteTells (told self.old) (told self.new) bytes.now result }
+        ensures writes { broken_of self.old ≡ false →
+            Writes (holding W.tells self.old) (holding W.tells self.new) bytes.now result }
+        ensures room { length (waiting_of self.old) < GATHERED → below_of self.new ≡ below_of self.old }
+        ensures fails { broken_of self.old ≡ true → (result ≡ TryWrite.Failed) × HoldsSame self.old self.new }
+    {
+        let answer = if self.broken {
+            TryWrite::Failed
+        } else {
+            self.waiting.write(&mut self.below, bytes)
+        };
+        self.broken = answer == TryWrite::Failed;
+        self.counts.count_write(answer);
+        answer
+    }
+
+    fn rest(&mut self, quiet: bool)
+        ensures tells { told self.new ≡ record (told self.old) { quiet = quiet } }
+        ensures sends { quiet ≡ true → broken_of self.old ≡ false →
+            Sends (rested (holding W.tells self.old) quiet) (holding W.tells self.new) }
+        ensures waits { (quiet ≡ false) ⊎ (broken_of self.old ≡ true) →
+            holding W.tells self.new ≡ rested (holding W.tells self.old) quiet }
+    {
+        self.quiet = quiet;
+        self.below.rest(quiet);
+        if quiet {
+            self.flush();
+        }
+    }
+
+    fn counts(&self) -> Counts
+        ensures { result ≡ counts_of (told self.now) }
+    {
+        self.counts
+    }
+}

@@ -1,0 +1,24 @@
+//! Wires: where a client's bytes come in and where those to it go out. They know no session, no ring and no FIX. `MemWire` is for tests,
+//! `StdWire` for standard input and output, `TcpWire` for a client that came over TCP.
+#![tactic(auto)]
+
+mod buffers;
+mod counts;
+mod flushed;
+mod gathering;
+mod input;
+mod mem;
+mod standard;
+mod stream;
+mod tcp;
+mod wire;
+
+pub use counts::Counts;
+pub use flushed::Flushed;
+pub use gathering::GatheringWire;
+pub use input::Input;
+pub use mem::MemWire;
+pub use standard::StdWire;
+pub use stream::StreamWire;
+pub use tcp::{TcpWire, tcp_wire};
+pub use wire::{TryRead, TryWrite, Wire};
