@@ -8,7 +8,7 @@ use Rattle.venue_model.specs.declared.outputs.Cause.{Cause}
 use Rattle.venue_model.specs.declared.outputs.Output.{Output}
 use Rattle.venue_model.specs.Orders.{leaves, is_live}
 use Rattle.venue_model.specs.Match.{filled, live_alone, rest, done, trades}
-use Rattle.resting.specs.Firsts.{FillsFirst}
+use Rattle.book.specs.Firsts.{FillsFirst}
 use Rattle.book.specs.Passes.{Matching, matching, Passed, traded, resting_after, incoming_after, orders_after, reports}
 use Rattle.book.specs.Reads.{fills}
 use Rattle.book.specs.Standing.{InRange, Rests, Below, Standing}

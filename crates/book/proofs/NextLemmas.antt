@@ -11,7 +11,7 @@ use Rattle.venue_model.specs.declared.orders.Order.{Order}
 use Rattle.venue_model.specs.Orders.{is_better, ahead}
 use Rattle.venue_model.specs.Requests.{Symbols, is_named}
 use Rattle.venue_model.specs.Spelling.{all_differ}
-use Rattle.resting.specs.Queues.{is_of, NoneOf, IsFirst, NoneBehind, IsNext}
+use Rattle.book.specs.Queues.{is_of, NoneOf, IsFirst, NoneBehind, IsNext}
 use Rattle.book.specs.Books.{NamedApart}
 use Rattle.book.specs.Next.{side_number, number_of, group_of, comes_before, comes_behind, InTable, IsListedNext, NextOf, IsFirstFrom, FirstFrom}
 use Rattle.book.proofs.Lists.{each-map, each-of, each-back}

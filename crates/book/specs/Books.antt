@@ -8,7 +8,7 @@ use Rattle.venue_model.specs.Requests.{Symbols, State, is_named, named, others, 
 use Rattle.venue_model.specs.Step.{Request, step}
 use Rattle.book.specs.Standing.{Rests, Standing, Below}
 use Rattle.book.specs.Reads.{Reads}
-pub use Rattle.resting.specs.Standing.{NoneNamed}
+pub use Rattle.book.specs.Standing.{NoneNamed}
 
 -- the venue's symbols, the state, and how many resting orders the last command read
 pub record Book : Type 0 where

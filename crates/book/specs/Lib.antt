@@ -1,4 +1,10 @@
+pub mod IndexNames
+pub mod SlotParts
+pub mod Slots
 pub mod Standing
+pub mod Keeping
+pub mod Firsts
+pub mod Queues
 pub mod Passes
 pub mod Reads
 pub mod Tables

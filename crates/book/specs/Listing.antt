@@ -6,7 +6,7 @@ use Rattle.venue_model.specs.declared.orders.Side.TheVariants.{Buy, Sell}
 use Rattle.venue_model.specs.declared.orders.Order.{Order}
 use Rattle.venue_model.specs.Match.{by_priority}
 use Rattle.venue_model.specs.Requests.{Symbols}
-pub use Rattle.resting.specs.Queues.{is_of}
+pub use Rattle.book.specs.Queues.{is_of}
 
 -- the orders of a symbol and a side, each ahead of the next
 abbrev pub queue : List ℕ → Side → List Order → List Order

@@ -5,7 +5,7 @@ use Rattle.venue_model.specs.declared.outputs.Cause.{Cause}
 use Rattle.venue_model.specs.declared.outputs.ExecType.TheVariants.{Trade}
 use Rattle.venue_model.specs.declared.outputs.Output.{Output}
 pub use Rattle.price_levels.specs.Places.{Leads}
-pub use Rattle.resting.specs.Firsts.{NoneCrossed, First, traded, resting_after, orders_after}
+pub use Rattle.book.specs.Firsts.{NoneCrossed, First, traded, resting_after, orders_after}
 use Rattle.venue_model.specs.Orders.{leaves}
 use Rattle.venue_model.specs.Match.{filled, exec, rest, done, trades}
 

@@ -1,9 +1,28 @@
--- The resting orders as the book keeps them: one list, in the order of their stamps.
-use Rattle.std.specs.Prelude.{⊤, ◌≤◌, ◌<◌, List, [], ◌∷◌, length}
+-- The resting orders as the book keeps them: one list, in the order of their stamps; and what holds of each.
+use Rattle.std.specs.Prelude.{◌≡◌, ⊤, ℕ, ◌*◌, ◌≤◌, ◌<◌, false, List, [], ◌∷◌, length}
 use Rattle.std.specs.List.{AllByRecursion}
 use Rattle.venue_model.specs.declared.orders.Order.{Order}
-use Rattle.venue_model.specs.Requests.{most_resting}
-pub use Rattle.resting.specs.Standing.{InRange, Rests, Below}
+use Rattle.venue_model.specs.Requests.{is_named, most_resting}
+
+-- an order whose numbers are in the ranges of the venue, so that no sum of its fills passes 10 ^ 12
+pub record InRange (o : Order) : Type 0 where
+  pub cum : o.cum ≤ o.total
+  pub total : o.total ≤ 1000000
+  pub price : o.price ≤ 1000000
+  pub notional : o.notional ≤ o.cum * 1000000
+
+-- an order that rests: something is left of it
+pub record Rests (o : Order) : Type 0 where
+  pub live : o.cum < o.total
+  pub in_range : InRange o
+
+-- all stamps are below a sequence
+abbrev pub Below : ℕ → List Order → Type 0
+Below sequence orders = AllByRecursion (λ x. x.stamp < sequence) orders
+
+-- none is the client's order of this name
+abbrev pub NoneNamed : ℕ → ℕ → List Order → Type 0
+NoneNamed client name orders = AllByRecursion (λ x. is_named client name x ≡ false) orders
 
 -- each stamp is below those behind it
 abbrev pub Rising : List Order → Type 0

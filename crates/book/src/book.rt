@@ -9,7 +9,7 @@ ghost use Rattle.book.specs.Standing.{Below};
 
 use crate::logic::BookLogic;
 use crate::reports::{output, put};
-use resting::RestingOrders;
+use crate::resting::RestingOrders;
 use std::alloc::{AllocError, Global};
 use std::marker::Model;
 use venue_model::{Cause, Command, Limits, MOST_GATEWAYS, Malformed, Output, Report};

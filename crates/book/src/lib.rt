@@ -7,9 +7,11 @@ mod laws;
 mod listing;
 mod logic;
 mod matching;
+mod order_index;
 mod refusals;
 mod reports;
 mod requests;
+mod resting;
 
 pub use book::Book;
 pub use laws::{

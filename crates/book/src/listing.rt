@@ -11,7 +11,7 @@ ghost use Rattle.book.specs.Listing.{listing};
 ghost use Rattle.book.specs.Next.{number_of, side_number, group_of, InTable, NextOf, FirstFrom};
 
 use crate::book::Book;
-use resting::RestingOrders;
+use crate::resting::RestingOrders;
 use venue_model::{Order, Side, Symbol};
 
 impl Book {

@@ -6,14 +6,14 @@ ghost use Rattle.venue_model.specs.declared.orders.Order.{Order};
 ghost use Rattle.venue_model.specs.Orders.{leaves};
 ghost use Rattle.venue_model.specs.Match.{done, rest, trades, can_fill, matched, match_outputs};
 ghost use Rattle.venue_model.specs.Requests.{is_day, most_resting};
-ghost use Rattle.resting.specs.Firsts.{FillsFirst};
+ghost use Rattle.book.specs.Firsts.{FillsFirst};
 ghost use Rattle.book.specs.Standing.{InRange, Rests, Standing, Below};
 ghost use Rattle.book.specs.Books.{NoneNamed};
 ghost use Rattle.book.specs.Passes.{incoming_after, reports, Over};
 ghost use Rattle.book.specs.Reads.{fills, filled_by, IsMatched};
 
 use crate::reports::tell;
-use resting::RestingOrders;
+use crate::resting::RestingOrders;
 use std::cmp::min;
 use venue_model::{Cause, ExecType, Order, Output, TimeInForce};
 

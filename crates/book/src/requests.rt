@@ -1,11 +1,15 @@
 //! What each request does to the book, and what it tells: the refusals in their order, or the match.
-ghost use Rattle.std.specs.Prelude.{◌≡◌, ◌≢◌, ⊤, ℕ, ◌+◌, ◌*◌, ◌<◌, ◌≤◌, ◌^◌, true, [], ◌∷◌, ◌++◌, length, MatchOption, None, Some};
+ghost use Rattle.std.specs.Prelude.{◌≡◌, ◌≢◌, ⊤, ℕ, ◌+◌, ◌*◌, ◌<◌, ◌≤◌, ◌^◌, true, false, ◌∷◌, ◌++◌, length, MatchOption, None, Some};
 ghost use Rattle.std.specs.Vec.{vec_len, vec_capacity};
-ghost use Rattle.venue_model.specs.Requests.{new_refusal, entering, greatest_of, accepted, State, named, others, on_new, on_cancel, on_replace, cancel_reject, replace_reject, order_replaced, replace_fits, canceled, amended, restamped, keeps_place, amended_in_place, most_resting};
+ghost use Rattle.venue_model.specs.Requests.{new_refusal, is_day, entering, greatest_of, accepted, State, named, others, on_new, on_cancel, on_replace, cancel_reject, replace_reject, order_replaced, replace_fits, canceled, amended, restamped, keeps_place, amended_in_place, most_resting};
+ghost use Rattle.std.specs.List.{list_any};
+ghost use Rattle.std.specs.Str.{bytes_eq};
+ghost use Rattle.venue_model.specs.Orders.{leaves};
+ghost use Rattle.venue_model.specs.Match.{exec, can_fill, matched, match_outputs};
 ghost use Rattle.venue_model.specs.Step.{IsAmount};
-ghost use Rattle.book.specs.Standing.{Below};
+ghost use Rattle.book.specs.Standing.{InRange, Below};
 ghost use Rattle.book.specs.Books.{NoneNamed, IsBook, Stands, StaysInPlace, TakesOut};
-ghost use Rattle.book.specs.Reads.{fills, named_reads, NewReads, ReplaceReads};
+ghost use Rattle.book.specs.Reads.{fills, filled_by, named_reads, IsMatched, NewReads, ReplaceReads};
 
 use crate::book::Book;
 use crate::matching::enter;
@@ -104,16 +108,49 @@ impl Book {
             tell(out, cause, ExecType::Rejected { reason }, &order);
             return;
         }
-        self.accept(cause.gateway, request.cl_ord_id);
-        tell(out, cause, ExecType::New, &order);
-        enter(
-            &mut self.orders,
+        self.admit(
+            cause,
+            ExecType::New,
             &order,
             request.time_in_force,
-            cause,
             out,
             reads,
         );
+    }
+
+    /// An order of a symbol of the venue comes in on these terms, under a name that is accepted with it: its client is
+    /// told so, and it is matched.
+    fn admit(
+        &mut self,
+        cause: Cause,
+        exec_type: ExecType,
+        order: &Order,
+        terms: TimeInForce,
+        out: &mut Vec<Output>,
+        reads: &mut u64,
+    )
+        requires from { 1 ≤ order.now.client }
+        requires to { order.now.client ≤ 8 }
+        requires later { greatest_of self.old.state order.now.client < order.now.cl_ord_id }
+        requires known { list_any (bytes_eq order.now.symbol) self.old.symbols ≡ true }
+        requires in_range { InRange order.now }
+        requires some { 0 < leaves order.now }
+        requires behind { Below order.now.stamp self.old.state.orders }
+        requires place { is_day terms ≡ true → length self.old.state.orders < most_resting }
+        requires room { vec_len out.old + 8194 ≤ vec_capacity out.old }
+        requires reads { reads.old < 2 ^ 32 }
+        ensures state { self.new ≡ record self.old {
+          state = accepted self.old.state order.now.client order.now.cl_ord_id (matched terms order.now self.old.state.orders);
+        } }
+        ensures told { out.new.items ≡ out.old.items ++ exec cause exec_type order.now ∷ match_outputs cause terms order.now self.old.state.orders }
+        ensures below { Below (order.now.stamp + 1) self.new.state.orders }
+        ensures room { vec_capacity out.new ≡ vec_capacity out.old }
+        ensures reads { IsMatched (filled_by terms order.now self.old.state.orders) reads.old reads.new }
+        ensures killed { terms ≡ TimeInForce.FillOrKill → can_fill order.now self.old.state.orders ≡ false → reads.new ≡ reads.old }
+    {
+        self.accept(order.client, order.cl_ord_id);
+        tell(out, cause, exec_type, order);
+        enter(&mut self.orders, order, terms, cause, out, reads);
     }
 
     /// OrderCancelRequest: it is refused, or the order that it names leaves the book.
@@ -218,16 +255,7 @@ impl Book {
         } else {
             let order = restamped(cause, amended);
             self.take_out(cause.gateway, request.orig_cl_ord_id);
-            self.accept(cause.gateway, request.cl_ord_id);
-            tell(out, cause, exec_type, &order);
-            enter(
-                &mut self.orders,
-                &order,
-                TimeInForce::Day,
-                cause,
-                out,
-                reads,
-            );
+            self.admit(cause, exec_type, &order, TimeInForce::Day, out, reads);
         }
     }
 

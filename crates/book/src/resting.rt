@@ -1,0 +1,163 @@
+//! The resting orders: levels, and the index of names, kept together. Each order is found by its client and name, and the
+//! one ahead of all others by its level. Contracts see one list, in the order of the stamps.
+ghost use Rattle.std.specs.Prelude.{◌≡◌, ◌≢◌, ◌<◌, ◌≤◌, ◌+◌, ◌-◌, ◌^◌, not, [], ◌∷◌, ◌++◌, None, Some, length, map, filter, find, sum_by, IfOk, MatchOption, if◌then◌else◌};
+ghost use Rattle.venue_model.specs.Orders.{leaves};
+ghost use Rattle.venue_model.specs.Match.{crossing};
+ghost use Rattle.venue_model.specs.Requests.{is_named, most_resting};
+ghost use Rattle.price_levels.specs.Places.{CanAmend, amended};
+ghost use Rattle.book.specs.Standing.{InRange, Rests, Below, NoneNamed};
+ghost use Rattle.venue_model.specs.declared.orders.Order.{Order};
+ghost use Rattle.book.specs.Firsts.{FillsFirst, FillsNone};
+ghost use Rattle.book.specs.Queues.{NoneOf, IsFirst, NoneBehind, IsNext};
+
+use crate::order_index::OrderIndex;
+use price_levels::{Levels, Place};
+use std::alloc::{AllocError, Global};
+use std::marker::Model;
+use venue_model::{MOST_RESTING, Order, Side, Symbol};
+
+/// The resting orders, at most 4,096. Contracts see them in the order of their stamps.
+#[derive(Drop)]
+pub(crate) struct RestingOrders {
+    levels: Levels,
+    index: OrderIndex,
+    count: usize,
+}
+
+impl Model for RestingOrders {
+    ghost use Rattle.std.specs.Prelude.{List};
+    ghost use Rattle.venue_model.specs.declared.orders.Order.{Order};
+    ghost use Rattle.price_levels.specs.Stamps.{by_stamp};
+    ghost use Rattle.book.specs.Keeping.{AreKept};
+
+    ghost Value = { List Order };
+
+    ghost view = { λ r. by_stamp r.levels };
+
+    ghost invariant = { λ r. AreKept r.levels r.index r.count };
+}
+
+impl RestingOrders {
+    /// No order rests. All room is made here, for the orders of these symbols apart from one another; no other call asks
+    /// for memory.
+    pub(crate) fn new(alloc: Global, symbols: &[Symbol]) -> Result<RestingOrders, AllocError>
+        requires { length symbols.now ≤ 8 }
+        ensures { IfOk result (λ orders. orders ≡ []) }
+    {
+        let levels = Levels::new(alloc, symbols, MOST_RESTING)?;
+        let index = OrderIndex::new(alloc)?;
+        Ok(RestingOrders {
+            levels,
+            index,
+            count: 0,
+        })
+    }
+
+    /// How many orders rest.
+    pub(crate) fn len(&self) -> usize
+        ensures { result ≡ length self.now }
+    {
+        self.count
+    }
+
+    /// The client's order of this name. `reads` counts the read of it.
+    pub(crate) fn named(&self, client: u8, name: u64, reads: &mut u64) -> Option<Order>
+        requires { reads.old < 2 ^ 64 - 1 }
+        ensures order { result ≡ find (is_named client name) self.now }
+        ensures reads { MatchOption result (reads.new ≡ reads.old) (λ o. reads.new ≡ reads.old + 1) }
+    {
+        let number = self.index.find(client, name)?;
+        Some(self.levels.get(Place::at(number as usize), reads))
+    }
+
+    /// An order comes behind all others.
+    pub(crate) fn push(&mut self, order: &Order)
+        requires room { length self.old < most_resting }
+        requires rests { Rests order.now }
+        requires behind { Below order.now.stamp self.old }
+        requires fresh { NoneNamed order.now.client order.now.cl_ord_id self.old }
+        ensures { self.new ≡ self.old ++ order.now ∷ [] }
+    {
+        let number = self.levels.push_back(*order).number();
+        self.index
+            .insert(order.client, order.cl_ord_id, number as u32);
+        self.count += 1;
+    }
+
+    /// Takes the client's order of this name out.
+    pub(crate) fn take_out(&mut self, client: u8, name: u64) -> Order
+        requires { find (is_named client name) self.old ≢ None }
+        ensures order { find (is_named client name) self.old ≡ Some result }
+        ensures orders { self.new ≡ filter (λ o. not (is_named client name o)) self.old }
+    {
+        let number = self.index.remove(client, name);
+        self.count -= 1;
+        self.levels.unlink(Place::at(number as usize))
+    }
+
+    /// Gives the client's order of this name another name and a total that is no more than it was, and more than what was
+    /// filled of it. It keeps its place in time.
+    pub(crate) fn amend(&mut self, client: u8, name: u64, new_name: u64, total: u64)
+        requires there { MatchOption (find (is_named client name) self.old) ⊥ (CanAmend total) }
+        requires fresh { NoneNamed client new_name self.old }
+        ensures { self.new ≡ map (λ o. if is_named client name o then amended new_name total o else o) self.old }
+    {
+        let number = self.index.remove(client, name);
+        self.levels
+            .amend(Place::at(number as usize), new_name, total);
+        self.index.insert(client, new_name, number);
+    }
+
+    /// Fills the first of the orders that the incoming one crosses, as far as both go. It answers that order as it was, or
+    /// `None` where none is crossed. `reads` counts the read of one order at most.
+    pub(crate) fn fill_first(&mut self, incoming: &Order, reads: &mut u64) -> Option<Order>
+        requires reads { reads.old < 2 ^ 64 - 1 }
+        requires some { 0 < leaves incoming.now }
+        ensures first { MatchOption result (FillsNone incoming.now self.old self.new) (FillsFirst incoming.now self.old self.new) }
+        ensures reads { MatchOption result ((reads.old ≤ reads.new) × (reads.new ≤ reads.old + 1)) (λ o. reads.new ≡ reads.old + 1) }
+    {
+        let place = self
+            .levels
+            .best(&incoming.symbol, incoming.side.opposite())?;
+        let order = self.levels.get(place, reads);
+        if !incoming.crosses(&order) {
+            return None;
+        }
+        let quantity = incoming.leaves();
+        if quantity < order.leaves() {
+            self.levels.reduce(place, quantity);
+            return Some(order);
+        }
+        self.index.remove(order.client, order.cl_ord_id);
+        self.count -= 1;
+        self.levels.unlink(place);
+        Some(order)
+    }
+
+    /// The order of a symbol and side that is ahead of all others, or `None` where there is none.
+    pub(crate) fn first_of(&self, symbol: &Symbol, side: Side) -> Option<Order>
+        ensures { MatchOption result (NoneOf symbol.now side self.now) (IsFirst symbol.now side self.now) }
+    {
+        let place = self.levels.best(symbol, side)?;
+        Some(self.levels.get(place, &mut 0))
+    }
+
+    /// The order that comes next behind the client's one of this name, of its symbol and side. `None` where it is the last.
+    pub(crate) fn behind(&self, client: u8, name: u64) -> Option<Order>
+        requires { find (is_named client name) self.now ≢ None }
+        ensures { (o : Order) → find (is_named client name) self.now ≡ Some o
+            → MatchOption result (NoneBehind self.now o) (IsNext self.now o) }
+    {
+        let number = self.index.find(client, name).unwrap();
+        let place = self.levels.after(Place::at(number as usize))?;
+        Some(self.levels.get(place, &mut 0))
+    }
+
+    /// What the orders that it crosses have left. It reads no order.
+    pub(crate) fn crossing_total(&self, incoming: &Order) -> u64
+        ensures { result ≡ sum_by leaves (crossing incoming.now self.now) }
+    {
+        self.levels
+            .crossing_total(&incoming.symbol, incoming.side, incoming.price)
+    }
+}

@@ -1,6 +1,0 @@
--- The way goes on over entries of other names; it ends before all slots are passed.
-use Rattle.order_index.proofs.SlotLemmas.{never-full}
-use Rattle.order_index.proofs.slots.reach.Goals as goal
-
-pub unreachable-requires : goal.unreachable-requires
-unreachable-requires c = never-full c.args.slots.now c.requires c.args.client c.args.name c.loop-steps.steps c.loop-steps-test.false c.loop-steps.invariant

@@ -1,9 +1,0 @@
-use Rattle.std.proofs.Common.{◌∙◌}
-use Rattle.resting.proofs.Calls.{crosses-total}
-use Rattle.resting.proofs.orders.RestingOrders.crossing_total.Goals as goal
-
-pub returns : goal.returns
-returns c =
-    c.crossing_total.ensures
-    ∙ crosses-total c.self.inside.levels c.self.inside.index c.self.inside.count c.self.invariant c.args.self.now c.self.view_is
-    c.args.incoming.now

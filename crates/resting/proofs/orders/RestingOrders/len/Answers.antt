@@ -1,5 +1,0 @@
-use Rattle.resting.proofs.Calls.{counts}
-use Rattle.resting.proofs.orders.RestingOrders.len.Goals as goal
-
-pub returns : goal.returns
-returns c = counts c.self.inside.levels c.self.inside.index c.self.inside.count c.self.invariant c.args.self.now c.self.view_is

@@ -1,4 +1,0 @@
-pub mod Standing
-pub mod Firsts
-pub mod Keeping
-pub mod Queues
