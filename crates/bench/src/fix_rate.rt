@@ -10,6 +10,7 @@ use fix_frame::Framer;
 use reading::{SUM, read_orders};
 use std::rt::Clock;
 use std::time::Instant;
+use venue_model::LONGEST_MESSAGE;
 use writing::{ACKNOWLEDGEMENT, reports, write_bodies, write_first};
 
 /// How many messages the words ask for: one word, a number from 1 to 4,294,967,295.
@@ -34,7 +35,7 @@ pub fn measure<R: Clock + Print + Eprint + AllocGlobal>(
     let parse = Rate::of(u64::from(messages), begun.elapsed(rt)?, Unit::Messages);
 
     let reports = reports();
-    let mut body = [0; 320];
+    let mut body = [0; LONGEST_MESSAGE];
     let first = write_first(&mut body, &reports);
     let is_right = body.starts_with(ACKNOWLEDGEMENT) && first == ACKNOWLEDGEMENT.len();
     let begun = Instant::now(rt)?;

@@ -5,14 +5,14 @@ use Rattle.std.specs.List.{AllByRecursion}
 use Rattle.std.proofs.lemmas.Bool.Decides.{nat_tests}
 use Rattle.venue_model.specs.declared.orders.Order.{Order}
 use Rattle.venue_model.specs.Requests.{is_named}
-use Rattle.price_levels.specs.Places.{Places, at, IsAt}
+use Rattle.price_levels.specs.Places.{Places, IsAt}
 use Rattle.price_levels.specs.Stamps.{by_stamp, Seated}
 use Rattle.price_levels.specs.StampLaws.{seated, others, is-within, each-listed, each-stands}
 use Rattle.book.specs.declared.order_index.slots.Entry.{Entry}
 use Rattle.book.specs.IndexNames.{place_of}
 use Rattle.book.specs.Standing.{NoneNamed}
 use Rattle.book.specs.Keeping.{IsIndexed, AreKept}
-use Rattle.book.proofs.Middles.{some-same, find-none, find-middle, filter-middle, map-middle}
+use Rattle.book.proofs.Middles.{some-same, find-middle, filter-middle, map-middle}
 
 pub same-names : (c n : ℕ) (o : Order) → is_named c n o ≡ true → (o.client ≡ c) × (o.cl_ord_id ≡ n)
 same-names c n o h = (grind (arith, nat_tests), grind (arith, nat_tests))

@@ -231,7 +231,7 @@ exchanged_twice row j v b d spare one two three one_is found two_is three_is =
     three_is ∙ (λ i. ((two_is i).0, (row, d) ∷ [])) ∙ (λ i. ((one_is i).0, (row, d) ∷ [])) ∙ ap (λ (l : List (ℕ × Boxed)). (v, l)) (sym found ∙ ap (λ (z : Seated Boxed _). z.1) one_is)
 
 -- the box of a slot; d where there is none
-box_of : Boxed → List (ℕ × Boxed) → Boxed
+abbrev box_of : Boxed → List (ℕ × Boxed) → Boxed
 box_of d [] = d
 box_of d (x ∷ xs) = x.1
 

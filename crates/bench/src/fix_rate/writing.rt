@@ -1,6 +1,8 @@
 //! The bodies of reports, written again and again: what the marshaller does with each output.
 use fix_orders::body_of;
-use venue_model::{ExecType, ExecutionReport, Order, Output, Report, Side, Symbol};
+use venue_model::{
+    ExecType, ExecutionReport, LONGEST_MESSAGE, Order, Output, Report, Side, Symbol,
+};
 
 /// How many reports there are. They are written by turns.
 const REPORTS: usize = 4;
@@ -61,13 +63,13 @@ pub fn reports() -> [Output; 4] {
 }
 
 /// Writes the body of the acknowledgement at the buffer's front, and answers how many bytes it has.
-pub fn write_first(body: &mut [u8; 320], reports: &[Output; 4]) -> usize {
+pub fn write_first(body: &mut [u8; LONGEST_MESSAGE], reports: &[Output; 4]) -> usize {
     body_of(&reports[0], FIRST_EXEC_ID, body)
 }
 
 /// Writes so many bodies by turns, each over the one before and each with an ExecID of its own, and answers how many
 /// bytes were written.
-pub fn write_bodies(body: &mut [u8; 320], reports: &[Output; 4], copies: u32) -> u64 {
+pub fn write_bodies(body: &mut [u8; LONGEST_MESSAGE], reports: &[Output; 4], copies: u32) -> u64 {
     let mut written = 0u64;
     for at in 0..copies {
         let report = &reports[at as usize % REPORTS];

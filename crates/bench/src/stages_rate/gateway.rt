@@ -11,7 +11,7 @@ use book::BookLogic;
 use ring_words::GatewaySeat;
 use sequencer::{Take, take_output, try_claim};
 use std::alloc::{AllocError, Global};
-use venue_model::Entry;
+use venue_model::{Entry, LONGEST_MESSAGE};
 use workers::{Outcome, Worker};
 
 /// How many turns in a row a gateway may find nothing to do: about half a minute, with the sleeps between them, and no hang.
@@ -25,7 +25,7 @@ pub struct Gateway<'a, const G: usize> {
     task: Task,
     messages: Vec<Entry>,
     sent: usize,
-    body: [u8; 320],
+    body: [u8; LONGEST_MESSAGE],
     answers: Answers,
     /// How many turns in a row found nothing to do.
     idle: u64,
@@ -50,7 +50,7 @@ impl<const G: usize> Gateway<'_, G> {
             task: *task,
             messages,
             sent: 0,
-            body: [0; 320],
+            body: [0; LONGEST_MESSAGE],
             answers: Answers {
                 accepted: 0,
                 canceled: 0,
@@ -90,7 +90,7 @@ impl<const G: usize> Gateway<'_, G> {
     fn take(&mut self) -> bool {
         match take_output(self.rings, &mut self.seat, &mut self.body) {
             Take::Mine(head) => {
-                let len = head.len.min(320);
+                let len = head.len.min(LONGEST_MESSAGE);
                 self.answers.count(&head, &self.body[..len]);
             }
             Take::Passed => {}

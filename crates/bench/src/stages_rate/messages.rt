@@ -5,7 +5,7 @@ ghost use Rattle.std.specs.Prelude.{◌+◌, ◌≤◌, ◌<◌, ◌^◌, length
 
 use fix_orders::{put_bytes, put_field, put_number};
 use std::alloc::{AllocError, Global};
-use venue_model::Entry;
+use venue_model::{Entry, LONGEST_MESSAGE};
 
 /// SendingTime (52) and TransactTime (60) of each message.
 const TIME: &[u8; 17] = b"20250102-09:30:00";
@@ -60,7 +60,7 @@ fn framed(gateway: u8, fields: &[u8]) -> Entry
     requires gateway { (1 ≤ gateway) × (gateway ≤ 8) }
     requires fields { length fields.now ≤ 200 }
 {
-    let mut frame = [0; 320];
+    let mut frame = [0; LONGEST_MESSAGE];
     let end = put_bytes(&mut frame, 0, b"8=FIX.4.4\x01");
     let end = put_number(&mut frame, end, 9, fields.len() as u64);
     let end = put_bytes(&mut frame, end, fields);

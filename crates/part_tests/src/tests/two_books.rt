@@ -9,8 +9,8 @@ use fix_orders::body_of;
 use std::alloc::Global;
 use std::test::Fail;
 use venue_model::{
-    Command, ExecType, Limits, NewOrderSingle, Order, OrderCancelReplaceRequest,
-    OrderCancelRequest, Output, Report, Side, Symbol, TimeInForce,
+    Command, ExecType, LONGEST_MESSAGE, Limits, MOST_GATEWAYS, NewOrderSingle, Order,
+    OrderCancelReplaceRequest, OrderCancelRequest, Output, Report, Side, Symbol, TimeInForce,
 };
 
 /// 2025-01-02, 09:30:00.
@@ -146,8 +146,8 @@ fn next_command(
 
 /// Whether two outputs are the same, in all that a client is told of them.
 fn is_same(one: &Output, other: &Output) -> bool {
-    let mut body = [0; 320];
-    let mut other_body = [0; 320];
+    let mut body = [0; LONGEST_MESSAGE];
+    let mut other_body = [0; LONGEST_MESSAGE];
     let end = body_of(one, 1, &mut body);
     let other_end = body_of(other, 1, &mut other_body);
     one.to == other.to
@@ -183,7 +183,7 @@ fn ask(
     ensures { OnOk result (Below (sequence + 1) book.new.state.orders) }
 {
     if client < 1
-        || 8 < client
+        || MOST_GATEWAYS < client as usize
         || 1 << 48 <= sequence
         || !command.is_in_range()
         || out.capacity() < MOST_OUTPUTS

@@ -9,8 +9,8 @@ use fix_orders::body_of;
 use std::alloc::{AllocError, Global};
 use std::test::Fail;
 use venue_model::{
-    Command, Limits, NewOrderSingle, OrderCancelReplaceRequest, OrderCancelRequest, Output, Side,
-    Symbol, TimeInForce,
+    Command, LONGEST_MESSAGE, Limits, MOST_GATEWAYS, NewOrderSingle, OrderCancelReplaceRequest,
+    OrderCancelRequest, Output, Side, Symbol, TimeInForce,
 };
 
 /// 2025-01-02, 09:30:00.
@@ -116,7 +116,7 @@ fn is_text(bytes: &[u8], text: &[u8]) -> bool {
 
 /// Whether the output at this place goes to this client with this body.
 fn is_report(output: &Output, place: u64, to: u8, body: &[u8]) -> bool {
-    let mut buf = [0; 320];
+    let mut buf = [0; LONGEST_MESSAGE];
     let end = body_of(output, place.wrapping_add(1), &mut buf);
     output.to == to && is_text(&buf[..end], body)
 }
@@ -142,7 +142,11 @@ fn apply(
     requires { Below sequence book.old.state.orders }
     ensures { OnOk result (Below (sequence + 1) book.new.state.orders) }
 {
-    if gateway < 1 || 8 < gateway || 1 << 48 <= sequence || out.capacity() < MOST_OUTPUTS {
+    if gateway < 1
+        || MOST_GATEWAYS < gateway as usize
+        || 1 << 48 <= sequence
+        || out.capacity() < MOST_OUTPUTS
+    {
         Err("no request")?;
     }
     if !command.is_in_range() {

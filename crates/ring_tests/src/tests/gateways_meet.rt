@@ -18,6 +18,7 @@ use std::alloc::Global;
 use std::test::Fail;
 use std::thread;
 use std::thread::{Threads, join};
+use venue_model::LONGEST_MESSAGE;
 
 /// How often in a row a thread tries before it gives up: long enough for any machine, and no hang.
 const TRIES: u64 = 100_000_000;
@@ -39,12 +40,12 @@ fn take_next<const N: usize, const M: usize, const G: usize>(
 ) -> bool
     ensures { StaysSpent gateway.old.seat gateway.new.seat }
 {
-    let mut buf = [0; 320];
+    let mut buf = [0; LONGEST_MESSAGE];
     let right = match gateway.take(&mut buf) {
         Take::Mine(head) => {
             let due = report_of(client, *told);
             *told = told.wrapping_add(1);
-            head.len <= 320 && buf[..head.len].ends_with(&due)
+            head.len <= LONGEST_MESSAGE && buf[..head.len].ends_with(&due)
         }
         Take::Passed => true,
         Take::Nothing => {

@@ -7,6 +7,7 @@ use super::venue::TestRings;
 use book::BookLogic;
 use ring_words::GatewaySeat;
 use sequencer::{ClaimRefusal, Take, take_output, try_claim};
+use venue_model::LONGEST_MESSAGE;
 
 /// A gateway at its place.
 #[derive(Drop)]
@@ -27,7 +28,7 @@ impl<'a, const N: usize, const M: usize, const G: usize> Member<'a, N, M, G> {
     }
 
     /// Takes the next output, or passes it over. A body of its own stands at the buffer's front.
-    pub fn take(&mut self, buf: &mut [u8; 320]) -> Take
+    pub fn take(&mut self, buf: &mut [u8; LONGEST_MESSAGE]) -> Take
         ensures { StaysSpent self.old.seat self.new.seat }
     {
         take_output(self.rings, &mut self.seat, buf)

@@ -3,6 +3,7 @@ ghost use Rattle.std.specs.Prelude.{◌≤◌, vec_len, IfOk};
 
 use std::alloc::{AllocError, Global};
 use std::test::Fail;
+use venue_model::LONGEST_MESSAGE;
 
 /// C1 buys 100 at 50.
 pub const FIRST_BUY: &str = "8=FIX.4.4|9=102|35=D|49=C1|56=VENUE|34=2|52=20250102-09:30:00|11=1|\
@@ -46,7 +47,7 @@ pub fn message(alloc: Global, text: &str) -> Result<Vec<u8>, Fail>
     ensures { IfOk result (λ message. (1 ≤ vec_len message) × (vec_len message ≤ 320)) }
 {
     let message = bytes_of(alloc, text)?;
-    if message.is_empty() || 320 < message.len() {
+    if message.is_empty() || LONGEST_MESSAGE < message.len() {
         Err("no message")?;
     }
     Ok(message)

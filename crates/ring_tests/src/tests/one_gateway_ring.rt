@@ -13,6 +13,7 @@ use sequencer::Take;
 use stages::Turn::Did;
 use std::alloc::Global;
 use std::test::Fail;
+use venue_model::LONGEST_MESSAGE;
 
 /// Publishes the order, lets the stages poll, and says whether its acknowledgement comes, and nothing more.
 fn is_acknowledged<const N: usize, const M: usize, const G: usize>(
@@ -29,9 +30,9 @@ fn is_acknowledged<const N: usize, const M: usize, const G: usize>(
 {
     let published = gateway.publish(order).is_ok();
     let turns = poll(rings, stages);
-    let mut body = [0; 320];
+    let mut body = [0; LONGEST_MESSAGE];
     let taken = gateway.take(&mut body);
-    let next = gateway.take(&mut [0; 320]);
+    let next = gateway.take(&mut [0; LONGEST_MESSAGE]);
     let seen = (
         published,
         turns,

@@ -12,6 +12,7 @@ use stages::Turn::{Did, OutFull};
 use std::alloc::Global;
 use std::process::Abort;
 use std::test::Fail;
+use venue_model::LONGEST_MESSAGE;
 
 /// How many outputs the gateway takes, and how many it passes over, until there is none.
 fn taken<const N: usize, const M: usize, const G: usize>(
@@ -19,7 +20,7 @@ fn taken<const N: usize, const M: usize, const G: usize>(
 ) -> (u8, u8) {
     let (mut own, mut passed) = (0_u8, 0_u8);
     for _ in 0..3 {
-        match gateway.take(&mut [0; 320]) {
+        match gateway.take(&mut [0; LONGEST_MESSAGE]) {
             Take::Mine(_) => own = own.wrapping_add(1),
             Take::Passed => passed = passed.wrapping_add(1),
             Take::Nothing => break,

@@ -12,6 +12,7 @@ use stages::Turn::{Did, Idle};
 use std::alloc::Global;
 use std::process::Abort;
 use std::test::Fail;
+use venue_model::LONGEST_MESSAGE;
 
 /// Both claim, one after the other, and both publish AB, the other one first: until then the stages find nothing. Answers the sequences.
 fn publish_both<const N: usize, const M: usize, const G: usize>(
@@ -79,7 +80,7 @@ fn take_one<A: Abort, const N: usize, const M: usize, const G: usize>(
     other: &mut Member<'_, N, M, G>,
     acknowledged: &[u8],
 ) {
-    let mut body = [0; 320];
+    let mut body = [0; LONGEST_MESSAGE];
     assert!(rt; matches!(one.take(&mut body), Take::Mine(_)));
     assert!(rt; body.starts_with(acknowledged));
     assert_eq!(rt; one.take(&mut body), Take::Nothing);
