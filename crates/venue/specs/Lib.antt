@@ -7,3 +7,7 @@ pub mod Crashes
 pub mod Rounds
 pub mod Serving
 pub mod CrashLaws
+pub mod Trading
+pub mod TradingLaws
+pub mod Members
+pub mod Listening

@@ -1,12 +1,21 @@
-//! The venue behind its journal: its rings and stages open behind the history that stands there, and one client is served over a wire.
+//! The venue behind its journal: its rings and stages open behind the history that stands there. Then one client is served over a wire, or
+//! members at ports of their own, each gateway and each stage on a thread of its own, until it is told to stop.
 #![tactic(auto)]
 
 mod fault;
+mod leaving;
+mod listening;
+mod member;
+mod members;
 mod opening;
 mod rings;
 mod serving;
+mod stop;
+mod watch;
 
 pub use fault::ServeFault;
+pub use listening::listen;
 pub use opening::{Parts, open};
 pub use rings::VenueRings;
 pub use serving::serve;
+pub use stop::{StopFile, StopSign};

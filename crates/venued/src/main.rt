@@ -15,7 +15,6 @@ use crate::words::{Mode, Words, WordsFault, refuse};
 use disks::{StandardStreams, SystemFolder};
 use gateway::{StdWire, Wire};
 use journal::JournalFault;
-use listening::StopFile;
 use std::fs::{File, Files};
 use std::io::{ErrorKind, Write};
 use std::net::{Net, TcpListener, TcpStream};
@@ -23,7 +22,7 @@ use std::process::ExitCode;
 use std::rt::{Clock, Env};
 use std::thread::Threads;
 use std::{env, io};
-use venue::ServeFault;
+use venue::{ServeFault, StopFile};
 
 /// The words of the command line, without the program's name.
 fn read_words<R: Env + AllocGlobal>(rt: &R) -> Result<Words, WordsFault>

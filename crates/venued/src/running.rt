@@ -11,13 +11,12 @@ use crate::words::Words;
 use disks::{FileDisk, Folder, JournalDisk, RawFile};
 use gateway::Wire;
 use journal::open_journal;
-use listening::{StopSign, listen};
 use std::alloc::Global;
 use std::io::Write;
 use std::net::{Net, TcpListener, TcpStream};
 use std::rt::Clock;
 use std::thread::Threads;
-use venue::{ServeFault, serve};
+use venue::{ServeFault, StopSign, listen, serve};
 use workers::{Gate, NoGate};
 
 /// Opens the file of the journal, or makes it, and serves over it: the program's status, and the disk if the file could

@@ -3,7 +3,6 @@
 mod failing_sync;
 
 use journal::{MemDisk, format};
-use listening::{StopSign, listen};
 use std::alloc::Global;
 use std::net::{Net, TcpListener, TcpStream};
 use std::rt::Clock;
@@ -11,6 +10,7 @@ use std::sync::atomic::{AtomicBool, Ordering};
 use std::test::Fail;
 use std::thread;
 use std::thread::Threads;
+use venue::{StopSign, listen};
 use venue_model::Limits;
 use workers::{Gate, Station};
 

@@ -1,4 +1,0 @@
-pub mod Trading
-pub mod TradingLaws
-pub mod Members
-pub mod Listening

@@ -1,0 +1,48 @@
+-- What a run of the listening mode comes to.
+use Rattle.std.specs.Prelude.{◌≡◌, ◌⊎◌, ℕ, Bool, true, false, List, length, Result, Ok, Err}
+use Rattle.venue_model.specs.Requests.{Limits}
+use Rattle.ring_words.specs.At.{Opened, At}
+use Rattle.ring_words.specs.declared.close.Summary.{Summary}
+use Rattle.disks.specs.Disk.{OnlyRead}
+use Rattle.journal.specs.Journals.{IsOpened}
+use Rattle.stages.specs.Stations.{OneCrew, disk_of}
+use Rattle.stages.specs.Finishing.{Finished}
+use Rattle.stages.specs.Journalling.{JournalsOn}
+use Rattle.venue.specs.Faults.{status_of_end}
+use Rattle.venue.specs.Members.{AreBack}
+use Rattle.venue.specs.Opened.{AreBehind, IsNewCrew}
+use Rattle.venue.specs.Venues.{Device}
+use Rattle.venue.specs.declared.fault.ServeFault.{ServeFault}
+use Rattle.venue.specs.declared.fault.ServeFault.TheVariants as fault
+
+-- How it ended, by whether the journal failed, and whether all workers had begun. One for which the system makes no thread is a want of memory.
+abbrev pub end_of : Bool → Bool → Result (Unit {0}) ServeFault
+end_of true ready = Err fault.JournalFailed
+end_of false true = Ok tt
+end_of false false = Err fault.Memory
+
+module _ {D : Type 0} where
+  -- Members were served behind the journal's history. The stages went on from there, the journaller with all that it was told, and all g gateways'
+  -- seats came back; one log tells of all of them, of which the disk keeps what was answered.
+  pub record Listens (limits : Limits) (device : Device D) (g : ℕ) (old new : D) (status : ℕ) : Type 0 where
+    pub rings : Opened Limits
+    pub begun : OneCrew D
+    pub ended : OneCrew D
+    pub seats : List (At Limits)
+    pub ready : Bool
+    pub summary : Summary
+    pub behind : AreBehind limits rings.base rings
+    pub crew : IsNewCrew rings begun
+    pub counts : device.failed (disk_of begun) ≡ device.failed old
+    pub opened : IsOpened (device.honest old) (device.honest (disk_of begun)) (device.tells old) (device.tells (disk_of begun)) rings.base
+    pub journals : JournalsOn rings device.honest device.tells device.failed begun.journaller ended.journaller
+    pub back : AreBack rings seats × (length seats ≡ g)
+    pub finished : Finished rings seats ended (device.honest new) (device.tells new) summary
+    pub disk_is : new ≡ disk_of ended
+    pub status_is : status ≡ status_of_end (end_of ended.journaller.journal.failed ready)
+
+  -- what the program's status says: 1 where nobody was served and the disk was only read, and else how it ended
+  abbrev pub EndsListening : Limits → Device D → ℕ → D → D → ℕ → Type 0
+  EndsListening limits device g old new status =
+      ((status ≡ 1) × OnlyRead (device.honest old) (device.honest new) (device.tells old) (device.tells new))
+      ⊎ Listens limits device g old new status
