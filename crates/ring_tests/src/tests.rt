@@ -11,4 +11,4 @@ mod ring_of_two;
 mod sessions;
 mod small_rings;
 mod venue;
-mod wires;
+mod client_wires;
