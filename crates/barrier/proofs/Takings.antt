@@ -1,5 +1,6 @@
 -- The taking of an output: a load of marshalled that shows one, other loads, and the store of the taken word.
-use Rattle.std.proofs.Common.{◌≡◌, ℕ, suc, ◌<◌, List, [], ◌∷◌, ◌++◌, length, take, refl, sym, ap, subst, ◌∙◌, arith, append_assoc}
+use Rattle.std.proofs.Common.{◌≡◌, ℕ, suc, ◌<◌, List, [], ◌∷◌, ◌++◌, length, take, refl, sym, ap, subst, ◌∙◌, arith}
+use Rattle.std.proofs.Common.{append_assoc}
 use Rattle.std.proofs.Math.Seq.{take-append_seam}
 use mathlib.Core.Option.{some}
 use lib.ListN.{get_elem?}
@@ -21,11 +22,20 @@ begins seen rest = sym (take-append_seam seen rest)
 pub reached : {L : Type 0} (v u w : At L) → OnlyLoads v u → w ≡ u → OnlyLoads v w
 reached v u w only is = (only.0, is ∙ only.1)
 
-module _ {L : Type 0} (v u : At L) (r : ℕ) (rest : List Message) (view : u ≡ seated v (knowing (looked v.who marshalled r) rest)) where
+module _ {L : Type 0} (v u : At L) (r : ℕ) (rest : List Message)
+    (view : u ≡ seated v (knowing (looked v.who marshalled r) rest)) where
   -- the load showed each output below its value
   pub shown : (q : ℕ) → q < r → Shows marshalled u.who q
-  shown q lt = subst (λ (y : At L). Shows marshalled y.who q) (sym view)
-      (length v.who.loads, (load_of marshalled r, at_behind v.who.loads (load_of marshalled r ∷ []) 0 (length v.who.loads) _ (omega arith) refl, refl, lt))
+  shown q lt = subst (λ (y : At L). Shows marshalled y.who q) (sym view) (
+    length v.who.loads,
+    (
+      load_of marshalled r,
+      at_behind v.who.loads (load_of marshalled r ∷ []) 0
+          (length v.who.loads) _ (omega arith) refl,
+      refl,
+      lt,
+    ),
+  )
 
   -- the own word is as before
   pub own_kept : u.who.own ≡ v.who.own

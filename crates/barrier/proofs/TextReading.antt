@@ -1,5 +1,6 @@
 -- The words of an output's text, and its body in the buffer.
-use Rattle.std.proofs.Common.{◌≡◌, ℕ, zero, suc, ◌+◌, ◌*◌, ◌/◌, ◌<◌, ◌≤◌, List, [], ◌∷◌, ◌++◌, length, take, get_or, refl, sym, ap, subst, ◌∙◌, arith, append_assoc, length-append}
+use Rattle.std.proofs.Common.{◌≡◌, ℕ, zero, suc, ◌+◌, ◌*◌, ◌/◌, ◌<◌, ◌≤◌, List, [], ◌∷◌, ◌++◌, length, take, get_or}
+use Rattle.std.proofs.Common.{refl, sym, ap, subst, ◌∙◌, arith, append_assoc, length-append}
 use Rattle.std.proofs.lemmas.List.{ext_get_or, get_or-take, length-take-le}
 use Rattle.std.specs.Int.{div_ceil, to_be_bytes, from_be_bytes}
 use native.Mathlib.Decide.{ℕ_discrete}
@@ -24,7 +25,10 @@ use Rattle.barrier.specs.Taking.{OnlyLoads, IsTextHead, Carries}
 
 -- a load shows the same after more loads
 shows_behind : (k q : ℕ) (p : Person) (ls : List Load) → Shows k p q → Shows k (loading p ls) q
-shows_behind k q p ls shows = (shows.0, (shows.1.0, at_longer p.loads ls shows.0 shows.1.0 shows.1.1, shows.1.2, shows.1.3))
+shows_behind k q p ls shows = (
+  shows.0,
+  (shows.1.0, at_longer p.loads ls shows.0 shows.1.0 shows.1.1, shows.1.2, shows.1.3),
+)
 
 module _ {L : Type 0} (v u : At L) (only : OnlyLoads v u) where
   -- and then it only made loads again
@@ -61,16 +65,20 @@ length-eights bs (suc n) = let before = length-eights bs n in simp length-append
 eights_at : (bs : List ℕ) (n i : ℕ) → i < n → get_elem? (eights bs n) i ≡ some (from_be_bytes w64 (eight bs i))
 eights_at bs zero i low = absurd (omega arith)
 eights_at bs (suc n) i low = let long = length-eights bs n in dite (ℕ_discrete i n)
-    (λ last. at_behind (eights bs n) (from_be_bytes w64 (eight bs n) ∷ []) 0 i _ (omega arith) refl ∙ (λ j. some (from_be_bytes w64 (eight bs (sym last j)))))
+    (λ last. at_behind (eights bs n) (from_be_bytes w64 (eight bs n) ∷ []) 0 i _ (omega arith) refl
+    ∙ (λ j. some (from_be_bytes w64 (eight bs (sym last j)))))
     (λ other. at_longer (eights bs n) (from_be_bytes w64 (eight bs n) ∷ []) i _ (eights_at bs n i (omega arith)))
 
 -- word i of the body is text word i + 2
-pub text_at : (t : Text) (i : ℕ) → i < (length t.body + 7) / 8 → get_elem? (text_words t) (i + 2) ≡ some (from_be_bytes w64 (eight t.body i))
+pub text_at : (t : Text) (i : ℕ) → i < (length t.body + 7) / 8
+    → get_elem? (text_words t) (i + 2) ≡ some (from_be_bytes w64 (eight t.body i))
 text_at t i low = let place : suc (suc i) ≡ i + 2 = omega arith in
-    subst (λ (k : ℕ). get_elem? (text_words t) k ≡ some (from_be_bytes w64 (eight t.body i))) place (eights_at t.body ((length t.body + 7) / 8) i low)
+    subst (λ (k : ℕ). get_elem? (text_words t) k ≡ some (from_be_bytes w64 (eight t.body i))) place
+    (eights_at t.body ((length t.body + 7) / 8) i low)
 
 -- what the body has of words that the loop reads
-pub in_body : (head : Head) (t : Text) (i last : ℕ) → IsTextHead head t → last ≡ div_ceil head.len 8 → i < last → i < (length t.body + 7) / 8
+pub in_body : (head : Head) (t : Text) (i last : ℕ) → IsTextHead head t → last ≡ div_ceil head.len 8 → i < last
+    → i < (length t.body + 7) / 8
 in_body head t i last is ends low = let len = is.len in omega arith
 
 -- the words that the loop reads have room in the buffer
@@ -78,17 +86,20 @@ pub in_buffer : (head : Head) (i last : ℕ) → head.len ≤ 320 → last ≡ d
 in_buffer head i last most ends low = omega arith
 
 -- the bytes of the word that was loaded
-pub loaded_bytes : (t : Text) (i x : ℕ) (ys zs : List ℕ) → (x ≡ from_be_bytes w64 (eight t.body i)) × IsPackableText t → zs ≡ to_be_bytes w64 x → ys ≡ zs → ys ≡ eight t.body i
+pub loaded_bytes : (t : Text) (i x : ℕ) (ys zs : List ℕ) → (x ≡ from_be_bytes w64 (eight t.body i)) × IsPackableText t
+    → zs ≡ to_be_bytes w64 x → ys ≡ zs → ys ≡ eight t.body i
 loaded_bytes t i x ys zs h z_is y_is = y_is ∙ z_is ∙ word_bytes t.body i x h.1.bytes h.0
 
 -- head and body are the text's
-pub carries : (head : Head) (t : Text) (buf : List ℕ) (i last : ℕ) → IsTextHead head t → head.len ≤ 320 → length buf ≡ 320 → last ≡ div_ceil head.len 8 → last ≤ i
+pub carries : (head : Head) (t : Text) (buf : List ℕ) (i last : ℕ) → IsTextHead head t → head.len ≤ 320
+    → length buf ≡ 320 → last ≡ div_ceil head.len 8 → last ≤ i
     → ((j : ℕ) → j < 8 * i → get_or buf j 0 ≡ get_or t.body j 0) → Carries head buf t
 carries head t buf i last is most long ends le same = record {
   head_is = is;
   most = most;
   body = ext_get_or 0 (take head.len buf) t.body (taken ∙ is.len) (λ j lt.
-      get_or-take head.len buf j 0 (subst (λ (k : ℕ). j < k) taken lt) ∙ same j (let below = subst (λ (k : ℕ). j < k) taken lt in omega arith));
+      get_or-take head.len buf j 0 (subst (λ (k : ℕ). j < k) taken lt)
+      ∙ same j (let below = subst (λ (k : ℕ). j < k) taken lt in omega arith));
 } where
   taken : length (take head.len buf) ≡ head.len
   taken = length-take-le head.len buf (omega arith)

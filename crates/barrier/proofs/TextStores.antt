@@ -1,5 +1,6 @@
 -- The words of a text, stored one after another.
-use Rattle.std.proofs.Common.{◌≡◌, ℕ, zero, suc, ◌+◌, ◌/◌, ◌%◌, List, [], ◌∷◌, ◌++◌, length, take, min, refl, ap, sym, subst, inr, ◌∙◌, arith, length-append, add-one}
+use Rattle.std.proofs.Common.{◌≡◌, ℕ, zero, suc, ◌+◌, ◌/◌, ◌%◌, List, [], ◌∷◌, ◌++◌, length, take, min, refl, ap, sym}
+use Rattle.std.proofs.Common.{subst, inr, ◌∙◌, arith, length-append, add-one}
 use Rattle.std.proofs.Math.Seq.{take-length}
 use Rattle.std.specs.Int.{from_be_bytes}
 use mir.Syntax.{w64}
@@ -9,7 +10,7 @@ use Rattle.ring_words.specs.Raw.{eight}
 use Rattle.ring_words.specs.Texts.{eights, text_head, text_words}
 use Rattle.ring_words.specs.Seats.{stored, wrote}
 use Rattle.ring_words.specs.At.{At, seated}
-use Rattle.ring_words.specs.Steps.{GoesOn}
+use Rattle.ring_words.specs.Steps.{GoesOnRow}
 
 -- head, time, and the first k words of the body
 abbrev pub first_words : Text → ℕ → List ℕ
@@ -21,7 +22,7 @@ length-eights bs zero = refl
 length-eights bs (suc k) = let before = length-eights bs k in simp length-append (omega arith)
 
 -- behind head, time and the first k words of the body comes word k + 2
-pub goes_on : (p : Person) (q : ℕ) (t : Text) (k : ℕ) → GoesOn (wrote p q (first_words t k)).part q (k + 2)
+pub goes_on : (p : Person) (q : ℕ) (t : Text) (k : ℕ) → GoesOnRow (wrote p q (first_words t k)).part q (k + 2)
 goes_on p q t k = let long = length-eights t.body k in inr (refl, omega arith)
 
 -- a store of word k of the body behind the words before it
@@ -35,16 +36,19 @@ store_after p q t k x is =
 
 module _ {L : Type 0} (v u w : At L) (q : ℕ) (t : Text) where
   -- the first two stores are head and time
-  pub store_first : (x y : ℕ) → u ≡ seated v (stored v.who q 0 x) → x ≡ text_head t → w ≡ seated u (stored u.who q 1 y) → y ≡ t.sending_time
+  pub store_first : (x y : ℕ) → u ≡ seated v (stored v.who q 0 x) → x ≡ text_head t → w ≡ seated u (stored u.who q 1 y)
+      → y ≡ t.sending_time
       → w ≡ seated v (wrote v.who q (first_words t 0))
   store_first x y head head_is time time_is =
-      rw head at time ∙ ap (λ (ws : List ℕ). seated v (wrote v.who q ws)) (ap (λ (a : ℕ). a ∷ y ∷ []) head_is ∙ ap (λ (a : ℕ). text_head t ∷ a ∷ []) time_is)
+      rw head at time ∙ ap (λ (ws : List ℕ). seated v (wrote v.who q ws))
+      (ap (λ (a : ℕ). a ∷ y ∷ []) head_is ∙ ap (λ (a : ℕ). text_head t ∷ a ∷ []) time_is)
 
   -- one store more: word k of the body
   pub store_next : (k x : ℕ) → u ≡ seated v (wrote v.who q (first_words t k)) → x ≡ from_be_bytes w64 (eight t.body k)
       → w ≡ seated u (stored u.who q (k + 2) x) → w ≡ seated v (wrote v.who q (first_words t (k + 1)))
   store_next k x so_far word step =
-      rw so_far at step ∙ ap (seated v) (store_after v.who q t k x word ∙ ap (λ (n : ℕ). wrote v.who q (first_words t n)) (sym (add-one k)))
+      rw so_far at step ∙ ap (seated v)
+      (store_after v.who q t k x word ∙ ap (λ (n : ℕ). wrote v.who q (first_words t n)) (sym (add-one k)))
 
 -- after the last one all words are stored
 pub store_last : {L : Type 0} (v u : At L) (q : ℕ) (t : Text) (k : ℕ) → u ≡ seated v (wrote v.who q (first_words t k))

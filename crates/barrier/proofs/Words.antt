@@ -1,5 +1,6 @@
 -- The words of one message, and its bytes in the buffer.
-use Rattle.std.proofs.Common.{◌≡◌, ℕ, suc, ◌+◌, ◌*◌, ◌/◌, ◌<◌, ◌≤◌, List, [], ◌∷◌, ◌++◌, length, take, get_or, sym, ap, subst, ◌∙◌, arith, append_assoc}
+use Rattle.std.proofs.Common.{◌≡◌, ℕ, suc, ◌+◌, ◌*◌, ◌/◌, ◌<◌, ◌≤◌, List, [], ◌∷◌, ◌++◌, length, take, get_or, sym, ap}
+use Rattle.std.proofs.Common.{subst, ◌∙◌, arith, append_assoc}
 use Rattle.std.proofs.lemmas.List.{ext_get_or, get_or-take, length-take-le}
 use Rattle.std.specs.Int.{div_ceil, to_be_bytes}
 use mathlib.Core.Option.{some, some-injective}
@@ -15,7 +16,7 @@ use Rattle.ring_words.specs.Seats.{load_of, looked}
 use Rattle.ring_words.specs.At.{At, seated}
 use Rattle.ring_words.specs.declared.raw.Raw.{Raw}
 use Rattle.ring_words.specs.RawLaws.{word_bytes}
-use Rattle.barrier.specs.Reading.{IsHead, Reads, word_loads, after_loads}
+use Rattle.barrier.specs.Reading.{IsMessageHead, ReadsMessage, word_loads, after_loads}
 
 -- the gateway in word 0
 quotient : (x g l : ℕ) → x ≡ g * 65536 + l → l < 65536 → x / 65536 ≡ g
@@ -50,26 +51,32 @@ pub still : {L : Type 0} (n : ℕ) (v u : At L) (s k : ℕ) (e : Message) → u 
 still n v u s k e after at = subst (λ (y : At _). get_elem? y.who.seen s ≡ some e) (sym after) at
 
 -- what the message has of words that the loop reads
-pub in_message : (e : Message) (r : Raw) (i last : ℕ) → IsHead e r → last ≡ div_ceil r.len 8 → i < last → (i + 1 < raw_count e) × (8 * i + 8 ≤ 320)
+pub in_message : (e : Message) (r : Raw) (i last : ℕ) → IsMessageHead e r → last ≡ div_ceil r.len 8 → i < last
+    → (i + 1 < raw_count e) × (8 * i + 8 ≤ 320)
 in_message e r i last h ends lt = let len = h.len in let most = h.entry.message.most in (omega arith, omega arith)
 
 -- the bytes of the word that was loaded
-pub loaded_bytes : (e : Message) (i x : ℕ) (ys zs : List ℕ) → (x ≡ raw_word e (i + 1)) × IsEntry e → zs ≡ to_be_bytes w64 x → ys ≡ zs → ys ≡ eight e.bytes i
-loaded_bytes e i x ys zs h z_is y_is = y_is ∙ z_is ∙ word_bytes e.bytes i x h.1.bytes (h.0 ∙ ap (raw_word e) (let g : i + 1 ≡ suc i = omega arith in g))
+pub loaded_bytes : (e : Message) (i x : ℕ) (ys zs : List ℕ) → (x ≡ raw_word e (i + 1)) × IsEntry e
+    → zs ≡ to_be_bytes w64 x → ys ≡ zs → ys ≡ eight e.bytes i
+loaded_bytes e i x ys zs h z_is y_is = y_is ∙ z_is ∙ word_bytes e.bytes i x h.1.bytes
+    (h.0 ∙ ap (raw_word e) (let g : i + 1 ≡ suc i = omega arith in g))
 
 -- the buffer has the whole message
-pub reads_whole : (e : Message) (r : Raw) (buf : List ℕ) (i last : ℕ) → IsHead e r → length buf ≡ 320 → last ≡ div_ceil r.len 8 → last ≤ i
-    → ((j : ℕ) → j < 8 * i → get_or buf j 0 ≡ get_or e.bytes j 0) → Reads e r buf
+pub reads_whole : (e : Message) (r : Raw) (buf : List ℕ) (i last : ℕ) → IsMessageHead e r → length buf ≡ 320
+    → last ≡ div_ceil r.len 8 → last ≤ i
+    → ((j : ℕ) → j < 8 * i → get_or buf j 0 ≡ get_or e.bytes j 0) → ReadsMessage e r buf
 reads_whole e r buf i last h long ends past same = record {
   head = h;
   bytes = ext_get_or 0 (take r.len buf) e.bytes (taken ∙ h.len) (λ j lt.
-      get_or-take r.len buf j 0 (subst (λ (k : ℕ). j < k) taken lt) ∙ same j (let below = subst (λ (k : ℕ). j < k) taken lt in omega arith));
+      get_or-take r.len buf j 0 (subst (λ (k : ℕ). j < k) taken lt)
+      ∙ same j (let below = subst (λ (k : ℕ). j < k) taken lt in omega arith));
 } where
   taken : length (take r.len buf) ≡ r.len
   taken = let len = h.len in let most = h.entry.message.most in length-take-le r.len buf (omega arith)
 
 -- all words of the message are loaded
-pub counted : (e : Message) (r : Raw) (i last : ℕ) → IsHead e r → last ≡ div_ceil r.len 8 → i ≤ last → last ≤ i → i + 1 ≡ raw_count e
+pub counted : (e : Message) (r : Raw) (i last : ℕ) → IsMessageHead e r → last ≡ div_ceil r.len 8 → i ≤ last → last ≤ i
+    → i + 1 ≡ raw_count e
 counted e r i last h ends le ge = let len = h.len in omega arith
 
 pub all_loaded : {L : Type 0} (n : ℕ) (v w : At L) (s k : ℕ) (d e : Message) → w ≡ seated v (after_loads n v.who s d k)
@@ -78,5 +85,6 @@ all_loaded n v w s k d e after all same = after ∙ ap (λ (j : ℕ). seated v (
     ∙ ap (λ (m : Message). seated v (after_loads n v.who s m (raw_count m))) same
 
 -- one entry stands at a sequence
-pub one_entry : (seen : List Message) (s : ℕ) (d e : Message) → get_elem? seen s ≡ some d → get_elem? seen s ≡ some e → d ≡ e
+pub one_entry : (seen : List Message) (s : ℕ) (d e : Message) → get_elem? seen s ≡ some d → get_elem? seen s ≡ some e
+    → d ≡ e
 one_entry seen s d e a b = some-injective d e (sym a ∙ b)

@@ -10,14 +10,14 @@ use Rattle.ring_words.specs.Seats.{load_of}
 use Rattle.ring_words.specs.declared.raw.Raw.{Raw}
 
 -- the message may stand in the log, and the answer names its gateway and length
-pub record IsHead (e : Message) (answer : Raw) : Type 0 where
+pub record IsMessageHead (e : Message) (answer : Raw) : Type 0 where
   pub entry : IsEntry e
   pub gateway : answer.gateway ≡ e.gateway
   pub len : answer.len ≡ length e.bytes
 
 -- the answer names the message's gateway and length, and the buffer begins with its bytes
-pub record Reads (e : Message) (answer : Raw) (buf : List ℕ) : Type 0 where
-  pub head : IsHead e answer
+pub record ReadsMessage (e : Message) (answer : Raw) (buf : List ℕ) : Type 0 where
+  pub head : IsMessageHead e answer
   pub bytes : take answer.len buf ≡ e.bytes
 
 -- one load for each of the first k raw words of the message e, in the row of s of a ring of n rows: the value is that word

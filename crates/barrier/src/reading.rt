@@ -5,7 +5,7 @@ ghost use lib.ListN.{get_elem?};
 ghost use Rattle.venue_model.specs.History.{Message};
 ghost use Rattle.ring_words.specs.Raw.{raw_count};
 ghost use Rattle.ring_words.specs.At.{IsAt, Steps};
-ghost use Rattle.barrier.specs.Reading.{IsHead, Reads, after_loads};
+ghost use Rattle.barrier.specs.Reading.{IsMessageHead, ReadsMessage, after_loads};
 
 use ring_words::{Raw, Reader, ReaderSeat, Rings};
 use venue_model::{LONGEST_MESSAGE, Logic};
@@ -20,7 +20,7 @@ fn read_head<L: Logic, R: Reader, const N: usize, const M: usize, const G: usize
     requires from { seat.old.who.own ≤ sequence }
     requires to { sequence < length seat.old.who.seen }
     ensures step { (e : Message) → get_elem? seat.old.who.seen sequence ≡ some e → Steps seat.old (after_loads N seat.old.who sequence e 1) seat.new }
-    ensures head { (e : Message) → get_elem? seat.old.who.seen sequence ≡ some e → IsHead e result }
+    ensures head { (e : Message) → get_elem? seat.old.who.seen sequence ≡ some e → IsMessageHead e result }
 {
     Raw::from_word(rings.load_raw(seat, sequence, 0))
 }
@@ -37,7 +37,7 @@ pub fn read_raw<L: Logic, R: Reader, const N: usize, const M: usize, const G: us
     requires from { seat.old.who.own ≤ sequence }
     requires to { sequence < length seat.old.who.seen }
     ensures range { (1 ≤ result.gateway) × (result.gateway ≤ 8) × (1 ≤ result.len) × (result.len ≤ 320) }
-    ensures entry { (e : Message) → get_elem? seat.old.who.seen sequence ≡ some e → Reads e result buf.new }
+    ensures entry { (e : Message) → get_elem? seat.old.who.seen sequence ≡ some e → ReadsMessage e result buf.new }
     ensures step { (e : Message) → get_elem? seat.old.who.seen sequence ≡ some e → Steps seat.old (after_loads N seat.old.who sequence e (raw_count e)) seat.new }
 {
     let raw = read_head(rings, seat, sequence);

@@ -1,5 +1,6 @@
 -- An order that a request amends: it stays an order of the book under its new name.
-use Rattle.std.proofs.Common.{◌≡◌, ℕ, ◌-◌, ◌<◌, ◌≤◌, Bool, true, false, ◌&&◌, not, nat_eq, nat_le, List, [], ◌∷◌, ◌++◌, map, refl, ap, sym, subst, ◌∙◌, arith, Option, Some, None}
+use Rattle.std.proofs.Common.{◌≡◌, ℕ, ◌-◌, ◌<◌, ◌≤◌, Bool, true, false, ◌&&◌, not, nat_eq, nat_le, List, [], ◌∷◌, ◌++◌}
+use Rattle.std.proofs.Common.{map, refl, ap, sym, subst, ◌∙◌, arith, Option, Some, None}
 use Rattle.std.specs.Prelude.{⊤, find, slice_index, if◌then◌else◌, MatchOption}
 use Rattle.std.specs.Str.{bytes_eq}
 use Rattle.std.proofs.lemmas.Bool.{eqb-true}
@@ -9,11 +10,12 @@ use Rattle.venue_model.specs.declared.outputs.Cause.{Cause}
 use Rattle.venue_model.specs.declared.commands.OrderCancelReplaceRequest.{OrderCancelReplaceRequest}
 use Rattle.venue_model.specs.Orders.{leaves, is_live, same_side}
 use Rattle.venue_model.specs.Match.{live_alone}
-use Rattle.venue_model.specs.Requests.{Symbols, State, is_named, is_day, replace_fits, amended, restamped, keeps_place, order_replaced}
-use Rattle.venue_model.specs.ReplacedLaws.{in_place, again}
+use Rattle.venue_model.specs.Requests.{Symbols, State, is_named, is_day, replace_fits, amended, restamped, keeps_place}
+use Rattle.venue_model.specs.Requests.{order_replaced}
+use Rattle.venue_model.specs.ReplacedLaws.{in_place, stepped_again}
 use Rattle.price_levels.specs.Places.{CanAmend}
 use Rattle.book.specs.Standing.{InRange, Rests, Below}
-use Rattle.book.specs.Books.{Book, NamedApart, Belongs, IsBook, NoneNamed, Stands, StaysInPlace}
+use Rattle.book.specs.Books.{Book, NamedApart, Belongs, IsBook, NoneNamed, StandsInBook, StaysInPlace}
 use Rattle.book.proofs.Lists.{each-back}
 use Rattle.book.proofs.Fills.{live-true}
 use Rattle.book.proofs.NameLemmas.{IsAmong, found, amended-are, amended-kept}
@@ -33,10 +35,13 @@ more quantity cum h = grind (arith, nat_tests)
 
 -- a request that fits asks for more than was filled
 pub fits-more : (r : OrderCancelReplaceRequest) (o : Order) → replace_fits r o ≡ true → o.cum < r.quantity
-fits-more r o fit = more r.quantity o.cum (and_last (bytes_eq r.symbol o.symbol && same_side r.side o.side && is_day r.time_in_force) (not (nat_le r.quantity o.cum)) fit)
+fits-more r o fit = more r.quantity o.cum
+    (and_last (bytes_eq r.symbol o.symbol && same_side r.side o.side && is_day r.time_in_force)
+    (not (nat_le r.quantity o.cum)) fit)
 
 -- the amended order is in range, wherever it stands in time
-pub amended-range : (r : OrderCancelReplaceRequest) (o : Order) → InRange o → o.cum < r.quantity → r.quantity ≤ 1000000 → r.price ≤ 1000000 → InRange (amended r o)
+pub amended-range : (r : OrderCancelReplaceRequest) (o : Order) → InRange o → o.cum < r.quantity → r.quantity ≤ 1000000
+    → r.price ≤ 1000000 → InRange (amended r o)
 amended-range r o range asks quantity price = record {
   cum = omega (arith, asks);
   total = quantity;
@@ -45,9 +50,15 @@ amended-range r o range asks quantity price = record {
 }
 
 pub restamped-range : (c : Cause) (o : Order) → InRange o → InRange (restamped c o)
-restamped-range c o range = record { cum = range.cum; total = range.total; price = range.price; notional = range.notional }
+restamped-range c o range = record {
+  cum = range.cum;
+  total = range.total;
+  price = range.price;
+  notional = range.notional;
+}
 
-apart-instead : (o o' : Order) (xs ys : List Order) → NoneNamed o'.client o'.cl_ord_id (xs ++ o ∷ ys) → NamedApart (xs ++ o ∷ ys) →
+apart-instead : (o o' : Order) (xs ys : List Order) → NoneNamed o'.client o'.cl_ord_id (xs ++ o ∷ ys)
+    → NamedApart (xs ++ o ∷ ys) →
     NamedApart (xs ++ (live_alone o' ++ ys))
 apart-instead o o' [] ys fresh apart = elim (is_live o') as (λ b. NamedApart ((if b then o' ∷ [] else []) ++ ys))
     [ true ↦ (fresh.1, apart.1) | false ↦ apart.1 ]
@@ -57,7 +68,8 @@ apart-instead o o' (x ∷ xs) ys fresh apart = (
 )
 
 -- the order of a name, in the book
-module _ (symbols : Symbols) (greatest : List ℕ) (client name : ℕ) (os : List Order) (old : Order) (its : IsAmong client name os old)
+module _ (symbols : Symbols) (greatest : List ℕ) (client name : ℕ) (os : List Order) (old : Order)
+    (its : IsAmong client name os old)
     (book : IsBook symbols os greatest) where
   whole : IsBook symbols (its.before ++ old ∷ its.behind) greatest
   whole = subst (λ zs. IsBook symbols zs greatest) its.split book
@@ -83,7 +95,8 @@ module _ (symbols : Symbols) (greatest : List ℕ) (client name : ℕ) (os : Lis
         name = rw mine named;
         symbol = rw symbol_is its-belongs.symbol;
       } in
-      let its_fresh : NoneNamed o.client o.cl_ord_id (its.before ++ old ∷ its.behind) = rw mine (subst (NoneNamed client o.cl_ord_id) its.split fresh) in
+      let its_fresh : NoneNamed o.client o.cl_ord_id (its.before ++ old ∷ its.behind) =
+      rw mine (subst (NoneNamed client o.cl_ord_id) its.split fresh) in
       let alone : live_alone o ≡ o ∷ [] = ap (λ b. if b then o ∷ [] else []) (live-true o some) in
       subst (λ zs. IsBook symbols (its.before ++ (zs ++ its.behind)) greatest) alone (record {
         standing = standing-instead old o its.before its.behind stamp range whole.standing;
@@ -93,8 +106,9 @@ module _ (symbols : Symbols) (greatest : List ℕ) (client name : ℕ) (os : Lis
       })
 
 -- an order that is found by its name stands in the book
-pub stands : (book : Book) (client name : ℕ) (o : Order) → IsBook book.limits.symbols book.state.orders book.state.greatest →
-    find (is_named client name) book.state.orders ≡ Some o → Stands book client o
+pub stands : (book : Book) (client name : ℕ) (o : Order)
+    → IsBook book.limits.symbols book.state.orders book.state.greatest →
+    find (is_named client name) book.state.orders ≡ Some o → StandsInBook book client o
 stands book client name o is_book is =
     let its = found client name book.state.orders o is_book.apart is in
     record {
@@ -103,8 +117,9 @@ stands book client name o is_book is =
       its_client = its-client book.limits.symbols book.state.greatest client name book.state.orders o its is_book;
     }
 
-pub named-stands : (book : Book) (client name : ℕ) (named : Option Order) → IsBook book.limits.symbols book.state.orders book.state.greatest →
-    named ≡ find (is_named client name) book.state.orders → MatchOption named ⊤ (Stands book client)
+pub named-stands : (book : Book) (client name : ℕ) (named : Option Order)
+    → IsBook book.limits.symbols book.state.orders book.state.greatest →
+    named ≡ find (is_named client name) book.state.orders → MatchOption named ⊤ (StandsInBook book client)
 named-stands book client name None is_book is = tt
 named-stands book client name (Some o) is_book is = stands book client name o is_book (sym is)
 
@@ -123,8 +138,10 @@ can-amend r o stays = record {
   some = fits-more r o stays.fits;
 }
 
-module _ (symbols : Symbols) (greatest : List ℕ) (client : ℕ) (r : OrderCancelReplaceRequest) (os new : List Order) (book : IsBook symbols os greatest)
-    (new_is : new ≡ map (λ o. if is_named client r.orig_cl_ord_id o then record o { cl_ord_id = r.cl_ord_id; total = r.quantity } else o) os) where
+module _ (symbols : Symbols) (greatest : List ℕ) (client : ℕ) (r : OrderCancelReplaceRequest) (os new : List Order)
+    (book : IsBook symbols os greatest)
+    (new_is : new ≡ map (λ o. if is_named client r.orig_cl_ord_id o then record o
+    { cl_ord_id = r.cl_ord_id; total = r.quantity } else o) os) where
   module _ (o : Order) (is : find (is_named client r.orig_cl_ord_id) os ≡ Some o) (stays : StaysInPlace r o) where
     its : IsAmong client r.orig_cl_ord_id os o
     its = found client r.orig_cl_ord_id os o book.apart is
@@ -135,7 +152,8 @@ module _ (symbols : Symbols) (greatest : List ℕ) (client : ℕ) (r : OrderCanc
     one-amended : new ≡ map (λ x. if is_named client r.orig_cl_ord_id x then amended r x else x) os
     one-amended = new_is ∙ amended-kept client r.orig_cl_ord_id os o its r price
 
-    one-book : r.cl_ord_id ≤ slice_index greatest (client - 1) → NoneNamed client r.cl_ord_id os → IsBook symbols new greatest
+    one-book : r.cl_ord_id ≤ slice_index greatest (client - 1) → NoneNamed client r.cl_ord_id os
+        → IsBook symbols new greatest
     one-book named fresh =
         let can = can-amend r o stays in
         let rests = its-rests symbols greatest client r.orig_cl_ord_id os o its book in
@@ -143,12 +161,15 @@ module _ (symbols : Symbols) (greatest : List ℕ) (client : ℕ) (r : OrderCanc
         let total = range.total in
         let no_more = can.no_more in
         let asks = can.some in
-        subst (λ zs. IsBook symbols zs greatest) (sym (one-amended ∙ amended-are client r.orig_cl_ord_id os o its (amended r)))
+        subst (λ zs. IsBook symbols zs greatest)
+        (sym (one-amended ∙ amended-are client r.orig_cl_ord_id os o its (amended r)))
         (book-instead symbols greatest client r.orig_cl_ord_id os o its book (amended r o) refl refl refl
-        (amended-range r o range asks (omega (arith, total, no_more)) (rw price range.price)) (omega (arith, asks)) named fresh)
+        (amended-range r o range asks (omega (arith, total, no_more)) (rw price range.price)) (omega (arith, asks))
+        named fresh)
 
   -- whichever it is
-  its-one : (named : Option Order) → find (is_named client r.orig_cl_ord_id) os ≡ named → MatchOption named ⊥ (StaysInPlace r) →
+  its-one : (named : Option Order) → find (is_named client r.orig_cl_ord_id) os ≡ named
+      → MatchOption named ⊥ (StaysInPlace r) →
       (o : Order) × (find (is_named client r.orig_cl_ord_id) os ≡ Some o) × StaysInPlace r o
   its-one None is never = absurd never
   its-one (Some o) is stays = (o, is, stays)
@@ -167,14 +188,16 @@ module _ (symbols : Symbols) (greatest : List ℕ) (client : ℕ) (r : OrderCanc
 
 -- an order keeps its stamp where it is amended, so all stay below a sequence
 pub below-amended : (client name new_name total sequence : ℕ) (os : List Order) → Below sequence os →
-    Below sequence (map (λ o. if is_named client name o then record o { cl_ord_id = new_name; total = total } else o) os)
+    Below sequence (map (λ o. if is_named client name o then record o { cl_ord_id = new_name; total = total } else o)
+    os)
 below-amended client name new_name total sequence [] below = tt
 below-amended client name new_name total sequence (o ∷ os) below = (
-  elim (is_named client name o) as (λ b. (if b then record o { cl_ord_id = new_name; total = total } else o).stamp < sequence)
+  elim (is_named client name o) as (λ b. (if b then record o { cl_ord_id = new_name; total = total } else o).stamp
+      < sequence)
       [ true ↦ below.0 | false ↦ below.0 ],
   below-amended client name new_name total sequence os below.1,
 )
 
 module _ (s : State) (c : Cause) (r : OrderCancelReplaceRequest) (o : Order) where
-  pub replaced-moved : keeps_place r o ≡ false → order_replaced s c r (Some o) ≡ again s c r o
-  replaced-moved loses = ap (λ b. if b then in_place s c r o else again s c r o) loses
+  pub replaced-moved : keeps_place r o ≡ false → order_replaced s c r (Some o) ≡ stepped_again s c r o
+  replaced-moved loses = ap (λ b. if b then in_place s c r o else stepped_again s c r o) loses

@@ -1,13 +1,14 @@
 -- An order gets another name and total where it stands.
-use Rattle.std.proofs.Common.{◌≡◌, ◌+◌, ◌<◌, ◌≤◌, ℕ, zero, suc, Bool, true, false, List, [], ◌∷◌, length, map, refl, ap, sym, subst, ◌∙◌, inl, inr, Some, None, arith, length-set}
+use Rattle.std.proofs.Common.{◌≡◌, ◌+◌, ◌<◌, ◌≤◌, ℕ, zero, suc, Bool, true, false, List, [], ◌∷◌, length, map, refl, ap}
+use Rattle.std.proofs.Common.{sym, subst, ◌∙◌, inl, inr, Some, None, arith, length-set}
 use Rattle.std.specs.Prelude.{◌≢◌, slice_set, find, option_map, MatchOption, if◌then◌else◌}
 use Rattle.std.proofs.lemmas.Bool.Decides.{nat_tests}
 use Rattle.venue_model.specs.declared.orders.Order.{Order}
 use Rattle.venue_model.specs.Requests.{is_named}
-use Rattle.price_levels.specs.Places.{Places, at, IsAt, standing, HoldsAt, CanAmend, amended, changed}
+use Rattle.price_levels.specs.Places.{Places, at, StandsAt, standing, HoldsAt, CanAmend, renamed_to, changed}
 use Rattle.price_levels.specs.Stamps.{by_stamp}
 use Rattle.price_levels.specs.StampLaws.{at-set, is-within, apart-changed, each-stands}
-use Rattle.book.specs.declared.order_index.slots.Entry.{Entry}
+use Rattle.book.specs.declared.order_index.slots.IndexEntry.{IndexEntry}
 use Rattle.book.specs.IndexNames.{PlaceOf, place_of, with_name, without_name, same_name, most_entries}
 use Rattle.book.specs.Standing.{Rests, NoneNamed}
 use Rattle.book.specs.Keeping.{HasName, AreKept}
@@ -18,7 +19,8 @@ use Rattle.book.proofs.Middles.{some-same}
 named-now : (c n m t : ℕ) (o : Order) → is_named c n o ≡ true → same_name c m o.client m ≡ true
 named-now c n m t o h = grind (arith, nat_tests)
 
-named-as : (c n m a b t : ℕ) (o : Order) → is_named c n o ≡ true → same_name c m a b ≡ true → is_named a b (amended m t o) ≡ true
+named-as : (c n m a b t : ℕ) (o : Order) → is_named c n o ≡ true → same_name c m a b ≡ true
+    → is_named a b (renamed_to m t o) ≡ true
 named-as c n m a b t o h k = grind (arith, nat_tests)
 
 few-standing : (places : Places) → length (standing places) ≤ length places
@@ -26,7 +28,7 @@ few-standing [] = omega arith
 few-standing (None ∷ places) = let rest = few-standing places in omega (arith, rest)
 few-standing (Some o ∷ places) = let rest = few-standing places in omega (arith, rest)
 
-as-many : (places : Places) (p : ℕ) (o y : Order) → IsAt places p o
+as-many : (places : Places) (p : ℕ) (o y : Order) → StandsAt places p o
     → length (standing (slice_set places p (Some y))) ≡ length (standing places)
 as-many [] p o y stands = refl
 as-many (None ∷ places) zero o y stands = absurd (let e : None ≡ Some o = stands in cc)
@@ -34,7 +36,7 @@ as-many (Some x ∷ places) zero o y stands = refl
 as-many (None ∷ places) (suc p) o y stands = as-many places p o y stands
 as-many (Some x ∷ places) (suc p) o y stands = ap suc (as-many places p o y stands)
 
-amend-rests : (o : Order) (m t : ℕ) → Rests o → CanAmend t o → Rests (amended m t o)
+amend-rests : (o : Order) (m t : ℕ) → Rests o → CanAmend t o → Rests (renamed_to m t o)
 amend-rests o m t rests can =
     let range = rests.in_range in
     record {
@@ -47,7 +49,8 @@ amend-rests o m t rests can =
       };
     }
 
-module _ (places : Places) (entries : List Entry) (count : ℕ) (kept : AreKept places entries count) (view : List Order)
+module _ (places : Places) (entries : List IndexEntry) (count : ℕ) (kept : AreKept places entries count)
+    (view : List Order)
     (is : by_stamp places ≡ view)
     (c n m t : ℕ) (there : MatchOption (find (is_named c n) view) ⊥ (CanAmend t)) (fresh : NoneNamed c m view) where
   -- the order is there
@@ -62,24 +65,26 @@ module _ (places : Places) (entries : List Entry) (count : ℕ) (kept : AreKept 
     its = sits places entries count kept c n p found
 
     can : CanAmend t its.order
-    can = subst (λ o. MatchOption o ⊥ (CanAmend t)) (ap (find (is_named c n)) (sym is) ∙ finds-it places entries c n p its) there
+    can = subst (λ o. MatchOption o ⊥ (CanAmend t))
+        (ap (find (is_named c n)) (sym is) ∙ finds-it places entries c n p its) there
 
     pub can-amend : (q : ℕ) → q ≡ p → HoldsAt places q (CanAmend t)
     can-amend q same = subst (λ v. MatchOption v ⊥ (CanAmend t)) (sym (ap (at places) same ∙ its.stands)) can
 
     abbrev order : Order
-    order = amended m t its.order
+    order = renamed_to m t its.order
 
-    amended-is : (q : ℕ) → q ≡ p → changed (amended m t) places q ≡ slice_set places p (Some order)
-    amended-is q same = ap (changed (amended m t) places) same ∙ ap (λ v. slice_set places p (option_map (amended m t) v)) its.stands
+    amended-is : (q : ℕ) → q ≡ p → changed (renamed_to m t) places q ≡ slice_set places p (Some order)
+    amended-is q same = ap (changed (renamed_to m t) places) same
+        ∙ ap (λ v. slice_set places p (option_map (renamed_to m t) v)) its.stands
 
-    pub amended-orders : (q : ℕ) → q ≡ p → (after : Places) → after ≡ changed (amended m t) places q
-        → by_stamp after ≡ map (λ o. if is_named c n o then amended m t o else o) view
+    pub amended-orders : (q : ℕ) → q ≡ p → (after : Places) → after ≡ changed (renamed_to m t) places q
+        → by_stamp after ≡ map (λ o. if is_named c n o then renamed_to m t o else o) view
     amended-orders q same after after_is =
-        ap by_stamp (after_is ∙ amended-is q same) ∙ changes-it places entries c n p its (amended m t) refl
-        ∙ ap (map (λ o. if is_named c n o then amended m t o else o)) is
+        ap by_stamp (after_is ∙ amended-is q same) ∙ changes-it places entries c n p its (renamed_to m t) refl
+        ∙ ap (map (λ o. if is_named c n o then renamed_to m t o else o)) is
 
-    module _ (less : List Entry) (less_is : place_of less ≡ without_name c n (place_of entries))
+    module _ (less : List IndexEntry) (less_is : place_of less ≡ without_name c n (place_of entries))
         (one_less : length less + 1 ≡ length entries) where
       by_less : (a b : ℕ) → place_of less a b ≡ (if same_name c n a b then None else place_of entries a b)
       by_less a b = ap (λ (f : PlaceOf). f a b) less_is
@@ -94,14 +99,16 @@ module _ (places : Places) (entries : List Entry) (count : ℕ) (kept : AreKept 
       pub less-room : length less < most_entries
       less-room = let few = few-standing places in omega (arith, one_less, few, kept.as_many, kept.size)
 
-      module _ (new : List Entry) (new_is : place_of new ≡ with_name c m p (place_of less)) (one_more : length new ≡ length less + 1) where
+      module _ (new : List IndexEntry) (new_is : place_of new ≡ with_name c m p (place_of less))
+          (one_more : length new ≡ length less + 1) where
         by_new : (a b : ℕ) → place_of new a b ≡ (if same_name c m a b then Some p else
             (if same_name c n a b then None else place_of entries a b))
         by_new a b =
             ap (λ (f : PlaceOf). f a b) new_is
             ∙ ap (λ o. if same_name c m a b then Some p else o) (by_less a b)
 
-        pub kept-amend : (q : ℕ) → q ≡ p → (after : Places) → after ≡ changed (amended m t) places q → AreKept after new count
+        pub kept-amend : (q : ℕ) → q ≡ p → (after : Places) → after ≡ changed (renamed_to m t) places q
+            → AreKept after new count
         kept-amend q q_is after after_is = subst (λ ps. AreKept ps new count) (sym (after_is ∙ amended-is q q_is))
             (record {
               size = length-set places p (Some order) ∙ kept.size;
@@ -116,12 +123,14 @@ module _ (places : Places) (entries : List Entry) (count : ℕ) (kept : AreKept 
                       let one : order ≡ x = some-same here.1 in
                       subst (λ (z : Order). place_of new z.client z.cl_ord_id ≡ Some k) one
                       (by_new its.order.client m
-                      ∙ ap (λ b. if b then Some p else (if same_name c n its.order.client m then None else place_of entries
+                      ∙ ap (λ b. if b then Some p else
+                      (if same_name c n its.order.client m then None else place_of entries
                       its.order.client m)) (named-now c n m t its.order its.is_it)
                       ∙ ap (λ j. Some j) (sym here.0))
                   | inr was ↦ other-named k x was.0 was.1 (same_name c n x.client x.cl_ord_id) refl
                 ];
-                stands = λ a b k has. by_test a b k (same_name c m a b) refl (same_name c n a b) refl (sym (by_new a b) ∙ has);
+                stands = λ a b k has. by_test a b k (same_name c m a b) refl (same_name c n a b) refl
+                    (sym (by_new a b) ∙ has);
               };
               counted = kept.counted ∙ sym same;
               as_many = one_more ∙ one_less ∙ kept.as_many ∙ sym same;
@@ -133,14 +142,17 @@ module _ (places : Places) (entries : List Entry) (count : ℕ) (kept : AreKept 
             same : length (standing (slice_set places p (Some order))) ≡ length (standing places)
             same = as-many places p its.order order its.stands
 
-            other-named : (k : ℕ) (x : Order) → k ≢ p → IsAt places k x → (b : Bool) → same_name c n x.client x.cl_ord_id ≡ b
+            other-named : (k : ℕ) (x : Order) → k ≢ p → StandsAt places k x → (b : Bool)
+                → same_name c n x.client x.cl_ord_id ≡ b
                 → place_of new x.client x.cl_ord_id ≡ Some k
             other-named k x other stands true same = absurd (other
                 (some-same (sym (indexed-as places entries kept.indexed c n k x stands same) ∙ found)))
             other-named k x other stands false same =
-                let isnt = each-stands (λ z. is_named c m z ≡ false) places (subst (NoneNamed c m) (sym is) fresh) k x stands in
+                let isnt = each-stands (λ z. is_named c m z ≡ false) places (subst (NoneNamed c m) (sym is) fresh) k x
+                stands in
                 by_new x.client x.cl_ord_id
-                ∙ ap (λ b. if b then Some p else (if same_name c n x.client x.cl_ord_id then None else place_of entries x.client
+                ∙ ap (λ b. if b then Some p else
+                (if same_name c n x.client x.cl_ord_id then None else place_of entries x.client
                 x.cl_ord_id)) isnt
                 ∙ ap (λ b. if b then None else place_of entries x.client x.cl_ord_id) same
                 ∙ kept.indexed.named k x stands
@@ -166,4 +178,8 @@ module _ (places : Places) (entries : List Entry) (count : ℕ) (kept : AreKept 
                 let y = same-names c n its.order its.is_it in
                 let yes : same_name c n a b ≡ true = same-test c n a b (sym x.0 ∙ y.0) (sym x.1 ∙ y.1) in
                 cc in
-                record { order = there.order; stands = at-there places p k (Some order) other ∙ there.stands; is_it = there.is_it }
+                record {
+                  order = there.order;
+                  stands = at-there places p k (Some order) other ∙ there.stands;
+                  is_it = there.is_it;
+                }

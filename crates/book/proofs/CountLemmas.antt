@@ -9,7 +9,8 @@ use Rattle.book.proofs.StandingLemmas.{length-filter-le}
 
 length-put : (o : Order) (xs : List Order) → length (insert_by_priority o xs) ≡ suc (length xs)
 length-put o [] = refl
-length-put o (x ∷ xs) = elim (ahead o x) as (λ b. length (if b then o ∷ x ∷ xs else x ∷ insert_by_priority o xs) ≡ suc (suc (length xs)))
+length-put o (x ∷ xs) = elim (ahead o x) as (λ b. length (if b then o ∷ x ∷ xs else x ∷ insert_by_priority o xs)
+    ≡ suc (suc (length xs)))
     [ true ↦ refl | false ↦ ap suc (length-put o xs) ]
 
 length-by_priority : (xs : List Order) → length (by_priority xs) ≡ length xs

@@ -1,5 +1,6 @@
 -- One fill, as the definitions of a match see it, and what stands in the book's list behind it.
-use Rattle.std.proofs.Common.{◌≡◌, ℕ, ◌+◌, ◌<◌, ◌≤◌, false, List, [], ◌∷◌, ◌++◌, length, refl, ap, sym, subst, ◌∙◌, arith, append_assoc}
+use Rattle.std.proofs.Common.{◌≡◌, ℕ, ◌+◌, ◌<◌, ◌≤◌, false, List, [], ◌∷◌, ◌++◌, length, refl, ap, sym, subst, ◌∙◌}
+use Rattle.std.proofs.Common.{arith, append_assoc}
 use Rattle.std.specs.Prelude.{if◌then◌else◌}
 use Rattle.std.proofs.Math.Nat.{mul-le-mul_left}
 use Rattle.std.proofs.lemmas.Bool.Decides.{nat_tests}
@@ -11,7 +12,7 @@ use Rattle.venue_model.specs.Match.{filled, live_alone, rest, done, trades}
 use Rattle.book.specs.Firsts.{FillsFirst}
 use Rattle.book.specs.Passes.{Matching, matching, Passed, traded, resting_after, incoming_after, orders_after, reports}
 use Rattle.book.specs.Reads.{fills}
-use Rattle.book.specs.Standing.{InRange, Rests, Below, Standing}
+use Rattle.book.specs.Standing.{InRange, Rests, Below, IsBookList}
 use Rattle.book.proofs.Lists.{each-back, length-without}
 use Rattle.book.proofs.Sides.{ahead-self}
 use Rattle.book.proofs.Fills.{leaves-filled}
@@ -34,20 +35,21 @@ filled-range o n range within =
 used-up : (o : Order) → leaves o ≡ 0 → is_live o ≡ false
 used-up o none = grind (arith, nat_tests)
 
--- A fill of the first of the crossed orders: what is told and left goes on, and each thing that stands in the list stands.
+-- A fill of the first of the crossed orders: what is told and left goes on, and each thing that stands in the list
+-- stands.
 pub record Filled (c : Cause) (old new : Matching) : Type 0 where
   pub passed : Passed c old new
   pub less : leaves new.incoming < leaves old.incoming
-  pub standing : Standing new.orders
+  pub standing : IsBookList new.orders
   pub below : (sequence : ℕ) → Below sequence old.orders → Below sequence new.orders
   pub some : 1 ≤ length old.orders
   pub no_longer : length new.orders ≤ length old.orders
   pub shorter : 0 < leaves new.incoming → length new.orders + 1 ≡ length old.orders
   pub one_less : fills old.incoming old.orders ≡ fills new.incoming new.orders + 1
 
-module _ (i o : Order) (orders new : List Order) (fill : FillsFirst i orders new o) (standing : Standing orders) where
-  whole : Standing (fill.before ++ o ∷ fill.behind)
-  whole = subst Standing fill.split standing
+module _ (i o : Order) (orders new : List Order) (fill : FillsFirst i orders new o) (standing : IsBookList orders) where
+  whole : IsBookList (fill.before ++ o ∷ fill.behind)
+  whole = subst IsBookList fill.split standing
 
   pub first-rests : Rests o
   first-rests = (each-back Rests fill.before (o ∷ fill.behind) whole.each).0
@@ -80,7 +82,8 @@ module _ (i o : Order) (orders new : List Order) (fill : FillsFirst i orders new
       filled = ap (done i) fill.split ∙ done-step i o fill.before fill.behind fill.first (ahead-self o);
       said =
           ap (λ os. told ++ trades c i os) fill.split
-          ∙ ap (λ ts. told ++ ts) (told-step i o fill.before fill.behind fill.first (ahead-self o) c (omega (arith, some, some-resting)))
+          ∙ ap (λ ts. told ++ ts) (told-step i o fill.before fill.behind fill.first (ahead-self o) c
+          (omega (arith, some, some-resting)))
           ∙ sym (append_assoc told (reports c i o) (trades c (incoming_after i o) behind));
     }
 
@@ -102,7 +105,8 @@ module _ (i o : Order) (orders new : List Order) (fill : FillsFirst i orders new
           omega (arith, fewer, all);
       shorter = without;
       one_less =
-          let one = gets-one i o fill.before fill.behind fill.first (ahead-self o) (omega (arith, some, some-resting)) in
+          let one = gets-one i o fill.before fill.behind fill.first (ahead-self o)
+          (omega (arith, some, some-resting)) in
           let all = ap (fills i) fill.split in
           omega (arith, one, all);
     }
@@ -113,7 +117,8 @@ module _ (i o : Order) (orders new : List Order) (fill : FillsFirst i orders new
     fill-is next more next_is more_is = rw (next_is, more_is, fill.after) its-fill
 
 -- one part of a match, and then the next
-pub passed-trans : (c : Cause) (first second third : Matching) → Passed c first second → Passed c second third → Passed c first third
+pub passed-trans : (c : Cause) (first second third : Matching) → Passed c first second → Passed c second third
+    → Passed c first third
 passed-trans c first second third one other = record {
   left = one.left ∙ other.left;
   filled = one.filled ∙ other.filled;

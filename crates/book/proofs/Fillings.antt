@@ -1,5 +1,6 @@
 -- The first order that an incoming one crosses is the best of its level; a fill of it.
-use Rattle.std.proofs.Common.{◌≡◌, ◌+◌, ◌-◌, ◌<◌, ◌≤◌, ℕ, true, false, ◌&&◌, ◌||◌, nat_eq, nat_lt, List, [], ◌∷◌, ◌++◌, length, refl, ap, sym, subst, ◌∙◌, inl, inr, Some, None, arith, length-append, length-set}
+use Rattle.std.proofs.Common.{◌≡◌, ◌+◌, ◌-◌, ◌<◌, ◌≤◌, ℕ, true, false, ◌&&◌, ◌||◌, nat_eq, nat_lt, List, [], ◌∷◌, ◌++◌}
+use Rattle.std.proofs.Common.{length, refl, ap, sym, subst, ◌∙◌, inl, inr, Some, None, arith, length-append, length-set}
 use Rattle.std.specs.Prelude.{◌≢◌, slice_set, option_map, MatchOption, if◌then◌else◌}
 use Rattle.std.specs.Str.{bytes_eq}
 use Rattle.std.proofs.lemmas.Slice.Eq.{bytes_eq-Decides}
@@ -12,10 +13,11 @@ use Rattle.venue_model.specs.Orders.{opposite, leaves, crosses, meets, is_better
 use Rattle.venue_model.specs.SideLaws.{met_side}
 use Rattle.venue_model.specs.Match.{filled, live_alone}
 use Rattle.venue_model.specs.Requests.{is_named}
-use Rattle.price_levels.specs.Places.{Places, at, IsAt, standing, IsOf, Leads, NoneOf, BestOf, HoldsAt, LeavesSome, reduced, changed}
-use Rattle.price_levels.specs.Stamps.{by_stamp, Seated}
+use Rattle.price_levels.specs.Places.{Places, at, StandsAt, standing, IsOf, Leads, NoneOf, BestOf, HoldsAt, LeavesSome}
+use Rattle.price_levels.specs.Places.{reduced, changed}
+use Rattle.price_levels.specs.Stamps.{by_stamp, SeatedByStamp}
 use Rattle.price_levels.specs.StampLaws.{seated, others, is-within, at-set, each-listed, apart-changed, length-listed}
-use Rattle.book.specs.declared.order_index.slots.Entry.{Entry}
+use Rattle.book.specs.declared.order_index.slots.IndexEntry.{IndexEntry}
 use Rattle.book.specs.IndexNames.{place_of, without_name}
 use Rattle.book.specs.Standing.{Rests}
 use Rattle.book.specs.Firsts.{NoneCrossed, First, traded, FillsFirst, FillsNone}
@@ -32,81 +34,90 @@ met-better Sell p q r s t h k = grind (arith, nat_tests)
 
 pub crossed-of : (i x : Order) → crosses i x ≡ true → IsOf i.symbol (opposite i.side) x
 crossed-of i x h = record {
-  symbol_is = sym ((bytes_eq-Decides i.symbol x.symbol).0 (and-first (bytes_eq i.symbol x.symbol) (meets i.side i.price x.side x.price) h));
-  side_is = met_side i.side i.price x.side x.price (and-last (bytes_eq i.symbol x.symbol) (meets i.side i.price x.side x.price) h);
+  symbol_is = sym ((bytes_eq-Decides i.symbol x.symbol).0
+      (and-first (bytes_eq i.symbol x.symbol) (meets i.side i.price x.side x.price) h));
+  side_is = met_side i.side i.price x.side x.price
+      (and-last (bytes_eq i.symbol x.symbol) (meets i.side i.price x.side x.price) h);
 }
 
 -- where one behind it is crossed, so is the one ahead
-pub crossed-ahead : (i o x : Order) → IsOf i.symbol (opposite i.side) o → crosses i x ≡ true → ahead o x ≡ true → crosses i o ≡ true
+pub crossed-ahead : (i o x : Order) → IsOf i.symbol (opposite i.side) o → crosses i x ≡ true → ahead o x ≡ true
+    → crosses i o ≡ true
 crossed-ahead i o x of h leads =
     let its = crossed-of i x h in
     let x_met : meets i.side i.price (opposite i.side) x.price ≡ true =
     ap (λ s. meets i.side i.price s x.price) (sym its.side_is)
     ∙ and-last (bytes_eq i.symbol x.symbol) (meets i.side i.price x.side x.price) h in
-    let better : (is_better (opposite i.side) o.price x.price || (nat_eq o.price x.price && nat_lt o.stamp x.stamp)) ≡ true =
-    ap (λ s. is_better s o.price x.price || (nat_eq o.price x.price && nat_lt o.stamp x.stamp)) (sym of.side_is) ∙ leads in
+    let better : (is_better (opposite i.side) o.price x.price || (nat_eq o.price x.price && nat_lt o.stamp x.stamp))
+    ≡ true =
+    ap (λ s. is_better s o.price x.price || (nat_eq o.price x.price && nat_lt o.stamp x.stamp)) (sym of.side_is)
+    ∙ leads in
     let o_met = met-better i.side i.price x.price o.price o.stamp x.stamp x_met better in
     ap (λ t. t && meets i.side i.price o.side o.price) ((bytes_eq-Decides i.symbol o.symbol).1 (sym of.symbol_is))
     ∙ ap (λ s. meets i.side i.price s o.price) of.side_is ∙ o_met
 
 -- an order in the place of another, of its name and stamp
-module _ (places : Places) (entries : List Entry) (count : ℕ) (kept : AreKept places entries count) (p : ℕ) (o y : Order)
+module _ (places : Places) (entries : List IndexEntry) (count : ℕ) (kept : AreKept places entries count) (p : ℕ)
+    (o y : Order)
     (stands : at places p ≡ Some o)
-    (client : y.client ≡ o.client) (name : y.cl_ord_id ≡ o.cl_ord_id) (stamp : y.stamp ≡ o.stamp) (rests : Rests y) where
-  its-seat : Seated places p o
-  its-seat = seated places p o (is-within places p o stands) stands (kept.apart p o stands)
+    (client : y.client ≡ o.client) (name : y.cl_ord_id ≡ o.cl_ord_id) (stamp : y.stamp ≡ o.stamp) (rests : Rests y)
+  where
+    its-seat : SeatedByStamp places p o
+    its-seat = seated places p o (is-within places p o stands) stands (kept.apart p o stands)
 
-  as-many : length (standing (slice_set places p (Some y))) ≡ length (standing places)
-  as-many =
-      let all = length-listed (slice_set places p (Some y)) in
-      let before = length-listed places in
-      let one = ap (λ (os : List Order). length os) (its-seat.changed y stamp) in
-      let two = ap (λ (os : List Order). length os) its-seat.split in
-      let three = length-append its-seat.before (y ∷ its-seat.behind) in
-      let four = length-append its-seat.before (o ∷ its-seat.behind) in
-      omega (arith, all, before, one, two, three, four)
+    as-many : length (standing (slice_set places p (Some y))) ≡ length (standing places)
+    as-many =
+        let all = length-listed (slice_set places p (Some y)) in
+        let before = length-listed places in
+        let one = ap (λ (os : List Order). length os) (its-seat.changed y stamp) in
+        let two = ap (λ (os : List Order). length os) its-seat.split in
+        let three = length-append its-seat.before (y ∷ its-seat.behind) in
+        let four = length-append its-seat.before (o ∷ its-seat.behind) in
+        omega (arith, all, before, one, two, three, four)
 
-  pub kept-change : AreKept (slice_set places p (Some y)) entries count
-  kept-change =
-      let same = as-many in
-      record {
-        size = length-set places p (Some y) ∙ kept.size;
-        apart = apart-changed places p o y kept.apart stands stamp;
-        each = λ q x there. elim (at-set places p q (Some y) x there) [
-          | inl here ↦ subst Rests (some-same here.1) rests
-          | inr was ↦ kept.each q x was.1
-        ];
-        indexed = record {
-          named = λ q x there. elim (at-set places p q (Some y) x there) [
-            | inl here ↦
-                let one : y ≡ x = some-same here.1 in
-                ap (λ (z : Order). place_of entries z.client z.cl_ord_id) (sym one)
-                ∙ ap (λ k. place_of entries k y.cl_ord_id) client ∙ ap (λ k. place_of entries o.client k) name
-                ∙ kept.indexed.named p o stands ∙ ap (λ k. Some k) (sym here.0)
-            | inr was ↦ kept.indexed.named q x was.1
+    pub kept-change : AreKept (slice_set places p (Some y)) entries count
+    kept-change =
+        let same = as-many in
+        record {
+          size = length-set places p (Some y) ∙ kept.size;
+          apart = apart-changed places p o y kept.apart stands stamp;
+          each = λ q x there. elim (at-set places p q (Some y) x there) [
+            | inl here ↦ subst Rests (some-same here.1) rests
+            | inr was ↦ kept.each q x was.1
           ];
-          stands = λ c n q has.
-              let there = kept.indexed.stands c n q has in
-              elim (same-or-not q p) [
-                | inl here ↦
-                    let one : there.order ≡ o = some-same (sym there.stands ∙ (ap (at places) here ∙ stands)) in
-                    let was : is_named c n o ≡ true = subst (λ z. is_named c n z ≡ true) one there.is_it in
-                    record {
-                      order = y;
-                      stands = ap (at (slice_set places p (Some y))) here ∙ at-here places p (Some y) (is-within places p o stands);
-                      is_it = ap (λ k. nat_eq k c && nat_eq y.cl_ord_id n) client ∙ ap (λ k. nat_eq o.client c && nat_eq k n) name ∙ was;
-                    }
-                | inr other ↦ record {
-                  order = there.order;
-                  stands = at-there places p q (Some y) other ∙ there.stands;
-                  is_it =
-                      there.is_it;
-                }
-              ];
-        };
-        counted = kept.counted ∙ sym same;
-        as_many = kept.as_many ∙ sym same;
-      }
+          indexed = record {
+            named = λ q x there. elim (at-set places p q (Some y) x there) [
+              | inl here ↦
+                  let one : y ≡ x = some-same here.1 in
+                  ap (λ (z : Order). place_of entries z.client z.cl_ord_id) (sym one)
+                  ∙ ap (λ k. place_of entries k y.cl_ord_id) client ∙ ap (λ k. place_of entries o.client k) name
+                  ∙ kept.indexed.named p o stands ∙ ap (λ k. Some k) (sym here.0)
+              | inr was ↦ kept.indexed.named q x was.1
+            ];
+            stands = λ c n q has.
+                let there = kept.indexed.stands c n q has in
+                elim (same-or-not q p) [
+                  | inl here ↦
+                      let one : there.order ≡ o = some-same (sym there.stands ∙ (ap (at places) here ∙ stands)) in
+                      let was : is_named c n o ≡ true = subst (λ z. is_named c n z ≡ true) one there.is_it in
+                      record {
+                        order = y;
+                        stands = ap (at (slice_set places p (Some y))) here
+                            ∙ at-here places p (Some y) (is-within places p o stands);
+                        is_it = ap (λ k. nat_eq k c && nat_eq y.cl_ord_id n) client
+                            ∙ ap (λ k. nat_eq o.client c && nat_eq k n) name ∙ was;
+                      }
+                  | inr other ↦ record {
+                    order = there.order;
+                    stands = at-there places p q (Some y) other ∙ there.stands;
+                    is_it =
+                        there.is_it;
+                  }
+                ];
+          };
+          counted = kept.counted ∙ sym same;
+          as_many = kept.as_many ∙ sym same;
+        }
 
 -- the numbers of a fill that leaves something
 fill-rests : (o : Order) (q : ℕ) → Rests o → q < leaves o → Rests (filled o q o.price)
@@ -129,10 +140,11 @@ fill-fits o q rests less =
     let cost = mul-le-mul_left q range.price in
     record { some = omega (arith, less); fits = omega (arith, range.notional, cost, range.total, less) }
 
-module _ (places : Places) (entries : List Entry) (count : ℕ) (kept : AreKept places entries count) (view : List Order)
+module _ (places : Places) (entries : List IndexEntry) (count : ℕ) (kept : AreKept places entries count)
+    (view : List Order)
     (is : by_stamp places ≡ view)
     (i : Order) (side : Side) (side_is : side ≡ opposite i.side) where
-  none-crossed : ((p : ℕ) (x : Order) → IsAt places p x → crosses i x ≡ true → ⊥) → FillsNone i view view
+  none-crossed : ((p : ℕ) (x : Order) → StandsAt places p x → crosses i x ≡ true → ⊥) → FillsNone i view view
   none-crossed h = record {
     none = subst (NoneCrossed i) is (each-listed (λ x. crosses i x ≡ false) places
         (λ p x there. not-true (crosses i x) (h p x there)));
@@ -153,7 +165,7 @@ module _ (places : Places) (entries : List Entry) (count : ℕ) (kept : AreKept 
     its-of : IsOf i.symbol (opposite i.side) o
     its-of = subst (λ s. IsOf i.symbol s o) side_is (subst (IsOf i.symbol side) it-is best.is_of)
 
-    leads : (q : ℕ) (x : Order) → q ≢ p → IsAt places q x → crosses i x ≡ true → Leads o x
+    leads : (q : ℕ) (x : Order) → q ≢ p → StandsAt places q x → crosses i x ≡ true → Leads o x
     leads q x other there h = subst (λ z. Leads z x) it-is (best.leads q x other there (of-side x h))
 
     -- the best one isn't crossed: none is
@@ -168,23 +180,27 @@ module _ (places : Places) (entries : List Entry) (count : ℕ) (kept : AreKept 
           cc
     ])
 
-    seat : Seated places p o
+    seat : SeatedByStamp places p o
     seat = seated places p o (is-within places p o stands) stands (kept.apart p o stands)
 
     first : crosses i o ≡ true → First i o seat.before seat.behind
     first crossed =
-        let both = others (λ x. crosses i x ≡ true → Leads o x) places p o seat (λ q x other there h. leads q x other there h) in
+        let both = others (λ x. crosses i x ≡ true → Leads o x) places p o seat
+        (λ q x other there h. leads q x other there h) in
         record { is_crossed = crossed; leads_before = both.0; leads_behind = both.1 }
 
     pub can-reduce : (q : ℕ) → q < leaves o → HoldsAt places p (LeavesSome q)
-    can-reduce q less = subst (λ v. MatchOption v ⊥ (LeavesSome q)) (sym stands) (fill-fits o q (kept.each p o stands) less)
+    can-reduce q less = subst (λ v. MatchOption v ⊥ (LeavesSome q)) (sym stands)
+        (fill-fits o q (kept.each p o stands) less)
 
     reduced-is : (q : ℕ) → changed (reduced q) places p ≡ slice_set places p (Some (filled o q o.price))
     reduced-is q = ap (λ v. slice_set places p (option_map (reduced q) v)) stands
 
-    pub kept-reduced : (q : ℕ) → q < leaves o → (after : Places) → after ≡ changed (reduced q) places p → AreKept after entries count
+    pub kept-reduced : (q : ℕ) → q < leaves o → (after : Places) → after ≡ changed (reduced q) places p
+        → AreKept after entries count
     kept-reduced q less after after_is = subst (λ ps. AreKept ps entries count) (sym (after_is ∙ reduced-is q))
-        (kept-change places entries count kept p o (filled o q o.price) stands refl refl refl (fill-rests o q (kept.each p o stands) less))
+        (kept-change places entries count kept p o (filled o q o.price) stands refl refl refl
+        (fill-rests o q (kept.each p o stands) less))
 
     live : (y : Order) → 0 < leaves y → is_live y ≡ true
     live y some = grind (arith, nat_tests)
@@ -192,7 +208,8 @@ module _ (places : Places) (entries : List Entry) (count : ℕ) (kept : AreKept 
     gone : (y : Order) → leaves y ≡ 0 → is_live y ≡ false
     gone y none = grind (arith, nat_tests)
 
-    pub fills-part : crosses i o ≡ true → (q : ℕ) → q ≡ leaves i → q < leaves o → (after : Places) → after ≡ changed (reduced q) places p
+    pub fills-part : crosses i o ≡ true → (q : ℕ) → q ≡ leaves i → q < leaves o → (after : Places)
+        → after ≡ changed (reduced q) places p
         → FillsFirst i view (by_stamp after) o
     fills-part crossed q q_is less after after_is =
         let y = filled o q o.price in
@@ -226,8 +243,9 @@ module _ (places : Places) (entries : List Entry) (count : ℕ) (kept : AreKept 
               ∙ ap (λ k. seat.before ++ (live_alone (filled o k o.price) ++ seat.behind)) quantity;
         }
 
-    pub kept-whole : (after : Places) → after ≡ slice_set places p None → (new : List Entry)
+    pub kept-whole : (after : Places) → after ≡ slice_set places p None → (new : List IndexEntry)
         → place_of new ≡ without_name o.client o.cl_ord_id (place_of entries)
         → length new + 1 ≡ length entries → AreKept after new (count - 1)
     kept-whole after after_is new places_are entries_are = subst (λ ps. AreKept ps new (count - 1)) (sym after_is)
-        (kept-leave places entries new count kept o.client o.cl_ord_id p (kept.indexed.named p o stands) places_are entries_are)
+        (kept-leave places entries new count kept o.client o.cl_ord_id p (kept.indexed.named p o stands) places_are
+        entries_are)

@@ -1,5 +1,6 @@
 -- What the orders of a queue get, where one of them leads all others.
-use Rattle.std.proofs.Common.{◌≡◌, ℕ, ◌+◌, ◌-◌, ◌<◌, ◌≤◌, min, true, false, List, [], ◌∷◌, ◌++◌, refl, ap, sym, ◌∙◌, arith}
+use Rattle.std.proofs.Common.{◌≡◌, ℕ, ◌+◌, ◌-◌, ◌<◌, ◌≤◌, min, true, false, List, [], ◌∷◌, ◌++◌, refl, ap, sym, ◌∙◌}
+use Rattle.std.proofs.Common.{arith}
 use Rattle.std.specs.Prelude.{sum_by, filter, if◌then◌else◌}
 use Rattle.std.specs.List.{AllByRecursion}
 use Rattle.venue_model.specs.declared.orders.Order.{Order}
@@ -37,22 +38,26 @@ left q o = live_alone (filled o (min (leaves o) q) o.price)
 
 module _ (q : ℕ) (o : Order) (xs ys : List Order) where
   -- the first one gets all that it can take
-  pub fill-first : ahead o o ≡ false → AllByRecursion (λ x. ahead x o ≡ false) xs → AllByRecursion (λ x. ahead x o ≡ false) ys →
+  pub fill-first : ahead o o ≡ false → AllByRecursion (λ x. ahead x o ≡ false) xs
+      → AllByRecursion (λ x. ahead x o ≡ false) ys →
       fill q (xs ++ o ∷ ys) o ≡ min (leaves o) q
   fill-first apart before behind =
       let none : leaves_ahead (xs ++ o ∷ ys) o ≡ 0 = ap (sum_by leaves)
-      (filter-none (λ x. ahead x o) (xs ++ o ∷ ys) (each-append (λ x. ahead x o ≡ false) xs (o ∷ ys) before (apart, behind))) in
+      (filter-none (λ x. ahead x o) (xs ++ o ∷ ys)
+      (each-append (λ x. ahead x o ≡ false) xs (o ∷ ys) before (apart, behind))) in
       ap (λ s. min (leaves o) (q - s)) none ∙ ap (min (leaves o)) (omega arith)
 
   used-up : is_live (filled o (min (leaves o) q) o.price) ≡ true → q ≤ leaves o
   used-up live = grind (arith, nat_tests)
 
   -- the others get what they get of the rest, whether the first one is used up or not
-  pub fill-behind : (x : Order) → ahead o x ≡ true → fill q (xs ++ o ∷ ys) x ≡ fill (q - min (leaves o) q) (xs ++ (left q o ++ ys)) x
+  pub fill-behind : (x : Order) → ahead o x ≡ true → fill q (xs ++ o ∷ ys) x
+      ≡ fill (q - min (leaves o) q) (xs ++ (left q o ++ ys)) x
   fill-behind x leads =
       elim (is_live (filled o (min (leaves o) q) o.price)) as
       (λ b. is_live (filled o (min (leaves o) q) o.price) ≡ b →
-      fill q (xs ++ o ∷ ys) x ≡ fill (q - min (leaves o) q) (xs ++ ((if b then filled o (min (leaves o) q) o.price ∷ [] else []) ++ ys)) x) [
+      fill q (xs ++ o ∷ ys) x ≡ fill (q - min (leaves o) q)
+      (xs ++ ((if b then filled o (min (leaves o) q) o.price ∷ [] else []) ++ ys)) x) [
         | true ↦ λ live. ap (λ s. min (leaves x) (q - s)) (ahead-more xs ys o x leads)
             ∙ behind-none (leaves x) (leaves o) q (leaves_ahead (xs ++ ys) x)
             (leaves_ahead (xs ++ filled o (min (leaves o) q) o.price ∷ ys) x) (used-up live)

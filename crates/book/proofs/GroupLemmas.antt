@@ -1,5 +1,6 @@
 -- The groups in which orders are listed: one for each symbol and side, in the order of the table.
-use Rattle.std.proofs.Common.{◌≡◌, ℕ, zero, suc, ◌+◌, ◌*◌, ◌/◌, ◌%◌, ◌<◌, ◌≤◌, Bool, true, false, not, cond, ◌&&◌, ◌||◌, nat_lt, List, [], ◌∷◌, length, get_or, refl, ap, sym, subst, ◌∙◌, arith, Some, None}
+use Rattle.std.proofs.Common.{◌≡◌, ℕ, zero, suc, ◌+◌, ◌*◌, ◌/◌, ◌%◌, ◌<◌, ◌≤◌, Bool, true, false, not, cond, ◌&&◌, ◌||◌}
+use Rattle.std.proofs.Common.{nat_lt, List, [], ◌∷◌, length, get_or, refl, ap, sym, subst, ◌∙◌, arith, Some, None}
 use Rattle.std.specs.Prelude.{position}
 use Rattle.std.specs.Option.{unwrap_or}
 use Rattle.std.specs.List.{list_any, position_or_len}
@@ -17,7 +18,7 @@ use Rattle.venue_model.specs.SideLaws.{one_side, side_itself}
 use Rattle.venue_model.specs.Requests.{Symbols}
 use Rattle.venue_model.specs.Spelling.{all_differ}
 use Rattle.book.specs.Listing.{is_of}
-use Rattle.book.specs.Next.{number_of, side_number, group_of}
+use Rattle.book.specs.Next.{symbol_number, side_order, group_of}
 
 -- NUMBERS OF SYMBOLS
 
@@ -32,21 +33,23 @@ place-or-length xs p =
     place-cases xs (position_or_len p xs) (prefix_len-le-length (λ x. not (p x)) xs)
     (nat_lt (position_or_len p xs) (length xs)) refl
 
-pub number-within : (ss : Symbols) (symbol : List ℕ) → number_of ss symbol ≤ length ss
+pub number-within : (ss : Symbols) (symbol : List ℕ) → symbol_number ss symbol ≤ length ss
 number-within ss symbol = prefix_len-le-length (λ s. not (bytes_eq symbol s)) ss
 
 module _ (s : List ℕ) (ss : Symbols) (symbol : List ℕ) where
-  number-first : bytes_eq symbol s ≡ true → number_of (s ∷ ss) symbol ≡ 0
-  number-first h = ap (λ b. cond (not b) (1 + number_of ss symbol) 0) h
+  number-first : bytes_eq symbol s ≡ true → symbol_number (s ∷ ss) symbol ≡ 0
+  number-first h = ap (λ b. cond (not b) (1 + symbol_number ss symbol) 0) h
 
-  number-later : bytes_eq symbol s ≡ false → number_of (s ∷ ss) symbol ≡ 1 + number_of ss symbol
-  number-later h = ap (λ b. cond (not b) (1 + number_of ss symbol) 0) h
+  number-later : bytes_eq symbol s ≡ false → symbol_number (s ∷ ss) symbol ≡ 1 + symbol_number ss symbol
+  number-later h = ap (λ b. cond (not b) (1 + symbol_number ss symbol) 0) h
 
 -- a symbol of the table has a number within it
-number-below : (ss : Symbols) (symbol : List ℕ) → list_any (bytes_eq symbol) ss ≡ true → number_of ss symbol < length ss
+number-below : (ss : Symbols) (symbol : List ℕ) → list_any (bytes_eq symbol) ss ≡ true
+    → symbol_number ss symbol < length ss
 number-below [] symbol among = cc
 number-below (s ∷ ss) symbol among = elim (bytes_eq symbol s)
-    as (λ b. (b || list_any (bytes_eq symbol) ss) ≡ true → cond (not b) (1 + number_of ss symbol) 0 < suc (length ss)) [
+    as (λ b. (b || list_any (bytes_eq symbol) ss) ≡ true → cond (not b) (1 + symbol_number ss symbol) 0
+    < suc (length ss)) [
       | true ↦ λ h. omega arith
       | false ↦ λ h. let below = number-below ss symbol h in omega (arith, below)
     ] among
@@ -70,7 +73,7 @@ none-at p ss k s none within at = elim (p s) as (λ b. p s ≡ b → b ≡ false
 
 -- the symbol at a place of the table has this number
 number-is : (ss : Symbols) → all_differ ss ≡ true → (k : ℕ) (s : List ℕ) → k < length ss → s ≡ get_or ss k s →
-    number_of ss s ≡ k
+    symbol_number ss s ≡ k
 number-is [] differ k s within at = absurd (omega (arith, within))
 number-is (other ∷ ss) differ zero s within at = number-first other ss s ((bytes_eq-Decides s other).1 at)
 number-is (other ∷ ss) differ (suc k) s within at =
@@ -81,10 +84,10 @@ number-is (other ∷ ss) differ (suc k) s within at =
     omega (arith, later, number)
 
 -- a number within the table is that of the symbol at its place
-at-number : (ss : Symbols) (symbol : List ℕ) → number_of ss symbol < length ss →
-    symbol ≡ get_or ss (number_of ss symbol) symbol
+at-number : (ss : Symbols) (symbol : List ℕ) → symbol_number ss symbol < length ss →
+    symbol ≡ get_or ss (symbol_number ss symbol) symbol
 at-number ss symbol within =
-    (bytes_eq-Decides symbol (get_or ss (number_of ss symbol) symbol)).0
+    (bytes_eq-Decides symbol (get_or ss (symbol_number ss symbol) symbol)).0
     (passes_at_first (bytes_eq symbol) ss symbol within)
 
 -- ORDERS OF A SYMBOL AND SIDE
@@ -101,13 +104,13 @@ of-test symbol side o h =
 -- GROUPS
 
 -- a group's number tells its symbol and its side
-pub group-parts : (n m : ℕ) (a b : Side) → 2 * n + side_number a ≡ 2 * m + side_number b → (n ≡ m) × (a ≡ b)
+pub group-parts : (n m : ℕ) (a b : Side) → 2 * n + side_order a ≡ 2 * m + side_order b → (n ≡ m) × (a ≡ b)
 group-parts n m Buy Buy same = (omega (arith, same), refl)
 group-parts n m Sell Sell same = (omega (arith, same), refl)
 group-parts n m Buy Sell same = absurd (omega (arith, same))
 group-parts n m Sell Buy same = absurd (omega (arith, same))
 
-pub side-below : (side : Side) → side_number side < 2
+pub side-below : (side : Side) → side_order side < 2
 side-below Buy = omega arith
 side-below Sell = omega arith
 
@@ -119,7 +122,7 @@ group-below ss o known =
 
 -- in a table of one symbol more
 module _ (s : List ℕ) (ss : Symbols) (o : Order) where
-  pub group-first : bytes_eq o.symbol s ≡ true → group_of (s ∷ ss) o ≡ side_number o.side
+  pub group-first : bytes_eq o.symbol s ≡ true → group_of (s ∷ ss) o ≡ side_order o.side
   group-first h = let first = number-first s ss o.symbol h in omega (arith, first)
 
   pub group-later : bytes_eq o.symbol s ≡ false → group_of (s ∷ ss) o ≡ 2 + group_of ss o
@@ -132,16 +135,17 @@ pub record IsGroup (ss : Symbols) (symbol : List ℕ) (side : Side) (group : ℕ
 
 module _ (ss : Symbols) (differ : all_differ ss ≡ true) where
   numbered : (k : ℕ) (symbol : List ℕ) (side : Side) → k < length ss → symbol ≡ get_or ss k symbol →
-      IsGroup ss symbol side (2 * k + side_number side)
+      IsGroup ss symbol side (2 * k + side_order side)
   numbered k symbol side within at = record {
     has = λ x of.
         let its = of-test symbol side x of in
-        let number : number_of ss x.symbol ≡ k =
-        ap (number_of ss) ((bytes_eq-Decides x.symbol symbol).0 its.symbol) ∙ number-is ss differ k symbol within at in
-        ap (λ n. 2 * n + side_number x.side) number ∙ ap (λ t. 2 * k + side_number t) its.side;
+        let number : symbol_number ss x.symbol ≡ k =
+        ap (symbol_number ss) ((bytes_eq-Decides x.symbol symbol).0 its.symbol)
+        ∙ number-is ss differ k symbol within at in
+        ap (λ n. 2 * n + side_order x.side) number ∙ ap (λ t. 2 * k + side_order t) its.side;
     only = λ x same.
-        let parts = group-parts (number_of ss x.symbol) k x.side side same in
-        let inside : number_of ss x.symbol < length ss = subst (λ n. n < length ss) (sym parts.0) within in
+        let parts = group-parts (symbol_number ss x.symbol) k x.side side same in
+        let inside : symbol_number ss x.symbol < length ss = subst (λ n. n < length ss) (sym parts.0) within in
         let there : bytes_eq x.symbol (get_or ss k symbol) ≡ true =
         subst (λ n. bytes_eq x.symbol (get_or ss n symbol) ≡ true) parts.0
         (passes_at_first (bytes_eq x.symbol) ss symbol inside) in
@@ -151,7 +155,7 @@ module _ (ss : Symbols) (differ : all_differ ss ≡ true) where
 
   -- the group that has a symbol at half its number
   pub group-at : (group : ℕ) (symbol : List ℕ) (side : Side) → group < 2 * length ss →
-      symbol ≡ get_or ss (group / 2) symbol → side_number side ≡ group % 2 → IsGroup ss symbol side group
+      symbol ≡ get_or ss (group / 2) symbol → side_order side ≡ group % 2 → IsGroup ss symbol side group
   group-at group symbol side within at its_side =
       subst (IsGroup ss symbol side) (omega (arith, its_side))
       (numbered (group / 2) symbol side (omega (arith, within)) at)
@@ -160,4 +164,4 @@ module _ (ss : Symbols) (differ : all_differ ss ≡ true) where
   pub group-own : (o : Order) → list_any (bytes_eq o.symbol) ss ≡ true → IsGroup ss o.symbol o.side (group_of ss o)
   group-own o known =
       let within = number-below ss o.symbol known in
-      numbered (number_of ss o.symbol) o.symbol o.side within (at-number ss o.symbol within)
+      numbered (symbol_number ss o.symbol) o.symbol o.side within (at-number ss o.symbol within)

@@ -1,5 +1,6 @@
 -- The resting orders never cross: what a match leaves, and what comes to rest behind it.
-use Rattle.std.proofs.Common.{◌≡◌, ℕ, ◌-◌, ◌<◌, ◌≤◌, Bool, true, false, ◌&&◌, List, [], ◌∷◌, ◌++◌, map, refl, ap, sym, subst, ◌∙◌, arith, append-nil}
+use Rattle.std.proofs.Common.{◌≡◌, ℕ, ◌-◌, ◌<◌, ◌≤◌, Bool, true, false, ◌&&◌, List, [], ◌∷◌, ◌++◌, map, refl, ap, sym}
+use Rattle.std.proofs.Common.{subst, ◌∙◌, arith, append-nil}
 use Rattle.std.specs.Prelude.{sum_by, filter, slice_index, if◌then◌else◌}
 use Rattle.std.specs.List.{AllByRecursion}
 use Rattle.std.specs.Str.{bytes_eq}
@@ -46,7 +47,8 @@ meets-self Buy p = refl
 meets-self Sell p = refl
 
 crosses-self : (a : Order) → crosses a a ≡ false
-crosses-self a = ap (λ t. bytes_eq a.symbol a.symbol && t) (meets-self a.side a.price) ∙ and-false (bytes_eq a.symbol a.symbol)
+crosses-self a = ap (λ t. bytes_eq a.symbol a.symbol && t) (meets-self a.side a.price)
+    ∙ and-false (bytes_eq a.symbol a.symbol)
 
 -- orders of which none crosses a later one: none crosses another
 pub uncrossed : (os : List Order) → Pairwise RestBeside os → IsUncrossed os
@@ -54,12 +56,16 @@ uncrossed [] pairs = tt
 uncrossed (o ∷ os) pairs = (
   (crosses-self o, each-map (RestBeside o) (λ b. crosses o b ≡ false) (λ b beside. beside.uncrossed) os pairs.0),
   each-both (λ a. crosses a o ≡ false) (λ a. AllByRecursion (λ b. crosses a b ≡ false) os) os
-      (each-map (RestBeside o) (λ a. crosses a o ≡ false) (λ a beside. crosses-mirror a o ∙ beside.uncrossed) os pairs.0) (uncrossed os pairs.1),
+      (each-map (RestBeside o) (λ a. crosses a o ≡ false) (λ a beside. crosses-mirror a o ∙ beside.uncrossed) os
+      pairs.0) (uncrossed os pairs.1),
 )
 
 pub rising-pairs : (os : List Order) → Pairwise RestBeside os → Rising os
 rising-pairs [] pairs = tt
-rising-pairs (o ∷ os) pairs = (each-map (RestBeside o) (λ x. o.stamp < x.stamp) (λ x beside. beside.earlier) os pairs.0, rising-pairs os pairs.1)
+rising-pairs (o ∷ os) pairs = (
+  each-map (RestBeside o) (λ x. o.stamp < x.stamp) (λ x beside. beside.earlier) os pairs.0,
+  rising-pairs os pairs.1,
+)
 
 -- WHAT A MATCH LEAVES
 
@@ -72,12 +78,15 @@ after i queue o = filled o (taken i queue o) o.price
 
 settled-after : (i : Order) (queue : List Order) (o : Order) → settled i queue o ≡ after i queue o
 settled-after i queue o = elim (crosses i o) as
-    (λ b. (if b then after_fill (leaves i) queue o else o) ≡ filled o (if b then fill (leaves i) queue o else 0) o.price)
+    (λ b. (if b then after_fill (leaves i) queue o else o)
+    ≡ filled o (if b then fill (leaves i) queue o else 0) o.price)
     [ true ↦ refl | false ↦ sym (filled-none o 0 o.price refl) ]
 
-rest-after : (i : Order) (orders : List Order) → rest i orders ≡ filter is_live (map (after i (crossing i orders)) orders)
+rest-after : (i : Order) (orders : List Order) → rest i orders
+    ≡ filter is_live (map (after i (crossing i orders)) orders)
 rest-after i orders = ap (filter is_live) (same_map (settled i (crossing i orders)) (after i (crossing i orders)) orders
-    (each-of (λ o. settled i (crossing i orders) o ≡ after i (crossing i orders) o) (settled-after i (crossing i orders)) orders))
+    (each-of (λ o. settled i (crossing i orders) o ≡ after i (crossing i orders) o)
+    (settled-after i (crossing i orders)) orders))
 
 -- two functions, one nowhere above the other, with one sum
 sum-below : (f g : Order → ℕ) → ((x : Order) → f x ≤ g x) → (xs : List Order) → sum_by f xs ≤ sum_by g xs
@@ -87,14 +96,18 @@ sum-below f g below (x ∷ xs) =
     let of_g = sum_by-cons g x xs in
     omega (arith, of_f, of_g, below x, sum-below f g below xs)
 
-sum-tight : (f g : Order → ℕ) → ((x : Order) → f x ≤ g x) → (xs : List Order) → sum_by f xs ≡ sum_by g xs → AllByRecursion (λ x. f x ≡ g x) xs
+sum-tight : (f g : Order → ℕ) → ((x : Order) → f x ≤ g x) → (xs : List Order) → sum_by f xs ≡ sum_by g xs
+    → AllByRecursion (λ x. f x ≡ g x) xs
 sum-tight f g below [] same = tt
 sum-tight f g below (x ∷ xs) same =
     let of_f = sum_by-cons f x xs in
     let of_g = sum_by-cons g x xs in
     let here = below x in
-    let others = sum-below f g below xs in
-    (omega (arith, of_f, of_g, here, others, same), sum-tight f g below xs (omega (arith, of_f, of_g, here, others, same)))
+    let others = sum-below f g below xs in (
+      omega (arith, of_f, of_g, here, others, same),
+      sum-tight f g below xs
+          (omega (arith, of_f, of_g, here, others, same)),
+    )
 
 dead : (o : Order) (n p : ℕ) → n ≡ leaves o → is_live (filled o n p) ≡ false
 dead o n p whole = grind (arith, nat_tests)
@@ -104,20 +117,24 @@ live o h = grind (arith, nat_tests)
 
 module _ (i : Order) (orders : List Order) where
   -- what holds of an order whatever is filled of it
-  rest-keeps : (P Q : Order → Type 0) → ((x : Order) (n : ℕ) → P x → is_live (filled x n x.price) ≡ true → Q (filled x n x.price)) →
+  rest-keeps : (P Q : Order → Type 0)
+      → ((x : Order) (n : ℕ) → P x → is_live (filled x n x.price) ≡ true → Q (filled x n x.price)) →
       AllByRecursion P orders → AllByRecursion Q (rest i orders)
   rest-keeps P Q keeps all = subst (AllByRecursion Q) (sym (rest-after i orders))
       (each-passes Q is_live (map (after i (crossing i orders)) orders)
-      (each-mapped P (λ x. is_live x ≡ true → Q x) (after i (crossing i orders)) (λ x h. keeps x (taken i (crossing i orders) x) h) orders all))
+      (each-mapped P (λ x. is_live x ≡ true → Q x) (after i (crossing i orders))
+      (λ x h. keeps x (taken i (crossing i orders) x) h) orders all))
 
   rest-pairs : Pairwise RestBeside orders → Pairwise RestBeside (rest i orders)
   rest-pairs pairs = subst (Pairwise RestBeside) (sym (rest-after i orders))
       (pairs-filter RestBeside is_live (map (after i (crossing i orders)) orders)
       (pairs-map RestBeside (λ x. Unit {0}) (after i (crossing i orders))
-      (λ a b _ _ beside. record { earlier = beside.earlier; apart = beside.apart; uncrossed = beside.uncrossed }) orders (each-of (λ x. Unit {0}) (λ x. tt) orders) pairs))
+      (λ a b _ _ beside. record { earlier = beside.earlier; apart = beside.apart; uncrossed = beside.uncrossed }) orders
+      (each-of (λ x. Unit {0}) (λ x. tt) orders) pairs))
 
   -- where something is left of the incoming order, all that it crosses is filled whole
-  all-filled : Rising orders → is_live (done i orders) ≡ true → AllByRecursion (λ x. crosses i x ≡ true → fill (leaves i) (crossing i orders) x ≡ leaves x) orders
+  all-filled : Rising orders → is_live (done i orders) ≡ true
+      → AllByRecursion (λ x. crosses i x ≡ true → fill (leaves i) (crossing i orders) x ≡ leaves x) orders
   all-filled rising some =
       let queue : List Order = crossing i orders in
       let sum = sum-crossed i orders (leaves i) rising in
@@ -125,17 +142,22 @@ module _ (i : Order) (orders : List Order) where
       each-tested (λ x. fill (leaves i) queue x ≡ leaves x) (crosses i) orders
       (sum-tight (fill (leaves i) queue) leaves (λ x. omega arith) queue (omega (arith, sum, left)))
 
-  rest-uncrossed : Rising orders → is_live (done i orders) ≡ true → AllByRecursion (λ x. crosses i x ≡ false) (rest i orders)
+  rest-uncrossed : Rising orders → is_live (done i orders) ≡ true
+      → AllByRecursion (λ x. crosses i x ≡ false) (rest i orders)
   rest-uncrossed rising some = subst (AllByRecursion (λ x. crosses i x ≡ false)) (sym (rest-after i orders))
       (each-passes (λ x. crosses i x ≡ false) is_live (map (after i (crossing i orders)) orders)
-      (each-mapped (λ x. crosses i x ≡ true → fill (leaves i) (crossing i orders) x ≡ leaves x) (λ x. is_live x ≡ true → crosses i x ≡ false)
+      (each-mapped (λ x. crosses i x ≡ true → fill (leaves i) (crossing i orders) x ≡ leaves x)
+      (λ x. is_live x ≡ true → crosses i x ≡ false)
       (after i (crossing i orders)) gone orders (all-filled rising some)))
     where
-      gone : (x : Order) → (crosses i x ≡ true → fill (leaves i) (crossing i orders) x ≡ leaves x) → is_live (after i (crossing i orders) x) ≡ true → crosses i x ≡ false
+      gone : (x : Order) → (crosses i x ≡ true → fill (leaves i) (crossing i orders) x ≡ leaves x)
+          → is_live (after i (crossing i orders) x) ≡ true → crosses i x ≡ false
       gone x whole = elim (crosses i x) as
           (λ b. (b ≡ true → fill (leaves i) (crossing i orders) x ≡ leaves x) →
           is_live (filled x (if b then fill (leaves i) (crossing i orders) x else 0) x.price) ≡ true → b ≡ false) [
-            | true ↦ λ h alive. let never : true ≡ false = sym alive ∙ dead x (fill (leaves i) (crossing i orders) x) x.price (h refl) in cc
+            | true ↦ λ h alive. let never : true ≡ false = sym alive
+                ∙ dead x (fill (leaves i) (crossing i orders) x) x.price (h refl) in
+                cc
             | false ↦ λ h alive. refl
           ] whole
 
@@ -147,21 +169,26 @@ pub record ComesBehind (i x : Order) : Type 0 where
   pub apart : is_named x.client x.cl_ord_id i ≡ false
 
 module _ (i : Order) (orders : List Order) (pairs : Pairwise RestBeside orders) where
-  beside-done : is_live (done i orders) ≡ true → AllByRecursion (ComesBehind i) orders → AllByRecursion (λ x. RestBeside x (done i orders)) (rest i orders)
+  beside-done : is_live (done i orders) ≡ true → AllByRecursion (ComesBehind i) orders
+      → AllByRecursion (λ x. RestBeside x (done i orders)) (rest i orders)
   beside-done some behind = each-map (λ x. ComesBehind i x × (crosses i x ≡ false)) (λ x. RestBeside x (done i orders))
       (λ x h. record { earlier = h.0.earlier; apart = h.0.apart; uncrossed = crosses-mirror x i ∙ h.1 }) (rest i orders)
       (each-both (ComesBehind i) (λ x. crosses i x ≡ false) (rest i orders)
-      (rest-keeps i orders (ComesBehind i) (ComesBehind i) (λ x n h alive. record { earlier = h.earlier; apart = h.apart }) behind)
+      (rest-keeps i orders (ComesBehind i) (ComesBehind i)
+      (λ x n h alive. record { earlier = h.earlier; apart = h.apart }) behind)
       (rest-uncrossed i orders (rising-pairs orders pairs) some))
 
-  pub matched-pairs : (t : TimeInForce) → AllByRecursion (ComesBehind i) orders → Pairwise RestBeside (matched t i orders)
+  pub matched-pairs : (t : TimeInForce) → AllByRecursion (ComesBehind i) orders
+      → Pairwise RestBeside (matched t i orders)
   matched-pairs Day behind = elim (is_live (done i orders)) as
       (λ b. is_live (done i orders) ≡ b → Pairwise RestBeside (rest i orders ++ (if b then done i orders ∷ [] else []))) [
-        | true ↦ λ some. pairs-push RestBeside (rest i orders) (done i orders) (rest-pairs i orders pairs) (beside-done some behind)
+        | true ↦ λ some. pairs-push RestBeside (rest i orders) (done i orders) (rest-pairs i orders pairs)
+            (beside-done some behind)
         | false ↦ λ none. rw append-nil (rest-pairs i orders pairs)
       ] refl
   matched-pairs ImmediateOrCancel behind = rest-pairs i orders pairs
-  matched-pairs FillOrKill behind = elim (can_fill i orders) as (λ b. Pairwise RestBeside (if b then rest i orders else orders))
+  matched-pairs FillOrKill behind =
+      elim (can_fill i orders) as (λ b. Pairwise RestBeside (if b then rest i orders else orders))
       [ true ↦ rest-pairs i orders pairs | false ↦ pairs ]
 
 -- an incoming order that can rest, but for what is left of it
@@ -171,18 +198,37 @@ pub record CanCome (sequence : ℕ) (greatest : List ℕ) (i : Order) : Type 0 w
   pub to : i.client ≤ 8
   pub name : i.cl_ord_id ≤ slice_index greatest (i.client - 1)
 
-module _ (sequence : ℕ) (greatest : List ℕ) (i : Order) (orders : List Order) (each : AllByRecursion (CanRest sequence greatest) orders) where
+module _ (sequence : ℕ) (greatest : List ℕ) (i : Order) (orders : List Order)
+    (each : AllByRecursion (CanRest sequence greatest) orders) where
   rest-each : AllByRecursion (CanRest sequence greatest) (rest i orders)
   rest-each = rest-keeps i orders (CanRest sequence greatest) (CanRest sequence greatest)
-      (λ x n h alive. record { before = h.before; from = h.from; to = h.to; name = h.name; live = live (filled x n x.price) alive }) each
+      (λ x n h alive. record {
+        before = h.before;
+        from = h.from;
+        to = h.to;
+        name = h.name;
+        live = live (filled x n x.price) alive;
+      }) each
 
-  pub matched-each : (t : TimeInForce) → CanCome sequence greatest i → AllByRecursion (CanRest sequence greatest) (matched t i orders)
+  pub matched-each : (t : TimeInForce) → CanCome sequence greatest i
+      → AllByRecursion (CanRest sequence greatest) (matched t i orders)
   matched-each Day comes = elim (is_live (done i orders)) as
-      (λ b. is_live (done i orders) ≡ b → AllByRecursion (CanRest sequence greatest) (rest i orders ++ (if b then done i orders ∷ [] else []))) [
-        | true ↦ λ some. each-append (CanRest sequence greatest) (rest i orders) (done i orders ∷ []) rest-each
-            (record { before = comes.before; from = comes.from; to = comes.to; name = comes.name; live = live (done i orders) some }, tt)
+      (λ b. is_live (done i orders) ≡ b → AllByRecursion (CanRest sequence greatest)
+      (rest i orders ++ (if b then done i orders ∷ [] else []))) [
+        | true ↦ λ some. each-append (CanRest sequence greatest) (rest i orders) (done i orders ∷ []) rest-each (
+          record {
+            before = comes.before;
+            from = comes.from;
+            to = comes.to;
+            name = comes.name;
+            live = live (done i orders) some;
+          },
+          tt,
+        )
         | false ↦ λ none. rw append-nil rest-each
       ] refl
   matched-each ImmediateOrCancel comes = rest-each
-  matched-each FillOrKill comes = elim (can_fill i orders) as (λ b. AllByRecursion (CanRest sequence greatest) (if b then rest i orders else orders))
+  matched-each FillOrKill comes =
+      elim (can_fill i orders) as (λ b. AllByRecursion (CanRest sequence greatest)
+      (if b then rest i orders else orders))
       [ true ↦ rest-each | false ↦ each ]

@@ -14,7 +14,8 @@ use Rattle.venue_model.specs.declared.outputs.Cause.{Cause}
 use Rattle.venue_model.specs.declared.outputs.ExecType.TheVariants as exec_type
 use Rattle.venue_model.specs.declared.outputs.Output.{Output}
 use Rattle.venue_model.specs.Orders.{leaves, is_live, crosses, meets}
-use Rattle.venue_model.specs.Match.{crossing, fill, done, exec, filled_orders, trade, trades, can_fill, canceled_rest, match_outputs}
+use Rattle.venue_model.specs.Match.{crossing, fill, done, exec, filled_orders, trade, trades, can_fill, canceled_rest}
+use Rattle.venue_model.specs.Match.{match_outputs}
 use Rattle.venue_model.specs.Requests.{Symbols}
 use Rattle.venue_model.specs.Step.{Request, outputs}
 use Rattle.book.specs.Laws.{IsWithin, KeepsLimit, KeepsPrice}
@@ -23,7 +24,8 @@ use Rattle.book.proofs.LawSteps.{tells-none, outputs-good}
 use Rattle.book.proofs.Priority.{each-by_priority}
 
 module _ {X Y : Type 0} where
-  pub each-flat_map : (P : Y → Type 0) (f : X → List Y) (xs : List X) → AllByRecursion (λ x. AllByRecursion P (f x)) xs → AllByRecursion P (flat_map f xs)
+  pub each-flat_map : (P : Y → Type 0) (f : X → List Y) (xs : List X) → AllByRecursion (λ x. AllByRecursion P (f x)) xs
+      → AllByRecursion P (flat_map f xs)
   each-flat_map P f [] all = tt
   each-flat_map P f (x ∷ xs) all = each-append P (f x) (flat_map f xs) all.0 (each-flat_map P f xs all.1)
 
@@ -31,7 +33,11 @@ module _ {X : Type 0} where
   -- each element of a list is one
   pub each-there : (xs : List X) → AllByRecursion (Contains xs) xs
   each-there [] = tt
-  each-there (x ∷ xs) = ((0, omega arith, refl), each-map (Contains xs) (Contains (x ∷ xs)) (λ y there. (suc there.0, (let h = there.1 in omega (arith, h)), there.2)) xs (each-there xs))
+  each-there (x ∷ xs) = (
+    (0, omega arith, refl),
+    each-map (Contains xs) (Contains (x ∷ xs))
+        (λ y there. (suc there.0, (let h = there.1 in omega (arith, h)), there.2)) xs (each-there xs),
+  )
 
 -- an order's own price keeps its limit
 own-price : (side : Side) (p : ℕ) → IsWithin side p p
@@ -46,11 +52,13 @@ met-price Buy p Buy q h = cc
 met-price Sell p Sell q h = cc
 
 crossed-price : (i o : Order) → crosses i o ≡ true → IsWithin i.side i.price o.price
-crossed-price i o h = met-price i.side i.price o.side o.price (and_parts (bytes_eq i.symbol o.symbol) (meets i.side i.price o.side o.price) h).1
+crossed-price i o h = met-price i.side i.price o.side o.price
+    (and_parts (bytes_eq i.symbol o.symbol) (meets i.side i.price o.side o.price) h).1
 
 module _ (c : Cause) (i : Order) (orders : List Order) where
   -- what holds of each crossing order's reports holds of the reports of the match
-  pub each-trade : (P : Output → Type 0) → AllByRecursion (λ o. crosses i o ≡ true → AllByRecursion P (trade c i (crossing i orders) o)) orders →
+  pub each-trade : (P : Output → Type 0) → AllByRecursion
+      (λ o. crosses i o ≡ true → AllByRecursion P (trade c i (crossing i orders) o)) orders →
       AllByRecursion P (trades c i orders)
   each-trade P each =
       let queue : List Order = crossing i orders in
@@ -60,7 +68,8 @@ module _ (c : Cause) (i : Order) (orders : List Order) where
       (each-filter Tells (λ o. nat_lt 0 (fill (leaves i) queue o)) queue (each-passes Tells (crosses i) orders each)))
 
   pub trades-limit : AllByRecursion KeepsLimit (trades c i orders)
-  trades-limit = each-trade KeepsLimit (each-of (λ o. crosses i o ≡ true → AllByRecursion KeepsLimit (trade c i (crossing i orders) o))
+  trades-limit = each-trade KeepsLimit
+      (each-of (λ o. crosses i o ≡ true → AllByRecursion KeepsLimit (trade c i (crossing i orders) o))
       (λ o h. (own-price o.side o.price, (crossed-price i o h, tt))) orders)
 
   pub trades-price : AllByRecursion (KeepsPrice i orders) (trades c i orders)
@@ -73,16 +82,21 @@ module _ (c : Cause) (i : Order) (orders : List Order) where
       orders (each-there orders))
 
 canceled-limit : (c : Cause) (o : Order) → AllByRecursion KeepsLimit (canceled_rest c o)
-canceled-limit c o = elim (is_live o) as (λ b. AllByRecursion KeepsLimit (map (exec c (exec_type.Canceled None)) (if b then o ∷ [] else [])))
+canceled-limit c o = elim (is_live o) as (λ b. AllByRecursion KeepsLimit
+    (map (exec c (exec_type.Canceled None)) (if b then o ∷ [] else [])))
     [ true ↦ (tt, tt) | false ↦ tt ]
 
-match-limit : (c : Cause) (terms : TimeInForce) (i : Order) (orders : List Order) → AllByRecursion KeepsLimit (match_outputs c terms i orders)
+match-limit : (c : Cause) (terms : TimeInForce) (i : Order) (orders : List Order)
+    → AllByRecursion KeepsLimit (match_outputs c terms i orders)
 match-limit c Day i orders = trades-limit c i orders
-match-limit c ImmediateOrCancel i orders = each-append KeepsLimit (trades c i orders) (canceled_rest c (done i orders)) (trades-limit c i orders) (canceled-limit c (done i orders))
-match-limit c FillOrKill i orders = elim (can_fill i orders) as (λ b. AllByRecursion KeepsLimit (if b then trades c i orders else canceled_rest c i))
+match-limit c ImmediateOrCancel i orders = each-append KeepsLimit (trades c i orders) (canceled_rest c (done i orders))
+    (trades-limit c i orders) (canceled-limit c (done i orders))
+match-limit c FillOrKill i orders =
+    elim (can_fill i orders) as (λ b. AllByRecursion KeepsLimit (if b then trades c i orders else canceled_rest c i))
     [ true ↦ trades-limit c i orders | false ↦ canceled-limit c i ]
 
 -- every trade that is told keeps the limit of the order that it is told of
 pub outputs-limit : (symbols : Symbols) (rs : List Request) → AllByRecursion KeepsLimit (outputs symbols rs)
 outputs-limit symbols rs = outputs-good (AllByRecursion KeepsLimit) tt
-    (λ o os none all. (tells-none (λ order price. IsWithin order.side order.price price) o.report none, all)) match-limit (each-append KeepsLimit) symbols rs
+    (λ o os none all. (tells-none (λ order price. IsWithin order.side order.price price) o.report none, all))
+    match-limit (each-append KeepsLimit) symbols rs

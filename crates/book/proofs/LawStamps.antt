@@ -1,5 +1,7 @@
--- Every resting order has the stamp of a command before: commands stamp what they let rest, and no stamp grows otherwise.
-use Rattle.std.proofs.Common.{◌≡◌, ℕ, suc, ◌+◌, ◌<◌, ◌≤◌, true, false, not, List, [], ◌∷◌, length, refl, ap, subst, arith, Option, Some, None}
+-- Every resting order has the stamp of a command before: commands stamp what they let rest, and no stamp grows
+-- otherwise.
+use Rattle.std.proofs.Common.{◌≡◌, ℕ, suc, ◌+◌, ◌<◌, ◌≤◌, true, false, not, List, [], ◌∷◌, length, refl, ap, subst}
+use Rattle.std.proofs.Common.{arith, Option, Some, None}
 use Rattle.std.specs.Prelude.{if◌then◌else◌}
 use Rattle.venue_model.specs.declared.orders.Order.{Order}
 use Rattle.venue_model.specs.declared.commands.TimeInForce.{TimeInForce}
@@ -14,7 +16,9 @@ use Rattle.venue_model.specs.declared.outputs.OrdRejReason.{OrdRejReason}
 use Rattle.venue_model.specs.declared.outputs.CxlRejReason.{CxlRejReason}
 use Rattle.venue_model.specs.Orders.{leaves, is_live, crosses}
 use Rattle.venue_model.specs.Match.{crossing, after_fill, settled, done, rest, live_alone, can_fill, matched}
-use Rattle.venue_model.specs.Requests.{Symbols, State, new_refusal, new_answered, entering, is_named, named, others, cancel_refusal, cancel_answered, order_canceled, replace_refusal, replace_answered, restamped, amended, order_replaced}
+use Rattle.venue_model.specs.Requests.{Symbols, State, new_refusal, new_answered, entering, is_named, named, others}
+use Rattle.venue_model.specs.Requests.{cancel_refusal, cancel_answered, order_canceled, replace_refusal}
+use Rattle.venue_model.specs.Requests.{replace_answered, restamped, amended, order_replaced}
 use Rattle.venue_model.specs.Step.{Request, cause, obey, step, empty, state_from, state, requests_from, requests}
 use Rattle.venue_model.specs.History.{Message}
 use Rattle.venue_model.specs.ReplacedLaws.{either_way}
@@ -28,31 +32,38 @@ use Rattle.book.proofs.StandingLemmas.{below_more}
 module _ (most : ℕ) (i : Order) (orders : List Order) (below : Below most orders) where
   -- a fill keeps the stamp
   settled-below : (queue : List Order) (o : Order) → o.stamp < most → (settled i queue o).stamp < most
-  settled-below queue o h = elim (crosses i o) as (λ b. (if b then after_fill (leaves i) queue o else o).stamp < most) [ true ↦ h | false ↦ h ]
+  settled-below queue o h = elim (crosses i o) as (λ b. (if b then after_fill (leaves i) queue o else o).stamp < most)
+      [ true ↦ h | false ↦ h ]
 
   rest-below : Below most (rest i orders)
   rest-below = each-filter (λ o. o.stamp < most) is_live _
-      (each-mapped (λ o. o.stamp < most) (λ o. o.stamp < most) (settled i (crossing i orders)) (settled-below (crossing i orders)) orders below)
+      (each-mapped (λ o. o.stamp < most) (λ o. o.stamp < most) (settled i (crossing i orders))
+      (settled-below (crossing i orders)) orders below)
 
   alone-below : (o : Order) → o.stamp < most → Below most (live_alone o)
   alone-below o h = elim (is_live o) as (λ b. Below most (if b then o ∷ [] else [])) [ true ↦ (h, tt) | false ↦ tt ]
 
   matched-below : (t : TimeInForce) → i.stamp < most → Below most (matched t i orders)
-  matched-below Day h = each-append (λ o. o.stamp < most) (rest i orders) (live_alone (done i orders)) rest-below (alone-below (done i orders) h)
+  matched-below Day h = each-append (λ o. o.stamp < most) (rest i orders) (live_alone (done i orders)) rest-below
+      (alone-below (done i orders) h)
   matched-below ImmediateOrCancel h = rest-below
-  matched-below FillOrKill h = elim (can_fill i orders) as (λ b. Below most (if b then rest i orders else orders)) [ true ↦ rest-below | false ↦ below ]
+  matched-below FillOrKill h = elim (can_fill i orders) as (λ b. Below most (if b then rest i orders else orders))
+      [ true ↦ rest-below | false ↦ below ]
 
 -- ONE COMMAND
 
 module _ (s : State) (c : Cause) (below : Below (c.sequence + 1) s.orders) where
-  new-below : (n : NewOrderSingle) (refusal : Option OrdRejReason) → Below (c.sequence + 1) (new_answered s c n refusal).state.orders
+  new-below : (n : NewOrderSingle) (refusal : Option OrdRejReason)
+      → Below (c.sequence + 1) (new_answered s c n refusal).state.orders
   new-below n (Some reason) = below
   new-below n None = matched-below (c.sequence + 1) (entering c n) s.orders below n.time_in_force (omega arith)
 
   others-below : (client name : ℕ) → Below (c.sequence + 1) (others s client name)
-  others-below client name = each-filter (λ o. o.stamp < c.sequence + 1) (λ o. not (is_named client name o)) s.orders below
+  others-below client name = each-filter (λ o. o.stamp < c.sequence + 1) (λ o. not (is_named client name o)) s.orders
+      below
 
-  cancel-below : (r : OrderCancelRequest) (refusal : Option CxlRejReason) → Below (c.sequence + 1) (cancel_answered s c r refusal).state.orders
+  cancel-below : (r : OrderCancelRequest) (refusal : Option CxlRejReason)
+      → Below (c.sequence + 1) (cancel_answered s c r refusal).state.orders
   cancel-below r (Some reason) = below
   cancel-below r None = taken (named s c.gateway r.orig_cl_ord_id)
     where
@@ -63,9 +74,11 @@ module _ (s : State) (c : Cause) (below : Below (c.sequence + 1) s.orders) where
   -- an order amended in its place keeps its stamp
   amended-below : (r : OrderCancelReplaceRequest) (o : Order) → o.stamp < c.sequence + 1 →
       (if is_named c.gateway r.orig_cl_ord_id o then amended r o else o).stamp < c.sequence + 1
-  amended-below r o h = elim (is_named c.gateway r.orig_cl_ord_id o) as (λ b. (if b then amended r o else o).stamp < c.sequence + 1) [ true ↦ h | false ↦ h ]
+  amended-below r o h = elim (is_named c.gateway r.orig_cl_ord_id o) as (λ b. (if b then amended r o else o).stamp
+      < c.sequence + 1) [ true ↦ h | false ↦ h ]
 
-  replace-below : (r : OrderCancelReplaceRequest) (refusal : Option CxlRejReason) → Below (c.sequence + 1) (replace_answered s c r refusal).state.orders
+  replace-below : (r : OrderCancelReplaceRequest) (refusal : Option CxlRejReason)
+      → Below (c.sequence + 1) (replace_answered s c r refusal).state.orders
   replace-below r (Some reason) = below
   replace-below r None = by (named s c.gateway r.orig_cl_ord_id)
     where
@@ -74,9 +87,11 @@ module _ (s : State) (c : Cause) (below : Below (c.sequence + 1) s.orders) where
       by (Some o) = either_way s c r o (λ after. Below (c.sequence + 1) after.state.orders)
           (λ keeps. each-mapped (λ x. x.stamp < c.sequence + 1) (λ x. x.stamp < c.sequence + 1)
           (λ x. if is_named c.gateway r.orig_cl_ord_id x then amended r x else x) (amended-below r) s.orders below)
-          (matched-below (c.sequence + 1) (restamped c (amended r o)) (others s c.gateway r.orig_cl_ord_id) (others-below c.gateway r.orig_cl_ord_id) Day (omega arith))
+          (matched-below (c.sequence + 1) (restamped c (amended r o)) (others s c.gateway r.orig_cl_ord_id)
+          (others-below c.gateway r.orig_cl_ord_id) Day (omega arith))
 
-step-below : (symbols : Symbols) (sequence : ℕ) (s : State) (r : Request) → Below sequence s.orders → Below (sequence + 1) (step symbols s sequence r).state.orders
+step-below : (symbols : Symbols) (sequence : ℕ) (s : State) (r : Request) → Below sequence s.orders
+    → Below (sequence + 1) (step symbols s sequence r).state.orders
 step-below symbols sequence s r behind = obeyed r.command
   where
     below : Below (sequence + 1) s.orders
@@ -103,15 +118,20 @@ pub state-below : (symbols : Symbols) (rs : List Request) → Below (length rs) 
 state-below symbols rs = subst (λ n. Below n (state symbols rs).orders) (omega arith) (from-below symbols 0 empty rs tt)
 
 -- an entry is one command
-pub length-requests : (reads : ℕ → Message → Command) (sequence : ℕ) (h : List Message) → length (requests_from reads sequence h) ≡ length h
+pub length-requests : (reads : ℕ → Message → Command) (sequence : ℕ) (h : List Message)
+    → length (requests_from reads sequence h) ≡ length h
 length-requests reads sequence [] = refl
 length-requests reads sequence (m ∷ h) = ap suc (length-requests reads (sequence + 1) h)
 
-pub history-below : (reads : ℕ → Message → Command) (symbols : Symbols) (h : List Message) → Below (length h) (state symbols (requests reads h)).orders
-history-below reads symbols h = subst (λ n. Below n (state symbols (requests reads h)).orders) (length-requests reads 0 h) (state-below symbols (requests reads h))
+pub history-below : (reads : ℕ → Message → Command) (symbols : Symbols) (h : List Message)
+    → Below (length h) (state symbols (requests reads h)).orders
+history-below reads symbols h = subst (λ n. Below n (state symbols (requests reads h)).orders)
+    (length-requests reads 0 h) (state-below symbols (requests reads h))
 
 -- so a sequence that isn't among the history's is behind them all
-pub history-behind : (reads : ℕ → Message → Command) (symbols : Symbols) (h : List Message) (sequence : ℕ) → length h ≤ sequence →
+pub history-behind : (reads : ℕ → Message → Command) (symbols : Symbols) (h : List Message) (sequence : ℕ)
+    → length h ≤ sequence →
     Below sequence (state symbols (requests reads h)).orders
-history-behind reads symbols h sequence past = each-map (λ o. o.stamp < length h) (λ o. o.stamp < sequence) (λ o below. omega (arith, below, past))
+history-behind reads symbols h sequence past = each-map (λ o. o.stamp < length h) (λ o. o.stamp < sequence)
+    (λ o below. omega (arith, below, past))
     (state symbols (requests reads h)).orders (history-below reads symbols h)

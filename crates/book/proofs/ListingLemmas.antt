@@ -1,5 +1,6 @@
 -- The listing stands in the order of groups and priority: each order comes before all that follow.
-use Rattle.std.proofs.Common.{◌≡◌, ℕ, ◌+◌, Bool, true, false, ◌&&◌, ◌||◌, nat_eq, nat_lt, List, [], ◌∷◌, ◌++◌, refl, ap, sym, ◌∙◌, arith}
+use Rattle.std.proofs.Common.{◌≡◌, ℕ, ◌+◌, Bool, true, false, ◌&&◌, ◌||◌, nat_eq, nat_lt, List, [], ◌∷◌, ◌++◌, refl, ap}
+use Rattle.std.proofs.Common.{sym, ◌∙◌, arith}
 use Rattle.std.specs.Prelude.{filter}
 use Rattle.std.specs.List.{AllByRecursion, list_any}
 use Rattle.std.specs.Str.{bytes_eq}
@@ -14,7 +15,7 @@ use Rattle.venue_model.specs.Spelling.{all_differ}
 use Rattle.book.specs.Standing.{Rising}
 use Rattle.book.specs.Laws.{Pairwise}
 use Rattle.book.specs.Listing.{is_of, queue, listing}
-use Rattle.book.specs.Next.{side_number, group_of, comes_before}
+use Rattle.book.specs.Next.{side_order, group_of, comes_before}
 use Rattle.book.proofs.Lists.{each-append, each-map, each-of, each-passes}
 use Rattle.book.proofs.Priority.{each-by_priority}
 use Rattle.book.proofs.LawPairs.{each-both}
@@ -29,21 +30,28 @@ same-bytes a b c h k = ap (λ x. bytes_eq x c) ((bytes_eq-Decides a b).0 h) ∙ 
 -- PAIRS
 
 module _ (R : Order → Order → Type 0) where
-  pairs-append : (xs ys : List Order) → Pairwise R xs → Pairwise R ys → AllByRecursion (λ x. AllByRecursion (R x) ys) xs → Pairwise R (xs ++ ys)
+  pairs-append : (xs ys : List Order) → Pairwise R xs → Pairwise R ys → AllByRecursion (λ x. AllByRecursion (R x) ys) xs
+      → Pairwise R (xs ++ ys)
   pairs-append [] ys pairs more between = more
-  pairs-append (x ∷ xs) ys pairs more between = (each-append (R x) xs ys pairs.0 between.0, pairs-append xs ys pairs.1 more between.1)
+  pairs-append (x ∷ xs) ys pairs more between = (
+    each-append (R x) xs ys pairs.0 between.0,
+    pairs-append xs ys pairs.1 more between.1,
+  )
 
   -- what follows for each pair of a list, of whose elements P holds
   pairs-weaker : (Q : Order → Order → Type 0) (P : Order → Type 0) → ((a b : Order) → P a → P b → R a b → Q a b) →
       (xs : List Order) → AllByRecursion P xs → Pairwise R xs → Pairwise Q xs
   pairs-weaker Q P f [] all pairs = tt
-  pairs-weaker Q P f (x ∷ xs) all pairs =
-      (each-map (λ y. P y × R x y) (Q x) (λ y h. f x y all.0 h.0 h.1) xs (each-both P (R x) xs all.1 pairs.0), pairs-weaker Q P f xs all.1 pairs.1)
+  pairs-weaker Q P f (x ∷ xs) all pairs = (
+    each-map (λ y. P y × R x y) (Q x) (λ y h. f x y all.0 h.0 h.1) xs (each-both P (R x) xs all.1 pairs.0),
+    pairs-weaker Q P f xs all.1 pairs.1,
+  )
 
 -- of two lists, where it holds of each and each
 each-each : (R : Order → Order → Type 0) (P Q : Order → Type 0) → ((a b : Order) → P a → Q b → R a b) →
     (xs ys : List Order) → AllByRecursion P xs → AllByRecursion Q ys → AllByRecursion (λ x. AllByRecursion (R x) ys) xs
-each-each R P Q f xs ys all also = each-map P (λ x. AllByRecursion (R x) ys) (λ x p. each-map Q (R x) (λ y q. f x y p q) ys also) xs all
+each-each R P Q f xs ys all also = each-map P (λ x. AllByRecursion (R x) ys)
+    (λ x p. each-map Q (R x) (λ y q. f x y p q) ys also) xs all
 
 -- ONE QUEUE
 
@@ -56,11 +64,14 @@ module _ (orders : List Order) where
   each-queue symbol side = each-by_priority (Of symbol side) (filter (is_of symbol side) orders) (each-test symbol side)
 
   queue-in_order : Rising orders → (symbol : List ℕ) (side : Side) → Pairwise Ahead (queue symbol side orders)
-  queue-in_order rising symbol side = in_order side (filter (is_of symbol side) orders) (rising-filter (is_of symbol side) orders rising)
-      (each-map (Of symbol side) (IsOf side) (λ x h. h.side) (filter (is_of symbol side) orders) (each-test symbol side))
+  queue-in_order rising symbol side = in_order side (filter (is_of symbol side) orders)
+      (rising-filter (is_of symbol side) orders rising)
+      (each-map (Of symbol side) (IsOf side) (λ x h. h.side) (filter (is_of symbol side) orders)
+      (each-test symbol side))
 
   -- what holds of each order of the listing
-  each-listing : (P : Order → Type 0) (ss : Symbols) → AllByRecursion (λ s. (x : Order) → bytes_eq x.symbol s ≡ true → P x) ss → AllByRecursion P (listing ss orders)
+  each-listing : (P : Order → Type 0) (ss : Symbols) → AllByRecursion
+      (λ s. (x : Order) → bytes_eq x.symbol s ≡ true → P x) ss → AllByRecursion P (listing ss orders)
   each-listing P [] all = tt
   each-listing P (s ∷ ss) all =
       let of_side : (side : Side) → AllByRecursion P (queue s side orders) =
@@ -72,7 +83,8 @@ module _ (orders : List Order) where
   each-other : (s : List ℕ) (ss : Symbols) → list_any (λ other. bytes_eq other s) ss ≡ false →
       AllByRecursion (λ other. (x : Order) → bytes_eq x.symbol other ≡ true → bytes_eq x.symbol s ≡ false) ss
   each-other s [] none = tt
-  each-other s (other ∷ ss) none = elim (bytes_eq other s) as (λ b. bytes_eq other s ≡ b → (b || list_any (λ other. bytes_eq other s) ss) ≡ false →
+  each-other s (other ∷ ss) none = elim (bytes_eq other s) as (λ b. bytes_eq other s ≡ b
+      → (b || list_any (λ other. bytes_eq other s) ss) ≡ false →
       AllByRecursion (λ other. (x : Order) → bytes_eq x.symbol other ≡ true → bytes_eq x.symbol s ≡ false) (other ∷ ss)) [
         | true ↦ λ h k. cc
         | false ↦ λ h k. ((λ x is. same-bytes x.symbol other s is h), each-other s ss k)
@@ -91,12 +103,13 @@ module _ (s : List ℕ) (ss : Symbols) where
   abbrev group : Order → ℕ
   group o = group_of (s ∷ ss) o
 
-  of-first : (side : Side) (o : Order) → Of s side o → group o ≡ side_number side
-  of-first side o its = group-first s ss o its.symbol ∙ ap side_number its.side
+  of-first : (side : Side) (o : Order) → Of s side o → group o ≡ side_order side
+  of-first side o its = group-first s ss o its.symbol ∙ ap side_order its.side
 
   -- of the first symbol, by side and priority
   before-ahead : (side : Side) (a b : Order) → Of s side a → Of s side b → Ahead a b → Before (s ∷ ss) a b
-  before-ahead side a b p q h = listed-tie (group a) (group b) (ahead a b) (of-first side a p ∙ sym (of-first side b q)) h
+  before-ahead side a b p q h = listed-tie (group a) (group b) (ahead a b) (of-first side a p ∙ sym (of-first side b q))
+      h
 
   before-sides : (a b : Order) → Of s Buy a → Of s Sell b → Before (s ∷ ss) a b
   before-sides a b p q =
@@ -113,7 +126,8 @@ module _ (s : List ℕ) (ss : Symbols) where
       listed-less (group a) (group b) (ahead a b) (omega (arith, first, side, later))
 
   -- of later symbols, as without the first
-  before-more : (a b : Order) → bytes_eq a.symbol s ≡ false → bytes_eq b.symbol s ≡ false → Before ss a b → Before (s ∷ ss) a b
+  before-more : (a b : Order) → bytes_eq a.symbol s ≡ false → bytes_eq b.symbol s ≡ false → Before ss a b
+      → Before (s ∷ ss) a b
   before-more a b p q h = listed-more (group_of ss a) (group_of ss b) (group a) (group b) (ahead a b)
       (group-later s ss a p) (group-later s ss b q) h
 
@@ -126,16 +140,21 @@ listing-in_order orders rising (s ∷ ss) differ =
     let later : AllByRecursion (λ x. bytes_eq x.symbol s ≡ false) (listing ss orders) =
     each-listing orders (λ x. bytes_eq x.symbol s ≡ false) ss (each-other orders s ss apart.0) in
     let ranked : (side : Side) → Pairwise (Before (s ∷ ss)) (queue s side orders) =
-    λ side. pairs-weaker Ahead (Before (s ∷ ss)) (Of s side) (before-ahead s ss side) (queue s side orders) (each-queue orders s side)
+    λ side. pairs-weaker Ahead (Before (s ∷ ss)) (Of s side) (before-ahead s ss side) (queue s side orders)
+    (each-queue orders s side)
     (queue-in_order orders rising s side) in
-    let of_first : (side : Side) → AllByRecursion (λ x. AllByRecursion (Before (s ∷ ss) x) (listing ss orders)) (queue s side orders) =
-    λ side. each-each (Before (s ∷ ss)) (Of s side) (λ x. bytes_eq x.symbol s ≡ false) (λ a b p q. before-later s ss a b p.symbol q)
+    let of_first : (side : Side) → AllByRecursion (λ x. AllByRecursion (Before (s ∷ ss) x) (listing ss orders))
+    (queue s side orders) =
+    λ side. each-each (Before (s ∷ ss)) (Of s side) (λ x. bytes_eq x.symbol s ≡ false)
+    (λ a b p q. before-later s ss a b p.symbol q)
     (queue s side orders) (listing ss orders) (each-queue orders s side) later in
     pairs-append (Before (s ∷ ss)) (queue s Buy orders ++ queue s Sell orders) (listing ss orders)
     (pairs-append (Before (s ∷ ss)) (queue s Buy orders) (queue s Sell orders) (ranked Buy) (ranked Sell)
     (each-each (Before (s ∷ ss)) (Of s Buy) (Of s Sell) (before-sides s ss) (queue s Buy orders) (queue s Sell orders)
     (each-queue orders s Buy) (each-queue orders s Sell)))
-    (pairs-weaker (Before ss) (Before (s ∷ ss)) (λ x. bytes_eq x.symbol s ≡ false) (before-more s ss) (listing ss orders) later
+    (pairs-weaker (Before ss) (Before (s ∷ ss)) (λ x. bytes_eq x.symbol s ≡ false) (before-more s ss)
+    (listing ss orders) later
     (listing-in_order orders rising ss apart.1))
-    (each-append (λ x. AllByRecursion (Before (s ∷ ss) x) (listing ss orders)) (queue s Buy orders) (queue s Sell orders)
+    (each-append (λ x. AllByRecursion (Before (s ∷ ss) x) (listing ss orders)) (queue s Buy orders)
+    (queue s Sell orders)
     (of_first Buy) (of_first Sell))

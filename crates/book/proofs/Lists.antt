@@ -1,5 +1,6 @@
 -- Lists whose elements a function treats alike, and lists with one element in the middle.
-use Rattle.std.proofs.Common.{◌≡◌, ℕ, suc, ◌+◌, Bool, true, false, List, [], ◌∷◌, ◌++◌, length, map, refl, ap, sym, ◌∙◌, arith}
+use Rattle.std.proofs.Common.{◌≡◌, ℕ, suc, ◌+◌, Bool, true, false, List, [], ◌∷◌, ◌++◌, length, map, refl, ap, sym, ◌∙◌}
+use Rattle.std.proofs.Common.{arith}
 use Rattle.std.specs.Prelude.{sum_by, filter, if◌then◌else◌}
 use Rattle.std.specs.List.{flat_map, AllByRecursion}
 use Rattle.std.proofs.lemmas.List.Elements.{filter-append}
@@ -15,29 +16,35 @@ module _ {X : Type 0} where
   same-self [] = refl
   same-self (x ∷ xs) = ap (λ ys. x ∷ ys) (same-self xs)
 
-  pub same_flat_map : {Y : Type 0} (f g : X → List Y) (xs : List X) → AllByRecursion (λ x. f x ≡ g x) xs → flat_map f xs ≡ flat_map g xs
+  pub same_flat_map : {Y : Type 0} (f g : X → List Y) (xs : List X) → AllByRecursion (λ x. f x ≡ g x) xs
+      → flat_map f xs ≡ flat_map g xs
   same_flat_map f g [] all = refl
-  same_flat_map f g (x ∷ xs) all = ap (λ y. y ++ flat_map f xs) all.0 ∙ ap (λ ys. g x ++ ys) (same_flat_map f g xs all.1)
+  same_flat_map f g (x ∷ xs) all = ap (λ y. y ++ flat_map f xs) all.0
+      ∙ ap (λ ys. g x ++ ys) (same_flat_map f g xs all.1)
 
   pub same_sum : (f g : X → ℕ) (xs : List X) → AllByRecursion (λ x. f x ≡ g x) xs → sum_by f xs ≡ sum_by g xs
   same_sum f g [] all = refl
-  same_sum f g (x ∷ xs) all = sum_by-cons f x xs ∙ ap (λ n. n + sum_by f xs) all.0 ∙ ap (λ n. g x + n) (same_sum f g xs all.1) ∙ sym (sum_by-cons g x xs)
+  same_sum f g (x ∷ xs) all = sum_by-cons f x xs ∙ ap (λ n. n + sum_by f xs) all.0
+      ∙ ap (λ n. g x + n) (same_sum f g xs all.1) ∙ sym (sum_by-cons g x xs)
 
   pub same_filter : (p q : X → Bool) (xs : List X) → AllByRecursion (λ x. p x ≡ q x) xs → filter p xs ≡ filter q xs
   same_filter p q [] all = refl
-  same_filter p q (x ∷ xs) all = ap (λ b. if b then x ∷ filter p xs else filter p xs) all.0 ∙ ap (λ ys. if q x then x ∷ ys else ys) (same_filter p q xs all.1)
+  same_filter p q (x ∷ xs) all = ap (λ b. if b then x ∷ filter p xs else filter p xs) all.0
+      ∙ ap (λ ys. if q x then x ∷ ys else ys) (same_filter p q xs all.1)
 
   -- a test that all pass, or none
   pub filter-all : (p : X → Bool) (xs : List X) → AllByRecursion (λ x. p x ≡ true) xs → filter p xs ≡ xs
   filter-all p [] all = refl
-  filter-all p (x ∷ xs) all = ap (λ b. if b then x ∷ filter p xs else filter p xs) all.0 ∙ ap (λ ys. x ∷ ys) (filter-all p xs all.1)
+  filter-all p (x ∷ xs) all = ap (λ b. if b then x ∷ filter p xs else filter p xs) all.0
+      ∙ ap (λ ys. x ∷ ys) (filter-all p xs all.1)
 
   pub filter-none : (p : X → Bool) (xs : List X) → AllByRecursion (λ x. p x ≡ false) xs → filter p xs ≡ []
   filter-none p [] all = refl
   filter-none p (x ∷ xs) all = ap (λ b. if b then x ∷ filter p xs else filter p xs) all.0 ∙ filter-none p xs all.1
 
   -- each of two lists, one after the other
-  pub each-append : (P : X → Type 0) (xs ys : List X) → AllByRecursion P xs → AllByRecursion P ys → AllByRecursion P (xs ++ ys)
+  pub each-append : (P : X → Type 0) (xs ys : List X) → AllByRecursion P xs → AllByRecursion P ys
+      → AllByRecursion P (xs ++ ys)
   each-append P [] ys all more = more
   each-append P (x ∷ xs) ys all more = (all.0, each-append P xs ys all.1 more)
 
@@ -63,13 +70,16 @@ module _ {X : Type 0} where
       [ true ↦ (all.0, each-filter P p xs all.1) | false ↦ each-filter P p xs all.1 ]
 
   -- what passes a test also has what follows from passing it
-  pub each-passes : (P : X → Type 0) (p : X → Bool) (xs : List X) → AllByRecursion (λ x. p x ≡ true → P x) xs → AllByRecursion P (filter p xs)
+  pub each-passes : (P : X → Type 0) (p : X → Bool) (xs : List X) → AllByRecursion (λ x. p x ≡ true → P x) xs
+      → AllByRecursion P (filter p xs)
   each-passes P p [] all = tt
-  each-passes P p (x ∷ xs) all = elim (p x) as (λ b. p x ≡ b → AllByRecursion P (if b then x ∷ filter p xs else filter p xs))
+  each-passes P p (x ∷ xs) all = elim (p x) as (λ b. p x ≡ b
+      → AllByRecursion P (if b then x ∷ filter p xs else filter p xs))
       [ true ↦ λ h. (all.0 h, each-passes P p xs all.1) | false ↦ λ h. each-passes P p xs all.1 ] refl
 
   -- one in the middle
-  pub filter-in : (p : X → Bool) (xs ys : List X) (x : X) → p x ≡ true → filter p (xs ++ x ∷ ys) ≡ filter p xs ++ x ∷ filter p ys
+  pub filter-in : (p : X → Bool) (xs ys : List X) (x : X) → p x ≡ true
+      → filter p (xs ++ x ∷ ys) ≡ filter p xs ++ x ∷ filter p ys
   filter-in p xs ys x passes = filter-append p xs (x ∷ ys)
       ∙ ap (λ b. filter p xs ++ (if b then x ∷ filter p ys else filter p ys)) passes
 

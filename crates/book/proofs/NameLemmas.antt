@@ -1,5 +1,6 @@
 -- Orders under the names that their clients gave them.
-use Rattle.std.proofs.Common.{◌≡◌, ℕ, Bool, true, false, not, List, [], ◌∷◌, ◌++◌, map, refl, ap, sym, ◌∙◌, arith, Some, None}
+use Rattle.std.proofs.Common.{◌≡◌, ℕ, Bool, true, false, not, List, [], ◌∷◌, ◌++◌, map, refl, ap, sym, ◌∙◌, arith, Some}
+use Rattle.std.proofs.Common.{None}
 use Rattle.std.specs.Prelude.{filter, find, if◌then◌else◌}
 use Rattle.std.specs.List.{AllByRecursion}
 use Rattle.std.proofs.lemmas.Bool.Decides.{nat_tests}
@@ -21,17 +22,21 @@ pub record IsAmong (client name : ℕ) (orders : List Order) (o : Order) : Type 
   pub not_behind : AllByRecursion (λ x. is_named client name x ≡ false) behind
 
 -- one name is one order's
-same-name : (client name : ℕ) (o x : Order) → is_named client name o ≡ true → is_named o.client o.cl_ord_id x ≡ false → is_named client name x ≡ false
+same-name : (client name : ℕ) (o x : Order) → is_named client name o ≡ true → is_named o.client o.cl_ord_id x ≡ false
+    → is_named client name x ≡ false
 same-name client name o x is_it apart = grind (arith, nat_tests)
 
 -- an order that is found by its name is the only one that has it
-pub found : (client name : ℕ) (orders : List Order) (o : Order) → NamedApart orders → find (is_named client name) orders ≡ Some o
+pub found : (client name : ℕ) (orders : List Order) (o : Order) → NamedApart orders
+    → find (is_named client name) orders ≡ Some o
     → IsAmong client name orders o
 found client name [] o apart is = absurd (let e : None ≡ Some o = is in cc)
-found client name (x ∷ orders) o apart is = here (is_named client name x) refl is (λ later. found client name orders o apart.1 later)
+found client name (x ∷ orders) o apart is = here (is_named client name x) refl is
+    (λ later. found client name orders o apart.1 later)
   where
     here : (b : Bool) → is_named client name x ≡ b → (if b then Some x else find (is_named client name) orders) ≡ Some o
-        → (find (is_named client name) orders ≡ Some o → IsAmong client name orders o) → IsAmong client name (x ∷ orders) o
+        → (find (is_named client name) orders ≡ Some o → IsAmong client name orders o)
+        → IsAmong client name (x ∷ orders) o
     here true is_it first behind =
         let same : x ≡ o = cc in
         record {
@@ -60,7 +65,8 @@ module _ (client name : ℕ) (orders : List Order) (o : Order) (its : IsAmong cl
   p x = is_named client name x
 
   not-named : (xs : List Order) → AllByRecursion (λ x. p x ≡ false) xs → filter (λ x. not (p x)) xs ≡ xs
-  not-named xs none = filter-all (λ x. not (p x)) xs (each-map (λ x. p x ≡ false) (λ x. not (p x) ≡ true) (λ x h. ap not h) xs none)
+  not-named xs none = filter-all (λ x. not (p x)) xs
+      (each-map (λ x. p x ≡ false) (λ x. not (p x) ≡ true) (λ x h. ap not h) xs none)
 
   pub others-are : filter (λ x. not (is_named client name x)) orders ≡ its.before ++ its.behind
   others-are =
@@ -75,7 +81,8 @@ module _ (client name : ℕ) (orders : List Order) (o : Order) (its : IsAmong cl
     g x = if p x then f x else x
 
     same : (xs : List Order) → AllByRecursion (λ x. p x ≡ false) xs → map g xs ≡ xs
-    same xs none = same_map g (λ x. x) xs (each-map (λ x. p x ≡ false) (λ x. g x ≡ x) (λ x h. ap (λ b. if b then f x else x) h) xs none) ∙ same-self xs
+    same xs none = same_map g (λ x. x) xs
+        (each-map (λ x. p x ≡ false) (λ x. g x ≡ x) (λ x h. ap (λ b. if b then f x else x) h) xs none) ∙ same-self xs
 
     pub amended-are : map (λ x. if is_named client name x then f x else x) orders ≡ its.before ++ f o ∷ its.behind
     amended-are =
@@ -91,5 +98,6 @@ module _ (client name : ℕ) (orders : List Order) (o : Order) (its : IsAmong cl
       ≡ map (λ x. if is_named client name x then amended r x else x) orders
   amended-kept r price =
       amended-are (λ x. record x { cl_ord_id = r.cl_ord_id; total = r.quantity })
-      ∙ ap (λ p. its.before ++ (record o { cl_ord_id = r.cl_ord_id; price = p; total = r.quantity }) ∷ its.behind) (sym price)
+      ∙ ap (λ p. its.before ++ (record o { cl_ord_id = r.cl_ord_id; price = p; total = r.quantity }) ∷ its.behind)
+      (sym price)
       ∙ sym (amended-are (amended r))

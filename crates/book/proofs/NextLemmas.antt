@@ -1,5 +1,7 @@
 -- The order that is listed next: the one behind it in its group, or else the first of the later groups.
-use Rattle.std.proofs.Common.{◌≡◌, ℕ, ◌+◌, ◌*◌, ◌/◌, ◌%◌, ◌<◌, ◌≤◌, Bool, true, false, ◌&&◌, ◌||◌, nat_eq, nat_lt, List, [], ◌∷◌, ◌++◌, length, get_or, refl, ap, sym, subst, ◌∙◌, arith, length-append, Option, Some, None}
+use Rattle.std.proofs.Common.{◌≡◌, ℕ, ◌+◌, ◌*◌, ◌/◌, ◌%◌, ◌<◌, ◌≤◌, Bool, true, false, ◌&&◌, ◌||◌, nat_eq, nat_lt, List}
+use Rattle.std.proofs.Common.{[], ◌∷◌, ◌++◌, length, get_or, refl, ap, sym, subst, ◌∙◌, arith, length-append, Option}
+use Rattle.std.proofs.Common.{Some, None}
 use Rattle.std.proofs.Math.Seq.{get_or-append_seam}
 use Rattle.std.specs.Prelude.{◌≢◌, find, if◌then◌else◌}
 use Rattle.std.specs.List.{AllByRecursion, Contains, list_any}
@@ -11,9 +13,10 @@ use Rattle.venue_model.specs.declared.orders.Order.{Order}
 use Rattle.venue_model.specs.Orders.{is_better, ahead}
 use Rattle.venue_model.specs.Requests.{Symbols, is_named}
 use Rattle.venue_model.specs.Spelling.{all_differ}
-use Rattle.book.specs.Queues.{is_of, NoneOf, IsFirst, NoneBehind, IsNext}
+use Rattle.book.specs.Queues.{is_of, NoneQueuedOf, IsFirst, NoneQueuedBehind, IsNext}
 use Rattle.book.specs.Books.{NamedApart}
-use Rattle.book.specs.Next.{side_number, number_of, group_of, comes_before, comes_behind, InTable, IsListedNext, NextOf, IsFirstFrom, FirstFrom}
+use Rattle.book.specs.Next.{side_order, symbol_number, group_of, comes_before, comes_behind, InTable, IsListedNext}
+use Rattle.book.specs.Next.{NextOf, IsFirstFrom, FirstFrom}
 use Rattle.book.proofs.Lists.{each-map, each-of, each-back}
 use Rattle.book.proofs.LawPriority.{Split, split-at}
 use Rattle.book.proofs.GroupLemmas.{group-parts, group-below, IsGroup, group-at, group-own}
@@ -67,7 +70,7 @@ module _ (ss : Symbols) where
   pub before-not : (a b : Order) → comes_before ss a b ≡ true → comes_before ss b a ≡ false
   before-not a b h = not-before ss b a (from-group ss a b h)
       (λ same.
-      let parts = group-parts (number_of ss b.symbol) (number_of ss a.symbol) b.side a.side same in
+      let parts = group-parts (symbol_number ss b.symbol) (symbol_number ss a.symbol) b.side a.side same in
       let leads_it = by-priority ss a b h (sym same) in
       ap (λ t. leads t b.price b.stamp a.price a.stamp) parts.1
       ∙ leads-not a.side a.price a.stamp b.price b.stamp leads_it)
@@ -134,11 +137,11 @@ module _ (ss : Symbols) (orders : List Order) where
 
   module _ (from group : ℕ) (so_far : NoneUpTo from group) where
     module _ (differ : all_differ ss ≡ true) (within : group < 2 * length ss) (symbol : List ℕ) (side : Side)
-        (at : symbol ≡ get_or ss (group / 2) symbol) (its_side : side_number side ≡ group % 2) where
+        (at : symbol ≡ get_or ss (group / 2) symbol) (its_side : side_order side ≡ group % 2) where
       is : IsGroup ss symbol side group
       is = group-at ss differ group symbol side within at its_side
 
-      pub none-here : NoneOf symbol side orders → NoneUpTo from (group + 1)
+      pub none-here : NoneQueuedOf symbol side orders → NoneUpTo from (group + 1)
       none-here none = each-two (λ x. is_of symbol side x ≡ false) (Later from group) (Later from (group + 1))
           (λ x not_its later h.
           let reached = later h in
@@ -215,7 +218,7 @@ module _ (ss : Symbols) (orders : List Order) where
     abbrev NotBehind : Order → Type 0
     NotBehind x = is_of o.symbol o.side x ≡ true → ahead o x ≡ false
 
-    pub next-of-later : NoneBehind orders o →
+    pub next-of-later : NoneQueuedBehind orders o →
         (next : Option Order) → FirstFrom ss (group_of ss o + 1) orders next → NextOf ss (Some o) orders next
     next-of-later last None none = each-two NotBehind (λ x. group_of ss x < group_of ss o + 1)
         (λ x. comes_before ss o x ≡ false)

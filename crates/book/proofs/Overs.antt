@@ -5,7 +5,8 @@ use Rattle.std.specs.List.{AllByRecursion, flat_map}
 use Rattle.venue_model.specs.declared.orders.Order.{Order}
 use Rattle.venue_model.specs.declared.outputs.Cause.{Cause}
 use Rattle.venue_model.specs.Orders.{leaves, is_live, crosses}
-use Rattle.venue_model.specs.Match.{crossing, fill, after_fill, after_fills, settled, done, rest, by_priority, filled_orders, trade, trades}
+use Rattle.venue_model.specs.Match.{crossing, fill, after_fill, after_fills, settled, done, rest, by_priority}
+use Rattle.venue_model.specs.Match.{filled_orders, trade, trades}
 use Rattle.book.specs.Standing.{Rests}
 use Rattle.book.specs.Passes.{Over}
 use Rattle.book.specs.Reads.{fills}
@@ -20,25 +21,31 @@ module _ (i : Order) (orders : List Order) where
   -- nothing is left, or nothing is crossed: each order stays as it is
   stays : Over i orders → AllByRecursion (λ x. settled i (crossing i orders) x ≡ x) orders
   stays (inl none) = each-of (λ x. settled i (crossing i orders) x ≡ x) (λ x. elim (crosses i x) as
-      (λ b. (if b then after_fill (leaves i) (crossing i orders) x else x) ≡ x)
-      [ true ↦ filled-none x (fill (leaves i) (crossing i orders) x) x.price (nothing (leaves i) (crossing i orders) x none) | false ↦ refl ]) orders
+      (λ b. (if b then after_fill (leaves i) (crossing i orders) x else x) ≡ x) [
+        | true ↦ filled-none x (fill (leaves i) (crossing i orders) x) x.price
+            (nothing (leaves i) (crossing i orders) x none)
+        | false ↦ refl
+      ]) orders
   stays (inr none) = each-map (λ x. crosses i x ≡ false) (λ x. settled i (crossing i orders) x ≡ x)
       (λ x h. ap (λ b. if b then after_fill (leaves i) (crossing i orders) x else x) h) orders none
 
   pub rest-over : Over i orders → AllByRecursion Rests orders → rest i orders ≡ orders
   rest-over over each =
       ap (filter is_live) (same_map (settled i (crossing i orders)) (λ x. x) orders (stays over) ∙ same-self orders)
-      ∙ filter-all is_live orders (each-map Rests (λ x. is_live x ≡ true) (λ x r. let live = r.live in live-true x (omega (arith, live))) orders each)
+      ∙ filter-all is_live orders (each-map Rests (λ x. is_live x ≡ true)
+      (λ x r. let live = r.live in live-true x (omega (arith, live))) orders each)
 
   pub done-over : Over i orders → done i orders ≡ i
   done-over (inl none) =
       let f : Order → ℕ = fill (leaves i) (crossing i orders) in
       let cum : sum_by f (crossing i orders) ≡ 0 =
-      same_sum f (λ x. 0) (crossing i orders) (each-of (λ x. f x ≡ 0) (λ x. nothing (leaves i) (crossing i orders) x none) (crossing i orders))
+      same_sum f (λ x. 0) (crossing i orders)
+      (each-of (λ x. f x ≡ 0) (λ x. nothing (leaves i) (crossing i orders) x none) (crossing i orders))
       ∙ sum-zeros (crossing i orders) in
       let notional : sum_by (λ x. f x * x.price) (crossing i orders) ≡ 0 =
       same_sum (λ x. f x * x.price) (λ x. 0) (crossing i orders)
-      (each-of (λ x. f x * x.price ≡ 0) (λ x. product x.price (f x) (nothing (leaves i) (crossing i orders) x none)) (crossing i orders))
+      (each-of (λ x. f x * x.price ≡ 0) (λ x. product x.price (f x) (nothing (leaves i) (crossing i orders) x none))
+      (crossing i orders))
       ∙ sum-zeros (crossing i orders) in
       ap (λ a. counted i (i.cum + a) (i.notional + sum_by (λ x. f x * x.price) (crossing i orders))) cum
       ∙ ap (λ a. counted i (i.cum + 0) (i.notional + a)) notional ∙ counted-none i
@@ -50,7 +57,8 @@ module _ (i : Order) (orders : List Order) where
       (filter-none (λ x. nat_lt 0 (fill (leaves i) (crossing i orders) x)) (crossing i orders)
       (each-of (λ x. nat_lt 0 (fill (leaves i) (crossing i orders) x) ≡ false)
       (λ x. ap (nat_lt 0) (nothing (leaves i) (crossing i orders) x none)) (crossing i orders)))
-  told-over c (inr none) = ap (λ q. flat_map (trade c i q) (filled_orders (leaves i) q)) (filter-none (crosses i) orders none)
+  told-over c (inr none) = ap (λ q. flat_map (trade c i q) (filled_orders (leaves i) q))
+      (filter-none (crosses i) orders none)
 
   pub fills-over : Over i orders → fills i orders ≡ 0
   fills-over (inl none) =

@@ -1,6 +1,7 @@
 -- One fill of a match: what the definitions say of the orders before it is what they say of the orders behind it,
 -- with the fill itself in front.
-use Rattle.std.proofs.Common.{◌≡◌, ℕ, suc, ◌+◌, ◌*◌, ◌<◌, Bool, true, false, not, nat_lt, List, [], ◌∷◌, ◌++◌, length, map, refl, ap, sym, ◌∙◌, arith, add-zero}
+use Rattle.std.proofs.Common.{◌≡◌, ℕ, suc, ◌+◌, ◌*◌, ◌<◌, Bool, true, false, not, nat_lt, List, [], ◌∷◌, ◌++◌, length}
+use Rattle.std.proofs.Common.{map, refl, ap, sym, ◌∙◌, arith, add-zero}
 use Rattle.std.specs.Prelude.{sum_by, filter, if◌then◌else◌}
 use Rattle.std.specs.List.{AllByRecursion, flat_map}
 use Rattle.std.proofs.lemmas.List.{map-append}
@@ -12,9 +13,11 @@ use Rattle.venue_model.specs.declared.outputs.Cause.{Cause}
 use Rattle.venue_model.specs.declared.outputs.Output.{Output}
 use Rattle.venue_model.specs.declared.outputs.ExecType.TheVariants.{Trade}
 use Rattle.venue_model.specs.Orders.{leaves, is_live, crosses, ahead}
-use Rattle.venue_model.specs.Match.{crossing, filled, fill, after_fill, after_fills, settled, done, rest, by_priority, filled_orders, trade, trades, exec, live_alone}
+use Rattle.venue_model.specs.Match.{crossing, filled, fill, after_fill, after_fills, settled, done, rest, by_priority}
+use Rattle.venue_model.specs.Match.{filled_orders, trade, trades, exec, live_alone}
 use Rattle.book.specs.Passes.{Leads, First, traded, resting_after, incoming_after, orders_after, reports}
-use Rattle.book.proofs.Lists.{same_map, same_flat_map, same_sum, same_filter, filter-in, filter-none, each-append, each-map, each-filter, each-passes, sum-middle}
+use Rattle.book.proofs.Lists.{same_map, same_flat_map, same_sum, same_filter, filter-in, filter-none, each-append}
+use Rattle.book.proofs.Lists.{each-map, each-filter, each-passes, sum-middle}
 use Rattle.book.proofs.Fills.{left, leaves-filled, fill-first, fill-behind}
 use Rattle.book.proofs.Priority.{each-by_priority, first-by_priority}
 
@@ -34,10 +37,13 @@ filled-none o n p none =
 
 pub sum-zeros : (xs : List Order) → sum_by (λ x. 0) xs ≡ 0
 sum-zeros [] = refl
-sum-zeros (x ∷ xs) = let more = sum_by-cons (λ (y : Order). 0) x xs in let rest = sum-zeros xs in omega (arith, more, rest)
+sum-zeros (x ∷ xs) = let more = sum_by-cons (λ (y : Order). 0) x xs in
+    let rest = sum-zeros xs in
+    omega (arith, more, rest)
 
 -- two queues in which each order gets the same, but one that gets n of the first in the middle
-sums-behind : (f g : Order → ℕ) (o : Order) (n : ℕ) (xs ls ys : List Order) → f o ≡ n → AllByRecursion (λ x. g x ≡ 0) ls →
+sums-behind : (f g : Order → ℕ) (o : Order) (n : ℕ) (xs ls ys : List Order) → f o ≡ n
+    → AllByRecursion (λ x. g x ≡ 0) ls →
     AllByRecursion (λ x. f x ≡ g x) xs → AllByRecursion (λ x. f x ≡ g x) ys →
     sum_by f (xs ++ o ∷ ys) ≡ n + sum_by g (xs ++ (ls ++ ys))
 sums-behind f g o n xs ls ys this none before behind =
@@ -98,7 +104,8 @@ module _ (i o : Order) (us vs : List Order) (first : First i o us vs) (apart : a
 
   -- the first one gets all that both have
   fill-o : fill (leaves i) before o ≡ traded i o
-  fill-o = fill-first (leaves i) o (filter (crosses i) us) (filter (crosses i) vs) apart (not-behind _ leads-cus) (not-behind _ leads-cvs)
+  fill-o = fill-first (leaves i) o (filter (crosses i) us) (filter (crosses i) vs) apart (not-behind _ leads-cus)
+      (not-behind _ leads-cvs)
 
   -- the others get the same of what is left
   fill-x : (x : Order) → Leads o x → fill (leaves i) before x ≡ fill (leaves (incoming_after i o)) behind x
@@ -120,7 +127,8 @@ module _ (i o : Order) (us vs : List Order) (first : First i o us vs) (apart : a
 
   fills-x : (xs : List Order) → AllByRecursion (Leads o) xs →
       AllByRecursion (λ x. fill (leaves i) before x ≡ fill (leaves (incoming_after i o)) behind x) xs
-  fills-x xs all = each-map (Leads o) (λ x. fill (leaves i) before x ≡ fill (leaves (incoming_after i o)) behind x) fill-x xs all
+  fills-x xs all = each-map (Leads o) (λ x. fill (leaves i) before x ≡ fill (leaves (incoming_after i o)) behind x)
+      fill-x xs all
 
   -- the incoming order behind its fills with the first one and some others
   grown : (xs ls ys : List Order) → AllByRecursion (Leads o) xs → AllByRecursion (Leads o) ys →
@@ -131,12 +139,17 @@ module _ (i o : Order) (us vs : List Order) (first : First i o us vs) (apart : a
       let g : Order → ℕ = fill (leaves (incoming_after i o)) behind in
       let quantities : sum_by f (xs ++ o ∷ ys) ≡ traded i o + sum_by g (xs ++ (ls ++ ys)) =
       sums-behind f g o (traded i o) xs ls ys fill-o none (fills-x xs lead_xs) (fills-x ys lead_ys) in
-      let values : sum_by (λ x. f x * x.price) (xs ++ o ∷ ys) ≡ traded i o * o.price + sum_by (λ x. g x * x.price) (xs ++ (ls ++ ys)) =
-      sums-behind (λ x. f x * x.price) (λ x. g x * x.price) o (traded i o * o.price) xs ls ys (ap (λ n. n * o.price) fill-o)
+      let values : sum_by (λ x. f x * x.price) (xs ++ o ∷ ys)
+      ≡ traded i o * o.price + sum_by (λ x. g x * x.price) (xs ++ (ls ++ ys)) =
+      sums-behind (λ x. f x * x.price) (λ x. g x * x.price) o (traded i o * o.price) xs ls ys
+      (ap (λ n. n * o.price) fill-o)
       (each-map (λ x. g x ≡ 0) (λ x. g x * x.price ≡ 0) (λ x z. product x.price (g x) z) ls none)
-      (each-map (λ x. f x ≡ g x) (λ x. f x * x.price ≡ g x * x.price) (λ x e. ap (λ n. n * x.price) e) xs (fills-x xs lead_xs))
-      (each-map (λ x. f x ≡ g x) (λ x. f x * x.price ≡ g x * x.price) (λ x e. ap (λ n. n * x.price) e) ys (fills-x ys lead_ys)) in
-      let cum : i.cum + sum_by f (xs ++ o ∷ ys) ≡ i.cum + traded i o + sum_by g (xs ++ (ls ++ ys)) = omega (arith, quantities) in
+      (each-map (λ x. f x ≡ g x) (λ x. f x * x.price ≡ g x * x.price) (λ x e. ap (λ n. n * x.price) e) xs
+      (fills-x xs lead_xs))
+      (each-map (λ x. f x ≡ g x) (λ x. f x * x.price ≡ g x * x.price) (λ x e. ap (λ n. n * x.price) e) ys
+      (fills-x ys lead_ys)) in
+      let cum : i.cum + sum_by f (xs ++ o ∷ ys) ≡ i.cum + traded i o + sum_by g (xs ++ (ls ++ ys)) =
+      omega (arith, quantities) in
       let notional : i.notional + sum_by (λ x. f x * x.price) (xs ++ o ∷ ys)
       ≡ i.notional + traded i o * o.price + sum_by (λ x. g x * x.price) (xs ++ (ls ++ ys)) = omega (arith, values) in
       ap (λ a. counted i a (i.notional + sum_by (λ x. f x * x.price) (xs ++ o ∷ ys))) cum
@@ -150,30 +163,39 @@ module _ (i o : Order) (us vs : List Order) (first : First i o us vs) (apart : a
       ∙ ap (λ q. after_fills (incoming_after i o) q q) (sym crossing-behind)
 
   -- the resting orders when it is over
-  settled-same : (x : Order) → (crosses i x ≡ true → Leads o x) → settled i before x ≡ settled (incoming_after i o) behind x
+  settled-same : (x : Order) → (crosses i x ≡ true → Leads o x)
+      → settled i before x ≡ settled (incoming_after i o) behind x
   settled-same x leads = elim (crosses i x) as
-      (λ b. crosses i x ≡ b → (if b then after_fill (leaves i) before x else x) ≡ (if b then after_fill (leaves (incoming_after i o)) behind x else x))
+      (λ b. crosses i x ≡ b → (if b then after_fill (leaves i) before x else x)
+      ≡ (if b then after_fill (leaves (incoming_after i o)) behind x else x))
       [ true ↦ λ h. ap (λ n. filled x n x.price) (fill-x x (leads h)) | false ↦ λ h. refl ] refl
 
   settled-o : settled i before o ≡ resting_after i o
-  settled-o = ap (λ b. if b then after_fill (leaves i) before o else o) first.is_crossed ∙ ap (λ n. filled o n o.price) fill-o
+  settled-o = ap (λ b. if b then after_fill (leaves i) before o else o) first.is_crossed
+      ∙ ap (λ n. filled o n o.price) fill-o
 
-  settled-left : is_live (resting_after i o) ≡ true → settled (incoming_after i o) behind (resting_after i o) ≡ resting_after i o
+  settled-left : is_live (resting_after i o) ≡ true → settled (incoming_after i o) behind (resting_after i o)
+      ≡ resting_after i o
   settled-left live =
-      ap (λ b. if b then after_fill (leaves (incoming_after i o)) behind (resting_after i o) else resting_after i o) first.is_crossed
+      ap (λ b. if b then after_fill (leaves (incoming_after i o)) behind (resting_after i o) else resting_after i o)
+      first.is_crossed
       ∙ filled-none (resting_after i o) (fill (leaves (incoming_after i o)) behind (resting_after i o)) o.price
       (nothing-more (resting_after i o) (spent live))
 
   settled-all : (xs : List Order) → AllByRecursion (λ x. crosses i x ≡ true → Leads o x) xs →
       map (settled i before) xs ≡ map (settled (incoming_after i o) behind) xs
   settled-all xs all = same_map (settled i before) (settled (incoming_after i o) behind) xs
-      (each-map (λ x. crosses i x ≡ true → Leads o x) (λ x. settled i before x ≡ settled (incoming_after i o) behind x) settled-same xs all)
+      (each-map (λ x. crosses i x ≡ true → Leads o x) (λ x. settled i before x ≡ settled (incoming_after i o) behind x)
+      settled-same xs all)
 
-  live-left : filter is_live (map (settled (incoming_after i o) behind) (left (leaves i) o)) ≡ live_alone (resting_after i o)
+  live-left : filter is_live (map (settled (incoming_after i o) behind) (left (leaves i) o))
+      ≡ live_alone (resting_after i o)
   live-left = elim (is_live (resting_after i o)) as
       (λ b. is_live (resting_after i o) ≡ b →
-      filter is_live (map (settled (incoming_after i o) behind) (if b then resting_after i o ∷ [] else [])) ≡ (if b then resting_after i o ∷ [] else [])) [
-        | true ↦ λ live. ap (λ x. filter is_live (x ∷ [])) (settled-left live) ∙ ap (λ b. if b then resting_after i o ∷ [] else []) live
+      filter is_live (map (settled (incoming_after i o) behind) (if b then resting_after i o ∷ [] else []))
+      ≡ (if b then resting_after i o ∷ [] else [])) [
+        | true ↦ λ live. ap (λ x. filter is_live (x ∷ [])) (settled-left live)
+            ∙ ap (λ b. if b then resting_after i o ∷ [] else []) live
         | false ↦ λ gone. refl
       ] refl
 
@@ -181,12 +203,14 @@ module _ (i o : Order) (us vs : List Order) (first : First i o us vs) (apart : a
   rest-step =
       let f : Order → Order = settled i before in
       let g : Order → Order = settled (incoming_after i o) behind in
-      let old : filter is_live (map f (us ++ o ∷ vs)) ≡ filter is_live (map f us) ++ (live_alone (resting_after i o) ++ filter is_live (map f vs)) =
+      let old : filter is_live (map f (us ++ o ∷ vs)) ≡ filter is_live (map f us)
+      ++ (live_alone (resting_after i o) ++ filter is_live (map f vs)) =
       ap (filter is_live) (map-append f us (o ∷ vs))
       ∙ ap (λ y. filter is_live (map f us ++ y ∷ map f vs)) settled-o
       ∙ filter-append is_live (map f us) (resting_after i o ∷ map f vs)
       ∙ ap (λ zs. filter is_live (map f us) ++ zs) (live-front (resting_after i o) (map f vs)) in
-      let new : filter is_live (map g (us ++ (left (leaves i) o ++ vs))) ≡ filter is_live (map g us) ++ (live_alone (resting_after i o) ++ filter is_live (map g vs)) =
+      let new : filter is_live (map g (us ++ (left (leaves i) o ++ vs)))
+      ≡ filter is_live (map g us) ++ (live_alone (resting_after i o) ++ filter is_live (map g vs)) =
       ap (filter is_live) (map-append g us (left (leaves i) o ++ vs))
       ∙ filter-append is_live (map g us) (map g (left (leaves i) o ++ vs))
       ∙ ap (λ zs. filter is_live (map g us) ++ filter is_live zs) (map-append g (left (leaves i) o) vs)
@@ -194,10 +218,13 @@ module _ (i o : Order) (us vs : List Order) (first : First i o us vs) (apart : a
       ∙ ap (λ zs. filter is_live (map g us) ++ (zs ++ filter is_live (map g vs))) live-left in
       ap (λ q. filter is_live (map (settled i q) (us ++ o ∷ vs))) crossing-before
       ∙ old
-      ∙ ap (λ zs. filter is_live zs ++ (live_alone (resting_after i o) ++ filter is_live (map f vs))) (settled-all us first.leads_before)
-      ∙ ap (λ zs. filter is_live (map g us) ++ (live_alone (resting_after i o) ++ filter is_live zs)) (settled-all vs first.leads_behind)
+      ∙ ap (λ zs. filter is_live zs ++ (live_alone (resting_after i o) ++ filter is_live (map f vs)))
+      (settled-all us first.leads_before)
+      ∙ ap (λ zs. filter is_live (map g us) ++ (live_alone (resting_after i o) ++ filter is_live zs))
+      (settled-all vs first.leads_behind)
       ∙ sym new
-      ∙ ap (λ q. filter is_live (map (settled (incoming_after i o) q) (us ++ (left (leaves i) o ++ vs)))) (sym crossing-behind)
+      ∙ ap (λ q. filter is_live (map (settled (incoming_after i o) q) (us ++ (left (leaves i) o ++ vs))))
+      (sym crossing-behind)
 
   -- the reports
   abbrev gets_before : Order → Bool
@@ -208,7 +235,8 @@ module _ (i o : Order) (us vs : List Order) (first : First i o us vs) (apart : a
 
   none-left : filter gets_behind (left (leaves i) o) ≡ []
   none-left = filter-none gets_behind (left (leaves i) o)
-      (each-map (λ x. fill (leaves (incoming_after i o)) behind x ≡ 0) (λ x. gets_behind x ≡ false) (λ x z. ap (nat_lt 0) z) (left (leaves i) o) fill-left)
+      (each-map (λ x. fill (leaves (incoming_after i o)) behind x ≡ 0) (λ x. gets_behind x ≡ false)
+      (λ x z. ap (nat_lt 0) z) (left (leaves i) o) fill-left)
 
   gets-same : (xs : List Order) → AllByRecursion (Leads o) xs → filter gets_before xs ≡ filter gets_behind xs
   gets-same xs all = same_filter gets_before gets_behind xs
@@ -221,12 +249,15 @@ module _ (i o : Order) (us vs : List Order) (first : First i o us vs) (apart : a
   others-behind : filter gets_behind behind ≡ others
   others-behind =
       filter-append gets_behind (filter (crosses i) us) (left (leaves i) o ++ filter (crosses i) vs)
-      ∙ ap (λ zs. filter gets_behind (filter (crosses i) us) ++ zs) (filter-append gets_behind (left (leaves i) o) (filter (crosses i) vs)
+      ∙ ap (λ zs. filter gets_behind (filter (crosses i) us) ++ zs)
+      (filter-append gets_behind (left (leaves i) o) (filter (crosses i) vs)
       ∙ ap (λ zs. zs ++ filter gets_behind (filter (crosses i) vs)) none-left)
 
   leads-others : AllByRecursion (Leads o) others
-  leads-others = each-append (Leads o) (filter gets_behind (filter (crosses i) us)) (filter gets_behind (filter (crosses i) vs))
-      (each-filter (Leads o) gets_behind (filter (crosses i) us) leads-cus) (each-filter (Leads o) gets_behind (filter (crosses i) vs) leads-cvs)
+  leads-others = each-append (Leads o) (filter gets_behind (filter (crosses i) us))
+      (filter gets_behind (filter (crosses i) vs))
+      (each-filter (Leads o) gets_behind (filter (crosses i) us) leads-cus)
+      (each-filter (Leads o) gets_behind (filter (crosses i) vs) leads-cvs)
 
   -- who gets something: the first one, and then these
   filled-before : 0 < traded i o → filled_orders (leaves i) before ≡ o ∷ by_priority others
@@ -236,20 +267,24 @@ module _ (i o : Order) (us vs : List Order) (first : First i o us vs) (apart : a
       ∙ ap (λ zs. zs ++ o ∷ filter gets_before (filter (crosses i) vs)) (gets-same (filter (crosses i) us) leads-cus)
       ∙ ap (λ zs. filter gets_behind (filter (crosses i) us) ++ o ∷ zs) (gets-same (filter (crosses i) vs) leads-cvs))
       ∙ first-by_priority o (filter gets_behind (filter (crosses i) us)) (filter gets_behind (filter (crosses i) vs))
-      (each-filter (Leads o) gets_behind (filter (crosses i) us) leads-cus) (each-filter (Leads o) gets_behind (filter (crosses i) vs) leads-cvs)
+      (each-filter (Leads o) gets_behind (filter (crosses i) us) leads-cus)
+      (each-filter (Leads o) gets_behind (filter (crosses i) vs) leads-cvs)
 
   -- the others are told the same
   told-x : (c : Cause) (x : Order) → Leads o x → trade c i before x ≡ trade c (incoming_after i o) behind x
   told-x c x leads =
       let t : Order → Bool = λ y. not (ahead x y) in
       let so_far : after_fills i before (filter t before) ≡ after_fills (incoming_after i o) behind (filter t behind) =
-      ap (after_fills i before) (filter-in t (filter (crosses i) us) (filter (crosses i) vs) o (ap not leads.not_behind))
+      ap (after_fills i before) (filter-in t (filter (crosses i) us) (filter (crosses i) vs) o
+      (ap not leads.not_behind))
       ∙ grown (filter t (filter (crosses i) us)) (filter t (left (leaves i) o)) (filter t (filter (crosses i) vs))
-      (each-filter (Leads o) t (filter (crosses i) us) leads-cus) (each-filter (Leads o) t (filter (crosses i) vs) leads-cvs)
+      (each-filter (Leads o) t (filter (crosses i) us) leads-cus)
+      (each-filter (Leads o) t (filter (crosses i) vs) leads-cvs)
       (each-filter (λ x. fill (leaves (incoming_after i o)) behind x ≡ 0) t (left (leaves i) o) fill-left)
       ∙ ap (λ zs. after_fills (incoming_after i o) behind (filter t (filter (crosses i) us) ++ zs))
       (sym (filter-append t (left (leaves i) o) (filter (crosses i) vs)))
-      ∙ ap (after_fills (incoming_after i o) behind) (sym (filter-append t (filter (crosses i) us) (left (leaves i) o ++ filter (crosses i) vs))) in
+      ∙ ap (after_fills (incoming_after i o) behind)
+      (sym (filter-append t (filter (crosses i) us) (left (leaves i) o ++ filter (crosses i) vs))) in
       ap (λ n. both c n x (after_fills i before (filter t before))) (fill-x x leads)
       ∙ ap (both c (fill (leaves (incoming_after i o)) behind x) x) so_far
 
@@ -273,15 +308,19 @@ module _ (i o : Order) (us vs : List Order) (first : First i o us vs) (apart : a
       ap (λ q. flat_map (trade c i q) (filled_orders (leaves i) q)) crossing-before
       ∙ ap (flat_map (trade c i before)) (filled-before some)
       ∙ ap (λ zs. zs ++ flat_map (trade c i before) (by_priority others)) (told-o c)
-      ∙ ap (λ zs. reports c i o ++ zs) (same_flat_map (trade c i before) (trade c (incoming_after i o) behind) (by_priority others)
+      ∙ ap (λ zs. reports c i o ++ zs)
+      (same_flat_map (trade c i before) (trade c (incoming_after i o) behind) (by_priority others)
       (each-by_priority (λ x. trade c i before x ≡ trade c (incoming_after i o) behind x) others
-      (each-map (Leads o) (λ x. trade c i before x ≡ trade c (incoming_after i o) behind x) (told-x c) others leads-others)))
+      (each-map (Leads o) (λ x. trade c i before x ≡ trade c (incoming_after i o) behind x) (told-x c) others
+      leads-others)))
       ∙ ap (λ zs. reports c i o ++ flat_map (trade c (incoming_after i o) behind) (by_priority zs)) (sym others-behind)
-      ∙ ap (λ q. reports c i o ++ flat_map (trade c (incoming_after i o) q) (filled_orders (leaves (incoming_after i o)) q)) (sym crossing-behind)
+      ∙ ap (λ q. reports c i o ++ flat_map (trade c (incoming_after i o) q)
+      (filled_orders (leaves (incoming_after i o)) q)) (sym crossing-behind)
 
   -- one order less gets something
   pub gets-one : 0 < traded i o → length (filled_orders (leaves i) (crossing i (us ++ o ∷ vs)))
-      ≡ suc (length (filled_orders (leaves (incoming_after i o)) (crossing (incoming_after i o) (orders_after i o us vs))))
+      ≡ suc (length (filled_orders (leaves (incoming_after i o))
+      (crossing (incoming_after i o) (orders_after i o us vs))))
   gets-one some =
       ap (λ q. length (filled_orders (leaves i) q)) crossing-before
       ∙ ap (λ zs. length zs) (filled-before some)

@@ -1,5 +1,6 @@
 -- The first order of a symbol and side, and the next, by the places and in the list.
-use Rattle.std.proofs.Common.{◌≡◌, ℕ, true, false, ◌&&◌, ◌||◌, nat_eq, nat_lt, List, ap, sym, subst, ◌∙◌, inl, inr, Some, arith}
+use Rattle.std.proofs.Common.{◌≡◌, ℕ, true, false, ◌&&◌, ◌||◌, nat_eq, nat_lt, List, ap, sym, subst, ◌∙◌, inl, inr}
+use Rattle.std.proofs.Common.{Some, arith}
 use Rattle.std.specs.List.{AllByRecursion}
 use Rattle.std.specs.Str.{bytes_eq}
 use Rattle.std.proofs.lemmas.Slice.Eq.{bytes_eq-Decides}
@@ -10,12 +11,12 @@ use Rattle.venue_model.specs.declared.orders.Side.TheVariants.{Buy, Sell}
 use Rattle.venue_model.specs.Orders.{same_side, is_better, ahead}
 use Rattle.venue_model.specs.SideLaws.{one_side, side_itself}
 use Rattle.price_levels.specs.Places as levels
-use Rattle.price_levels.specs.Places.{Places, at, IsAt, IsOf, Leads, BestOf, StandsBehind, NextBehind}
-use Rattle.price_levels.specs.Stamps.{by_stamp, Seated}
+use Rattle.price_levels.specs.Places.{Places, at, StandsAt, IsOf, Leads, BestOf, StandsBehind, NextBehind}
+use Rattle.price_levels.specs.Stamps.{by_stamp, SeatedByStamp}
 use Rattle.price_levels.specs.StampLaws.{seated, is-within, each-listed}
-use Rattle.book.specs.declared.order_index.slots.Entry.{Entry}
+use Rattle.book.specs.declared.order_index.slots.IndexEntry.{IndexEntry}
 use Rattle.book.specs.Keeping.{AreKept}
-use Rattle.book.specs.Queues.{is_of, NoneOf, IsFirst, NoneBehind, IsNext}
+use Rattle.book.specs.Queues.{is_of, NoneQueuedOf, IsFirst, NoneQueuedBehind, IsNext}
 use Rattle.book.proofs.Middles.{some-same, and-first, and-last, not-true, same-or-not}
 
 of-test : (symbol : List ℕ) (side : Side) (x : Order) → is_of symbol side x ≡ true → IsOf symbol side x
@@ -26,27 +27,30 @@ of-test symbol side x h = record {
 
 test-of : (symbol : List ℕ) (side : Side) (x : Order) → IsOf symbol side x → is_of symbol side x ≡ true
 test-of symbol side x of =
-    ap (λ t. t && same_side x.side side) ((bytes_eq-Decides x.symbol symbol).1 of.symbol_is) ∙ side_itself x.side side of.side_is
+    ap (λ t. t && same_side x.side side) ((bytes_eq-Decides x.symbol symbol).1 of.symbol_is)
+    ∙ side_itself x.side side of.side_is
 
 not-itself : (side : Side) (p s : ℕ) → (is_better side p p || (nat_eq p p && nat_lt s s)) ≡ false
 not-itself Buy p s = grind (arith, nat_tests)
 not-itself Sell p s = grind (arith, nat_tests)
 
-module _ (places : Places) (entries : List Entry) (count : ℕ) (kept : AreKept places entries count) (view : List Order)
+module _ (places : Places) (entries : List IndexEntry) (count : ℕ) (kept : AreKept places entries count)
+    (view : List Order)
     (is : by_stamp places ≡ view) where
-  seat : (p : ℕ) (o : Order) → at places p ≡ Some o → Seated places p o
+  seat : (p : ℕ) (o : Order) → at places p ≡ Some o → SeatedByStamp places p o
   seat p o stands = seated places p o (is-within places p o stands) stands (kept.apart p o stands)
 
   one-order : (p q : ℕ) (o x : Order) → at places p ≡ Some o → q ≡ p → at places q ≡ Some x → x ≡ o
   one-order p q o x stands same there = some-same (sym there ∙ (ap (at places) same ∙ stands))
 
   module _ (symbol : List ℕ) (side : Side) where
-    pub first-none : levels.NoneOf symbol side places → NoneOf symbol side view
-    first-none none = subst (NoneOf symbol side) is
+    pub first-none : levels.NoneOf symbol side places → NoneQueuedOf symbol side view
+    first-none none = subst (NoneQueuedOf symbol side) is
         (each-listed (λ x. is_of symbol side x ≡ false) places
         (λ q x there. not-true (is_of symbol side x) (λ h. none q x there (of-test symbol side x h))))
 
-    pub first-some : (p : ℕ) → BestOf symbol side places p → (o : Order) → at places p ≡ Some o → IsFirst symbol side view o
+    pub first-some : (p : ℕ) → BestOf symbol side places p → (o : Order) → at places p ≡ Some o
+        → IsFirst symbol side view o
     first-some p best o stands =
         let it : best.order ≡ o = some-same (sym best.stands ∙ stands) in
         let its_seat = seat p o stands in
@@ -56,23 +60,28 @@ module _ (places : Places) (entries : List Entry) (count : ℕ) (kept : AreKept 
           split = sym is ∙ its_seat.split;
           its = test-of symbol side o (subst (IsOf symbol side) it best.is_of);
           first = subst (AllByRecursion (λ x. is_of symbol side x ≡ true → ahead x o ≡ false)) is
-              (each-listed (λ x. is_of symbol side x ≡ true → ahead x o ≡ false) places (λ q x there of. elim (same-or-not q p) [
-                | inl same ↦ ap (λ z. ahead z o) (one-order p q o x stands same there) ∙ not-itself o.side o.price o.stamp
-                | inr other ↦ (subst (λ z. Leads z x) it (best.leads q x other there (of-test symbol side x of))).not_behind
+              (each-listed (λ x. is_of symbol side x ≡ true → ahead x o ≡ false) places
+              (λ q x there of. elim (same-or-not q p) [
+                | inl same ↦ ap (λ z. ahead z o) (one-order p q o x stands same there)
+                    ∙ not-itself o.side o.price o.stamp
+                | inr other ↦ (subst (λ z. Leads z x) it
+                    (best.leads q x other there (of-test symbol side x of))).not_behind
               ]));
         }
 
   module _ (p : ℕ) (o : Order) (stands : at places p ≡ Some o) where
-    pub next-none : levels.NoneBehind places p → NoneBehind view o
-    next-none none = subst (λ os. NoneBehind os o) is
+    pub next-none : levels.NoneBehind places p → NoneQueuedBehind view o
+    next-none none = subst (λ os. NoneQueuedBehind os o) is
         (each-listed (λ x. is_of o.symbol o.side x ≡ true → ahead o x ≡ false) places
-        (λ q x there of. not-true (ahead o x) (λ h. none o stands q x there (record { is_of = of-test o.symbol o.side x of; ahead = h }))))
+        (λ q x there of. not-true (ahead o x)
+        (λ h. none o stands q x there (record { is_of = of-test o.symbol o.side x of; ahead = h }))))
 
     pub next-some : (q : ℕ) → NextBehind places p q → (y : Order) → at places q ≡ Some y → IsNext view o y
     next-some q next y there =
         let it : next.order ≡ o = some-same (sym next.stands ∙ stands) in
         let its : next.next ≡ y = some-same (sym next.next_stands ∙ there) in
-        let behind : StandsBehind o y = subst (λ z. StandsBehind z y) it (subst (StandsBehind next.order) its next.behind) in
+        let behind : StandsBehind o y = subst (λ z. StandsBehind z y) it
+        (subst (StandsBehind next.order) its next.behind) in
         let its_seat = seat q y there in
         record {
           before = its_seat.before;
@@ -83,7 +92,8 @@ module _ (places : Places) (entries : List Entry) (count : ℕ) (kept : AreKept 
           first = subst (AllByRecursion (λ x. is_of o.symbol o.side x ≡ true → ahead o x ≡ true → ahead x y ≡ false)) is
               (each-listed (λ x. is_of o.symbol o.side x ≡ true → ahead o x ≡ true → ahead x y ≡ false) places
               (λ r x x_there of h. elim (same-or-not r q) [
-                | inl same ↦ ap (λ z. ahead z y) (one-order q r y x there same x_there) ∙ not-itself y.side y.price y.stamp
+                | inl same ↦ ap (λ z. ahead z y) (one-order q r y x there same x_there)
+                    ∙ not-itself y.side y.price y.stamp
                 | inr other ↦
                     let its_behind : StandsBehind o x = record { is_of = of-test o.symbol o.side x of; ahead = h } in
                     (subst (λ z. Leads z x) its (next.leads r x other x_there

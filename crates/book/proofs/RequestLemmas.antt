@@ -23,28 +23,37 @@ pub record Goes (name greatest : ℕ) (fits : Order → Bool) (found : Option Or
   pub is : found ≡ Some order
   pub fit : fits order ≡ true
 
-fit-of : (name greatest : ℕ) (fits : Order → Bool) (found : Option Order) → greatest < name → unfit fits found ≡ None → Goes name greatest fits found
+fit-of : (name greatest : ℕ) (fits : Order → Bool) (found : Option Order) → greatest < name → unfit fits found ≡ None
+    → Goes name greatest fits found
 fit-of name greatest fits None later none = absurd (let e : Some UnknownOrder ≡ None = none in cc)
 fit-of name greatest fits (Some o) later none = record {
   later = later;
   order = o;
   is = refl;
-  fit = elim (fits o) as (λ b. (if b then None else Some BrokerOption) ≡ None → b ≡ true) [ true ↦ λ e. refl | false ↦ λ e. cc ] none;
+  fit = elim (fits o) as (λ b. (if b then None else Some BrokerOption) ≡ None → b ≡ true)
+      [ true ↦ λ e. refl | false ↦ λ e. cc ] none;
 }
 
 pub goes : (name greatest : ℕ) (fits : Order → Bool) (found : Option Order) (reason : Option CxlRejReason) →
-    reason ≡ (if nat_le name greatest then Some DuplicateClOrdId else unfit fits found) → reason ≡ None → Goes name greatest fits found
+    reason ≡ (if nat_le name greatest then Some DuplicateClOrdId else unfit fits found) → reason ≡ None
+    → Goes name greatest fits found
 goes name greatest fits found reason why none =
-    elim (nat_le name greatest) as (λ b. nat_le name greatest ≡ b → (if b then Some DuplicateClOrdId else unfit fits found) ≡ None → Goes name greatest fits found)
-    [ true ↦ λ h e. absurd cc | false ↦ λ h e. fit-of name greatest fits found (above name greatest h) e ] refl (sym why ∙ none)
+    elim (nat_le name greatest) as (λ b. nat_le name greatest ≡ b
+    → (if b then Some DuplicateClOrdId else unfit fits found) ≡ None → Goes name greatest fits found)
+    [ true ↦ λ h e. absurd cc | false ↦ λ h e. fit-of name greatest fits found (above name greatest h) e ] refl
+    (sym why ∙ none)
 
 -- a new order that isn't refused is in a symbol of the venue
-pub known-new : (symbols : Symbols) (s : State) (client : ℕ) (n : NewOrderSingle) → new_refusal symbols s client n ≡ None → list_any (bytes_eq n.symbol) symbols ≡ true
+pub known-new : (symbols : Symbols) (s : State) (client : ℕ) (n : NewOrderSingle)
+    → new_refusal symbols s client n ≡ None → list_any (bytes_eq n.symbol) symbols ≡ true
 known-new symbols s client n none = elim (nat_le n.cl_ord_id (greatest_of s client)) as
     (λ b. (if b then Some DuplicateOrder else (if not (list_any (bytes_eq n.symbol) symbols) then Some UnknownSymbol
-    else (if is_day n.time_in_force && nat_le most_resting (length s.orders) then Some BookFull else None))) ≡ None → list_any (bytes_eq n.symbol) symbols ≡ true) [
+    else (if is_day n.time_in_force && nat_le most_resting (length s.orders) then Some BookFull else None))) ≡ None
+    → list_any (bytes_eq n.symbol) symbols ≡ true) [
       | true ↦ λ e. cc
       | false ↦ elim (list_any (bytes_eq n.symbol) symbols) as
-          (λ b. (if not b then Some UnknownSymbol else (if is_day n.time_in_force && nat_le most_resting (length s.orders) then Some BookFull else None)) ≡ None → b ≡ true)
+          (λ b. (if not b then Some UnknownSymbol else
+          (if is_day n.time_in_force && nat_le most_resting (length s.orders) then Some BookFull else None))
+          ≡ None → b ≡ true)
           [ true ↦ λ e. refl | false ↦ λ e. cc ]
     ] none

@@ -21,7 +21,8 @@ prior-not : (side : Side) (p s q t : ℕ) → prior side p s q t ≡ true → pr
 prior-not Buy p s q t h = grind (arith, nat_tests)
 prior-not Sell p s q t h = grind (arith, nat_tests)
 
-prior-trans : (side : Side) (p s q t r u : ℕ) → prior side p s q t ≡ true → prior side q t r u ≡ true → prior side p s r u ≡ true
+prior-trans : (side : Side) (p s q t r u : ℕ) → prior side p s q t ≡ true → prior side q t r u ≡ true
+    → prior side p s r u ≡ true
 prior-trans Buy p s q t r u h k = grind (arith, nat_tests)
 prior-trans Sell p s q t r u h k = grind (arith, nat_tests)
 
@@ -36,17 +37,20 @@ ahead-self o = prior-self o.side o.price o.stamp
 pub leads-of : (a b : Order) → a.side ≡ b.side → ahead a b ≡ true → Leads a b
 leads-of a b one_side h = record {
   ahead_of = h;
-  not_behind = ap (λ s. prior s b.price b.stamp a.price a.stamp) (sym one_side) ∙ prior-not a.side a.price a.stamp b.price b.stamp h;
+  not_behind = ap (λ s. prior s b.price b.stamp a.price a.stamp) (sym one_side)
+      ∙ prior-not a.side a.price a.stamp b.price b.stamp h;
 }
 
 pub leads-trans : (a b c : Order) → a.side ≡ b.side → b.side ≡ c.side → ahead a b ≡ true → ahead b c ≡ true → Leads a c
 leads-trans a b c ab bc h k = leads-of a c (ab ∙ bc)
-    (prior-trans a.side a.price a.stamp b.price b.stamp c.price c.stamp h (ap (λ s. prior s b.price b.stamp c.price c.stamp) ab ∙ k))
+    (prior-trans a.side a.price a.stamp b.price b.stamp c.price c.stamp h
+    (ap (λ s. prior s b.price b.stamp c.price c.stamp) ab ∙ k))
 
 -- an earlier order leads where the later one isn't ahead of it
 pub leads-earlier : (a b : Order) → a.side ≡ b.side → a.stamp < b.stamp → ahead b a ≡ false → Leads a b
 leads-earlier a b one_side earlier h = leads-of a b one_side
-    (prior-earlier a.side a.price a.stamp b.price b.stamp earlier (ap (λ s. prior s b.price b.stamp a.price a.stamp) one_side ∙ h))
+    (prior-earlier a.side a.price a.stamp b.price b.stamp earlier
+    (ap (λ s. prior s b.price b.stamp a.price a.stamp) one_side ∙ h))
 
 and_right : (a b : Bool) → (a && b) ≡ true → b ≡ true
 and_right true b h = h

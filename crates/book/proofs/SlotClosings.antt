@@ -1,9 +1,10 @@
 -- The table while a gap is closed: its entries stay the same.
-use Rattle.std.proofs.Common.{◌≡◌, ◌+◌, ◌<◌, ◌≤◌, ℕ, length, get_or, Option, Some, None, refl, ap, sym, subst, ◌∙◌, arith}
+use Rattle.std.proofs.Common.{◌≡◌, ◌+◌, ◌<◌, ◌≤◌, ℕ, length, get_or, Option, Some, None, refl, ap, sym, subst, ◌∙◌}
+use Rattle.std.proofs.Common.{arith}
 use Rattle.std.specs.Prelude.{◌≢◌, slice_set}
 use Rattle.std.proofs.Math.Path.{fun_ext}
 use Rattle.std.proofs.lemmas.List.{get_or_read, length-set}
-use Rattle.book.specs.declared.order_index.slots.Entry.{Entry}
+use Rattle.book.specs.declared.order_index.slots.IndexEntry.{IndexEntry}
 use Rattle.book.specs.IndexNames.{place_of}
 use Rattle.book.specs.Slots.{Slots, at, entries_of, home_of, slot_from, steps_to, IsTable, HasGap}
 use Rattle.book.proofs.SlotSteps.{slot-within}
@@ -29,9 +30,14 @@ begins first start has_gap = record { has_gap = has_gap; places = λ c n o h. h;
 module _ (first now : Slots) (start gap step : ℕ) (closes : Closes first now start gap step) where
   pub ends : step < 8192 → at now (slot_from start step) ≡ None → IsClosed first now
   ends few free = record {
-    table = record { size = closes.has_gap.size; few = closes.has_gap.few; probed = closed (at now) start gap step closes.has_gap.closing few free };
+    table = record {
+      size = closes.has_gap.size;
+      few = closes.has_gap.few;
+      probed = closed (at now) start gap step closes.has_gap.closing few free;
+    };
     places = fun_ext (λ c. fun_ext (λ n.
-        found-once (at now) closes.has_gap.closing.apart c n (place_of (entries_of now) c n) (place_of (entries_of first) c n) (found now c n)
+        found-once (at now) closes.has_gap.closing.apart c n (place_of (entries_of now) c n)
+        (place_of (entries_of first) c n) (found now c n)
         (closes.places c n (place_of (entries_of first) c n) (found first c n))));
     entries = closes.entries;
   }
@@ -44,15 +50,21 @@ module _ (first now : Slots) (start gap step : ℕ) (closes : Closes first now s
       (omega (arith, slot-within start closes.has_gap.closing.behind, closes.has_gap.size))
 
   -- a read of the next slot
-  pub seen : (slot : ℕ) → slot ≡ slot_from start step → (read : Option Entry) → read ≡ get_or now slot read → at now (slot_from start step) ≡ read
+  pub seen : (slot : ℕ) → slot ≡ slot_from start step → (read : Option IndexEntry) → read ≡ get_or now slot read
+      → at now (slot_from start step) ≡ read
   seen slot is read reads =
       let within : slot < length now = omega (arith, is, slot-within start step, closes.has_gap.size) in
       ap (at now) (sym is) ∙ sym (get_or_read now slot read within reads None)
 
-  module _ (few : step < 8192) (e : Entry) (stands : at now (slot_from start step) ≡ Some e) where
-    pub stays : steps_to (home_of e) (slot_from start step) < steps_to gap (slot_from start step) → Closes first now start gap (step + 1)
+  module _ (few : step < 8192) (e : IndexEntry) (stands : at now (slot_from start step) ≡ Some e) where
+    pub stays : steps_to (home_of e) (slot_from start step) < steps_to gap (slot_from start step)
+        → Closes first now start gap (step + 1)
     stays short = record {
-      has_gap = record { size = closes.has_gap.size; few = closes.has_gap.few; closing = kept (at now) start gap step closes.has_gap.closing few e stands short };
+      has_gap = record {
+        size = closes.has_gap.size;
+        few = closes.has_gap.few;
+        closing = kept (at now) start gap step closes.has_gap.closing few e stands short;
+      };
       places = closes.places;
       entries = closes.entries;
     }
@@ -67,7 +79,8 @@ module _ (first now : Slots) (start gap step : ℕ) (closes : Closes first now s
     not-it = not-gap (at now) start gap step closes.has_gap.closing step (omega arith) few
 
     pub both-within : slot_from start step < length moving
-    both-within = let long = length-set now gap (Some e) in omega (arith, slot-within start step, closes.has_gap.size, long)
+    both-within = let long = length-set now gap (Some e) in
+        omega (arith, slot-within start step, closes.has_gap.size, long)
 
     both : Moved (at now) (at after) gap (slot_from start step) e
     both =
@@ -82,11 +95,13 @@ module _ (first now : Slots) (start gap step : ℕ) (closes : Closes first now s
     same-length : length (entries_of after) ≡ length (entries_of now)
     same-length =
         let one = one-more now gap e gap-within closes.has_gap.closing.gap_free in
-        let still : at moving (slot_from start step) ≡ Some e = (write now gap (Some e) gap-within).others (slot_from start step) not-it ∙ stands in
+        let still : at moving (slot_from start step) ≡ Some e =
+        (write now gap (Some e) gap-within).others (slot_from start step) not-it ∙ stands in
         let two = one-less moving (slot_from start step) e still in
         omega (arith, one, two)
 
-    pub moves-back : steps_to gap (slot_from start step) ≤ steps_to (home_of e) (slot_from start step) → Closes first after start (slot_from start step) (step + 1)
+    pub moves-back : steps_to gap (slot_from start step) ≤ steps_to (home_of e) (slot_from start step)
+        → Closes first after start (slot_from start step) (step + 1)
     moves-back long =
         let same = same-length in
         record {
@@ -95,19 +110,21 @@ module _ (first now : Slots) (start gap step : ℕ) (closes : Closes first now s
             few = omega (arith, same, closes.has_gap.few);
             closing = moves (at now) start gap step closes.has_gap.closing few e stands (at after) both long;
           };
-          places = λ c n o h. moved-found (at now) start gap step closes.has_gap.closing few e stands (at after) both c n o (closes.places c n o h);
+          places = λ c n o h. moved-found (at now) start gap step closes.has_gap.closing few e stands (at after) both c
+              n o (closes.places c n o h);
           entries = same ∙ closes.entries;
         }
 
 -- the next slot's entry, as the code reads it, with the steps to it from its home and from the gap
-pub record Next (now : Slots) (start gap step slot : ℕ) (e : Entry) (from_home from_gap : ℕ) : Type 0 where
+pub record Next (now : Slots) (start gap step slot : ℕ) (e : IndexEntry) (from_home from_gap : ℕ) : Type 0 where
   pub few : step < 8192
   pub is : slot ≡ slot_from start step
   pub stands : at now (slot_from start step) ≡ Some e
   pub home_steps : from_home ≡ steps_to (home_of e) slot
   pub gap_steps : from_gap ≡ steps_to gap slot
 
-module _ (first now : Slots) (start gap step : ℕ) (closes : Closes first now start gap step) (slot : ℕ) (e : Entry) (from_home from_gap : ℕ)
+module _ (first now : Slots) (start gap step : ℕ) (closes : Closes first now start gap step) (slot : ℕ) (e : IndexEntry)
+    (from_home from_gap : ℕ)
     (next : Next now start gap step slot e from_home from_gap) (items : Slots) (its_gap : ℕ) where
   pub step-stays : from_home < from_gap → items ≡ now → its_gap ≡ gap → Closes first items start its_gap (step + 1)
   step-stays short same same_gap =
@@ -117,10 +134,13 @@ module _ (first now : Slots) (start gap step : ℕ) (closes : Closes first now s
       (subst (λ g. Closes first now start g (step + 1)) (sym same_gap)
       (stays first now start gap step closes next.few e next.stands (omega (arith, short, home_steps, gap_steps))))
 
-  pub step-moves : from_gap ≤ from_home → items ≡ slice_set (slice_set now gap (Some e)) slot None → its_gap ≡ slot → Closes first items start its_gap (step + 1)
+  pub step-moves : from_gap ≤ from_home → items ≡ slice_set (slice_set now gap (Some e)) slot None → its_gap ≡ slot
+      → Closes first items start its_gap (step + 1)
   step-moves long same same_gap =
       let home_steps = next.home_steps ∙ ap (λ s. steps_to (home_of e) s) next.is in
       let gap_steps = next.gap_steps ∙ ap (λ s. steps_to gap s) next.is in
-      subst (λ xs. Closes first xs start its_gap (step + 1)) (sym (same ∙ ap (λ s. slice_set (slice_set now gap (Some e)) s None) next.is))
-      (subst (λ g. Closes first (slice_set (slice_set now gap (Some e)) (slot_from start step) None) start g (step + 1)) (sym (same_gap ∙ next.is))
+      subst (λ xs. Closes first xs start its_gap (step + 1))
+      (sym (same ∙ ap (λ s. slice_set (slice_set now gap (Some e)) s None) next.is))
+      (subst (λ g. Closes first (slice_set (slice_set now gap (Some e)) (slot_from start step) None) start g (step + 1))
+      (sym (same_gap ∙ next.is))
       (moves-back first now start gap step closes next.few e next.stands (omega (arith, long, home_steps, gap_steps))))

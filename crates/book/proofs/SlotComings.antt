@@ -1,7 +1,8 @@
 -- A new entry at the free slot where its name's way ends.
-use Rattle.std.proofs.Common.{◌≡◌, ◌<◌, ℕ, Bool, true, false, Option, Some, None, refl, ap, sym, subst, ◌∙◌, inl, inr, ◌⊎◌, arith}
+use Rattle.std.proofs.Common.{◌≡◌, ◌<◌, ℕ, Bool, true, false, Option, Some, None, refl, ap, sym, subst, ◌∙◌, inl, inr}
+use Rattle.std.proofs.Common.{◌⊎◌, arith}
 use Rattle.std.specs.Prelude.{◌≢◌, if◌then◌else◌}
-use Rattle.book.specs.declared.order_index.slots.Entry.{Entry}
+use Rattle.book.specs.declared.order_index.slots.IndexEntry.{IndexEntry}
 use Rattle.book.specs.IndexNames.{same_name}
 use Rattle.book.specs.Slots.{has, home, home_of, slot_from, ends_way, IsProbed, WayEnds}
 use Rattle.book.proofs.SlotSteps.{slot-within, steps-apart}
@@ -11,16 +12,17 @@ use Rattle.book.proofs.SlotWays.{Written}
 pub same-or-not : (a b : ℕ) → (a ≡ b) ⊎ (a ≢ b)
 same-or-not a b = grind arith
 
-pub some-one : {x y : Entry} → Some x ≡ Some y → x ≡ y
+pub some-one : {x y : IndexEntry} → Some x ≡ Some y → x ≡ y
 some-one h = cc
 
-module _ (old new : ℕ → Option Entry) (c n s : ℕ) (e : Entry) (its : has c n e) (way : WayEnds old c n s) (free : old s ≡ None) (written : Written old new s (Some e)) where
+module _ (old new : ℕ → Option IndexEntry) (c n s : ℕ) (e : IndexEntry) (its : has c n e) (way : WayEnds old c n s)
+    (free : old s ≡ None) (written : Written old new s (Some e)) where
   -- what stood before stands still
-  pub still : (t : ℕ) (x : Entry) → old t ≡ Some x → new t ≡ Some x
+  pub still : (t : ℕ) (x : IndexEntry) → old t ≡ Some x → new t ≡ Some x
   still t x stands = written.others t (λ same. let there : old s ≡ Some x = ap old (sym same) ∙ stands in cc) ∙ stands
 
   -- what stands now is the new entry, or it stood before
-  pub was : (t : ℕ) (x : Entry) → new t ≡ Some x → ((t ≡ s) × (x ≡ e)) ⊎ ((t ≢ s) × (old t ≡ Some x))
+  pub was : (t : ℕ) (x : IndexEntry) → new t ≡ Some x → ((t ≡ s) × (x ≡ e)) ⊎ ((t ≢ s) × (old t ≡ Some x))
   was t x stands = elim (same-or-not t s) [
     | inl same ↦ inl (same, some-one (sym stands ∙ (ap new same ∙ written.here)))
     | inr other ↦ inr (other, sym (written.others t other) ∙ stands)
@@ -49,28 +51,37 @@ module _ (old new : ℕ → Option Entry) (c n s : ℕ) (e : Entry) (its : has c
     led = λ x d j few stands before gone. elim (was (slot_from (home_of x) d) x stands) [
       | inl (same, it) ↦
           let at_home : home_of x ≡ home c n = ap home_of it ∙ its-home c n e its in
-          let same_steps = steps-apart (home c n) d way.steps few way.few (ap (λ h. slot_from h d) (sym at_home) ∙ (same ∙ way.there)) in
+          let same_steps = steps-apart (home c n) d way.steps few way.few
+          (ap (λ h. slot_from h d) (sym at_home) ∙ (same ∙ way.there)) in
           let sooner : j < way.steps = omega arith in
           let other = way.passed j sooner in
-          passed-taken (old (slot_from (home c n) j)) other refl (λ y stood. stays-taken (slot_from (home_of x) j) y (ap (λ h. old (slot_from h j)) at_home ∙ stood) gone)
-      | inr (other, stood) ↦ elim-taken (old (slot_from (home_of x) j)) refl (probed.led x d j few stood before) (λ y there. stays-taken (slot_from (home_of x) j) y there gone)
+          passed-taken (old (slot_from (home c n) j)) other refl
+          (λ y stood. stays-taken (slot_from (home_of x) j) y (ap (λ h. old (slot_from h j)) at_home ∙ stood) gone)
+      | inr (other, stood) ↦ elim-taken (old (slot_from (home_of x) j)) refl (probed.led x d j few stood before)
+          (λ y there. stays-taken (slot_from (home_of x) j) y there gone)
     ];
   }
     where
-      both : (c n : ℕ) (x y : Entry) → has c n x → has x.client x.name y → has c n y
-      both c n x y h k = let a = same-name c n x.client x.name h in let b = same-name x.client x.name y.client y.name k in name-same c n y.client y.name (b.0 ∙ a.0) (b.1 ∙ a.1)
+      both : (c n : ℕ) (x y : IndexEntry) → has c n x → has x.client x.name y → has c n y
+      both c n x y h k = let a = same-name c n x.client x.name h in
+          let b = same-name x.client x.name y.client y.name k in
+          name-same c n y.client y.name (b.0 ∙ a.0) (b.1 ∙ a.1)
 
-      back : (c n : ℕ) (x y : Entry) → has c n y → has x.client x.name y → has c n x
-      back c n x y h k = let a = same-name c n y.client y.name h in let b = same-name x.client x.name y.client y.name k in name-same c n x.client x.name (sym b.0 ∙ a.0) (sym b.1 ∙ a.1)
+      back : (c n : ℕ) (x y : IndexEntry) → has c n y → has x.client x.name y → has c n x
+      back c n x y h k = let a = same-name c n y.client y.name h in
+          let b = same-name x.client x.name y.client y.name k in
+          name-same c n x.client x.name (sym b.0 ∙ a.0) (sym b.1 ∙ a.1)
 
-      stays-taken : (t : ℕ) (y : Entry) → old t ≡ Some y → new t ≡ None → ⊥
+      stays-taken : (t : ℕ) (y : IndexEntry) → old t ≡ Some y → new t ≡ None → ⊥
       stays-taken t y stood gone = let there = still t y stood in cc
 
-      passed-taken : (o : Option Entry) → ends_way c n o ≡ false → {o' : Option Entry} → o' ≡ o → ((y : Entry) → o' ≡ Some y → ⊥) → ⊥
+      passed-taken : (o : Option IndexEntry) → ends_way c n o ≡ false → {o' : Option IndexEntry} → o' ≡ o
+          → ((y : IndexEntry) → o' ≡ Some y → ⊥) → ⊥
       passed-taken None other is k = cc
       passed-taken (Some y) other is k = k y is
 
-      elim-taken : (o : Option Entry) → {o' : Option Entry} → o' ≡ o → o' ≢ None → ((y : Entry) → o' ≡ Some y → ⊥) → ⊥
+      elim-taken : (o : Option IndexEntry) → {o' : Option IndexEntry} → o' ≡ o → o' ≢ None
+          → ((y : IndexEntry) → o' ≡ Some y → ⊥) → ⊥
       elim-taken None is h k = h is
       elim-taken (Some y) is h k = k y is
 
@@ -82,9 +93,17 @@ module _ (old new : ℕ → Option Entry) (c n s : ℕ) (e : Entry) (its : has c
     | inl (same, it) ↦ let one = one-name c n x y e its (subst (λ w. has x y w) it is_it) in cc
     | inr (other, stood) ↦ none t z stood is_it
   ]
-  come-other x y other (Some p) it = record { slot = it.slot; entry = it.entry; stands = still it.slot it.entry it.stands; is_it = it.is_it; place = it.place }
+  come-other x y other (Some p) it = record {
+    slot = it.slot;
+    entry = it.entry;
+    stands = still it.slot it.entry it.stands;
+    is_it = it.is_it;
+    place = it.place;
+  }
 
   -- each name is found where the new entry and the others say
-  pub come-found : (x y : ℕ) (o : Option ℕ) → IsFound old x y o → (b : Bool) → same_name c n x y ≡ b → IsFound new x y (if b then Some e.place else o)
-  come-found x y o it true same = let a = same-name c n x y same in subst (λ k. HasPlace new k y e.place) (sym a.0) (subst (λ k. HasPlace new c k e.place) (sym a.1) come-here)
+  pub come-found : (x y : ℕ) (o : Option ℕ) → IsFound old x y o → (b : Bool) → same_name c n x y ≡ b
+      → IsFound new x y (if b then Some e.place else o)
+  come-found x y o it true same = let a = same-name c n x y same in
+      subst (λ k. HasPlace new k y e.place) (sym a.0) (subst (λ k. HasPlace new c k e.place) (sym a.1) come-here)
   come-found x y o it false other = come-other x y other o it

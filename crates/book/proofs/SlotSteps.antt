@@ -47,7 +47,8 @@ pub same-on : (s j t g k : ℕ) → slot_from s j ≡ slot_from t g → slot_fro
 same-on s j t g k same = sym (slot-add s j k) ∙ ap (λ x. slot_from x k) same ∙ slot-add t g k
 
 -- two ways over two slots are as long between them
-pub as-long : (s j d t g i : ℕ) → slot_from s j ≡ slot_from t g → slot_from s d ≡ slot_from t i → j ≤ d → g ≤ i → d < 8192 → i < 8192 → d + g ≡ i + j
+pub as-long : (s j d t g i : ℕ) → slot_from s j ≡ slot_from t g → slot_from s d ≡ slot_from t i → j ≤ d → g ≤ i
+    → d < 8192 → i < 8192 → d + g ≡ i + j
 as-long s j d t g i first last hj hg hd hi =
     let to : slot_from s (j + (d - j)) ≡ slot_from t (g + (d - j)) = same-on s j t g (d - j) first in
     let one : j + (d - j) ≡ d = omega arith in

@@ -6,8 +6,8 @@ use Rattle.venue_model.specs.declared.orders.Order.{Order}
 use Rattle.venue_model.specs.declared.commands.OrderCancelReplaceRequest.{OrderCancelReplaceRequest}
 use Rattle.venue_model.specs.Requests.{Limits, Symbols, State, is_named, named, others, replace_fits, keeps_place}
 use Rattle.venue_model.specs.Step.{Request, step}
-use Rattle.book.specs.Standing.{Rests, Standing, Below}
-use Rattle.book.specs.Reads.{Reads}
+use Rattle.book.specs.Standing.{Rests, IsBookList, Below}
+use Rattle.book.specs.Reads.{ReadsFew}
 pub use Rattle.book.specs.Standing.{NoneNamed}
 
 -- the venue's limits, the state, and how many resting orders the last command read
@@ -30,13 +30,13 @@ pub record Belongs (symbols : Symbols) (greatest : List ℕ) (o : Order) : Type 
 
 -- what stands in the book
 pub record IsBook (symbols : Symbols) (orders : List Order) (greatest : List ℕ) : Type 0 where
-  pub standing : Standing orders
+  pub standing : IsBookList orders
   pub apart : NamedApart orders
   pub each : AllByRecursion (Belongs symbols greatest) orders
   pub clients : length greatest ≡ 8
 
 -- an order of this client that stands in the book
-pub record Stands (book : Book) (client : ℕ) (o : Order) : Type 0 where
+pub record StandsInBook (book : Book) (client : ℕ) (o : Order) : Type 0 where
   pub rests : Rests o
   pub belongs : Belongs book.limits.symbols book.state.greatest o
   pub its_client : o.client ≡ client
@@ -57,4 +57,4 @@ pub record Follows (old new : Book) (sequence : ℕ) (request : Request) : Type 
   pub limits : new.limits ≡ old.limits
   pub state : new.state ≡ (step old.limits.symbols old.state sequence request).state
   pub below : Below (sequence + 1) new.state.orders
-  pub reads : Reads old.limits.symbols old.state sequence request new.reads
+  pub reads : ReadsFew old.limits.symbols old.state sequence request new.reads

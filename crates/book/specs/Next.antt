@@ -9,17 +9,17 @@ use Rattle.venue_model.specs.Orders.{ahead}
 use Rattle.venue_model.specs.Requests.{Symbols}
 
 -- the number of a symbol: its place in the table, or the table's length
-abbrev pub number_of : Symbols → List ℕ → ℕ
-number_of symbols symbol = position_or_len (bytes_eq symbol) symbols
+abbrev pub symbol_number : Symbols → List ℕ → ℕ
+symbol_number symbols symbol = position_or_len (bytes_eq symbol) symbols
 
 -- buys come before sells
-abbrev pub side_number : Side → ℕ
-side_number Buy = 0
-side_number Sell = 1
+abbrev pub side_order : Side → ℕ
+side_order Buy = 0
+side_order Sell = 1
 
 -- the orders of one symbol and side are a group; groups are numbered in the order of the table, buys before sells
 abbrev pub group_of : Symbols → Order → ℕ
-group_of symbols o = 2 * number_of symbols o.symbol + side_number o.side
+group_of symbols o = 2 * symbol_number symbols o.symbol + side_order o.side
 
 -- an order is listed before another: in an earlier group, or ahead of it in one
 abbrev pub comes_before : Symbols → Order → Order → Bool

@@ -11,8 +11,8 @@ abbrev pub is_of : List ℕ → Side → Order → Bool
 is_of symbol side o = bytes_eq o.symbol symbol && same_side o.side side
 
 -- none of them is
-abbrev pub NoneOf : List ℕ → Side → List Order → Type 0
-NoneOf symbol side orders = AllByRecursion (λ x. is_of symbol side x ≡ false) orders
+abbrev pub NoneQueuedOf : List ℕ → Side → List Order → Type 0
+NoneQueuedOf symbol side orders = AllByRecursion (λ x. is_of symbol side x ≡ false) orders
 
 -- it is one of the orders, and none of its symbol and side stands ahead of it
 pub record IsFirst (symbol : List ℕ) (side : Side) (orders : List Order) (o : Order) : Type 0 where
@@ -23,8 +23,8 @@ pub record IsFirst (symbol : List ℕ) (side : Side) (orders : List Order) (o : 
   pub first : AllByRecursion (λ x. is_of symbol side x ≡ true → ahead x o ≡ false) orders
 
 -- none of its symbol and side stands behind it
-abbrev pub NoneBehind : List Order → Order → Type 0
-NoneBehind orders o = AllByRecursion (λ x. is_of o.symbol o.side x ≡ true → ahead o x ≡ false) orders
+abbrev pub NoneQueuedBehind : List Order → Order → Type 0
+NoneQueuedBehind orders o = AllByRecursion (λ x. is_of o.symbol o.side x ≡ true → ahead o x ≡ false) orders
 
 -- it is one of the orders and stands behind the first one; of those that do, none stands ahead of it
 pub record IsNext (orders : List Order) (o next : Order) : Type 0 where

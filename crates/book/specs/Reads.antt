@@ -55,5 +55,5 @@ CommandReads symbols s sequence gateway (Replace time request) reads = ReplaceRe
 CommandReads symbols s sequence gateway (Malformed time fault) reads = reads ≡ 0
 CommandReads symbols s sequence gateway Void reads = reads ≡ 0
 
-abbrev pub Reads : Symbols → State → ℕ → Request → ℕ → Type 0
-Reads symbols s sequence r reads = CommandReads symbols s sequence r.gateway r.command reads
+abbrev pub ReadsFew : Symbols → State → ℕ → Request → ℕ → Type 0
+ReadsFew symbols s sequence r reads = CommandReads symbols s sequence r.gateway r.command reads

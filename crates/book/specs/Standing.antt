@@ -30,7 +30,7 @@ Rising [] = ⊤
 Rising (o ∷ os) = AllByRecursion (λ x. o.stamp < x.stamp) os × Rising os
 
 -- the book's list
-pub record Standing (orders : List Order) : Type 0 where
+pub record IsBookList (orders : List Order) : Type 0 where
   pub rising : Rising orders
   pub each : AllByRecursion Rests orders
   pub few : length orders ≤ most_resting

@@ -4,7 +4,7 @@ ghost use Rattle.std.specs.Vec.{vec_len, vec_capacity};
 ghost use Rattle.venue_model.specs.Match.{output};
 ghost use Rattle.venue_model.specs.Step.{empty, cause, step, IsCommand};
 ghost use Rattle.book.specs.Books.{Follows};
-ghost use Rattle.book.specs.Reads.{Reads};
+ghost use Rattle.book.specs.Reads.{ReadsFew};
 ghost use Rattle.book.specs.Standing.{Below};
 
 use crate::logic::BookLogic;
@@ -102,7 +102,7 @@ impl Book {
         ensures state { self.new.state ≡ (step self.old.limits.symbols self.old.state sequence (record { gateway = gateway; command = command.now })).state }
         ensures below { Below (sequence + 1) self.new.state.orders }
         ensures told { out.new.items ≡ (step self.old.limits.symbols self.old.state sequence (record { gateway = gateway; command = command.now })).outputs }
-        ensures reads { Reads self.old.limits.symbols self.old.state sequence (record { gateway = gateway; command = command.now }) reads.new }
+        ensures reads { ReadsFew self.old.limits.symbols self.old.state sequence (record { gateway = gateway; command = command.now }) reads.new }
         ensures room { vec_capacity out.new ≡ vec_capacity out.old }
     {
         match command {

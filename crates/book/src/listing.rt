@@ -8,7 +8,7 @@ ghost use Rattle.venue_model.specs.Requests.{Symbols, is_named};
 ghost use Rattle.venue_model.specs.Spelling.{AreSymbols};
 ghost use Rattle.book.specs.Books.{NamedApart, IsBook};
 ghost use Rattle.book.specs.Listing.{listing};
-ghost use Rattle.book.specs.Next.{number_of, side_number, group_of, InTable, NextOf, FirstFrom};
+ghost use Rattle.book.specs.Next.{symbol_number, side_order, group_of, InTable, NextOf, FirstFrom};
 
 use crate::book::Book;
 use crate::resting::RestingOrders;
@@ -82,7 +82,7 @@ fn first_from(symbols: &[Symbol], orders: &RestingOrders, from: usize) -> Option
 
 /// The side of a group: buys have even numbers, sells odd ones.
 fn side_of(group: usize) -> Side
-    ensures { side_number result ≡ group % 2 }
+    ensures { side_order result ≡ group % 2 }
 {
     if group % 2 == 0 {
         Side::Buy
@@ -105,7 +105,7 @@ fn group_of(symbols: &[Symbol], order: &Order) -> usize
 
 /// The number of a symbol: its place in the table, or the table's length.
 fn number_of(symbols: &[Symbol], symbol: &Symbol) -> usize
-    ensures value { result ≡ number_of symbols.now symbol.now }
+    ensures value { result ≡ symbol_number symbols.now symbol.now }
     ensures within { result ≤ length symbols.now }
 {
     place_of(symbols, symbol).unwrap_or(symbols.len())

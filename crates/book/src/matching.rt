@@ -7,7 +7,7 @@ ghost use Rattle.venue_model.specs.Orders.{leaves};
 ghost use Rattle.venue_model.specs.Match.{done, rest, trades, can_fill, matched, match_outputs};
 ghost use Rattle.venue_model.specs.Requests.{is_day, most_resting};
 ghost use Rattle.book.specs.Firsts.{FillsFirst};
-ghost use Rattle.book.specs.Standing.{InRange, Rests, Standing, Below};
+ghost use Rattle.book.specs.Standing.{InRange, Rests, IsBookList, Below};
 ghost use Rattle.book.specs.Books.{NoneNamed};
 ghost use Rattle.book.specs.Passes.{incoming_after, reports, Over};
 ghost use Rattle.book.specs.Reads.{fills, filled_by, IsMatched};
@@ -20,7 +20,7 @@ use venue_model::{Cause, ExecType, Order, Output, TimeInForce};
 /// Fills the order that the incoming one fills next, as far as both go. It answers that order as it was, or `None` where
 /// the match is over.
 fn next_fill(orders: &mut RestingOrders, incoming: &Order, reads: &mut u64) -> Option<Order>
-    requires standing { Standing orders.old }
+    requires standing { IsBookList orders.old }
     requires in_range { InRange incoming.now }
     requires reads { reads.old < 2 ^ 64 - 1 }
     ensures next { MatchOption result (Over incoming.now orders.old × (orders.new ≡ orders.old))
@@ -68,7 +68,7 @@ fn sweep(
     out: &mut Vec<Output>,
     reads: &mut u64,
 ) -> Order
-    requires standing { Standing orders.old }
+    requires standing { IsBookList orders.old }
     requires in_range { InRange incoming.now }
     requires room { vec_len out.old + 2 * length orders.old ≤ vec_capacity out.old }
     requires reads { reads.old < 2 ^ 32 }
@@ -76,7 +76,7 @@ fn sweep(
     ensures done { result ≡ done incoming.now orders.old }
     ensures told { out.new.items ≡ out.old.items ++ trades cause incoming.now orders.old }
     ensures in_range { InRange result }
-    ensures standing { Standing orders.new }
+    ensures standing { IsBookList orders.new }
     ensures below { (sequence : ℕ) → Below sequence orders.old → Below sequence orders.new }
     ensures no_longer { length orders.new ≤ length orders.old }
     ensures more { vec_len out.new ≤ vec_len out.old + 2 * length orders.old }
@@ -100,7 +100,7 @@ pub(crate) fn enter(
     out: &mut Vec<Output>,
     reads: &mut u64,
 )
-    requires standing { Standing orders.old }
+    requires standing { IsBookList orders.old }
     requires in_range { InRange incoming.now }
     requires some { 0 < leaves incoming.now }
     requires behind { Below incoming.now.stamp orders.old }
@@ -110,7 +110,7 @@ pub(crate) fn enter(
     requires reads { reads.old < 2 ^ 32 }
     ensures orders { orders.new ≡ matched terms incoming.now orders.old }
     ensures told { out.new.items ≡ out.old.items ++ match_outputs cause terms incoming.now orders.old }
-    ensures standing { Standing orders.new }
+    ensures standing { IsBookList orders.new }
     ensures below { (sequence : ℕ) → incoming.now.stamp < sequence → Below sequence orders.old
         → Below sequence orders.new }
     ensures room { vec_capacity out.new ≡ vec_capacity out.old }

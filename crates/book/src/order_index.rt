@@ -5,7 +5,7 @@ ghost use Rattle.book.specs.IndexNames.{most_entries, place_of, with_name, witho
 
 mod slots;
 
-use slots::{Entry, FREE, SLOTS, Slot, close, reach};
+use slots::{FREE, IndexEntry, SLOTS, Slot, close, reach};
 use std::alloc::{AllocError, Global};
 use std::marker::Model;
 
@@ -18,10 +18,10 @@ pub(crate) struct OrderIndex {
 
 impl Model for OrderIndex {
     ghost use Rattle.std.specs.Prelude.{List};
-    ghost use Rattle.book.specs.declared.order_index.slots.Entry.{Entry};
+    ghost use Rattle.book.specs.declared.order_index.slots.IndexEntry.{IndexEntry};
     ghost use Rattle.book.specs.Slots.{entries_of, IsTable};
 
-    ghost Value = { List Entry };
+    ghost Value = { List IndexEntry };
 
     ghost view = { λ i. entries_of i.slots.items };
 
@@ -54,7 +54,7 @@ impl OrderIndex {
         ensures entries { length self.new ≡ length self.old + 1 }
     {
         let at = reach(&self.slots, client, name);
-        self.slots[at] = Slot::of(Entry {
+        self.slots[at] = Slot::of(IndexEntry {
             client,
             name,
             place,

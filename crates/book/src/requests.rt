@@ -8,7 +8,7 @@ ghost use Rattle.venue_model.specs.Orders.{leaves};
 ghost use Rattle.venue_model.specs.Match.{exec, can_fill, matched, match_outputs};
 ghost use Rattle.venue_model.specs.Step.{IsAmount};
 ghost use Rattle.book.specs.Standing.{InRange, Below};
-ghost use Rattle.book.specs.Books.{NoneNamed, IsBook, Stands, StaysInPlace, TakesOut};
+ghost use Rattle.book.specs.Books.{NoneNamed, IsBook, StandsInBook, StaysInPlace, TakesOut};
 ghost use Rattle.book.specs.Reads.{fills, filled_by, named_reads, IsMatched, NewReads, ReplaceReads};
 
 use crate::book::Book;
@@ -35,7 +35,7 @@ impl Book {
     fn named(&self, client: u8, name: u64, reads: &mut u64) -> Option<Order>
         requires { reads.old < 2 ^ 32 }
         ensures order { result ≡ named self.now.state client name }
-        ensures stands { MatchOption result ⊤ (Stands self.now client) }
+        ensures stands { MatchOption result ⊤ (StandsInBook self.now client) }
         ensures reads { reads.new ≡ reads.old + named_reads result }
     {
         self.orders.named(client, name, reads)
@@ -228,7 +228,7 @@ impl Book {
         requires from { 1 ≤ cause.gateway }
         requires to { cause.gateway ≤ 8 }
         requires named { named self.old.state cause.gateway request.now.orig_cl_ord_id ≡ Some order.now }
-        requires stands { Stands self.old cause.gateway order.now }
+        requires stands { StandsInBook self.old cause.gateway order.now }
         requires fits { replace_fits request.now order.now ≡ true }
         requires later { greatest_of self.old.state cause.gateway < request.now.cl_ord_id }
         requires behind { Below cause.sequence self.old.state.orders }

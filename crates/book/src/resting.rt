@@ -4,11 +4,11 @@ ghost use Rattle.std.specs.Prelude.{◌≡◌, ◌≢◌, ◌<◌, ◌≤◌, �
 ghost use Rattle.venue_model.specs.Orders.{leaves};
 ghost use Rattle.venue_model.specs.Match.{crossing};
 ghost use Rattle.venue_model.specs.Requests.{is_named, most_resting};
-ghost use Rattle.price_levels.specs.Places.{CanAmend, amended};
+ghost use Rattle.price_levels.specs.Places.{CanAmend, renamed_to};
 ghost use Rattle.book.specs.Standing.{InRange, Rests, Below, NoneNamed};
 ghost use Rattle.venue_model.specs.declared.orders.Order.{Order};
 ghost use Rattle.book.specs.Firsts.{FillsFirst, FillsNone};
-ghost use Rattle.book.specs.Queues.{NoneOf, IsFirst, NoneBehind, IsNext};
+ghost use Rattle.book.specs.Queues.{NoneQueuedOf, IsFirst, NoneQueuedBehind, IsNext};
 
 use crate::order_index::OrderIndex;
 use price_levels::{Levels, Place};
@@ -100,7 +100,7 @@ impl RestingOrders {
     pub(crate) fn amend(&mut self, client: u8, name: u64, new_name: u64, total: u64)
         requires there { MatchOption (find (is_named client name) self.old) ⊥ (CanAmend total) }
         requires fresh { NoneNamed client new_name self.old }
-        ensures { self.new ≡ map (λ o. if is_named client name o then amended new_name total o else o) self.old }
+        ensures { self.new ≡ map (λ o. if is_named client name o then renamed_to new_name total o else o) self.old }
     {
         let number = self.index.remove(client, name);
         self.levels
@@ -136,7 +136,7 @@ impl RestingOrders {
 
     /// The order of a symbol and side that is ahead of all others, or `None` where there is none.
     pub(crate) fn first_of(&self, symbol: &Symbol, side: Side) -> Option<Order>
-        ensures { MatchOption result (NoneOf symbol.now side self.now) (IsFirst symbol.now side self.now) }
+        ensures { MatchOption result (NoneQueuedOf symbol.now side self.now) (IsFirst symbol.now side self.now) }
     {
         let place = self.levels.best(symbol, side)?;
         Some(self.levels.get(place, &mut 0))
@@ -146,7 +146,7 @@ impl RestingOrders {
     pub(crate) fn behind(&self, client: u8, name: u64) -> Option<Order>
         requires { find (is_named client name) self.now ≢ None }
         ensures { (o : Order) → find (is_named client name) self.now ≡ Some o
-            → MatchOption result (NoneBehind self.now o) (IsNext self.now o) }
+            → MatchOption result (NoneQueuedBehind self.now o) (IsNext self.now o) }
     {
         let number = self.index.find(client, name).unwrap();
         let place = self.levels.after(Place::at(number as usize))?;

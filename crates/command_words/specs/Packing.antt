@@ -56,8 +56,8 @@ kind_number (Replace time request) = 3
 kind_number (Malformed time fault) = 4
 
 -- the fields of an order or a request that stand in the head
-abbrev pub order_fields : Side → TimeInForce → ℕ → ℕ → ℕ
-order_fields side time_in_force quantity price =
+abbrev pub packed_fields : Side → TimeInForce → ℕ → ℕ → ℕ
+packed_fields side time_in_force quantity price =
     128 * side_number side + 256 * time_in_force_number time_in_force + 1024 * quantity + 1073741824 * price
 
 -- the fields of a fault that stand in the head
@@ -65,9 +65,9 @@ abbrev pub fault_fields : SessionRejectReason → RefMsgType → ℕ → ℕ
 fault_fields reason ref_type tag = 128 * reason_number reason + 1024 * type_number ref_type + 4096 * tag
 
 abbrev pub head_fields : Command → ℕ
-head_fields (New time order) = order_fields order.side order.time_in_force order.quantity order.price
-head_fields (Cancel time request) = order_fields request.side Day 0 0
-head_fields (Replace time request) = order_fields request.side request.time_in_force request.quantity request.price
+head_fields (New time order) = packed_fields order.side order.time_in_force order.quantity order.price
+head_fields (Cancel time request) = packed_fields request.side Day 0 0
+head_fields (Replace time request) = packed_fields request.side request.time_in_force request.quantity request.price
 head_fields (Malformed time fault) = fault_fields fault.reason fault.ref_type fault.tag
 head_fields Void = 0
 

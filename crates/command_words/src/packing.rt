@@ -16,7 +16,7 @@ ghost use Rattle.std.specs.Prelude.{◌≡◌, ℕ, ◌^◌, ◌<◌, ◌≤◌,
 ghost use Rattle.venue_model.specs.Spelling.{IsSpelling};
 ghost use Rattle.venue_model.specs.Step.{IsCommand};
 ghost use Rattle.venue_model.specs.declared.commands.Command.{Command};
-ghost use Rattle.command_words.specs.Packing.{order_fields, fault_fields, head_word, more_words, command_words, IsPackable};
+ghost use Rattle.command_words.specs.Packing.{packed_fields, fault_fields, head_word, more_words, command_words, IsPackable};
 
 mod fields;
 mod unpacking;
@@ -201,7 +201,7 @@ fn head_word(gateway: u8, command: &Command) -> u64
 fn order_fields(side: Side, time_in_force: TimeInForce, quantity: u64, price: u64) -> u64
     requires quantity { quantity ≤ 1000000 }
     requires price { price ≤ 1000000 }
-    ensures value { result ≡ order_fields side time_in_force quantity price }
+    ensures value { result ≡ packed_fields side time_in_force quantity price }
     ensures small { result < 2 ^ 51 }
 {
     SIDE * side_number(side)

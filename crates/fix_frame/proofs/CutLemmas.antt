@@ -1,5 +1,6 @@
 -- Lists that are cut at the first of some byte.
-use Rattle.std.proofs.Common.{◌≡◌, ◌≢◌, ℕ, ◌-◌, ◌≤◌, ◌<◌, List, [], ◌∷◌, ◌++◌, length, take, get_or, length-append, inl, inr, refl, ap, arith, zero, suc, ◌+◌, drop, sym, ◌∙◌}
+use Rattle.std.proofs.Common.{◌≡◌, ◌≢◌, ℕ, ◌-◌, ◌≤◌, ◌<◌, List, [], ◌∷◌, ◌++◌, length, take, get_or, length-append, inl}
+use Rattle.std.proofs.Common.{inr, refl, ap, arith, zero, suc, ◌+◌, drop, sym, ◌∙◌}
 use Rattle.std.proofs.lemmas.Bool.{cases_lt}
 use Rattle.std.proofs.lemmas.List.{take-append-drop, take-take, length-take, drop_more, get_or-append-add}
 use Rattle.fix_frame.specs.Cuts.{Lacks, EndsInSoh, all_but_last}
@@ -95,7 +96,8 @@ ends_before front (b ∷ rest) ends =
     last_behind front 1 (b ∷ rest) ∙ last_later 1 (b ∷ rest) (omega arith) ∙ ends (omega arith)
 
 -- of some bytes and the next one all but the last are those before it
-pub all_but_last-take : (bytes : List ℕ) (at : ℕ) → at < length bytes → all_but_last (take (at + 1) bytes) ≡ take at bytes
+pub all_but_last-take : (bytes : List ℕ) (at : ℕ) → at < length bytes
+    → all_but_last (take (at + 1) bytes) ≡ take at bytes
 all_but_last-take bytes at within =
     let place : length (take (at + 1) bytes) - 1 ≡ at = omega (arith, length-take (at + 1) bytes) in
     ap (λ k. take k (take (at + 1) bytes)) place ∙ take-take at (at + 1) bytes (omega arith)

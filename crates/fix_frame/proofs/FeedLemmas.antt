@@ -1,10 +1,12 @@
 -- A piece fed byte by byte: what is held, and that each answer of feed is right.
-use Rattle.std.proofs.Common.{◌≡◌, ℕ, ◌+◌, ◌≤◌, ◌<◌, inl, inr, List, [], ◌++◌, length, take, drop, ap, sym, ◌∙◌, subst, arith, Option, None}
-use Rattle.std.proofs.lemmas.List.{append_assoc, append-nil, length-append, length-take, take-append-drop, take-append-le, drop_all}
+use Rattle.std.proofs.Common.{◌≡◌, ℕ, ◌+◌, ◌≤◌, ◌<◌, inl, inr, List, [], ◌++◌, length, take, drop, ap, sym, ◌∙◌, subst}
+use Rattle.std.proofs.Common.{arith, Option, None}
+use Rattle.std.proofs.lemmas.List.{append_assoc, append-nil, length-append, length-take, take-append-drop}
+use Rattle.std.proofs.lemmas.List.{take-append-le, drop_all}
 use Rattle.std.proofs.Math.Seq.{take-add}
 use Rattle.std.proofs.lemmas.Bool.{cases_lt}
 use Rattle.fix_frame.specs.Stream.{IsWhole, BeginsNoFrame, IsWrong, Faults}
-use Rattle.fix_frame.specs.Framing.{Framing, holding, failed, IsFaultless, Takes, Refuses}
+use Rattle.fix_frame.specs.Framing.{Framing, holding, failed, IsFaultless, TakesPiece, Refuses}
 use Rattle.fix_frame.specs.Endings.{IsJudged, IsFirstFault, TakesFront, FaultsFront}
 use Rattle.fix_frame.specs.declared.fault.FrameFault.{FrameFault}
 use Rattle.fix_frame.proofs.FrameLemmas.{frame_right}
@@ -74,7 +76,7 @@ module _ (old now : Framing) (piece : List ℕ) (taken : ℕ) (t : HasTaken old 
   ]
 
   -- a frame stands before the piece's end
-  pub stopped : taken ≤ length piece → IsWhole now.held → Takes old now piece taken
+  pub stopped : taken ≤ length piece → IsWhole now.held → TakesPiece old now piece taken
   stopped within whole = record {
     within = within;
     held = held_is;
@@ -87,7 +89,7 @@ module _ (old now : Framing) (piece : List ℕ) (taken : ℕ) (t : HasTaken old 
   }
 
   -- all of the piece was taken
-  pub finished : taken ≡ length piece → Takes old now piece taken
+  pub finished : taken ≡ length piece → TakesPiece old now piece taken
   finished all = record {
     within = omega arith;
     held = held_is;

@@ -1,12 +1,14 @@
 -- The fields that bytes spell: of a printed run of fields, just these fields.
-use Rattle.std.proofs.Common.{◌*◌, ◌≤◌, ◌≡◌, ◌≢◌, ℕ, ◌+◌, ◌<◌, ◌^◌, List, [], ◌∷◌, ◌++◌, length, drop, map, refl, ap, sym, ◌∙◌, subst, arith, cond, ◌==◌, true, false, not}
+use Rattle.std.proofs.Common.{◌*◌, ◌≤◌, ◌≡◌, ◌≢◌, ℕ, ◌+◌, ◌<◌, ◌^◌, List, [], ◌∷◌, ◌++◌, length, drop, map, refl, ap}
+use Rattle.std.proofs.Common.{sym, ◌∙◌, subst, arith, cond, ◌==◌, true, false, not}
 use Rattle.std.specs.List.{AllByRecursion, position_or_len, prefix_len, before_first, after_first}
 use Rattle.std.specs.Fmt.{decimal}
 use Rattle.std.specs.Str.Parse.{digits_value}
 use Rattle.std.proofs.lemmas.Fmt.{decimal_is_IsNumeral, decimal_nonempty}
 use Rattle.std.proofs.lemmas.List.{append_assoc, take_at, drop_at, length_push, length-append}
 use Rattle.std.proofs.lemmas.Bool.Decides.{nat_tests}
-use Rattle.fix_frame.specs.Grammar.{Field, IsField, LacksSoh, field_then, print_fields, BeginsWithType, IsBody, most_in, pieces, onto_first, field_of, fields_of}
+use Rattle.fix_frame.specs.Grammar.{Field, IsField, LacksSoh, field_then, print_fields, BeginsWithType, IsBody, most_in}
+use Rattle.fix_frame.specs.Grammar.{pieces, onto_first, field_of, fields_of}
 use Rattle.fix_frame.specs.Stream.{IsTyped}
 use Rattle.fix_frame.specs.Runs.{IsRun}
 use Rattle.fix_frame.specs.Cuts.{Lacks, EndsInSoh, BeginsNoField, BeginsField}

@@ -1,7 +1,8 @@
 -- Frames: how one is made of head, body and trailer, that none has a fault, and that one stands at a front.
 use Rattle.std.proofs.Common.{◌≡◌, ℕ, List, [], ◌∷◌, ◌++◌, length, take, drop, refl, ap, sym, ◌∙◌, subst, arith}
 use Rattle.std.proofs.lemmas.List.{append_assoc, take-append-drop}
-use Rattle.fix_frame.specs.Grammar.{Field, head, trailer, frame_of, frame_text, print_fields, BeginsWithType, IsBody, fields_of, most_in}
+use Rattle.fix_frame.specs.Grammar.{Field, head, trailer, frame_of, frame_text, print_fields, BeginsWithType, IsBody}
+use Rattle.fix_frame.specs.Grammar.{fields_of, most_in}
 use Rattle.fix_frame.specs.Stream.{IsLength, TailFault, IsWrong}
 use Rattle.fix_frame.specs.Endings.{IsRight}
 use Rattle.fix_frame.specs.declared.fault.FrameFault.{FrameFault}

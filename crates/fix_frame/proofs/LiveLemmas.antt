@@ -1,12 +1,15 @@
 -- While a message is under way, or its frame stands: nothing was wrong, and no frame came before.
-use Rattle.std.proofs.Common.{◌≡◌, ℕ, ◌+◌, ◌-◌, ◌*◌, ◌≤◌, ◌<◌, inl, inr, List, [], ◌∷◌, ◌++◌, length, take, drop, refl, ap, sym, ◌∙◌, subst, arith, None}
+use Rattle.std.proofs.Common.{◌≡◌, ℕ, ◌+◌, ◌-◌, ◌*◌, ◌≤◌, ◌<◌, inl, inr, List, [], ◌∷◌, ◌++◌, length, take, drop, refl}
+use Rattle.std.proofs.Common.{ap, sym, ◌∙◌, subst, arith, None}
 use Rattle.std.specs.Fmt.{decimal}
-use Rattle.std.proofs.lemmas.List.{append_assoc, append-nil, length-append, take-append-drop, length-take, length-drop, take_all, take-take}
+use Rattle.std.proofs.lemmas.List.{append_assoc, append-nil, length-append, take-append-drop, length-take, length-drop}
+use Rattle.std.proofs.lemmas.List.{take_all, take-take}
 use Rattle.std.proofs.lemmas.Fmt.{length-decimal-le}
 use Rattle.std.proofs.lemmas.Bool.{cases_lt}
 use Rattle.fix_frame.specs.Grammar.{head, trailer, frame_text, print_fields, fields_of}
 use Rattle.fix_frame.specs.Stream.{BeginsHead, IsWrong, IsWhole, BeginsNoFrame}
-use Rattle.fix_frame.specs.Stages.{opening, IsHeading, IsResting, IsStanding, body_part, IsUnderWay, IsLive, IsAt, IsReady, framing}
+use Rattle.fix_frame.specs.Stages.{opening, IsHeading, IsResting, IsStanding, body_part, IsUnderWay, IsLive, IsAtStage}
+use Rattle.fix_frame.specs.Stages.{IsReady, framing}
 use Rattle.fix_frame.specs.Framing.{holding}
 use Rattle.fix_frame.specs.Cuts.{all_but_last}
 use Rattle.fix_frame.specs.Endings.{IsJudged, IsFirstFault}
@@ -132,7 +135,7 @@ pub nothing_heads : IsHeading [] 0
 nothing_heads = record { opens = λ _. (refl, refl); counts = λ late. absurd (omega (arith, late)) }
 
 -- where no frame stands, what is held begins with none
-pub partial : (stage : Stage) (bytes : List ℕ) → IsAt stage bytes → ((body : ℕ) → stage ≡ Whole body → ⊥) →
+pub partial : (stage : Stage) (bytes : List ℕ) → IsAtStage stage bytes → ((body : ℕ) → stage ≡ Whole body → ⊥) →
     BeginsNoFrame (framing stage bytes).held
 partial (Head v) bytes h other = not_yet (Head v) bytes h
 partial (Rest at n) bytes h other = not_yet (Rest at n) bytes h
@@ -161,7 +164,7 @@ live_judged Given bytes h = absurd h
 live_judged (Faulty f) bytes h = absurd h
 
 -- and so was what is held, where nothing was wrong
-pub held_judged : (stage : Stage) (bytes : List ℕ) → IsAt stage bytes → (framing stage bytes).fault ≡ None →
+pub held_judged : (stage : Stage) (bytes : List ℕ) → IsAtStage stage bytes → (framing stage bytes).fault ≡ None →
     IsJudged (framing stage bytes).held
 held_judged (Head v) bytes h right = live_judged (Head v) bytes h
 held_judged (Rest at n) bytes h right = live_judged (Rest at n) bytes h
@@ -171,7 +174,7 @@ held_judged (Faulty f) bytes h right = absurd (cc)
 
 -- what is live is held
 pub live_framing : (stage : Stage) (bytes : List ℕ) → IsLive stage bytes →
-    (framing stage bytes ≡ holding bytes) × IsAt stage bytes
+    (framing stage bytes ≡ holding bytes) × IsAtStage stage bytes
 live_framing (Head v) bytes h = (refl, h)
 live_framing (Rest at n) bytes h = (refl, h)
 live_framing (Whole at) bytes h = (refl, h)
@@ -179,7 +182,7 @@ live_framing Given bytes h = absurd h
 live_framing (Faulty f) bytes h = absurd h
 
 -- a byte may come while nothing is wrong and no frame stands
-pub ready : (stage : Stage) (bytes : List ℕ) → IsAt stage bytes → (framing stage bytes).fault ≡ None →
+pub ready : (stage : Stage) (bytes : List ℕ) → IsAtStage stage bytes → (framing stage bytes).fault ≡ None →
     BeginsNoFrame (framing stage bytes).held → IsReady stage bytes
 ready (Head v) bytes h right none = h
 ready (Rest at n) bytes h right none = h

@@ -1,5 +1,6 @@
 -- Several bytes at once: what stands before the last of them.
-use Rattle.std.proofs.Common.{◌≡◌, ℕ, ◌+◌, ◌-◌, ◌≤◌, ◌<◌, List, [], ◌∷◌, ◌++◌, length, take, get_or, ap, sym, ◌∙◌, subst, arith}
+use Rattle.std.proofs.Common.{◌≡◌, ℕ, ◌+◌, ◌-◌, ◌≤◌, ◌<◌, List, [], ◌∷◌, ◌++◌, length, take, get_or, ap, sym, ◌∙◌}
+use Rattle.std.proofs.Common.{subst, arith}
 use Rattle.std.proofs.lemmas.List.{length-append, length-take, take-append-le, take_more, take-take, take_at}
 use Rattle.fix_frame.specs.Cuts.{all_but_last}
 use Rattle.fix_frame.specs.Stages.{IsHeading, IsResting, IsUnderWay}

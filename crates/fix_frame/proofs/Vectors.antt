@@ -17,7 +17,14 @@ logon =
     ∷ field 98 (codes "0") ∷ field 108 (codes "0") ∷ field 141 (codes "Y") ∷ []
 
 -- 8=FIX.4.4|9=63|35=A|49=C1|56=VENUE|34=1|52=20250102-09:30:00|98=0|108=0|141=Y|10=026|
-pub logon_text : frame_text logon ≡ codes "8=FIX.4.4" ++ (soh ++ (codes "9=63" ++ (soh ++ (codes "35=A" ++ (soh ++ (codes "49=C1" ++ (soh ++ (codes "56=VENUE" ++ (soh ++ (codes "34=1" ++ (soh ++ (codes "52=20250102-09:30:00" ++ (soh ++ (codes "98=0" ++ (soh ++ (codes "108=0" ++ (soh ++ (codes "141=Y" ++ (soh ++ (codes "10=026" ++ soh))))))))))))))))))))
+pub logon_text : frame_text logon
+    ≡ codes "8=FIX.4.4" ++ (soh ++ (codes "9=63"
+    ++ (soh ++ (codes "35=A" ++ (soh
+    ++ (codes "49=C1" ++ (soh ++ (codes "56=VENUE"
+    ++ (soh ++ (codes "34=1" ++ (soh
+    ++ (codes "52=20250102-09:30:00"
+    ++ (soh ++ (codes "98=0" ++ (soh
+    ++ (codes "108=0" ++ (soh ++ (codes "141=Y" ++ (soh ++ (codes "10=026" ++ soh))))))))))))))))))))
 unfolding field_then head trailer frame_of digits
 logon_text = refl
 

@@ -9,5 +9,5 @@ abbrev pub fields_left : Fields → List Field
 fields_left fields = fields_of fields.rest.now
 
 -- the fields of a frame's body, MsgType first
-abbrev pub body_fields : Frame → List Field
-body_fields frame = fields_of frame.body.now
+abbrev pub frame_fields : Frame → List Field
+frame_fields frame = fields_of frame.body.now

@@ -2,12 +2,12 @@
 use Rattle.std.specs.Prelude.{◌≡◌, ℕ, ◌<◌, ◌≤◌, ◌⊎◌, List, ◌++◌, length, take}
 use Rattle.fix_frame.specs.Framing.{Framing, holding}
 use Rattle.fix_frame.specs.Grammar.{head}
-use Rattle.fix_frame.specs.Stream.{IsClosed, IsSummed, IsTyped, IsWhole, BeginsNoFrame, IsWrong, Faults}
+use Rattle.fix_frame.specs.Stream.{IsBodyClosed, IsSummed, IsTyped, IsWhole, BeginsNoFrame, IsWrong, Faults}
 use Rattle.fix_frame.specs.declared.fault.FrameFault.{FrameFault}
 
 -- nothing is wrong with this body of n bytes and its trailer
 pub record IsRight (n : ℕ) (body tail : List ℕ) : Type 0 where
-  pub closed : IsClosed body tail
+  pub closed : IsBodyClosed body tail
   pub summed : IsSummed (head n ++ body) tail
   pub typed : IsTyped body
 

@@ -25,7 +25,7 @@ abbrev pub IsFaultless : List ℕ → Type 0
 IsFaultless stream = (at : ℕ) (fault : FrameFault) → Faults stream at fault → ⊥
 
 -- the framer took so many bytes of the piece: up to the frame's end, or all
-pub record Takes (old new : Framing) (piece : List ℕ) (n : ℕ) : Type 0 where
+pub record TakesPiece (old new : Framing) (piece : List ℕ) (n : ℕ) : Type 0 where
   pub within : n ≤ length piece
   pub held : new.held ≡ old.held ++ take n piece
   pub before : old.fault ≡ None

@@ -52,12 +52,12 @@ IsLive Given bytes = ⊥
 IsLive (Faulty fault) bytes = ⊥
 
 -- what is so at each stage: once a frame was given, or at a fault, the bytes mean nothing
-abbrev pub IsAt : Stage → List ℕ → Type 0
-IsAt Given bytes = Unit {0}
-IsAt (Faulty fault) bytes = Unit {0}
-IsAt (Head n) bytes = IsHeading bytes n
-IsAt (Rest body n) bytes = IsResting bytes body n
-IsAt (Whole body) bytes = IsStanding bytes body
+abbrev pub IsAtStage : Stage → List ℕ → Type 0
+IsAtStage Given bytes = Unit {0}
+IsAtStage (Faulty fault) bytes = Unit {0}
+IsAtStage (Head n) bytes = IsHeading bytes n
+IsAtStage (Rest body n) bytes = IsResting bytes body n
+IsAtStage (Whole body) bytes = IsStanding bytes body
 
 -- a byte may come
 abbrev pub IsReady : Stage → List ℕ → Type 0

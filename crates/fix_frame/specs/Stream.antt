@@ -52,8 +52,8 @@ pub record IsDue (bytes : List ℕ) (n : ℕ) (body tail : List ℕ) : Type 0 wh
   pub tail_long : length tail ≡ 7
 
 -- the body ends a field, and CheckSum follows
-abbrev pub IsClosed : List ℕ → List ℕ → Type 0
-IsClosed body tail = ((before : List ℕ) × (body ≡ before ++ soh ∷ [])) × (take 3 tail ≡ codes "10=")
+abbrev pub IsBodyClosed : List ℕ → List ℕ → Type 0
+IsBodyClosed body tail = ((before : List ℕ) × (body ≡ before ++ soh ∷ [])) × (take 3 tail ≡ codes "10=")
 
 -- the trailer ends in the three digits of the sum of what stands before it, and SOH
 abbrev pub IsSummed : List ℕ → List ℕ → Type 0
@@ -66,9 +66,9 @@ IsTyped body = (fields : List Field) × AllByRecursion IsField fields × BeginsW
 
 -- which fault a body and its trailer have, behind the head of length n: the first that fails
 abbrev pub TailFault : ℕ → List ℕ → List ℕ → FrameFault → Type 0
-TailFault n body tail BadLength = IsClosed body tail → ⊥
-TailFault n body tail BadChecksum = IsClosed body tail × (IsSummed (head n ++ body) tail → ⊥)
-TailFault n body tail BadField = IsClosed body tail × IsSummed (head n ++ body) tail × (IsTyped body → ⊥)
+TailFault n body tail BadLength = IsBodyClosed body tail → ⊥
+TailFault n body tail BadChecksum = IsBodyClosed body tail × (IsSummed (head n ++ body) tail → ⊥)
+TailFault n body tail BadField = IsBodyClosed body tail × IsSummed (head n ++ body) tail × (IsTyped body → ⊥)
 TailFault n body tail BadBegin = ⊥
 TailFault n body tail TooLong = ⊥
 

@@ -17,13 +17,13 @@ pub struct Frame<'a> {
 impl<'a> Frame<'a> {
     ghost use Rattle.std.specs.Prelude.{◌≡◌, ◌≤◌, length};
     ghost use Rattle.fix_frame.specs.Grammar.{frame_text, IsBody, most_in, fields_of};
-    ghost use Rattle.fix_frame.specs.Borrowed.{body_fields, fields_left};
+    ghost use Rattle.fix_frame.specs.Borrowed.{frame_fields, fields_left};
     ghost use Rattle.fix_frame.specs.Stages.{IsStanding, body_part};
 
     /// The frame that these bytes are, where its body begins at `body`.
     pub(crate) fn at(text: &'a [u8], body: usize) -> Frame<'a>
         requires { IsStanding text.now body }
-        ensures { body_fields result ≡ fields_of (body_part text.now body) }
+        ensures { frame_fields result ≡ fields_of (body_part text.now body) }
     {
         Frame {
             text,
@@ -33,8 +33,8 @@ impl<'a> Frame<'a> {
 
     /// All its bytes, 26 to 320 of them.
     pub fn text(&self) -> &'a [u8]
-        ensures value { result.now ≡ frame_text (body_fields self.now) }
-        ensures body { IsBody most_in (body_fields self.now) }
+        ensures value { result.now ≡ frame_text (frame_fields self.now) }
+        ensures body { IsBody most_in (frame_fields self.now) }
     {
         self.text
     }
@@ -42,9 +42,9 @@ impl<'a> Frame<'a> {
     /// The fields of its body, in order.
     #[tactic(auto, using(crate::proofs::FieldsOf::few_of_body))]
     pub fn fields(&self) -> Fields<'a>
-        ensures value { fields_left result ≡ body_fields self.now }
-        ensures body { IsBody most_in (body_fields self.now) }
-        ensures few { length (body_fields self.now) ≤ 74 }
+        ensures value { fields_left result ≡ frame_fields self.now }
+        ensures body { IsBody most_in (frame_fields self.now) }
+        ensures few { length (frame_fields self.now) ≤ 74 }
     {
         Fields { rest: self.body }
     }

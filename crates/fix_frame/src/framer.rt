@@ -2,13 +2,13 @@
 ghost use Rattle.std.specs.Prelude.{◌≡◌, ◌<◌, ◌≤◌, length, None, Some, MatchOption, MatchBool, IfOk, IfErr};
 ghost use Rattle.std.specs.Borrow.{sem};
 ghost use Rattle.std.specs.Vec.{vec_capacity, vec_len};
-ghost use Rattle.fix_frame.specs.Framing.{fresh, failed, Takes, Refuses};
+ghost use Rattle.fix_frame.specs.Framing.{fresh, failed, TakesPiece, Refuses};
 ghost use Rattle.fix_frame.specs.Lending.{EndsGiven};
 ghost use Rattle.fix_frame.specs.Stream.{IsWhole, BeginsNoFrame, Faults};
 ghost use Rattle.fix_frame.specs.Stages.{IsReady, IsUnderWay, framing};
 ghost use Rattle.fix_frame.specs.Endings.{IsJudged, TakesFront, FaultsFront};
 ghost use Rattle.fix_frame.specs.Grammar.{IsFrame, most_in};
-ghost use Rattle.fix_frame.specs.Borrowed.{body_fields};
+ghost use Rattle.fix_frame.specs.Borrowed.{frame_fields};
 ghost use Rattle.fix_frame.specs.declared.fault.FrameFault.{FrameFault};
 
 use crate::fault::FrameFault;
@@ -35,11 +35,11 @@ impl Model for Framer {
 
     ghost use Rattle.std.specs.Prelude.{◌≤◌};
     ghost use Rattle.std.specs.Vec.{vec_capacity};
-    ghost use Rattle.fix_frame.specs.Stages.{framing, IsAt};
+    ghost use Rattle.fix_frame.specs.Stages.{framing, IsAtStage};
 
     ghost view = { λ f. framing f.stage f.bytes.items };
 
-    ghost invariant = { λ f. IsAt f.stage f.bytes.items × (320 ≤ vec_capacity f.bytes) };
+    ghost invariant = { λ f. IsAtStage f.stage f.bytes.items × (320 ≤ vec_capacity f.bytes) };
 }
 
 impl Framer {
@@ -56,7 +56,7 @@ impl Framer {
     /// Takes the piece, or its front up to the end of the frame under way, and answers how many bytes it took:
     /// none while a frame stands that `next` hasn't given. The fault of a stream is answered until `reset`.
     pub fn feed(&mut self, piece: &[u8]) -> Result<usize, FrameFault>
-        ensures taken { IfOk result (Takes self.old self.new piece.now) }
+        ensures taken { IfOk result (TakesPiece self.old self.new piece.now) }
         ensures refused { IfErr result (Refuses self.old self.new piece.now) }
         ensures until_reset { (f : FrameFault) → self.old.fault ≡ Some f → result ≡ Err f }
     {
@@ -77,7 +77,7 @@ impl Framer {
     pub fn next(&mut self) -> Option<Frame<'_>>
         ensures* after { sem 𝓛 (EndsGiven self.entry result) }
         ensures found { MatchOption result (IsWhole self.old.held → ⊥)
-            (λ frame. IsFrame most_in self.old.held (body_fields frame)) }
+            (λ frame. IsFrame most_in self.old.held (frame_fields frame)) }
     {
         let Stage::Whole(body) = self.stage else {
             return None;

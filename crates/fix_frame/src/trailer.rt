@@ -2,7 +2,7 @@
 ghost use Rattle.std.specs.Prelude.{◌≡◌, ◌<◌, ◌≤◌, ◌↔◌, ◌%◌, ◌++◌, ℕ, length, sum, IsTrue, MatchResult};
 ghost use Rattle.fix_frame.specs.Cuts.{EndsInSoh};
 ghost use Rattle.fix_frame.specs.Grammar.{head, three_digits, trailer};
-ghost use Rattle.fix_frame.specs.Stream.{IsClosed, IsSummed, IsTyped, TailFault};
+ghost use Rattle.fix_frame.specs.Stream.{IsBodyClosed, IsSummed, IsTyped, TailFault};
 ghost use Rattle.fix_frame.specs.Endings.{IsRight};
 
 use crate::fault::FrameFault;
@@ -53,7 +53,7 @@ pub(crate) fn trailer_of(front: &[u8]) -> [u8; TRAILER]
 
 /// Whether the body ends a field, and CheckSum follows.
 fn is_closed(body: &[u8], tail: &[u8]) -> bool
-    ensures { IsTrue result ↔ IsClosed body.now tail.now }
+    ensures { IsTrue result ↔ IsBodyClosed body.now tail.now }
 {
     body.ends_with(&[SOH]) && tail.starts_with(b"10=")
 }

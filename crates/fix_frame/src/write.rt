@@ -2,7 +2,7 @@
 ghost use Rattle.std.specs.Prelude.{◌≡◌, ℕ, ◌+◌, ◌<◌, ◌≤◌, List, [], ◌∷◌, ◌++◌, length, take, drop};
 ghost use Rattle.std.specs.Fmt.{decimal};
 ghost use Rattle.fix_frame.specs.Grammar.{Field, IsBody, IsFrame, frame_of, print_fields, most_out};
-ghost use Rattle.fix_frame.specs.Writing.{Spells, Puts};
+ghost use Rattle.fix_frame.specs.Writing.{SpellsBody, PutsBytes};
 
 use crate::field::SOH;
 use crate::head::OPENING;
@@ -14,10 +14,10 @@ pub const OVERHEAD: usize = 23;
 /// Writes the frame of these body fields, each as `tag=value` and SOH, at the front of `out`, and answers how
 /// many bytes it has.
 pub fn write_frame(out: &mut [u8], fields: &[u8]) -> usize
-    requires body { (fs : List Field) × Spells most_out fs fields.now }
+    requires body { (fs : List Field) × SpellsBody most_out fs fields.now }
     requires room { length fields.now + OVERHEAD ≤ length out.old }
     ensures written { take result out.new ≡ frame_of fields.now }
-    ensures frame { (fs : List Field) → Spells most_out fs fields.now →
+    ensures frame { (fs : List Field) → SpellsBody most_out fs fields.now →
         IsFrame most_out (take result out.new) fs }
     ensures rest { drop result out.new ≡ drop result out.old }
     ensures within { result ≤ length out.new }
@@ -33,7 +33,7 @@ pub fn write_frame(out: &mut [u8], fields: &[u8]) -> usize
 /// Writes the bytes from a place on, and answers the place behind them.
 fn put(out: &mut [u8], at: usize, bytes: &[u8]) -> usize
     requires { at + length bytes.now ≤ length out.old }
-    ensures { Puts out.old out.new at bytes.now result }
+    ensures { PutsBytes out.old out.new at bytes.now result }
 {
     let end = at + bytes.len();
     out[at..end].copy_from_slice(bytes);
@@ -44,7 +44,7 @@ fn put(out: &mut [u8], at: usize, bytes: &[u8]) -> usize
 fn put_length(out: &mut [u8], at: usize, count: usize) -> usize
     requires small { count < 1000 }
     requires room { at + 3 ≤ length out.old }
-    ensures { Puts out.old out.new at (decimal count) result }
+    ensures { PutsBytes out.old out.new at (decimal count) result }
 {
     let digits = three_digits(count as u16);
     if count < 10 {

@@ -1,5 +1,6 @@
 -- A time is the text of its number.
-use Rattle.std.proofs.Common.{◌≡◌, ℕ, zero, suc, ◌+◌, ◌-◌, ◌*◌, ◌/◌, ◌%◌, ◌≤◌, ◌<◌, Bool, true, false, IsTrue, List, [], ◌∷◌, ◌++◌, length, take, get_or, codes, sym, ap, ◌∙◌, refl, arith, ◌==◌}
+use Rattle.std.proofs.Common.{◌≡◌, ℕ, zero, suc, ◌+◌, ◌-◌, ◌*◌, ◌/◌, ◌%◌, ◌≤◌, ◌<◌, Bool, true, false, IsTrue, List, []}
+use Rattle.std.proofs.Common.{◌∷◌, ◌++◌, length, take, get_or, codes, sym, ap, ◌∙◌, refl, arith, ◌==◌}
 use Rattle.std.specs.List.{list_all, filter, zip}
 use Rattle.std.specs.Char.{digit_value}
 use Rattle.std.proofs.lemmas.Bool.{and_parts}
@@ -41,12 +42,14 @@ last_digits-value (suc k) p ds long all =
     let front = take k ds in
     let c = get_or ds k 0 in
     let split : ds ≡ front ++ c ∷ [] = sym (take_all (k + 1) ds (omega arith)) ∙ take_more ds k 0 (omega arith) in
-    let each = and_parts (list_all is_digit front) (list_all is_digit (c ∷ [])) (sym (ap (list_all is_digit) split ∙ list_all-append is_digit front (c ∷ [])) ∙ all) in
+    let each = and_parts (list_all is_digit front) (list_all is_digit (c ∷ []))
+    (sym (ap (list_all is_digit) split ∙ list_all-append is_digit front (c ∷ [])) ∙ all) in
     let push = value_push (p ++ front) c (and_parts (is_digit c) true each.1).0 in
     let regrouped : p ++ ds ≡ (p ++ front) ++ c ∷ [] = ap (λ l. p ++ l) split ∙ sym (append_assoc p front (c ∷ [])) in
     ap (λ l. last_digits k (value_of l / 10) ++ (48 + value_of l % 10) ∷ []) regrouped
     ∙ ap (λ n. last_digits k n ++ (48 + value_of ((p ++ front) ++ c ∷ []) % 10) ∷ []) push.0
-    ∙ ap (λ l. l ++ (48 + value_of ((p ++ front) ++ c ∷ []) % 10) ∷ []) (last_digits-value k p front (length-take-le k ds (omega arith)) each.0)
+    ∙ ap (λ l. l ++ (48 + value_of ((p ++ front) ++ c ∷ []) % 10) ∷ [])
+    (last_digits-value k p front (length-take-le k ds (omega arith)) each.0)
     ∙ ap (λ b. front ++ b ∷ []) push.1 ∙ sym split
 
 -- the digits of a time behind its date
@@ -90,9 +93,12 @@ clock_law d h i m n s t long all is_h is_i is_m is_n is_s is_t =
     let to_hours : number / 10000 ≡ value_of hours = omega (arith, seconds_are.0, minutes_are.0) in
     let to_date : number / 1000000 ≡ value_of d = omega (arith, seconds_are.0, minutes_are.0, hours_are.0) in
     ap (λ l. time_text (value_of l)) whole
-    ∙ ap (λ k. joined (last_digits 8 k) (last_digits 2 (number / 10000)) (last_digits 2 (number / 100)) (last_digits 2 number)) to_date
-    ∙ ap (λ l. joined l (last_digits 2 (number / 10000)) (last_digits 2 (number / 100)) (last_digits 2 number)) (last_digits-value 8 [] d long all)
-    ∙ ap (λ l. joined d l (last_digits 2 (number / 100)) (last_digits 2 number)) (ap (last_digits 2) to_hours ∙ hours_are.1)
+    ∙ ap (λ k. joined (last_digits 8 k) (last_digits 2 (number / 10000)) (last_digits 2 (number / 100))
+    (last_digits 2 number)) to_date
+    ∙ ap (λ l. joined l (last_digits 2 (number / 10000)) (last_digits 2 (number / 100)) (last_digits 2 number))
+    (last_digits-value 8 [] d long all)
+    ∙ ap (λ l. joined d l (last_digits 2 (number / 100)) (last_digits 2 number))
+    (ap (last_digits 2) to_hours ∙ hours_are.1)
     ∙ ap (λ l. joined d (h ∷ i ∷ []) l (last_digits 2 number)) (ap (last_digits 2) seconds_are.0 ∙ minutes_are.1)
     ∙ ap (λ l. joined d (h ∷ i ∷ []) (m ∷ n ∷ []) l) seconds_are.1
     ∙ simp append_assoc
@@ -113,7 +119,8 @@ time_digits a b c d e f g h x i j u k l w m n is =
     let u_is : u ≡ 58 = grind (arith, nat_tests, each.1.1.1.0) in
     let w_is : w ≡ 58 = grind (arith, nat_tests, each.1.1.1.1.1.1.0) in
     filter-append is_digit date clock ∙ ap (λ front. front ++ filter is_digit clock) (filter_digits date parts.0)
-    ∙ ap (λ back. date ++ back) (clock_digits x i j u k l w m n (ap is_digit x_is) each.1.0 each.1.1.0 (ap is_digit u_is) each.1.1.1.1.0 each.1.1.1.1.1.0
+    ∙ ap (λ back. date ++ back) (clock_digits x i j u k l w m n (ap is_digit x_is) each.1.0 each.1.1.0
+    (ap is_digit u_is) each.1.1.1.1.0 each.1.1.1.1.1.0
     (ap is_digit w_is) each.1.1.1.1.1.1.1.0 each.1.1.1.1.1.1.1.1.0)
 
 -- where a time has a digit
@@ -131,7 +138,8 @@ time_digit time at is within shape =
     let parts = and_parts (length time == 17) (list_all fits pairs) is in
     let here : get_or pairs at (0, 0) ≡ (48, get_or time at 0) =
     get_or-zip time_shape time at (0, 0) within (omega (arith, long)) ∙ ap (λ s. (s, get_or time at 0)) shape in
-    let fit : fits (get_or pairs at (0, 0)) ≡ true = right_or_not _ (λ wrong. let none = list_all_at fits pairs at (0, 0) (omega (arith, many)) wrong in cc (none, parts.1)) in
+    let fit : fits (get_or pairs at (0, 0)) ≡ true = right_or_not _
+    (λ wrong. let none = list_all_at fits pairs at (0, 0) (omega (arith, many)) wrong in cc (none, parts.1)) in
     digit_range (get_or time at 0) (sym (ap fits here) ∙ fit)
 
 -- two digits more
@@ -152,7 +160,8 @@ two_of time at = (get_or time at 0 - 48) * 10 + (get_or time (at + 1) 0 - 48)
 
 -- the number of a time, two digits after two digits
 pub time_number : (time : List ℕ) → IsTrue (is_time time)
-    → number_of_time time ≡ (((((two_of time 0 * 100 + two_of time 2) * 100 + two_of time 4) * 100 + two_of time 6) * 100
+    → number_of_time time ≡ (((((two_of time 0 * 100 + two_of time 2) * 100 + two_of time 4) * 100 + two_of time 6)
+    * 100
     + two_of time 9) * 100 + two_of time 12) * 100 + two_of time 15
 time_number (a ∷ b ∷ c ∷ d ∷ e ∷ f ∷ g ∷ h ∷ x ∷ i ∷ j ∷ u ∷ k ∷ l ∷ w ∷ m ∷ n ∷ []) is =
     let time = a ∷ b ∷ c ∷ d ∷ e ∷ f ∷ g ∷ h ∷ x ∷ i ∷ j ∷ u ∷ k ∷ l ∷ w ∷ m ∷ n ∷ [] in
@@ -162,8 +171,10 @@ time_number (a ∷ b ∷ c ∷ d ∷ e ∷ f ∷ g ∷ h ∷ x ∷ i ∷ j ∷ u
     let v3 = pair_more (a ∷ b ∷ c ∷ d ∷ []) e f (at 4 (omega arith) refl) (at 5 (omega arith) refl) in
     let v4 = pair_more (a ∷ b ∷ c ∷ d ∷ e ∷ f ∷ []) g h (at 6 (omega arith) refl) (at 7 (omega arith) refl) in
     let v5 = pair_more (a ∷ b ∷ c ∷ d ∷ e ∷ f ∷ g ∷ h ∷ []) i j (at 9 (omega arith) refl) (at 10 (omega arith) refl) in
-    let v6 = pair_more (a ∷ b ∷ c ∷ d ∷ e ∷ f ∷ g ∷ h ∷ i ∷ j ∷ []) k l (at 12 (omega arith) refl) (at 13 (omega arith) refl) in
-    let v7 = pair_more (a ∷ b ∷ c ∷ d ∷ e ∷ f ∷ g ∷ h ∷ i ∷ j ∷ k ∷ l ∷ []) m n (at 15 (omega arith) refl) (at 16 (omega arith) refl) in
+    let v6 = pair_more (a ∷ b ∷ c ∷ d ∷ e ∷ f ∷ g ∷ h ∷ i ∷ j ∷ []) k l (at 12 (omega arith) refl)
+    (at 13 (omega arith) refl) in
+    let v7 = pair_more (a ∷ b ∷ c ∷ d ∷ e ∷ f ∷ g ∷ h ∷ i ∷ j ∷ k ∷ l ∷ []) m n (at 15 (omega arith) refl)
+    (at 16 (omega arith) refl) in
     ap value_of (time_digits a b c d e f g h x i j u k l w m n is) ∙ v7
     ∙ ap (λ v. v * 100 + two_of time 15) (v6 ∙ ap (λ v. v * 100 + two_of time 12) (v5
     ∙ ap (λ v. v * 100 + two_of time 9) (v4 ∙ ap (λ v. v * 100 + two_of time 6) (v3
@@ -184,7 +195,8 @@ time_law (a ∷ b ∷ c ∷ d ∷ e ∷ f ∷ g ∷ h ∷ x ∷ i ∷ j ∷ u �
     let w_is : w ≡ 58 = grind (arith, nat_tests, each.1.1.1.1.1.1.0) in
     let digits = time_digits a b c d e f g h x i j u k l w m n is in
     ap (λ ds. time_text (value_of ds)) digits
-    ∙ clock_law date i j k l m n refl parts.0 each.1.0 each.1.1.0 each.1.1.1.1.0 each.1.1.1.1.1.0 each.1.1.1.1.1.1.1.0 each.1.1.1.1.1.1.1.1.0
+    ∙ clock_law date i j k l m n refl parts.0 each.1.0 each.1.1.0 each.1.1.1.1.0 each.1.1.1.1.1.0 each.1.1.1.1.1.1.1.0
+    each.1.1.1.1.1.1.1.1.0
     ∙ ap (λ y. date ++ y ∷ i ∷ j ∷ 58 ∷ k ∷ l ∷ 58 ∷ m ∷ n ∷ []) (sym x_is)
     ∙ ap (λ y. date ++ x ∷ i ∷ j ∷ y ∷ k ∷ l ∷ 58 ∷ m ∷ n ∷ []) (sym u_is)
     ∙ ap (λ y. date ++ x ∷ i ∷ j ∷ u ∷ k ∷ l ∷ y ∷ m ∷ n ∷ []) (sym w_is)

@@ -12,4 +12,5 @@ value_at_by value other among false rest none = rest none
 pub value_at_none : (tag : ℕ) (fields : List Field) → is_among (tags fields) tag ≡ false → value_at tag fields ≡ []
 value_at_none tag [] none = refl
 value_at_none tag (f ∷ fields) none =
-    value_at_by f.value (value_at tag fields) (is_among (tags fields) tag) (f.tag == tag) (value_at_none tag fields) none
+    value_at_by f.value (value_at tag fields) (is_among (tags fields) tag) (f.tag == tag) (value_at_none tag fields)
+    none

@@ -1,5 +1,6 @@
 -- What is found of fields, one field more.
-use Rattle.std.proofs.Common.{◌≡◌, ℕ, ◌<◌, Bool, true, false, cond, not, ◌&&◌, ◌||◌, ◌==◌, List, [], ◌∷◌, ◌++◌, length, Option, Some, None, sym, ap, ◌∙◌, refl, arith, append_assoc, append-nil}
+use Rattle.std.proofs.Common.{◌≡◌, ℕ, ◌<◌, Bool, true, false, cond, not, ◌&&◌, ◌||◌, ◌==◌, List, [], ◌∷◌, ◌++◌, length}
+use Rattle.std.proofs.Common.{Option, Some, None, sym, ap, ◌∙◌, refl, arith, append_assoc, append-nil}
 use Rattle.std.specs.List.{AllByRecursion, filter}
 use Rattle.std.proofs.lemmas.Bool.Decides.{nat_tests}
 use Rattle.std.proofs.lemmas.List.{map-append}
@@ -10,13 +11,14 @@ use Rattle.fix_frame.specs.Grammar.{Field, IsField}
 use Rattle.venue_model.specs.declared.commands.RefMsgType.{RefMsgType}
 use Rattle.fix_orders.specs.declared.tags.Need.TheVariants.{Required, Optional, Undefined}
 use Rattle.fix_orders.specs.declared.tags.OrderTag.{OrderTag}
-use Rattle.fix_orders.specs.declared.tags.OrderTag.TheVariants.{ClOrdId, OrderQty, OrdType, OrigClOrdId, Price, Side, Symbol, TimeInForce, TransactTime}
-use Rattle.fix_orders.specs.declared.formats.Judged.TheVariants.{Right, WrongFormat, OutOfRange}
+use Rattle.fix_orders.specs.declared.tags.OrderTag.TheVariants.{ClOrdId, OrderQty, OrdType, OrigClOrdId, Price, Side}
+use Rattle.fix_orders.specs.declared.tags.OrderTag.TheVariants.{Symbol, TimeInForce, TransactTime}
+use Rattle.fix_orders.specs.declared.formats.JudgedValue.TheVariants.{Right, WrongFormat, OutOfRange}
 use Rattle.fix_orders.specs.contracts.tags.Need.{the_type as need_type}
-use Rattle.fix_orders.specs.contracts.formats.Judged.{the_type as judged_type}
+use Rattle.fix_orders.specs.contracts.formats.JudgedValue.{the_type as judged_type}
 use Rattle.fix_orders.specs.Formats.{Format, has_format, is_in_range}
-use Rattle.fix_orders.specs.OrderTags.{number_of, place_of, need_of}
-use Rattle.fix_orders.specs.Judging.{judged}
+use Rattle.fix_orders.specs.OrderTags.{tag_number, tag_place, need_of}
+use Rattle.fix_orders.specs.Judging.{judged_value}
 use Rattle.fix_orders.specs.Reading.{tags, is_among, is_defined, required, optional, value_at, lesser, least}
 use Rattle.fix_orders.specs.Values.{is_nothing}
 use Rattle.fix_orders.specs.Findings.{outside, lesser_if, again}
@@ -114,7 +116,7 @@ pub has_value : (tag : ℕ) (fields : List Field) → AllByRecursion IsField fie
 has_value tag fields each = ap not (valued tag fields each) ∙ not_twice (is_among (tags fields) tag)
 
 -- an order tag stands nowhere outside
-pub not_outside : (tag : OrderTag) → is_among outside (number_of tag) ≡ false
+pub not_outside : (tag : OrderTag) → is_among outside (tag_number tag) ≡ false
 not_outside ClOrdId = refl
 not_outside OrderQty = refl
 not_outside OrdType = refl
@@ -125,14 +127,15 @@ not_outside Symbol = refl
 not_outside TimeInForce = refl
 not_outside TransactTime = refl
 
-seen_order : (tag : OrderTag) (ts : List ℕ) → is_among (outside ++ ts) (number_of tag) ≡ is_among ts (number_of tag)
+seen_order : (tag : OrderTag) (ts : List ℕ) → is_among (outside ++ ts) (tag_number tag) ≡ is_among ts (tag_number tag)
 seen_order tag ts =
-    list_any-append (λ t. t == number_of tag) outside ts ∙ ap (λ b. b || is_among ts (number_of tag)) (not_outside tag)
+    list_any-append (λ t. t == tag_number tag) outside ts
+    ∙ ap (λ b. b || is_among ts (tag_number tag)) (not_outside tag)
 
 -- so it was seen where it has a value
 pub seen_value : (tag : OrderTag) (fields : List Field) → AllByRecursion IsField fields
-    → is_among (outside ++ tags fields) (number_of tag) ≡ not (is_nothing (value_at (number_of tag) fields))
-seen_value tag fields each = seen_order tag (tags fields) ∙ sym (has_value (number_of tag) fields each)
+    → is_among (outside ++ tags fields) (tag_number tag) ≡ not (is_nothing (value_at (tag_number tag) fields))
+seen_value tag fields each = seen_order tag (tags fields) ∙ sym (has_value (tag_number tag) fields each)
 
 -- a tag has one place and one number
 abbrev place_at : ℕ → ℕ
@@ -144,7 +147,7 @@ number_at i = cond (i == 0) 11 (cond (i == 1) 38
     (cond (i == 2) 40 (cond (i == 3) 41 (cond (i == 4) 44
     (cond (i == 5) 54 (cond (i == 6) 55 (cond (i == 7) 59 60)))))))
 
-placed : (tag : OrderTag) → (place_at (number_of tag) ≡ place_of tag) × (number_at (place_of tag) ≡ number_of tag)
+placed : (tag : OrderTag) → (place_at (tag_number tag) ≡ tag_place tag) × (number_at (tag_place tag) ≡ tag_number tag)
 placed ClOrdId = (refl, refl)
 placed OrderQty = (refl, refl)
 placed OrdType = (refl, refl)
@@ -160,9 +163,9 @@ same_test a b c d true is to from = let e : a ≡ b = from (grind (arith, nat_te
 same_test a b c d false is to from = let no : a ≡ b → ⊥ = λ e. let e' = to e in grind (arith, nat_tests) in
     grind (arith, nat_tests)
 
-pub same_place : (t tag : OrderTag) → (place_of t == place_of tag) ≡ (number_of tag == number_of t)
+pub same_place : (t tag : OrderTag) → (tag_place t == tag_place tag) ≡ (tag_number tag == tag_number t)
 same_place t tag =
-    same_test (place_of t) (place_of tag) (number_of tag) (number_of t) (number_of tag == number_of t) refl
+    same_test (tag_place t) (tag_place tag) (tag_number tag) (tag_number t) (tag_number tag == tag_number t) refl
     (λ e. sym (placed tag).1 ∙ ap number_at (sym e) ∙ (placed t).1)
     (λ e. sym (placed t).0 ∙ ap place_at (sym e) ∙ (placed tag).0)
 
@@ -180,18 +183,18 @@ keep_by false false true value old known none = let no = known refl in cc
 keep_by false false false value old known none = none refl
 
 pub kept_value : (t tag : OrderTag) (fields : List Field) (value : List ℕ) → AllByRecursion IsField fields
-    → cond (is_nothing (value_at (number_of tag) fields) && (place_of t == place_of tag)) value
-    (value_at (number_of t) fields)
-    ≡ value_at (number_of t) (fields ++ field (number_of tag) value ∷ [])
+    → cond (is_nothing (value_at (tag_number tag) fields) && (tag_place t == tag_place tag)) value
+    (value_at (tag_number t) fields)
+    ≡ value_at (tag_number t) (fields ++ field (tag_number tag) value ∷ [])
 kept_value t tag fields value each =
-    ap (λ same. cond (is_nothing (value_at (number_of tag) fields) && same) value (value_at (number_of t) fields))
+    ap (λ same. cond (is_nothing (value_at (tag_number tag) fields) && same) value (value_at (tag_number t) fields))
     (same_place t tag)
-    ∙ keep_by (is_nothing (value_at (number_of tag) fields)) (is_among (tags fields) (number_of t))
-    (number_of tag == number_of t) value (value_at (number_of t) fields)
-    (λ same. let e : number_of tag ≡ number_of t = grind (arith, nat_tests) in
-    ap (λ n. is_nothing (value_at n fields)) e ∙ valued (number_of t) fields each)
-    (value_at_none (number_of t) fields)
-    ∙ sym (value_push (number_of t) fields (field (number_of tag) value))
+    ∙ keep_by (is_nothing (value_at (tag_number tag) fields)) (is_among (tags fields) (tag_number t))
+    (tag_number tag == tag_number t) value (value_at (tag_number t) fields)
+    (λ same. let e : tag_number tag ≡ tag_number t = grind (arith, nat_tests) in
+    ap (λ n. is_nothing (value_at n fields)) e ∙ valued (tag_number t) fields each)
+    (value_at_none (tag_number t) fields)
+    ∙ sym (value_push (tag_number t) fields (field (tag_number tag) value))
 
 -- what the code's tests say
 undefined_by : (required optional : Bool) → sameb need_type (cond required Required (cond optional Optional Undefined))
@@ -201,16 +204,16 @@ undefined_by false true = refl
 undefined_by false false = refl
 
 defined_is : (type : RefMsgType) (tag : OrderTag)
-    → is_defined type (number_of tag) ≡ (is_among (required type) (number_of tag) || is_among (optional type)
-    (number_of tag))
+    → is_defined type (tag_number tag) ≡ (is_among (required type) (tag_number tag) || is_among (optional type)
+    (tag_number tag))
 defined_is type tag =
-    list_any-append (λ t. t == number_of tag) (outside ++ required type) (optional type)
-    ∙ ap (λ b. b || is_among (optional type) (number_of tag)) (seen_order tag (required type))
+    list_any-append (λ t. t == tag_number tag) (outside ++ required type) (optional type)
+    ∙ ap (λ b. b || is_among (optional type) (tag_number tag)) (seen_order tag (required type))
 
 pub undefined_is : (type : RefMsgType) (tag : OrderTag)
-    → sameb need_type (need_of type tag) Undefined ≡ not (is_defined type (number_of tag))
+    → sameb need_type (need_of type tag) Undefined ≡ not (is_defined type (tag_number tag))
 undefined_is type tag =
-    undefined_by (is_among (required type) (number_of tag)) (is_among (optional type) (number_of tag))
+    undefined_by (is_among (required type) (tag_number tag)) (is_among (optional type) (tag_number tag))
     ∙ ap not (sym (defined_is type tag))
 
 ill_formed_by : (format range : Bool) → sameb judged_type (cond format (cond range Right OutOfRange) WrongFormat)
@@ -220,7 +223,7 @@ ill_formed_by true false = refl
 ill_formed_by false range = refl
 
 pub ill_formed_is : (f : Format) (value : List ℕ)
-    → sameb judged_type (judged f value) WrongFormat ≡ not (has_format f value)
+    → sameb judged_type (judged_value f value) WrongFormat ≡ not (has_format f value)
 ill_formed_is f value = ill_formed_by (has_format f value) (is_in_range f value)
 
 out_of_range_by : (format range : Bool) → sameb judged_type (cond format (cond range Right OutOfRange) WrongFormat)
@@ -230,7 +233,7 @@ out_of_range_by true false = refl
 out_of_range_by false range = refl
 
 pub out_of_range_is : (f : Format) (value : List ℕ)
-    → sameb judged_type (judged f value) OutOfRange ≡ (has_format f value && not (is_in_range f value))
+    → sameb judged_type (judged_value f value) OutOfRange ≡ (has_format f value && not (is_in_range f value))
 out_of_range_is f value = out_of_range_by (has_format f value) (is_in_range f value)
 
 -- a tag that counts by a test

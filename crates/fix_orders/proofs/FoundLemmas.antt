@@ -1,5 +1,7 @@
 -- What is found of fields, step by step as they are read.
-use Rattle.std.proofs.Common.{◌≡◌, ℕ, ◌+◌, ◌<◌, ◌≤◌, Bool, true, false, cond, not, ◌&&◌, ◌==◌, List, [], ◌∷◌, ◌++◌, length, map, take, get_or, sym, ap, subst, ◌∙◌, refl, arith, append_assoc, append-nil, length-append}
+use Rattle.std.proofs.Common.{◌≡◌, ℕ, ◌+◌, ◌<◌, ◌≤◌, Bool, true, false, cond, not, ◌&&◌, ◌==◌, List, [], ◌∷◌, ◌++◌}
+use Rattle.std.proofs.Common.{length, map, take, get_or, sym, ap, subst, ◌∙◌, refl, arith, append_assoc, append-nil}
+use Rattle.std.proofs.Common.{length-append}
 use Rattle.std.specs.List.{AllByRecursion, filter}
 use Rattle.std.proofs.lemmas.List.{map-append, length-map}
 use Rattle.std.proofs.lemmas.List.Elements.{filter-append, filter_more}
@@ -7,28 +9,32 @@ use Rattle.std.proofs.lemmas.List.Filters.{length-filter_both}
 use denote.Enum.Bare.{sameb}
 use Rattle.fix_frame.specs.Grammar.{Field, IsField}
 use Rattle.venue_model.specs.declared.commands.RefMsgType.{RefMsgType}
-use Rattle.venue_model.specs.declared.commands.RefMsgType.TheVariants.{NewOrderSingle, OrderCancelRequest, OrderCancelReplaceRequest}
-use Rattle.venue_model.specs.declared.commands.SessionRejectReason.TheVariants.{TagNotDefined, ValueIncorrect, IncorrectFormat}
+use Rattle.venue_model.specs.declared.commands.RefMsgType.TheVariants.{NewOrderSingle, OrderCancelRequest}
+use Rattle.venue_model.specs.declared.commands.RefMsgType.TheVariants.{OrderCancelReplaceRequest}
+use Rattle.venue_model.specs.declared.commands.SessionRejectReason.TheVariants.{TagNotDefined, ValueIncorrect}
+use Rattle.venue_model.specs.declared.commands.SessionRejectReason.TheVariants.{IncorrectFormat}
 use Rattle.fix_orders.specs.declared.fields.OrderFields.{OrderFields}
-use Rattle.fix_orders.specs.declared.formats.Judged.{Judged}
-use Rattle.fix_orders.specs.declared.formats.Judged.TheVariants.{Right, WrongFormat, OutOfRange}
+use Rattle.fix_orders.specs.declared.formats.JudgedValue.{JudgedValue}
+use Rattle.fix_orders.specs.declared.formats.JudgedValue.TheVariants.{Right, WrongFormat, OutOfRange}
 use Rattle.fix_orders.specs.declared.tags.Need.TheVariants.{Undefined}
 use Rattle.fix_orders.specs.declared.values.Values.{Values}
 use Rattle.fix_orders.specs.declared.tags.OrderTag.{OrderTag}
-use Rattle.fix_orders.specs.declared.tags.OrderTag.TheVariants.{ClOrdId, OrderQty, OrdType, OrigClOrdId, Price, Side, Symbol, TimeInForce, TransactTime}
-use Rattle.fix_orders.specs.contracts.formats.Judged.{the_type as judged_type}
+use Rattle.fix_orders.specs.declared.tags.OrderTag.TheVariants.{ClOrdId, OrderQty, OrdType, OrigClOrdId, Price, Side}
+use Rattle.fix_orders.specs.declared.tags.OrderTag.TheVariants.{Symbol, TimeInForce, TransactTime}
+use Rattle.fix_orders.specs.contracts.formats.JudgedValue.{the_type as judged_type}
 use Rattle.fix_orders.specs.contracts.tags.Need.{the_type as need_type}
 use Rattle.fix_orders.specs.Formats.{format_of, has_format, is_in_range}
 use Rattle.fix_orders.specs.Formats.Format.{any}
-use Rattle.fix_orders.specs.Judging.{judged}
-use Rattle.fix_orders.specs.OrderTags.{number_of, place_of, need_of, order_numbers}
+use Rattle.fix_orders.specs.Judging.{judged_value}
+use Rattle.fix_orders.specs.OrderTags.{tag_number, tag_place, need_of, order_numbers}
 use Rattle.fix_orders.specs.Reading.{tags, is_among, is_defined, is_wrong, required, missing_tags, value_at, least}
 use Rattle.fix_orders.specs.Values.{value_in, with_value, is_nothing}
 use Rattle.fix_orders.specs.Findings.{IsFound, IsReading, is_other, is_missing, missing_among, outside, lesser_if}
 use Rattle.fix_orders.specs.Text.{field}
 use Rattle.fix_orders.specs.ExactLaws.{all_push}
 use Rattle.fix_orders.proofs.FieldLemmas.{value_at_none}
-use Rattle.fix_orders.proofs.FindingLemmas.{tags_push, wrong_push, repeated_push, value_push, kept_value, least_push_if, valued, seen_value, undefined_is, ill_formed_is, out_of_range_is}
+use Rattle.fix_orders.proofs.FindingLemmas.{tags_push, wrong_push, repeated_push, value_push, kept_value, least_push_if}
+use Rattle.fix_orders.proofs.FindingLemmas.{valued, seen_value, undefined_is, ill_formed_is, out_of_range_is}
 
 -- the tags that no type has, and one more tag
 others_push : (fields : List Field) (f : Field) (b : Bool) → is_other f.tag ≡ b
@@ -37,7 +43,7 @@ others_push fields f b is =
     ap (filter is_other) (tags_push fields f) ∙ filter-append is_other (tags fields) (f.tag ∷ [])
     ∙ ap (λ r. filter is_other (tags fields) ++ cond r (f.tag ∷ []) []) is
 
-not_other : (tag : OrderTag) → is_other (number_of tag) ≡ false
+not_other : (tag : OrderTag) → is_other (tag_number tag) ≡ false
 not_other ClOrdId = refl
 not_other OrderQty = refl
 not_other OrdType = refl
@@ -52,12 +58,14 @@ not_other TransactTime = refl
 pub record TakesValue (type : RefMsgType) (tag : OrderTag) (value : List ℕ) (old new : OrderFields) : Type 0 where
   pub values : (t : OrderTag) → value_in new.values t ≡ with_value (value_in old.values) tag value t
   pub others : new.others ≡ old.others
-  pub repeated : new.repeated ≡ lesser_if (not (is_nothing (value_in old.values tag))) (number_of tag) old.repeated
-  pub undefined : new.undefined ≡ lesser_if (sameb need_type (need_of type tag) Undefined) (number_of tag) old.undefined
-  pub ill_formed : new.ill_formed ≡ lesser_if (sameb judged_type (judged (format_of (number_of tag)) value) WrongFormat)
-      (number_of tag) old.ill_formed
+  pub repeated : new.repeated ≡ lesser_if (not (is_nothing (value_in old.values tag))) (tag_number tag) old.repeated
+  pub undefined : new.undefined ≡ lesser_if (sameb need_type (need_of type tag) Undefined) (tag_number tag)
+      old.undefined
+  pub ill_formed : new.ill_formed
+      ≡ lesser_if (sameb judged_type (judged_value (format_of (tag_number tag)) value) WrongFormat)
+      (tag_number tag) old.ill_formed
   pub out_of_range : new.out_of_range ≡ lesser_if
-      (sameb judged_type (judged (format_of (number_of tag)) value) OutOfRange) (number_of tag) old.out_of_range
+      (sameb judged_type (judged_value (format_of (tag_number tag)) value) OutOfRange) (tag_number tag) old.out_of_range
 
 -- another tag
 pub record TakesElse (type : RefMsgType) (fields : List Field) (tag : ℕ) (old new : OrderFields) : Type 0 where
@@ -73,17 +81,18 @@ value_stays true value none = refl
 value_stays false value none = sym (none refl)
 
 module _ (type : RefMsgType) (fields : List Field) (old new : OrderFields) (found : IsFound type fields old) where
-  pub found_value : (tag : OrderTag) (value : List ℕ) → IsField (field (number_of tag) value)
+  pub found_value : (tag : OrderTag) (value : List ℕ) → IsField (field (tag_number tag) value)
       → TakesValue type tag value old new
-      → IsFound type (fields ++ field (number_of tag) value ∷ []) new
+      → IsFound type (fields ++ field (tag_number tag) value ∷ []) new
   found_value tag value is takes =
-      let n = number_of tag in
+      let n = tag_number tag in
       let f = field n value in record {
         each = all_push fields f found.each is;
         values = λ t.
-            takes.values t ∙ ap (λ v. cond (is_nothing v && (place_of t == place_of tag)) value (value_in old.values t))
+            takes.values t ∙ ap (λ v. cond (is_nothing v && (tag_place t == tag_place tag)) value
+            (value_in old.values t))
             (found.values tag)
-            ∙ ap (λ v. cond (is_nothing (value_at n fields) && (place_of t == place_of tag)) value v) (found.values t)
+            ∙ ap (λ v. cond (is_nothing (value_at n fields) && (tag_place t == tag_place tag)) value v) (found.values t)
             ∙ kept_value t tag fields value found.each;
         others =
             ap (λ o. o.items) takes.others ∙ found.others ∙ sym (append-nil _)
@@ -108,18 +117,18 @@ module _ (type : RefMsgType) (fields : List Field) (old new : OrderFields) (foun
 
   -- a tag that no order tag is, with any format
   pub found_else : (tag : ℕ) (value : List ℕ) → IsField (field tag value)
-      → ((t : OrderTag) → (tag == number_of t) ≡ false)
+      → ((t : OrderTag) → (tag == tag_number t) ≡ false)
       → format_of tag ≡ any → TakesElse type fields tag old new → IsFound type (fields ++ field tag value ∷ []) new
   found_else tag value is apart free takes =
       let f = field tag value in record {
         each = all_push fields f found.each is;
         values = λ t.
             ap (λ v. value_in v t) takes.values ∙ found.values t
-            ∙ sym (value_push (number_of t) fields f
-            ∙ ap (λ b. cond (is_among (tags fields) (number_of t)) (value_at (number_of t) fields)
+            ∙ sym (value_push (tag_number t) fields f
+            ∙ ap (λ b. cond (is_among (tags fields) (tag_number t)) (value_at (tag_number t) fields)
             (cond b value [])) (apart t)
-            ∙ value_stays (is_among (tags fields) (number_of t)) (value_at (number_of t) fields)
-            (value_at_none (number_of t) fields));
+            ∙ value_stays (is_among (tags fields) (tag_number t)) (value_at (tag_number t) fields)
+            (value_at_none (tag_number t) fields));
         others =
             takes.others ∙ ap (λ items. items ++ cond (is_other tag) (tag ∷ []) []) found.others
             ∙ sym (others_push fields f (is_other tag) refl);
@@ -184,34 +193,34 @@ reading_done type rest all found reading none =
     reading.found_in
 
 numbers_if : (ts : List OrderTag) (t : OrderTag) (b : Bool)
-    → map number_of (ts ++ cond b (t ∷ []) []) ≡ map number_of ts ++ cond b (number_of t ∷ []) []
-numbers_if ts t true = map-append number_of ts (t ∷ [])
-numbers_if ts t false = ap (map number_of) (append-nil ts) ∙ sym (append-nil (map number_of ts))
+    → map tag_number (ts ++ cond b (t ∷ []) []) ≡ map tag_number ts ++ cond b (tag_number t ∷ []) []
+numbers_if ts t true = map-append tag_number ts (t ∷ [])
+numbers_if ts t false = ap (map tag_number) (append-nil ts) ∙ sym (append-nil (map tag_number ts))
 
 -- the required tags that have no value, one tag more
 pub missing_more : (type : RefMsgType) (values : Values) (some : List OrderTag) (i : ℕ) (d : OrderTag) → i < length some
     → least (missing_among type values (take (i + 1) some))
-    ≡ lesser_if (is_missing type values (get_or some i d)) (number_of (get_or some i d))
+    ≡ lesser_if (is_missing type values (get_or some i d)) (tag_number (get_or some i d))
     (least (missing_among type values (take i some)))
 missing_more type values some i d within =
-    ap (λ ts. least (map number_of ts)) (filter_more (is_missing type values) some i d within)
+    ap (λ ts. least (map tag_number ts)) (filter_more (is_missing type values) some i d within)
     ∙ ap least (numbers_if (filter (is_missing type values) (take i some)) (get_or some i d)
     (is_missing type values (get_or some i d)))
-    ∙ least_push_if (missing_among type values (take i some)) (number_of (get_or some i d))
+    ∙ least_push_if (missing_among type values (take i some)) (tag_number (get_or some i d))
     (is_missing type values (get_or some i d))
 
 -- all of them
-numbers_by : (t : OrderTag) (b : Bool) (ts : List OrderTag) (ns : List ℕ) → map number_of ts ≡ ns
-    → map number_of (cond b (t ∷ ts) ts) ≡ cond b (number_of t ∷ ns) ns
-numbers_by t true ts ns same = ap (λ rest. number_of t ∷ rest) same
+numbers_by : (t : OrderTag) (b : Bool) (ts : List OrderTag) (ns : List ℕ) → map tag_number ts ≡ ns
+    → map tag_number (cond b (t ∷ ts) ts) ≡ cond b (tag_number t ∷ ns) ns
+numbers_by t true ts ns same = ap (λ rest. tag_number t ∷ rest) same
 numbers_by t false ts ns same = same
 
-numbers_kept : (p : OrderTag → Bool) (q : ℕ → Bool) → ((t : OrderTag) → p t ≡ q (number_of t)) → (ts : List OrderTag)
-    → map number_of (filter p ts) ≡ filter q (map number_of ts)
+numbers_kept : (p : OrderTag → Bool) (q : ℕ → Bool) → ((t : OrderTag) → p t ≡ q (tag_number t)) → (ts : List OrderTag)
+    → map tag_number (filter p ts) ≡ filter q (map tag_number ts)
 numbers_kept p q same [] = refl
 numbers_kept p q same (t ∷ ts) =
-    numbers_by t (p t) (filter p ts) (filter q (map number_of ts)) (numbers_kept p q same ts)
-    ∙ ap (λ b. cond b (number_of t ∷ filter q (map number_of ts)) (filter q (map number_of ts))) (same t)
+    numbers_by t (p t) (filter p ts) (filter q (map tag_number ts)) (numbers_kept p q same ts)
+    ∙ ap (λ b. cond b (tag_number t ∷ filter q (map tag_number ts)) (filter q (map tag_number ts))) (same t)
 
 abbrev lacks : RefMsgType → List Field → ℕ → Bool
 lacks type fields n = is_among (required type) n && not (is_among (tags fields) n)
@@ -224,15 +233,15 @@ lacking OrderCancelReplaceRequest fields = refl
 
 pub missing_is : (type : RefMsgType) (fields : List Field) (found : OrderFields) (some : List OrderTag)
     → IsFound type fields found
-    → map number_of some ≡ order_numbers → missing_among type found.values some ≡ missing_tags type fields
+    → map tag_number some ≡ order_numbers → missing_among type found.values some ≡ missing_tags type fields
 missing_is type fields found some finds all =
     numbers_kept (is_missing type found.values) (lacks type fields)
-    (λ t. ap (λ b. is_among (required type) (number_of t) && b)
-    (ap is_nothing (finds.values t) ∙ valued (number_of t) fields finds.each)) some
+    (λ t. ap (λ b. is_among (required type) (tag_number t) && b)
+    (ap is_nothing (finds.values t) ∙ valued (tag_number t) fields finds.each)) some
     ∙ ap (filter (lacks type fields)) all ∙ lacking type fields
 
 -- what is right is neither of another format nor out of range
-pub right_alone : (j : Judged) → sameb judged_type j Right ≡ true
+pub right_alone : (j : JudgedValue) → sameb judged_type j Right ≡ true
     → (sameb judged_type j WrongFormat ≡ false) × (sameb judged_type j OutOfRange ≡ false)
 right_alone Right is = (refl, refl)
 right_alone WrongFormat is = cc

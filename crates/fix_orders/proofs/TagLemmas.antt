@@ -1,21 +1,24 @@
 -- Tags that no order tag is: those that a message has outside of its order fields, and those that no message has.
-use Rattle.std.proofs.Common.{◌≡◌, ℕ, Bool, true, false, not, ◌||◌, ◌==◌, List, [], ◌∷◌, ◌++◌, sym, ap, subst, ◌∙◌, refl, arith}
+use Rattle.std.proofs.Common.{◌≡◌, ℕ, Bool, true, false, not, ◌||◌, ◌==◌, List, [], ◌∷◌, ◌++◌, sym, ap, subst, ◌∙◌}
+use Rattle.std.proofs.Common.{refl, arith}
 use Rattle.std.specs.List.{filter, list_all, AllByRecursion}
 use Rattle.std.proofs.lemmas.Bool.{and_parts}
 use Rattle.std.proofs.lemmas.Bool.Decides.{nat_tests}
 use Rattle.std.proofs.lemmas.List.Folds.{list_any-append}
 use Rattle.std.proofs.lemmas.Map.Views.{any-filter_same}
 use Rattle.venue_model.specs.declared.commands.RefMsgType.{RefMsgType}
-use Rattle.venue_model.specs.declared.commands.RefMsgType.TheVariants.{NewOrderSingle, OrderCancelRequest, OrderCancelReplaceRequest}
+use Rattle.venue_model.specs.declared.commands.RefMsgType.TheVariants.{NewOrderSingle, OrderCancelRequest}
+use Rattle.venue_model.specs.declared.commands.RefMsgType.TheVariants.{OrderCancelReplaceRequest}
 use Rattle.fix_orders.specs.declared.tags.OrderTag.{OrderTag}
-use Rattle.fix_orders.specs.declared.tags.OrderTag.TheVariants.{ClOrdId, OrderQty, OrdType, OrigClOrdId, Price, Side, Symbol, TimeInForce, TransactTime}
+use Rattle.fix_orders.specs.declared.tags.OrderTag.TheVariants.{ClOrdId, OrderQty, OrdType, OrigClOrdId, Price, Side}
+use Rattle.fix_orders.specs.declared.tags.OrderTag.TheVariants.{Symbol, TimeInForce, TransactTime}
 use Rattle.fix_orders.specs.Findings.{is_other, outside}
 use Rattle.fix_orders.specs.Formats.{format_of}
 use Rattle.fix_orders.specs.Formats.Format.{any}
-use Rattle.fix_orders.specs.OrderTags.{number_of, order_numbers}
+use Rattle.fix_orders.specs.OrderTags.{tag_number, order_numbers}
 use Rattle.fix_orders.specs.Reading.{is_among, is_defined, frame_tags, header_tags, required, optional}
 
-order_among : (t : OrderTag) → is_among order_numbers (number_of t) ≡ true
+order_among : (t : OrderTag) → is_among order_numbers (tag_number t) ≡ true
 order_among ClOrdId = refl
 order_among OrderQty = refl
 order_among OrdType = refl
@@ -26,22 +29,22 @@ order_among Symbol = refl
 order_among TimeInForce = refl
 order_among TransactTime = refl
 
-apart_by : (tag : ℕ) (t : OrderTag) (same : Bool) → (tag == number_of t) ≡ same → is_among order_numbers tag ≡ false
+apart_by : (tag : ℕ) (t : OrderTag) (same : Bool) → (tag == tag_number t) ≡ same → is_among order_numbers tag ≡ false
     → same ≡ false
 apart_by tag t true same none =
-    let e : tag ≡ number_of t = grind (arith, nat_tests) in
+    let e : tag ≡ tag_number t = grind (arith, nat_tests) in
     let there = ap (is_among order_numbers) e ∙ order_among t in cc
 apart_by tag t false same none = refl
 
 -- what holds of a tag that no order tag is
 pub record IsApart (tag : ℕ) : Type 0 where
-  pub unequal : (t : OrderTag) → (tag == number_of t) ≡ false
+  pub unequal : (t : OrderTag) → (tag == tag_number t) ≡ false
   pub free : format_of tag ≡ any
 
-pub unequal_of : (tag : ℕ) → is_among order_numbers tag ≡ false → (t : OrderTag) → (tag == number_of t) ≡ false
-unequal_of tag none t = apart_by tag t (tag == number_of t) refl none
+pub unequal_of : (tag : ℕ) → is_among order_numbers tag ≡ false → (t : OrderTag) → (tag == tag_number t) ≡ false
+unequal_of tag none t = apart_by tag t (tag == tag_number t) refl none
 
-free_of : (tag : ℕ) → ((t : OrderTag) → (tag == number_of t) ≡ false) → format_of tag ≡ any
+free_of : (tag : ℕ) → ((t : OrderTag) → (tag == tag_number t) ≡ false) → format_of tag ≡ any
 free_of tag unequal =
     rw (
       unequal ClOrdId,

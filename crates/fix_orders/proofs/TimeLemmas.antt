@@ -1,5 +1,6 @@
 -- Times and their numbers.
-use Rattle.std.proofs.Common.{◌≡◌, ℕ, ◌+◌, ◌/◌, ◌%◌, ◌≤◌, true, IsTrue, List, ◌++◌, length, length-set, set, codes, ap, sym, ◌∙◌, refl, arith, ◌==◌}
+use Rattle.std.proofs.Common.{◌≡◌, ℕ, ◌+◌, ◌/◌, ◌%◌, ◌≤◌, true, IsTrue, List, ◌++◌, length, length-set, set, codes, ap}
+use Rattle.std.proofs.Common.{sym, ◌∙◌, refl, arith, ◌==◌}
 use Rattle.std.proofs.lemmas.Bool.{and_parts}
 use Rattle.std.proofs.lemmas.Bool.Decides.{nat_tests}
 use Rattle.std.proofs.lemmas.List.{take_all}

@@ -1,5 +1,6 @@
 -- The whole message: a header, and the fields behind it that were read.
-use Rattle.std.proofs.Common.{◌≡◌, ℕ, ◌≤◌, Bool, true, false, cond, ◌&&◌, ◌||◌, nat_lt, ◌==◌, List, [], ◌∷◌, ◌++◌, length, Some, None, IsTrue, sym, ap, subst, ◌∙◌, refl, arith}
+use Rattle.std.proofs.Common.{◌≡◌, ℕ, ◌≤◌, Bool, true, false, cond, ◌&&◌, ◌||◌, nat_lt, ◌==◌, List, [], ◌∷◌, ◌++◌}
+use Rattle.std.proofs.Common.{length, Some, None, IsTrue, sym, ap, subst, ◌∙◌, refl, arith}
 use Rattle.std.specs.List.{filter}
 use Rattle.std.proofs.lemmas.Bool.{and_parts}
 use Rattle.std.proofs.lemmas.Bool.Decides.{nat_tests}
@@ -10,20 +11,25 @@ use Rattle.fix_frame.specs.Grammar.{Field}
 use Rattle.venue_model.specs.declared.commands.Command.{Command}
 use Rattle.venue_model.specs.declared.commands.Command.TheVariants.{New, Cancel, Replace}
 use Rattle.venue_model.specs.declared.commands.RefMsgType.{RefMsgType}
-use Rattle.venue_model.specs.declared.commands.RefMsgType.TheVariants.{NewOrderSingle, OrderCancelRequest, OrderCancelReplaceRequest}
+use Rattle.venue_model.specs.declared.commands.RefMsgType.TheVariants.{NewOrderSingle, OrderCancelRequest}
+use Rattle.venue_model.specs.declared.commands.RefMsgType.TheVariants.{OrderCancelReplaceRequest}
 use Rattle.venue_model.specs.declared.commands.SessionRejectReason.{SessionRejectReason}
-use Rattle.venue_model.specs.declared.commands.SessionRejectReason.TheVariants.{RequiredTagMissing, TagNotDefined, ValueIncorrect, IncorrectFormat, TagAppearsMoreThanOnce}
+use Rattle.venue_model.specs.declared.commands.SessionRejectReason.TheVariants.{RequiredTagMissing, TagNotDefined}
+use Rattle.venue_model.specs.declared.commands.SessionRejectReason.TheVariants.{ValueIncorrect, IncorrectFormat}
+use Rattle.venue_model.specs.declared.commands.SessionRejectReason.TheVariants.{TagAppearsMoreThanOnce}
 use Rattle.fix_orders.specs.declared.fields.OrderFields.{OrderFields}
 use Rattle.fix_orders.specs.declared.tags.Need.TheVariants.{Required, Optional, Undefined}
 use Rattle.fix_orders.specs.declared.tags.OrderTag.{OrderTag}
-use Rattle.fix_orders.specs.declared.tags.OrderTag.TheVariants.{ClOrdId, OrderQty, OrdType, OrigClOrdId, Price, Side, Symbol, TimeInForce, TransactTime}
+use Rattle.fix_orders.specs.declared.tags.OrderTag.TheVariants.{ClOrdId, OrderQty, OrdType, OrigClOrdId, Price, Side}
+use Rattle.fix_orders.specs.declared.tags.OrderTag.TheVariants.{Symbol, TimeInForce, TransactTime}
 use Rattle.fix_orders.specs.declared.values.Values.{Values}
 use Rattle.fix_orders.specs.Asking.{AreRight, asked_in}
 use Rattle.fix_orders.specs.Findings.{IsFound, outside, again, least_in, fault_in}
 use Rattle.fix_orders.specs.Formats.{value_of, format_of, has_format, is_in_range}
 use Rattle.fix_orders.specs.Header.{Header, is_header, header_of}
-use Rattle.fix_orders.specs.OrderTags.{number_of}
-use Rattle.fix_orders.specs.Reading.{header_tags, tags, is_among, required, optional, value_at, faulty_tags, least, or_next, first_fault, classes, asked, side_of, time_in_force_of}
+use Rattle.fix_orders.specs.OrderTags.{tag_number}
+use Rattle.fix_orders.specs.Reading.{header_tags, tags, is_among, required, optional, value_at, faulty_tags, least}
+use Rattle.fix_orders.specs.Reading.{or_next, first_fault, classes, asked, side_of, time_in_force_of}
 use Rattle.fix_orders.specs.Text.{field}
 use Rattle.fix_orders.specs.Values.{value_in}
 use Rattle.fix_orders.proofs.AgainLemmas.{same_least, count, count-append, among_counted, again_among}
@@ -149,7 +155,7 @@ module _ (kind : RefMsgType) (a b c d e : List ℕ) (rest : List Field) where
       ap (λ found. or_next r found (fault_in rs kind rest)) (least_whole r)
       ∙ ap (or_next r (least (faulty_tags r kind (headed_by a b c d e rest)))) (faults_whole rs)
 
-  value_whole : (t : OrderTag) → value_at (number_of t) (headed_by a b c d e rest) ≡ value_at (number_of t) rest
+  value_whole : (t : OrderTag) → value_at (tag_number t) (headed_by a b c d e rest) ≡ value_at (tag_number t) rest
   value_whole ClOrdId = refl
   value_whole OrderQty = refl
   value_whole OrdType = refl
@@ -169,9 +175,9 @@ fault_whole kind fields rest (a, b, c, d, e, is) = faults_whole kind a b c d e r
 -- and so are the values
 pub values_whole : (kind : RefMsgType) (fields rest : List Field) (found : OrderFields) → HasHeader fields rest
     → IsFound kind rest found
-    → (t : OrderTag) → value_in found.values t ≡ value_at (number_of t) fields
+    → (t : OrderTag) → value_in found.values t ≡ value_at (tag_number t) fields
 values_whole kind fields rest found (a, b, c, d, e, is) finds t =
-    finds.values t ∙ sym (value_whole kind a b c d e rest t) ∙ ap (value_at (number_of t)) (sym is)
+    finds.values t ∙ sym (value_whole kind a b c d e rest t) ∙ ap (value_at (tag_number t)) (sym is)
 
 needed_by : (needed allowed : Bool) → cond needed Required (cond allowed Optional Undefined) ≡ Required → needed ≡ true
 needed_by true allowed is = refl
@@ -180,17 +186,17 @@ needed_by false false is = cc
 
 -- without a fault each required value is right
 pub values_right : (kind : RefMsgType) (fields : List Field) (values : Values)
-    → ((t : OrderTag) → value_in values t ≡ value_at (number_of t) fields)
+    → ((t : OrderTag) → value_in values t ≡ value_at (tag_number t) fields)
     → first_fault classes kind fields ≡ None → AreRight kind values
 values_right kind fields values are none = record {
   format = λ t needed.
-      subst (λ v. IsTrue (has_format (format_of (number_of t)) v)) (sym (are t))
-      (right_value kind fields (number_of t) none
-      (needed_by (is_among (required kind) (number_of t)) (is_among (optional kind) (number_of t)) needed)).format;
+      subst (λ v. IsTrue (has_format (format_of (tag_number t)) v)) (sym (are t))
+      (right_value kind fields (tag_number t) none
+      (needed_by (is_among (required kind) (tag_number t)) (is_among (optional kind) (tag_number t)) needed)).format;
   range = λ t needed.
-      subst (λ v. IsTrue (is_in_range (format_of (number_of t)) v)) (sym (are t))
-      (right_value kind fields (number_of t) none
-      (needed_by (is_among (required kind) (number_of t)) (is_among (optional kind) (number_of t)) needed)).range;
+      subst (λ v. IsTrue (is_in_range (format_of (tag_number t)) v)) (sym (are t))
+      (right_value kind fields (tag_number t) none
+      (needed_by (is_among (required kind) (tag_number t)) (is_among (optional kind) (tag_number t)) needed)).range;
 }
 
 -- what they ask is what the message asks
@@ -226,13 +232,13 @@ asked_values OrderCancelRequest time values = refl
 asked_values OrderCancelReplaceRequest time values = refl
 
 asked_fields : (kind : RefMsgType) (time : ℕ) (fields : List Field)
-    → asked_by kind time (λ t. value_at (number_of t) fields) ≡ asked kind time fields
+    → asked_by kind time (λ t. value_at (tag_number t) fields) ≡ asked kind time fields
 asked_fields NewOrderSingle time fields = refl
 asked_fields OrderCancelRequest time fields = refl
 asked_fields OrderCancelReplaceRequest time fields = refl
 
 pub asked_whole : (kind : RefMsgType) (time : ℕ) (fields : List Field) (values : Values)
-    → ((t : OrderTag) → value_in values t ≡ value_at (number_of t) fields)
+    → ((t : OrderTag) → value_in values t ≡ value_at (tag_number t) fields)
     → asked_in kind time values ≡ asked kind time fields
 asked_whole kind time fields values are =
     asked_values kind time values ∙ ap (asked_by kind time) (fun_ext are) ∙ asked_fields kind time fields

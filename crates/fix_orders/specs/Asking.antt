@@ -12,16 +12,16 @@ use Rattle.fix_orders.specs.declared.tags.OrderTag.{OrderTag}
 use Rattle.fix_orders.specs.declared.tags.OrderTag.TheVariants.{ClOrdId, OrderQty, OrigClOrdId, Price, Side, Symbol, TimeInForce}
 use Rattle.fix_orders.specs.declared.values.Values.{Values}
 use Rattle.fix_orders.specs.Formats.{value_of, format_of, has_format, is_in_range}
-use Rattle.fix_orders.specs.OrderTags.{number_of, need_of}
+use Rattle.fix_orders.specs.OrderTags.{tag_number, need_of}
 use Rattle.fix_orders.specs.Reading.{side_of, time_in_force_of}
 use Rattle.fix_orders.specs.Values.{value_in}
 
 -- the value of each required tag is of its format and in its range
 pub record AreRight (type : RefMsgType) (values : Values) : Type 0 where
   pub format : (tag : OrderTag) → need_of type tag ≡ Required
-      → IsTrue (has_format (format_of (number_of tag)) (value_in values tag))
+      → IsTrue (has_format (format_of (tag_number tag)) (value_in values tag))
   pub range : (tag : OrderTag) → need_of type tag ≡ Required
-      → IsTrue (is_in_range (format_of (number_of tag)) (value_in values tag))
+      → IsTrue (is_in_range (format_of (tag_number tag)) (value_in values tag))
 
 -- the number of a tag
 abbrev pub number_in : Values → OrderTag → ℕ

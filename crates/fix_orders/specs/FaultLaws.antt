@@ -82,13 +82,13 @@ and_not_false true b is e = not_false b e
 and_not_false false b is e = cc
 
 -- in a message without a fault the value of a required tag is of its format and in its range
-pub record IsRight (tag : ℕ) (value : List ℕ) : Type 0 where
+pub record IsRightValue (tag : ℕ) (value : List ℕ) : Type 0 where
   pub format : IsTrue (has_format (format_of tag) value)
   pub range : IsTrue (is_in_range (format_of tag) value)
 
 pub right_value : (kind : RefMsgType) (fields : List Field) (tag : ℕ) → first_fault classes kind fields ≡ None
     → IsTrue (is_among (required kind) tag)
-    → IsRight tag (value_at tag fields)
+    → IsRightValue tag (value_at tag fields)
 right_value kind fields tag none needed =
     let repeated = first_none TagAppearsMoreThanOnce (drop 1 classes) kind fields none in
     let undefined = first_none TagNotDefined (drop 2 classes) kind fields repeated.1 in

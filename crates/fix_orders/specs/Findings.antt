@@ -10,7 +10,7 @@ use Rattle.fix_orders.specs.declared.faults.Fault.{Fault}
 use Rattle.fix_orders.specs.declared.fields.OrderFields.{OrderFields}
 use Rattle.fix_orders.specs.declared.tags.OrderTag.{OrderTag}
 use Rattle.fix_orders.specs.declared.values.Values.{Values}
-use Rattle.fix_orders.specs.OrderTags.{number_of, order_numbers}
+use Rattle.fix_orders.specs.OrderTags.{tag_number, order_numbers}
 use Rattle.fix_orders.specs.Reading.{frame_tags, header_tags, required, tags, is_among, value_at, faulty_tags, lesser, least, or_next}
 use Rattle.fix_orders.specs.Values.{value_in, is_nothing}
 
@@ -42,16 +42,16 @@ least_in ValueIncorrect type fields = least (faulty_tags ValueIncorrect type fie
 
 -- a type requires the tag, and it has no value
 abbrev pub is_missing : RefMsgType → Values → OrderTag → Bool
-is_missing type values tag = is_among (required type) (number_of tag) && is_nothing (value_in values tag)
+is_missing type values tag = is_among (required type) (tag_number tag) && is_nothing (value_in values tag)
 
 -- the numbers of the missing ones among some tags
 abbrev pub missing_among : RefMsgType → Values → List OrderTag → List ℕ
-missing_among type values some = map number_of (filter (is_missing type values) some)
+missing_among type values some = map tag_number (filter (is_missing type values) some)
 
 -- this is what is found of these fields
 pub record IsFound (type : RefMsgType) (fields : List Field) (found : OrderFields) : Type 0 where
   pub each : AllByRecursion IsField fields
-  pub values : (tag : OrderTag) → value_in found.values tag ≡ value_at (number_of tag) fields
+  pub values : (tag : OrderTag) → value_in found.values tag ≡ value_at (tag_number tag) fields
   pub others : found.others.items ≡ filter is_other (tags fields)
   pub repeated : found.repeated ≡ least_in TagAppearsMoreThanOnce type fields
   pub undefined : found.undefined ≡ least_in TagNotDefined type fields

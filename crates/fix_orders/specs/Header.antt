@@ -40,8 +40,8 @@ header_of (a ∷ b ∷ c ∷ d ∷ e ∷ rest) =
 header_of _ = None
 
 -- a header that was read, without where it lies in memory
-abbrev pub header : HeaderRead → Header
-header h = record {
+abbrev pub as_header : HeaderRead → Header
+as_header h = record {
   msg_type = h.msg_type.now;
   sender = h.sender.now;
   target = h.target.now;

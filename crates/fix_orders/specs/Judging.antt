@@ -2,8 +2,8 @@
 use Rattle.std.specs.Prelude.{ℕ, ◌<◌, if◌then◌else◌, List}
 use Rattle.fix_orders.specs.declared.formats.Format.{Format as FormatRead}
 use Rattle.fix_orders.specs.declared.formats.Format.TheVariants.{NumberTo, ByteOf, Symbol, Time}
-use Rattle.fix_orders.specs.declared.formats.Judged.{Judged}
-use Rattle.fix_orders.specs.declared.formats.Judged.TheVariants.{Right, WrongFormat, OutOfRange}
+use Rattle.fix_orders.specs.declared.formats.JudgedValue.{JudgedValue}
+use Rattle.fix_orders.specs.declared.formats.JudgedValue.TheVariants.{Right, WrongFormat, OutOfRange}
 use Rattle.fix_orders.specs.declared.number.TheConstants.{MOST}
 use Rattle.fix_orders.specs.Formats.{Format, has_format, is_in_range}
 use Rattle.fix_orders.specs.Formats.Format.{number_to, byte_of, symbol, time}
@@ -23,6 +23,6 @@ IsBounded Symbol = Unit {0}
 IsBounded Time = Unit {0}
 
 -- what a value is by a format
-abbrev pub judged : Format → List ℕ → Judged
-judged format value = if has_format format value then (if is_in_range format value then Right else OutOfRange)
+abbrev pub judged_value : Format → List ℕ → JudgedValue
+judged_value format value = if has_format format value then (if is_in_range format value then Right else OutOfRange)
     else WrongFormat

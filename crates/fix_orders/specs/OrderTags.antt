@@ -8,35 +8,35 @@ use Rattle.fix_orders.specs.declared.tags.OrderTag.TheVariants.{ClOrdId, OrderQt
 use Rattle.fix_orders.specs.Reading.{is_among, required, optional}
 
 -- the number of a tag
-abbrev pub number_of : OrderTag → ℕ
-number_of ClOrdId = 11
-number_of OrderQty = 38
-number_of OrdType = 40
-number_of OrigClOrdId = 41
-number_of Price = 44
-number_of Side = 54
-number_of Symbol = 55
-number_of TimeInForce = 59
-number_of TransactTime = 60
+abbrev pub tag_number : OrderTag → ℕ
+tag_number ClOrdId = 11
+tag_number OrderQty = 38
+tag_number OrdType = 40
+tag_number OrigClOrdId = 41
+tag_number Price = 44
+tag_number Side = 54
+tag_number Symbol = 55
+tag_number TimeInForce = 59
+tag_number TransactTime = 60
 
 -- all of them, from the least on
 abbrev pub order_numbers : List ℕ
 order_numbers = 11 ∷ 38 ∷ 40 ∷ 41 ∷ 44 ∷ 54 ∷ 55 ∷ 59 ∷ 60 ∷ []
 
 -- the place of a tag among them
-abbrev pub place_of : OrderTag → ℕ
-place_of ClOrdId = 0
-place_of OrderQty = 1
-place_of OrdType = 2
-place_of OrigClOrdId = 3
-place_of Price = 4
-place_of Side = 5
-place_of Symbol = 6
-place_of TimeInForce = 7
-place_of TransactTime = 8
+abbrev pub tag_place : OrderTag → ℕ
+tag_place ClOrdId = 0
+tag_place OrderQty = 1
+tag_place OrdType = 2
+tag_place OrigClOrdId = 3
+tag_place Price = 4
+tag_place Side = 5
+tag_place Symbol = 6
+tag_place TimeInForce = 7
+tag_place TransactTime = 8
 
 -- what a type does with a tag
 abbrev pub need_of : RefMsgType → OrderTag → Need
 need_of type tag =
-    if is_among (required type) (number_of tag) then Required
-    else (if is_among (optional type) (number_of tag) then Optional else Undefined)
+    if is_among (required type) (tag_number tag) then Required
+    else (if is_among (optional type) (tag_number tag) then Optional else Undefined)

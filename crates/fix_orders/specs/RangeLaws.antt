@@ -14,7 +14,7 @@ use Rattle.fix_orders.specs.declared.faults.Fault.{Fault}
 use Rattle.fix_orders.specs.Formats.{format_of}
 use Rattle.fix_orders.specs.Formats.Format.{number_to}
 use Rattle.fix_orders.specs.Header.{Header, header_of}
-use Rattle.fix_orders.specs.Reading.{number_at, value_at, required, is_among, type_of, classes, first_fault, judged, typed, headed, command_of, exact_fields, reads}
+use Rattle.fix_orders.specs.Reading.{number_at, value_at, required, is_among, ref_type_of, classes, first_fault, judged_order, typed, headed, command_of, exact_fields, reads}
 use Rattle.fix_orders.specs.FaultLaws.{right_value, spelling}
 
 -- in a message without a fault a required number is in its range
@@ -28,7 +28,7 @@ required_number kind fields none tag most needed number =
 
 -- a message without a fault asks for numbers in their ranges, and one with a fault for none
 judged_within : (kind : RefMsgType) (header : Header) (fields : List Field) (fault : Option Fault)
-    → first_fault classes kind fields ≡ fault → IsCommand (judged kind header fields fault)
+    → first_fault classes kind fields ≡ fault → IsCommand (judged_order kind header fields fault)
 judged_within kind header fields (Some fault) is = tt
 judged_within NewOrderSingle header fields None is =
     let number = required_number NewOrderSingle fields is in
@@ -42,14 +42,14 @@ judged_within OrderCancelReplaceRequest header fields None is =
 
 module _ (P : Command → Type 0) (void : P Void)
     (each : (kind : RefMsgType) (header : Header) (fields : List Field) (fault : Option Fault) → first_fault classes kind fields ≡ fault
-    → P (judged kind header fields fault)) where
+    → P (judged_order kind header fields fault)) where
   typed_holds : (header : Header) (fields : List Field) (kind : Option RefMsgType) → P (typed header fields kind)
   typed_holds header fields None = void
   typed_holds header fields (Some kind) = each kind header fields (first_fault classes kind fields) refl
 
   headed_holds : (fields : List Field) (header : Option Header) → P (headed fields header)
   headed_holds fields None = void
-  headed_holds fields (Some header) = typed_holds header fields (type_of header.msg_type)
+  headed_holds fields (Some header) = typed_holds header fields (ref_type_of header.msg_type)
 
   -- what holds of each message that was judged, and of none, holds of what is read, whatever the fields
   command_holds : (fields : List Field) → P (command_of fields)
@@ -80,7 +80,7 @@ NamesSymbol (Malformed time fault) = ⊤
 NamesSymbol Void = ⊤
 
 judged_names : (kind : RefMsgType) (header : Header) (fields : List Field) (fault : Option Fault)
-    → first_fault classes kind fields ≡ fault → NamesSymbol (judged kind header fields fault)
+    → first_fault classes kind fields ≡ fault → NamesSymbol (judged_order kind header fields fault)
 judged_names kind header fields (Some fault) is = tt
 judged_names NewOrderSingle header fields None is =
     spelling (value_at 55 fields) (right_value NewOrderSingle fields 55 is refl).format

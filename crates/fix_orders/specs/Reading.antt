@@ -61,8 +61,8 @@ abbrev pub number_at : ℕ → List Field → ℕ
 number_at tag fields = value_of (value_at tag fields)
 
 -- MsgType (35): D, F and G are order messages
-abbrev pub type_of : List ℕ → Option RefMsgType
-type_of value =
+abbrev pub ref_type_of : List ℕ → Option RefMsgType
+ref_type_of value =
     if bytes_eq value (codes "D") then Some types.NewOrderSingle
     else (if bytes_eq value (codes "F") then Some types.OrderCancelRequest
     else (if bytes_eq value (codes "G") then Some types.OrderCancelReplaceRequest else None))
@@ -192,9 +192,9 @@ asked types.OrderCancelRequest time fields = Cancel time (cancel_of fields)
 asked types.OrderCancelReplaceRequest time fields = Replace time (replace_of fields)
 
 -- the command of an order message, by its one fault or by its fields
-abbrev pub judged : RefMsgType → Header → List Field → Option Fault → Command
-judged type header fields None = asked type (number_of_time header.time) fields
-judged type header fields (Some fault) =
+abbrev pub judged_order : RefMsgType → Header → List Field → Option Fault → Command
+judged_order type header fields None = asked type (number_of_time header.time) fields
+judged_order type header fields (Some fault) =
     Malformed (number_of_time header.time) (record {
       reason = fault.reason;
       tag = fault.tag;
@@ -205,12 +205,12 @@ judged type header fields (Some fault) =
 -- the command of a message of this type
 abbrev pub typed : Header → List Field → Option RefMsgType → Command
 typed header fields None = Void
-typed header fields (Some type) = judged type header fields (first_fault classes type fields)
+typed header fields (Some type) = judged_order type header fields (first_fault classes type fields)
 
 -- the command of a message with this header
 abbrev pub headed : List Field → Option Header → Command
 headed fields None = Void
-headed fields (Some header) = typed header fields (type_of header.msg_type)
+headed fields (Some header) = typed header fields (ref_type_of header.msg_type)
 
 -- the command of a frame with these body fields
 unfoldable pub command_of : List Field → Command

@@ -1,12 +1,12 @@
 //! Commands out of frames: the first thing that happens to an entry behind the input ring.
 ghost use Rattle.std.specs.Prelude.{◌≡◌, List, IsTrue};
 ghost use Rattle.fix_frame.specs.Grammar.{Field, IsFrame, most_in};
-ghost use Rattle.fix_frame.specs.Borrowed.{body_fields};
+ghost use Rattle.fix_frame.specs.Borrowed.{frame_fields};
 ghost use Rattle.venue_model.specs.Step.{IsCommand};
 ghost use Rattle.fix_orders.specs.Formats.{format_of, is_short, value_of};
-ghost use Rattle.fix_orders.specs.OrderTags.{number_of, need_of};
+ghost use Rattle.fix_orders.specs.OrderTags.{tag_number, need_of};
 ghost use Rattle.fix_orders.specs.declared.tags.Need.TheVariants.{Required};
-ghost use Rattle.fix_orders.specs.Reading.{type_of, side_of, time_in_force_of, command_of, reads};
+ghost use Rattle.fix_orders.specs.Reading.{ref_type_of, side_of, time_in_force_of, command_of, reads};
 ghost use Rattle.fix_orders.specs.Values.{value_in};
 ghost use Rattle.fix_orders.specs.Asking.{AreRight, asked_in, new_in, cancel_in, replace_in};
 
@@ -40,7 +40,7 @@ pub fn decode(bytes: &[u8]) -> Command
 
 /// The command of a frame.
 pub fn command_of(frame: &Frame) -> Command
-    ensures { result ≡ command_of (body_fields frame.now) }
+    ensures { result ≡ command_of (frame_fields frame.now) }
 {
     let Some(header) = read_header(frame.fields()) else {
         return Command::Void;
@@ -66,7 +66,7 @@ pub fn command_of(frame: &Frame) -> Command
 
 /// The type of an order message.
 fn type_of(msg_type: &[u8]) -> Option<RefMsgType>
-    ensures { result ≡ type_of msg_type.now }
+    ensures { result ≡ ref_type_of msg_type.now }
 {
     match msg_type {
         b"D" => Some(RefMsgType::NewOrderSingle),
@@ -148,7 +148,7 @@ fn replace_of(values: &Values) -> OrderCancelReplaceRequest
 fn number_at(kind: RefMsgType, values: &Values, tag: OrderTag) -> u64
     requires right { AreRight kind values.now }
     requires required { need_of kind tag ≡ Required }
-    requires number { IsTrue (is_short (format_of (number_of tag))) }
+    requires number { IsTrue (is_short (format_of (tag_number tag))) }
     ensures { result ≡ value_of (value_in values.now tag) }
 {
     read_digits(values.get(tag))

@@ -4,12 +4,12 @@ ghost use Rattle.std.specs.Prelude.{◌≡◌, ◌<◌, ◌≤◌, ◌++◌, ◌
 ghost use Rattle.fix_frame.specs.Grammar.{Field as FixField, IsField};
 ghost use Rattle.fix_frame.specs.Fields.{as_field};
 ghost use Rattle.fix_frame.specs.Borrowed.{fields_left};
-ghost use Rattle.fix_orders.specs.OrderTags.{number_of};
+ghost use Rattle.fix_orders.specs.OrderTags.{tag_number};
 ghost use Rattle.fix_orders.specs.Reading.{is_among, least, missing_tags};
 ghost use Rattle.fix_orders.specs.Findings.{IsFound, outside, is_other, lesser_if, least_in, is_missing};
 ghost use Rattle.fix_orders.specs.Text.{field};
 
-use crate::formats::{Judged, format_of, judge};
+use crate::formats::{JudgedValue, format_of, judge};
 use crate::tags::{Need, ORDER_TAGS, OrderTag};
 use crate::values::Values;
 use arrayvec::ArrayVec;
@@ -78,22 +78,22 @@ impl<'a> OrderFields<'a> {
 
     /// The same of a tag that some type of order message has.
     fn take_value(&mut self, kind: RefMsgType, tag: OrderTag, value: &'a [u8])
-        requires { IsField (field (number_of tag) value.now) }
+        requires { IsField (field (tag_number tag) value.now) }
         ensures { (fields : List FixField) → IsFound kind fields self.old →
-            IsFound kind (fields ++ field (number_of tag) value.now ∷ []) self.new }
+            IsFound kind (fields ++ field (tag_number tag) value.now ∷ []) self.new }
     {
         let judged = judge(format_of(tag), value);
         let is_repeated = self.values.has(tag);
         let is_undefined = tag.need(kind) == Need::Undefined;
         self.values.keep(tag, value);
-        if judged == Judged::Right && !is_repeated && !is_undefined {
+        if judged == JudgedValue::Right && !is_repeated && !is_undefined {
             return;
         }
         let number = tag.number();
         self.repeated = lesser_if(is_repeated, number, self.repeated);
         self.undefined = lesser_if(is_undefined, number, self.undefined);
-        self.ill_formed = lesser_if(judged == Judged::WrongFormat, number, self.ill_formed);
-        self.out_of_range = lesser_if(judged == Judged::OutOfRange, number, self.out_of_range);
+        self.ill_formed = lesser_if(judged == JudgedValue::WrongFormat, number, self.ill_formed);
+        self.out_of_range = lesser_if(judged == JudgedValue::OutOfRange, number, self.out_of_range);
     }
 
     /// The same of a tag that the message has outside of these fields.
@@ -145,7 +145,7 @@ impl<'a> OrderFields<'a> {
 
     /// The lesser of a tag that was found and this one, where it is missing. Most tags of a message aren't.
     fn lesser_missing(&self, kind: RefMsgType, tag: OrderTag, found: Option<u32>) -> Option<u32>
-        ensures { result ≡ lesser_if (is_missing kind self.now.values tag) (number_of tag) found }
+        ensures { result ≡ lesser_if (is_missing kind self.now.values tag) (tag_number tag) found }
     {
         if self.is_missing(kind, tag) {
             lesser_if(true, tag.number(), found)

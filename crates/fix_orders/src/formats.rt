@@ -2,8 +2,8 @@
 ghost use Rattle.std.specs.Prelude.{◌≡◌, ◌==◌};
 ghost use Rattle.std.specs.List.{list_any};
 ghost use Rattle.fix_orders.specs.Formats.{format_of, is_symbol};
-ghost use Rattle.fix_orders.specs.OrderTags.{number_of};
-ghost use Rattle.fix_orders.specs.Judging.{as_format, IsBounded, judged};
+ghost use Rattle.fix_orders.specs.OrderTags.{tag_number};
+ghost use Rattle.fix_orders.specs.Judging.{as_format, IsBounded, judged_value};
 
 use crate::number::read_number;
 use crate::tags::OrderTag;
@@ -23,7 +23,7 @@ pub enum Format {
 
 /// What a value is by its format.
 #[derive(Clone, Copy, Debug, PartialEq, Eq)]
-pub enum Judged {
+pub enum JudgedValue {
     Right,
     WrongFormat,
     OutOfRange,
@@ -31,7 +31,7 @@ pub enum Judged {
 
 /// The format of a tag.
 pub fn format_of(tag: OrderTag) -> Format
-    ensures value { as_format result ≡ format_of (number_of tag) }
+    ensures value { as_format result ≡ format_of (tag_number tag) }
     ensures bounded { IsBounded result }
 {
     match tag {
@@ -46,24 +46,24 @@ pub fn format_of(tag: OrderTag) -> Format
 }
 
 /// What a value of this format is.
-pub fn judge(format: Format, value: &[u8]) -> Judged
+pub fn judge(format: Format, value: &[u8]) -> JudgedValue
     requires { IsBounded format }
-    ensures { result ≡ judged (as_format format) value.now }
+    ensures { result ≡ judged_value (as_format format) value.now }
 {
     match format {
         Format::NumberTo(most) => match read_number(value) {
-            Some(number) if 1 <= number && number <= most => Judged::Right,
-            Some(_) => Judged::OutOfRange,
-            None => Judged::WrongFormat,
+            Some(number) if 1 <= number && number <= most => JudgedValue::Right,
+            Some(_) => JudgedValue::OutOfRange,
+            None => JudgedValue::WrongFormat,
         },
         Format::ByteOf(bytes) => match value {
-            [byte] if is_one_of(bytes, *byte) => Judged::Right,
-            [_] => Judged::OutOfRange,
-            _ => Judged::WrongFormat,
+            [byte] if is_one_of(bytes, *byte) => JudgedValue::Right,
+            [_] => JudgedValue::OutOfRange,
+            _ => JudgedValue::WrongFormat,
         },
-        Format::Symbol if is_symbol(value) => Judged::Right,
-        Format::Time if is_time(value) => Judged::Right,
-        Format::Symbol | Format::Time => Judged::WrongFormat,
+        Format::Symbol if is_symbol(value) => JudgedValue::Right,
+        Format::Time if is_time(value) => JudgedValue::Right,
+        Format::Symbol | Format::Time => JudgedValue::WrongFormat,
     }
 }
 

@@ -3,7 +3,7 @@ ghost use Rattle.std.specs.Prelude.{◌≡◌, ◌≤◌, ◌∷◌, IfSome, IsT
 ghost use Rattle.std.specs.Option.{option_map};
 ghost use Rattle.fix_frame.specs.Borrowed.{fields_left};
 ghost use Rattle.fix_orders.specs.Formats.{is_time, value_of};
-ghost use Rattle.fix_orders.specs.Header.{LacksFirst, is_seq_num, header, header_of};
+ghost use Rattle.fix_orders.specs.Header.{LacksFirst, is_seq_num, as_header, header_of};
 ghost use Rattle.fix_orders.specs.Text.{field};
 
 use crate::number::read_number;
@@ -29,7 +29,7 @@ pub struct Header<'a> {
 
 /// The header that the fields of a frame begin with, or `None` where it is wrong.
 pub fn read_header<'a>(mut fields: Fields<'a>) -> Option<Header<'a>>
-    ensures value { header_of (fields_left fields.entry) ≡ option_map header result }
+    ensures value { header_of (fields_left fields.entry) ≡ option_map as_header result }
     ensures number { IfSome result (λ h. (1 ≤ h.number) × (h.number ≤ 999999999)) }
     ensures time { IfSome result (λ h. IsTrue (is_time h.time.now)) }
 {

@@ -1,7 +1,7 @@
 //! The tags of order messages behind the header, and the table of what each type has (docs/PROFILE.md, "Order
 //! messages").
 ghost use Rattle.std.specs.Prelude.{◌≡◌, ◌<◌, MatchOption, IsFalse};
-ghost use Rattle.fix_orders.specs.OrderTags.{number_of, place_of, need_of, order_numbers};
+ghost use Rattle.fix_orders.specs.OrderTags.{tag_number, tag_place, need_of, order_numbers};
 ghost use Rattle.fix_orders.specs.Reading.{is_among};
 
 use venue_model::RefMsgType;
@@ -44,7 +44,7 @@ pub enum Need {
 impl OrderTag {
     /// The tag of this number.
     pub fn of(number: u32) -> Option<OrderTag>
-        ensures { MatchOption result (IsFalse (is_among order_numbers number)) (λ tag. number_of tag ≡ number) }
+        ensures { MatchOption result (IsFalse (is_among order_numbers number)) (λ tag. tag_number tag ≡ number) }
     {
         match number {
             11 => Some(OrderTag::ClOrdId),
@@ -62,14 +62,14 @@ impl OrderTag {
 
     /// Its number.
     pub fn number(self) -> u32
-        ensures { result ≡ number_of self }
+        ensures { result ≡ tag_number self }
     {
         self as u32
     }
 
     /// Its place among all of them.
     pub fn place(self) -> usize
-        ensures value { result ≡ place_of self }
+        ensures value { result ≡ tag_place self }
         ensures few { result < 9 }
     {
         match self {

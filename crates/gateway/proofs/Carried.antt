@@ -6,11 +6,12 @@ use Rattle.venue_model.specs.declared.outputs.Output.{Output}
 use Rattle.book.specs.Laws.{TellsFields}
 use Rattle.barrier.specs.declared.taking.Head.{Head}
 use Rattle.barrier.specs.Taking as taking
-use Rattle.gateway.specs.Ledgers.{Carries}
+use Rattle.gateway.specs.Ledgers.{CarriesSaid}
 
 -- head and body say the output
-pub carried : (head : Head) (body : List ℕ) (o : Output) (place : ℕ) → TellsFields o → taking.Carries head body (text_bytes o place)
-    → Carries head body (text o place)
+pub carried : (head : Head) (body : List ℕ) (o : Output) (place : ℕ) → TellsFields o
+    → taking.Carries head body (text_bytes o place)
+    → CarriesSaid head body (text o place)
 carried head body o place fields read = record {
   type = ap msg_type_code (sym read.head_is.msg_type);
   time = ap time_text (sym read.head_is.sending_time);

@@ -1,5 +1,6 @@
 -- A session that goes on by a turn has delivered what moved in the turn besides.
-use Rattle.std.proofs.Common.{◌≡◌, ℕ, Bool, true, false, List, [], ◌∷◌, ◌++◌, refl, ap, sym, ◌∙◌, arith, append_assoc, append-nil, length-append}
+use Rattle.std.proofs.Common.{◌≡◌, ℕ, Bool, true, false, List, [], ◌∷◌, ◌++◌, refl, ap, sym, ◌∙◌, arith, append_assoc}
+use Rattle.std.proofs.Common.{append-nil, length-append}
 use Rattle.std.specs.List.{flat_map, list_any}
 use Rattle.fix_orders.specs.Text.{Said}
 use Rattle.gateway.specs.Answers.{Logon, Heartbeat, Logout}
@@ -18,7 +19,8 @@ none_last : (items : List Item) → is_last items ≡ true → flat_map outputs_
 none_last [] last = refl
 none_last (item ∷ items) last = cc
 
-no_outputs : (items : List Item) → orderly false items ≡ true → list_any is_logon items ≡ false → flat_map outputs_in items ≡ []
+no_outputs : (items : List Item) → orderly false items ≡ true → list_any is_logon items ≡ false
+    → flat_map outputs_in items ≡ []
 no_outputs [] order off = refl
 no_outputs (Answer (Logon time) ∷ items) order off = cc
 no_outputs (Answer (Heartbeat time echo) ∷ items) order off = no_outputs items order off
@@ -61,22 +63,27 @@ module _ (start : Start) (old new : Front) (wire wire' : Told) (desk desk' : Led
   gave : wire'.gave ≡ grown start.wire.gave ((c.input ++ m.fed) ++ new.waiting)
   gave =
       let all : (c.input ++ old.waiting) ++ m.got ≡ (c.input ++ m.fed) ++ new.waiting =
-      append_assoc c.input old.waiting m.got ∙ ap (λ x. c.input ++ x) (sym turn.step.input) ∙ sym (append_assoc c.input m.fed new.waiting) in
-      turn.step.gave ∙ ap (λ t. grown t m.got) so_far.gave ∙ grown-append start.wire.gave (c.input ++ old.waiting) m.got ∙ ap (grown start.wire.gave) all
+      append_assoc c.input old.waiting m.got ∙ ap (λ x. c.input ++ x) (sym turn.step.input)
+      ∙ sym (append_assoc c.input m.fed new.waiting) in
+      turn.step.gave ∙ ap (λ t. grown t m.got) so_far.gave ∙ grown-append start.wire.gave (c.input ++ old.waiting) m.got
+      ∙ ap (grown start.wire.gave) all
 
   took : wire'.took ≡ grown start.wire.took (c.written ++ m.put)
   took = turn.step.took ∙ ap (λ t. grown t m.put) so_far.took ∙ grown-append start.wire.took c.written m.put
 
   published : desk'.published ≡ start.desk.published ++ (c.messages ++ m.messages)
-  published = turn.step.published ∙ ap (λ ms. ms ++ m.messages) so_far.published ∙ append_assoc start.desk.published c.messages m.messages
+  published = turn.step.published ∙ ap (λ ms. ms ++ m.messages) so_far.published
+      ∙ append_assoc start.desk.published c.messages m.messages
 
   -- the outputs taken in the turn were given, or missed
-  goes-on : (on : Bool) → new.session.logged_on ≡ on → Takes on old new desk desk' m.handed → Delivers start new wire' desk' (further c m)
+  goes-on : (on : Bool) → new.session.logged_on ≡ on → Takes on old new desk desk' m.handed
+      → Delivers start new wire' desk' (further c m)
   goes-on true on_is takes = record {
     stands = stands;
     published = published;
     missed = so_far.missed;
-    taken = takes.taken ∙ ap (λ ts. ts ++ takes.these) so_far.taken ∙ append_assoc start.desk.taken (so_far.missed ++ c.outs) takes.these
+    taken = takes.taken ∙ ap (λ ts. ts ++ takes.these) so_far.taken
+        ∙ append_assoc start.desk.taken (so_far.missed ++ c.outs) takes.these
         ∙ ap (λ ts. start.desk.taken ++ ts) (append_assoc so_far.missed c.outs takes.these)
         ∙ ap (λ ts. start.desk.taken ++ (so_far.missed ++ (c.outs ++ ts))) (sym takes.given);
     passed_over = let before = so_far.passed_over in let now = takes.passed in omega (arith, before, now);
@@ -105,9 +112,11 @@ module _ (start : Start) (old new : Front) (wire wire' : Told) (desk desk' : Led
   delivers = goes-on new.session.logged_on refl turn.takes
 
 -- a turn goes on with whatever was delivered before it
-pub proceeds : (n : ℕ) (old new : AtRings) (wire wire' : Told) (answer : Turned) → Turn (around n old wire) (around n new wire') answer →
+pub proceeds : (n : ℕ) (old new : AtRings) (wire wire' : Told) (answer : Turned)
+    → Turn (around n old wire) (around n new wire') answer →
     Proceeds n old new wire wire' answer
 proceeds n old new wire wire' answer turn = record {
   turn = turn;
-  delivers = λ start c. delivers start old.front new.front wire wire' (ledger_of n old.seat) (ledger_of n new.seat) answer c turn;
+  delivers = λ start c. delivers start old.front new.front wire wire' (ledger_of n old.seat) (ledger_of n new.seat)
+      answer c turn;
 }

@@ -1,5 +1,6 @@
 -- The header of a message to the client: its fields are fields, and few bytes.
-use Rattle.std.proofs.Common.{◌≡◌, ℕ, zero, suc, ◌+◌, ◌/◌, ◌%◌, ◌^◌, ◌<◌, ◌≤◌, List, [], ◌∷◌, ◌++◌, length, take, refl, ap, sym, subst, ◌∙◌, arith, length-append}
+use Rattle.std.proofs.Common.{◌≡◌, ℕ, zero, suc, ◌+◌, ◌/◌, ◌%◌, ◌^◌, ◌<◌, ◌≤◌, List, [], ◌∷◌, ◌++◌, length, take, refl}
+use Rattle.std.proofs.Common.{ap, sym, subst, ◌∙◌, arith, length-append}
 use Rattle.std.specs.List.{AllByRecursion}
 use Rattle.std.specs.Fmt.{decimal, digits}
 use Rattle.std.specs.Char.{digit_value}
@@ -8,7 +9,7 @@ use Rattle.std.proofs.lemmas.Fmt.{decimal_is_IsNumeral, length-decimal-le}
 use Rattle.std.proofs.lemmas.List.{length-take-le}
 use Rattle.fix_frame.specs.Ascii.{soh}
 use Rattle.fix_frame.specs.Grammar.{Field, IsField, LacksSoh, IsBody, print_fields, frame_of, most_out}
-use Rattle.fix_frame.specs.Writing.{Spells as SpellsFrame}
+use Rattle.fix_frame.specs.Writing.{SpellsBody as SpellsFrame}
 use Rattle.fix_orders.specs.Formats.{last_digits, time_text}
 use Rattle.fix_orders.specs.Text.{Said, field, number}
 use Rattle.fix_orders.specs.Writing.{Puts, PutsFields}
@@ -21,8 +22,11 @@ use Rattle.gateway.proofs.FrameBytes.{length_field, length_frame}
 -- no SOH stands in digits, in what has none, and in a time
 lacks_soh-digits : (ds : List ℕ) → AllDigits 10 ds → LacksSoh ds
 lacks_soh-digits [] all = tt
-lacks_soh-digits (d ∷ ds) all =
-    ((λ (e : d ≡ soh). let P : ℕ → Type 0 = λ b. digit_value b < 10 in let low : P soh = subst P e all.0 in absurd (omega (arith, low))), lacks_soh-digits ds all.1)
+lacks_soh-digits (d ∷ ds) all = (
+  (λ (e : d ≡ soh). let P : ℕ → Type 0 = λ b. digit_value b < 10 in let low : P soh = subst P e all.0 in
+      absurd (omega (arith, low))),
+  lacks_soh-digits ds all.1,
+)
 
 lacks_soh-append : (xs ys : List ℕ) → LacksSoh xs → LacksSoh ys → LacksSoh (xs ++ ys)
 lacks_soh-append [] ys first second = second
@@ -34,9 +38,11 @@ lacks_soh-one b above = ((λ e. absurd (omega arith)), tt)
 lacks_soh-last : (count n : ℕ) → LacksSoh (last_digits count n)
 lacks_soh-last zero n = tt
 lacks_soh-last (suc count) n =
-    lacks_soh-append (last_digits count (n / 10)) ((48 + n % 10) ∷ []) (lacks_soh-last count (n / 10)) (lacks_soh-one (48 + n % 10) (omega arith))
+    lacks_soh-append (last_digits count (n / 10)) ((48 + n % 10) ∷ []) (lacks_soh-last count (n / 10))
+    (lacks_soh-one (48 + n % 10) (omega arith))
 
-lacks_soh-parts : (a b c d e f g : List ℕ) → LacksSoh a → LacksSoh b → LacksSoh c → LacksSoh d → LacksSoh e → LacksSoh f → LacksSoh g →
+lacks_soh-parts : (a b c d e f g : List ℕ) → LacksSoh a → LacksSoh b → LacksSoh c → LacksSoh d → LacksSoh e → LacksSoh f
+    → LacksSoh g →
     LacksSoh (a ++ b ++ c ++ d ++ e ++ f ++ g)
 lacks_soh-parts a b c d e f g la lb lc ld le lf lg =
     lacks_soh-append (a ++ b ++ c ++ d ++ e ++ f) g
@@ -47,8 +53,10 @@ lacks_soh-parts a b c d e f g la lb lc ld le lf lg =
 lacks_soh-time : (n : ℕ) → LacksSoh (time_text n)
 unfolding time_text
 lacks_soh-time n =
-    lacks_soh-parts (last_digits 8 (n / 1000000)) (45 ∷ []) (last_digits 2 (n / 10000)) (58 ∷ []) (last_digits 2 (n / 100)) (58 ∷ []) (last_digits 2 n)
-    (lacks_soh-last 8 (n / 1000000)) (lacks_soh-one 45 (omega arith)) (lacks_soh-last 2 (n / 10000)) (lacks_soh-one 58 (omega arith))
+    lacks_soh-parts (last_digits 8 (n / 1000000)) (45 ∷ []) (last_digits 2 (n / 10000)) (58 ∷ [])
+    (last_digits 2 (n / 100)) (58 ∷ []) (last_digits 2 n)
+    (lacks_soh-last 8 (n / 1000000)) (lacks_soh-one 45 (omega arith)) (lacks_soh-last 2 (n / 10000))
+    (lacks_soh-one 58 (omega arith))
     (lacks_soh-last 2 (n / 100)) (lacks_soh-one 58 (omega arith)) (lacks_soh-last 2 n)
 
 pub length_time : (n : ℕ) → length (time_text n) ≡ 17
@@ -63,14 +71,21 @@ number_field tag n low high fits =
 
 type_field : (type : List ℕ) → IsTypeText type → IsField (field 35 type)
 type_field type (b, other, type_is) =
-    subst (λ t. IsField (field 35 t)) (sym type_is) (record { tag_from = omega arith; tag_to = omega arith; valued = omega arith; ends = (other, tt) })
+    subst (λ t. IsField (field 35 t)) (sym type_is)
+    (record { tag_from = omega arith; tag_to = omega arith; valued = omega arith; ends = (other, tt) })
 
 venue_field : IsField (field 49 venue_name)
 venue_field = record {
   tag_from = omega arith;
   tag_to = omega arith;
   valued = omega arith;
-  ends = ((λ e. absurd (omega arith)), ((λ e. absurd (omega arith)), ((λ e. absurd (omega arith)), ((λ e. absurd (omega arith)), ((λ e. absurd (omega arith)), tt)))));
+  ends = (
+    (λ e. absurd (omega arith)),
+    (
+      (λ e. absurd (omega arith)),
+      ((λ e. absurd (omega arith)), ((λ e. absurd (omega arith)), ((λ e. absurd (omega arith)), tt))),
+    ),
+  );
 }
 
 client_field : (gateway : ℕ) → gateway < 256 → IsField (field 56 (client_name gateway))
@@ -84,17 +99,24 @@ client_field gateway small =
     }
 
 time_field : (n : ℕ) → IsField (field 52 (time_text n))
-time_field n = record { tag_from = omega arith; tag_to = omega arith; valued = omega (arith, length_time n); ends = lacks_soh-time n }
+time_field n = record {
+  tag_from = omega arith;
+  tag_to = omega arith;
+  valued = omega (arith, length_time n);
+  ends = lacks_soh-time n;
+}
 
 -- tags of two digits
-length_tags : (length (decimal 35) ≡ 2) × (length (decimal 49) ≡ 2) × (length (decimal 56) ≡ 2) × (length (decimal 34) ≡ 2) × (length (decimal 52) ≡ 2)
+length_tags : (length (decimal 35) ≡ 2) × (length (decimal 49) ≡ 2) × (length (decimal 56) ≡ 2)
+    × (length (decimal 34) ≡ 2) × (length (decimal 52) ≡ 2)
 unfolding digits
 length_tags = (refl, refl, refl, refl, refl)
 
 -- how many bytes the header has
 module _ (gateway n : ℕ) (type time : List ℕ) where
   pub length_header : gateway < 256 → n < 2 ^ 64 → length type ≡ 1 → length time ≡ 17 →
-      (5 ≤ length (print_fields (header_fields gateway n type time))) × (length (print_fields (header_fields gateway n type time)) ≤ 67)
+      (5 ≤ length (print_fields (header_fields gateway n type time)))
+      × (length (print_fields (header_fields gateway n type time)) ≤ 67)
   length_header small fits one seventeen =
       let tags = length_tags in
       let client = length-decimal-le 3 gateway (omega arith) (omega arith) (omega arith) in
@@ -102,11 +124,15 @@ module _ (gateway n : ℕ) (type time : List ℕ) where
       let last = print_fields (field 52 time ∷ []) in
       let fourth = print_fields (number 34 n ∷ field 52 time ∷ []) in
       let third = print_fields (field 56 (client_name gateway) ∷ number 34 n ∷ field 52 time ∷ []) in
-      let second = print_fields (field 49 venue_name ∷ field 56 (client_name gateway) ∷ number 34 n ∷ field 52 time ∷ []) in
-      let e1 : length (print_fields (header_fields gateway n type time)) ≡ length (decimal 35) + length type + 2 + length second = length_field (field 35 type) second in
+      let second = print_fields (field 49 venue_name ∷ field 56 (client_name gateway) ∷ number 34 n ∷ field 52 time
+      ∷ []) in
+      let e1 : length (print_fields (header_fields gateway n type time))
+      ≡ length (decimal 35) + length type + 2 + length second = length_field (field 35 type) second in
       let e2 : length second ≡ length (decimal 49) + 5 + 2 + length third = length_field (field 49 venue_name) third in
-      let e3 : length third ≡ length (decimal 56) + suc (length (decimal gateway)) + 2 + length fourth = length_field (field 56 (client_name gateway)) fourth in
-      let e4 : length fourth ≡ length (decimal 34) + length (decimal n) + 2 + length last = length_field (number 34 n) last in
+      let e3 : length third ≡ length (decimal 56) + suc (length (decimal gateway)) + 2 + length fourth =
+      length_field (field 56 (client_name gateway)) fourth in
+      let e4 : length fourth ≡ length (decimal 34) + length (decimal n) + 2 + length last =
+      length_field (number 34 n) last in
       let e5 : length last ≡ length (decimal 52) + length time + 2 + 0 = length_field (field 52 time) [] in
       (omega arith, omega arith)
 
@@ -122,8 +148,10 @@ header_put a b end gateway n type venue client moment venue_is client_is puts =
     puts
 
 -- a header and a body are a body that goes out
-pub message_body : (gateway n time : ℕ) (type : List ℕ) (body : List Field) → gateway < 256 → n < 2 ^ 64 → IsTypeText type →
-    AllByRecursion IsField body → length (print_fields body) ≤ 320 → IsBody most_out (header_fields gateway n type (time_text time) ++ body)
+pub message_body : (gateway n time : ℕ) (type : List ℕ) (body : List Field) → gateway < 256 → n < 2 ^ 64
+    → IsTypeText type →
+    AllByRecursion IsField body → length (print_fields body) ≤ 320
+    → IsBody most_out (header_fields gateway n type (time_text time) ++ body)
 message_body gateway n time type body small fits kind each short =
     let front = header_fields gateway n type (time_text time) in
     let one : length type ≡ 1 = ap length kind.2 in
@@ -131,25 +159,40 @@ message_body gateway n time type body small fits kind each short =
     let long : length (print_fields (front ++ body)) ≡ length (print_fields front) + length (print_fields body) =
     ap length (print_fields-append front body) ∙ length-append (print_fields front) (print_fields body) in
     record {
-      each = (type_field type kind, (venue_field, (client_field gateway small, (number_field 34 n (omega arith) (omega arith) fits, (time_field time, each)))));
+      each = (
+        type_field type kind,
+        (
+          venue_field,
+          (
+            client_field gateway small,
+            (number_field 34 n (omega arith) (omega arith) fits, (time_field time, each)),
+          ),
+        ),
+      );
       typed = refl;
       least = omega (arith, few.0, long);
       at_most = omega (arith, few.1, long);
     }
 
 -- the bytes of a header, and those of a body behind it
-pub behind_header : (header : List Field) (body blank filled whole : List ℕ) (begun upto : ℕ) → PutsFields blank filled 0 begun header → Puts filled whole begun upto body →
+pub behind_header : (header : List Field) (body blank filled whole : List ℕ) (begun upto : ℕ)
+    → PutsFields blank filled 0 begun header → Puts filled whole begun upto body →
     take upto whole ≡ print_fields header ++ body
-behind_header header body blank filled whole begun upto first then = then.written ∙ ap (λ front. front ++ body) first.written
+behind_header header body blank filled whole begun upto first then = then.written
+    ∙ ap (λ front. front ++ body) first.written
 
 -- they spell a body
 -- with the text of a time
-pub at_time : (gateway n time : ℕ) (type body bytes text : List ℕ) → text ≡ time_text time → bytes ≡ print_fields (header_fields gateway n type text) ++ body →
+pub at_time : (gateway n time : ℕ) (type body bytes text : List ℕ) → text ≡ time_text time
+    → bytes ≡ print_fields (header_fields gateway n type text) ++ body →
     bytes ≡ print_fields (header_fields gateway n type (time_text time)) ++ body
-at_time gateway n time type body bytes text text_is is = is ∙ ap (λ t. print_fields (header_fields gateway n type t) ++ body) text_is
+at_time gateway n time type body bytes text text_is is = is
+    ∙ ap (λ t. print_fields (header_fields gateway n type t) ++ body) text_is
 
-pub spelled : (gateway n time : ℕ) (type body bytes : List ℕ) → gateway < 256 → n < 2 ^ 64 → IsTypeText type → AreFields body → length body ≤ 320 →
-    bytes ≡ print_fields (header_fields gateway n type (time_text time)) ++ body → (fs : List Field) × SpellsFrame most_out fs bytes
+pub spelled : (gateway n time : ℕ) (type body bytes : List ℕ) → gateway < 256 → n < 2 ^ 64 → IsTypeText type
+    → AreFields body → length body ≤ 320 →
+    bytes ≡ print_fields (header_fields gateway n type (time_text time)) ++ body
+    → (fs : List Field) × SpellsFrame most_out fs bytes
 spelled gateway n time type body bytes small fits kind (fields, each, are) short is =
     let header = header_fields gateway n type (time_text time) in (
       header ++ fields,
@@ -161,7 +204,8 @@ spelled gateway n time type body bytes small fits kind (fields, each, are) short
 
 -- and the frame is the message's
 pub message_is : (gateway n time : ℕ) (type body bytes : List ℕ) (said : Said) → Spells type time body said →
-    bytes ≡ print_fields (header_fields gateway n type (time_text time)) ++ body → frame_of bytes ≡ message_text gateway n said
+    bytes ≡ print_fields (header_fields gateway n type (time_text time)) ++ body
+    → frame_of bytes ≡ message_text gateway n said
 unfolding message_text
 message_is gateway n time type body bytes said spells is =
     ap frame_of (is ∙ ap (λ b. print_fields (header_fields gateway n type (time_text time)) ++ b) (sym spells.body_is)
@@ -174,4 +218,10 @@ pub message_length : (whole out : List ℕ) (upto end : ℕ) → upto ≤ 387 �
     take end out ≡ frame_of (take upto whole) → end ≤ 412
 message_length whole out upto end short filled within is =
     let long = length-take-le upto whole filled in
-    omega (arith, long, length_frame (take upto whole) (omega (arith, long)), ap length is, length-take-le end out within)
+    omega (
+      arith,
+      long,
+      length_frame (take upto whole) (omega (arith, long)),
+      ap length is,
+      length-take-le end out within,
+    )

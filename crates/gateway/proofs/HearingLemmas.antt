@@ -22,6 +22,7 @@ pub verdict_right : (gateway accepted : ℕ) (fields : List Field) (h : Header) 
 unfolding verdict
 verdict_right gateway accepted fields h right = ap (verdict_by gateway accepted) right
 
-pub time_right : (last : List ℕ) (fields : List Field) (h : Header) → header_of fields ≡ Some h → time_after last fields ≡ h.time
+pub time_right : (last : List ℕ) (fields : List Field) (h : Header) → header_of fields ≡ Some h
+    → time_after last fields ≡ h.time
 unfolding time_after
 time_right last fields h right = ap (time_by last) right

@@ -21,7 +21,10 @@ one_byte tag b least most other = record { tag_from = least; tag_to = most; valu
 pub logon_each : AllByRecursion IsField logon_fields
 logon_each = (
   one_byte 98 48 (omega arith) (omega arith) (omega arith),
-  (one_byte 108 48 (omega arith) (omega arith) (omega arith), (one_byte 141 89 (omega arith) (omega arith) (omega arith), tt)),
+  (
+    one_byte 108 48 (omega arith) (omega arith) (omega arith),
+    (one_byte 141 89 (omega arith) (omega arith) (omega arith), tt),
+  ),
 )
 
 -- a field of a refusal's text is right

@@ -15,7 +15,8 @@ two_digits n large small =
 three_digits : (n : ℕ) → 100 ≤ n → n < 1000 → decimal n ≡ (48 + n / 100) ∷ (48 + n / 10 % 10) ∷ (48 + n % 10) ∷ []
 three_digits n large small =
     let tens : n / 10 / 10 % 10 ≡ n / 100 = omega arith in
-    decimal_step n (omega arith) (omega arith) ∙ ap (λ ds. ds ++ (48 + n % 10) ∷ []) (two_digits (n / 10) (omega arith) (omega arith))
+    decimal_step n (omega arith) (omega arith) ∙ ap (λ ds. ds ++ (48 + n % 10) ∷ [])
+    (two_digits (n / 10) (omega arith) (omega arith))
     ∙ ap (λ k. (48 + k) ∷ (48 + n / 10 % 10) ∷ (48 + n % 10) ∷ []) tens
 
 module _ (n : ℕ) (start : List ℕ) (begun : start ≡ [] ++ 67 ∷ []) where
@@ -23,14 +24,18 @@ module _ (n : ℕ) (start : List ℕ) (begun : start ≡ [] ++ 67 ∷ []) where
   named_by_one last small last_is =
       last_is ∙ ap (λ s. s ++ (48 + n % 10) ∷ []) begun ∙ ap (λ ds. 67 ∷ ds) (sym (one_digit n small))
 
-  pub named_by_two : (mid last : List ℕ) → 10 ≤ n → n < 100 → mid ≡ start ++ (48 + n / 10 % 10) ∷ [] → last ≡ mid ++ (48 + n % 10) ∷ [] → last ≡ client_name n
+  pub named_by_two : (mid last : List ℕ) → 10 ≤ n → n < 100 → mid ≡ start ++ (48 + n / 10 % 10) ∷ []
+      → last ≡ mid ++ (48 + n % 10) ∷ [] → last ≡ client_name n
   named_by_two mid last large small mid_is last_is =
-      last_is ∙ ap (λ m. m ++ (48 + n % 10) ∷ []) mid_is ∙ ap (λ s. s ++ (48 + n / 10 % 10) ∷ [] ++ (48 + n % 10) ∷ []) begun
+      last_is ∙ ap (λ m. m ++ (48 + n % 10) ∷ []) mid_is ∙ ap (λ s. s ++ (48 + n / 10 % 10) ∷ [] ++ (48 + n % 10) ∷ [])
+      begun
       ∙ ap (λ ds. 67 ∷ ds) (sym (two_digits n large small))
 
-  pub named_by_three : (big mid last : List ℕ) → 100 ≤ n → n < 1000 → big ≡ start ++ (48 + n / 100) ∷ [] → mid ≡ big ++ (48 + n / 10 % 10) ∷ [] →
+  pub named_by_three : (big mid last : List ℕ) → 100 ≤ n → n < 1000 → big ≡ start ++ (48 + n / 100) ∷ []
+      → mid ≡ big ++ (48 + n / 10 % 10) ∷ [] →
       last ≡ mid ++ (48 + n % 10) ∷ [] → last ≡ client_name n
   named_by_three big mid last large small big_is mid_is last_is =
-      last_is ∙ ap (λ m. m ++ (48 + n % 10) ∷ []) mid_is ∙ ap (λ b. b ++ (48 + n / 10 % 10) ∷ [] ++ (48 + n % 10) ∷ []) big_is
+      last_is ∙ ap (λ m. m ++ (48 + n % 10) ∷ []) mid_is ∙ ap (λ b. b ++ (48 + n / 10 % 10) ∷ [] ++ (48 + n % 10) ∷ [])
+      big_is
       ∙ ap (λ s. s ++ (48 + n / 100) ∷ [] ++ (48 + n / 10 % 10) ∷ [] ++ (48 + n % 10) ∷ []) begun
       ∙ ap (λ ds. 67 ∷ ds) (sym (three_digits n large small))

@@ -14,6 +14,13 @@ module _ (standing room n : ℕ) (bytes out : List ℕ) (within : standing ≤ l
       ap (λ m. take m (front ++ (out ++ behind))) (sym long) ∙ take-append-add front (out ++ behind) n
       ∙ ap (λ l. front ++ l) (take-append-le n out behind fits)
 
-  pub few_behind : (stood : List ℕ) → take standing bytes ≡ stood → n ≤ 412 → length (take (standing + n) (put_mid standing room bytes out)) ≤ length stood + 412
+  pub few_behind : (stood : List ℕ) → take standing bytes ≡ stood → n ≤ 412
+      → length (take (standing + n) (put_mid standing room bytes out)) ≤ length stood + 412
   few_behind stood stands few =
-      omega (arith, ap length put_behind, ap length stands, length-append (take standing bytes) (take n out), length-take-le n out fits)
+      omega (
+        arith,
+        ap length put_behind,
+        ap length stands,
+        length-append (take standing bytes) (take n out),
+        length-take-le n out fits,
+      )

@@ -9,7 +9,7 @@ use Rattle.ring_words.specs.Places.{claim, processed}
 use Rattle.ring_words.specs.Seats as seats
 use Rattle.ring_words.specs.Seats.{load_of, looked, with_claim, marked, sent_of}
 use Rattle.gateway.specs.declared.seat.TryPublish.TheVariants.{Done, Refused}
-use Rattle.gateway.specs.Ledgers.{Ledger, loading, PublishTells}
+use Rattle.gateway.specs.Ledgers.{Ledger, ledger_loading, PublishTells}
 use Rattle.gateway.specs.Seats.{messages_of, ledger_of, from_gateway, Published, Enters}
 
 -- a load, some more, and one behind them
@@ -23,7 +23,8 @@ module _ (n : ℕ) (s t : At Limits) (bytes : List ℕ) where
       let p : ℕ = done.claimed.0 in let more = done.claimed.1 in let a : ℕ = done.sequence in
       let e = from_gateway (number s) bytes in
       let claimed = with_claim (looked (seats.loading (looked s.who claim a) more.0) claim a) a in
-      let is : t ≡ seated s (marked claimed a e) = done.published ∙ ap (λ (z : At Limits). seated z (marked z.who a e)) more.2 in
+      let is : t ≡ seated s (marked claimed a e) = done.published
+      ∙ ap (λ (z : At Limits). seated z (marked z.who a e)) more.2 in
       let loads = in_order s.who.loads more.0 (load_of claim a) (load_of claim a) in
       let sends : messages_of (s.who.mine ++ sent_of a e ∷ []) ≡ messages_of s.who.mine ++ bytes ∷ [] =
       map-append (λ (m : Sent). m.entry.bytes) s.who.mine (sent_of a e ∷ []) in (
@@ -37,10 +38,12 @@ module _ (n : ℕ) (s t : At Limits) (bytes : List ℕ) where
   tells_refused (inl (a, p, is, full, few)) = (
     load_of claim a ∷ load_of processed p ∷ [],
     inl (a, p, refl, full, few),
-    ap (ledger_of n) is ∙ ap (λ ls. record (ledger_of n s) { loads = ls }) (append_assoc s.who.loads (load_of claim a ∷ []) (load_of processed p ∷ [])),
+    ap (ledger_of n) is ∙ ap (λ ls. record (ledger_of n s) { loads = ls })
+        (append_assoc s.who.loads (load_of claim a ∷ []) (load_of processed p ∷ [])),
   )
   tells_refused (inr (a, p, b, (more, sees, is, room, few, late))) = (
     load_of claim a ∷ more ++ load_of claim b ∷ [],
     inr (a, p, b, (more, sees, refl, room, few, late)),
-    ap (ledger_of n) is ∙ ap (λ ls. record (ledger_of n s) { loads = ls }) (in_order s.who.loads more (load_of claim a) (load_of claim b)),
+    ap (ledger_of n) is ∙ ap (λ ls. record (ledger_of n s) { loads = ls })
+        (in_order s.who.loads more (load_of claim a) (load_of claim b)),
   )

@@ -1,5 +1,6 @@
 -- A look for an output: what it keeps of a gateway's seat, and what it tells the session.
-use Rattle.std.proofs.Common.{◌≡◌, ◌≢◌, inl, ℕ, suc, ◌+◌, ◌^◌, ◌≤◌, List, [], ◌∷◌, ◌++◌, length, refl, ap, sym, subst, ◌∙◌, arith}
+use Rattle.std.proofs.Common.{◌≡◌, ◌≢◌, inl, ℕ, suc, ◌+◌, ◌^◌, ◌≤◌, List, [], ◌∷◌, ◌++◌, length, refl, ap, sym, subst}
+use Rattle.std.proofs.Common.{◌∙◌, arith}
 use Rattle.fix_orders.specs.Text.{Said, text, text_bytes}
 use Rattle.venue_model.specs.History.{Message}
 use Rattle.venue_model.specs.Requests.{Limits}
@@ -14,13 +15,15 @@ use Rattle.ring_words.specs.Seats.{looked, load_of}
 use Rattle.barrier.specs.Taking.{TakesNext, Says, SaysOutput}
 use Rattle.barrier.specs.declared.taking.Take.{Take}
 use Rattle.barrier.specs.declared.taking.Take.TheVariants.{Mine, Passed, Nothing}
-use Rattle.gateway.specs.Ledgers.{loading, TakeTells}
-use Rattle.gateway.specs.Seats.{limits_of, given, HasSeen, messages_of, taken_by, ledger_of, TakesOne, Looks, StaysSeated, MayEnter, MayLook, Uses}
+use Rattle.gateway.specs.Ledgers.{ledger_loading, TakeTells}
+use Rattle.gateway.specs.Seats.{limits_of, given, HasSeen, messages_of, taken_by, ledger_of, TakesOne, Looks}
+use Rattle.gateway.specs.Seats.{StaysSeated, MayEnter, MayLook, Uses}
 use Rattle.gateway.proofs.Carried.{carried}
 use Rattle.gateway.proofs.TakenLemmas.{taken_mine, taken_other, still_within, still_small}
 
 -- a holder who has seen and taken as much, and has no claim left, knows as much
-knows_still : (s : At Limits) (q : Person) → q.own ≡ s.who.own → q.seen ≡ s.who.seen → q.claims ≡ [] → HasSeen s → HasSeen (seated s q)
+knows_still : (s : At Limits) (q : Person) → q.own ≡ s.who.own → q.seen ≡ s.who.seen → q.claims ≡ [] → HasSeen s
+    → HasSeen (seated s q)
 knows_still s q own seen spent knows = record {
   logic = knows.logic;
   from = subst (λ (n : ℕ). given s ≤ n) (sym own) knows.from;
@@ -47,7 +50,8 @@ module _ (rings : Opened Limits) (s t : At Limits) (at : IsAt rings s) (step : S
   one : (take : Take) (body : List ℕ) → Takes rings s t take body
       → (o : Output) × TakesOne s t o × Says (number s) o (text_bytes o s.who.own) take body
   one take body (history, takes, says) =
-      let said = subst (λ (l : Limits). SaysOutput (outputs_of l history) text_bytes s take body) (sym (logic_at rings s at)) says in (
+      let said = subst (λ (l : Limits). SaysOutput (outputs_of l history) text_bytes s take body)
+      (sym (logic_at rings s at)) says in (
         said.0,
         record {
           history = history;
@@ -61,8 +65,13 @@ module _ (rings : Opened Limits) (s t : At Limits) (at : IsAt rings s) (step : S
   pub looks_so : (take : Take) (body : List ℕ) → (take ≡ Nothing → t.who ≡ looked s.who marshalled s.who.own)
       → (take ≢ Nothing → Takes rings s t take body) → Looks s t body take
   looks_so (Mine head) body nothing taken =
-      let o = one (Mine head) body (taken (λ is. cc)) in
-      (o.0, o.1, o.2.0, carried head body o.0 s.who.own (tells-fields (limits_of s) o.1.history s.who.own o.0 o.1.next) o.2.1)
+      let o = one (Mine head) body (taken (λ is. cc)) in (
+        o.0,
+        o.1,
+        o.2.0,
+        carried head body o.0 s.who.own (tells-fields (limits_of s) o.1.history s.who.own o.0 o.1.next)
+            o.2.1,
+      )
   looks_so Passed body nothing taken = let o = one Passed body (taken (λ is. cc)) in (o.0, o.1, o.2)
   looks_so Nothing body nothing taken = step ∙ ap (seated s) (nothing refl)
 
@@ -84,24 +93,36 @@ module _ (n : ℕ) (s t : At Limits) (knows : HasSeen s) (o : Output) (one : Tak
 
   -- the ledger with one output more, of these texts
   retold : (texts : List Said) → taken_by (number s) (limits_of s) s.base t.who ≡ texts → (ls : List Load)
-      × (ledger_of n t ≡ record (loading (ledger_of n s) ls) { taken = texts; count = s.who.own + 1 })
+      × (ledger_of n t ≡ record (ledger_loading (ledger_of n s) ls) { taken = texts; count = s.who.own + 1 })
   retold texts told =
-      let sends : messages_of t.who.mine ≡ messages_of s.who.mine = ap (λ (p : Person). messages_of p.mine) one.takes.taken in
+      let sends : messages_of t.who.mine ≡ messages_of s.who.mine =
+      ap (λ (p : Person). messages_of p.mine) one.takes.taken in
       let own : t.who.own ≡ suc s.who.own = ap (λ (p : Person). p.own) one.takes.taken in
       let count : t.who.own ≡ s.who.own + 1 = omega (arith, own) in
       let ls : List Load = load_of marshalled one.takes.value ∷ one.takes.loads in
       let loads : t.who.loads ≡ s.who.loads ++ ls = ap (λ (p : Person). p.loads) one.takes.taken in
       let role : number_of t.who.role ≡ number s = ap (λ (p : Person). number_of p.role) one.takes.taken in
-      let now : taken_by (number_of t.who.role) (limits_of s) s.base t.who ≡ texts = ap (λ (k : ℕ). taken_by k (limits_of s) s.base t.who) role ∙ told in (
+      let now : taken_by (number_of t.who.role) (limits_of s) s.base t.who
+      ≡ texts = ap (λ (k : ℕ). taken_by k (limits_of s) s.base t.who) role ∙ told in (
         ls,
-        ap (ledger_of n) one.others ∙ (λ i. record { rows = n; published = sends i; taken = now i; count = count i; loads = loads i }),
+        ap (ledger_of n) one.others ∙ (λ i. record {
+          rows = n;
+          published = sends i;
+          taken = now i;
+          count = count i;
+          loads = loads i;
+        }),
       )
 
-  taken_more : o.to ≡ number s → taken_by (number s) (limits_of s) s.base t.who ≡ taken_by (number s) (limits_of s) s.base s.who ++ text o s.who.own ∷ []
-  taken_more is = taken_mine (number s) (limits_of s) s.base one.history s.who t.who o (length s.base) one.takes one.next knows.from knows.to is
+  taken_more : o.to ≡ number s → taken_by (number s) (limits_of s) s.base t.who
+      ≡ taken_by (number s) (limits_of s) s.base s.who ++ text o s.who.own ∷ []
+  taken_more is = taken_mine (number s) (limits_of s) s.base one.history s.who t.who o (length s.base) one.takes
+      one.next knows.from knows.to is
 
-  taken_same : o.to ≢ number s → taken_by (number s) (limits_of s) s.base t.who ≡ taken_by (number s) (limits_of s) s.base s.who
-  taken_same other = taken_other (number s) (limits_of s) s.base one.history s.who t.who o (length s.base) one.takes one.next knows.from knows.to other
+  taken_same : o.to ≢ number s → taken_by (number s) (limits_of s) s.base t.who
+      ≡ taken_by (number s) (limits_of s) s.base s.who
+  taken_same other = taken_other (number s) (limits_of s) s.base one.history s.who t.who o (length s.base) one.takes
+      one.next knows.from knows.to other
 
 module _ (n : ℕ) (s t : At Limits) (knows : HasSeen s) where
   pub looks_keeps : (take : Take) (body : List ℕ) → Looks s t body take → HasSeen t
@@ -109,7 +130,8 @@ module _ (n : ℕ) (s t : At Limits) (knows : HasSeen s) where
   looks_keeps Passed body (o, one, other) = taken_keeps n s t knows o one
   looks_keeps Nothing body is = subst HasSeen (sym is) (knows_still s _ refl refl knows.spent knows)
 
-  pub looks_tells : (take : Take) (body : List ℕ) → Looks s t body take → TakeTells (ledger_of n s) (ledger_of n t) body take
+  pub looks_tells : (take : Take) (body : List ℕ) → Looks s t body take
+      → TakeTells (ledger_of n s) (ledger_of n t) body take
   looks_tells (Mine head) body (o, one, is, carries) =
       let more = retold n s t knows o one _ (taken_more n s t knows o one is) in
       (text o s.who.own, carries, small n s t knows o one, more.0, more.1)
@@ -120,8 +142,12 @@ module _ (n : ℕ) (s t : At Limits) (knows : HasSeen s) where
 
 -- a look leaves the seat at its rings, and its gateway's
 pub looks_stays : (s t : At Limits) (take : Take) (body : List ℕ) → Looks s t body take → StaysSeated s t
-looks_stays s t (Mine head) body (o, one, is, carries) = record { rings = one.others; role = ap (λ (p : Person). p.role) one.takes.taken }
-looks_stays s t Passed body (o, one, other) = record { rings = one.others; role = ap (λ (p : Person). p.role) one.takes.taken }
+looks_stays s t (Mine head) body (o, one, is, carries) =
+    record { rings = one.others; role = ap (λ (p : Person). p.role) one.takes.taken }
+looks_stays s t Passed body (o, one, other) = record {
+  rings = one.others;
+  role = ap (λ (p : Person). p.role) one.takes.taken;
+}
 looks_stays s t Nothing body is =
     let who : t.who ≡ looked s.who marshalled s.who.own = ap (λ (a : At Limits). a.who) is in
     record { rings = is ∙ ap (seated s) (sym who); role = ap (λ (p : Person). p.role) who }
@@ -132,12 +158,17 @@ seat_still s = record { rings = refl; role = refl }
 
 -- a seat that wasn't used
 pub unused : (n : ℕ) (s t : At Limits) → t ≡ s → Uses n s t
-unused n s t still = subst (Uses n s) (sym still) (record { stays = seat_still s; between = s; enters = inl refl; looks = inl refl })
+unused n s t still = subst (Uses n s) (sym still)
+    (record { stays = seat_still s; between = s; enters = inl refl; looks = inl refl })
 
 -- a seat that was used for a try to publish, and then for a look
-pub used : (n : ℕ) (s t u v : At Limits) → StaysSeated s t → MayEnter n s t → StaysSeated t u → MayLook t u → v ≡ u → Uses n s v
+pub used : (n : ℕ) (s t u v : At Limits) → StaysSeated s t → MayEnter n s t → StaysSeated t u → MayLook t u → v ≡ u
+    → Uses n s v
 used n s t u v first enters next looks still = subst (Uses n s) (sym still) (record {
-  stays = record { rings = next.rings ∙ ap (λ (x : At Limits). seated x u.who) first.rings; role = next.role ∙ first.role };
+  stays = record {
+    rings = next.rings ∙ ap (λ (x : At Limits). seated x u.who) first.rings;
+    role = next.role ∙ first.role;
+  };
   between = t;
   enters = enters;
   looks = looks;

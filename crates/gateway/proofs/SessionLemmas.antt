@@ -10,6 +10,17 @@ unfolding time_text
 time_text-zero = refl
 
 -- nothing heard and nothing said is a fresh session
-pub is_fresh : (gateway : ℕ) (under_way time outgoing : List ℕ) (held : Option (List ℕ)) → under_way ≡ [] → held ≡ None → time ≡ no_time →
-    outgoing ≡ [] → record { gateway = gateway; under_way = under_way; held = held; accepted = 0; time = time; outgoing = outgoing; number = 1; logged_on = false; closing = None } ≡ fresh gateway
+pub is_fresh : (gateway : ℕ) (under_way time outgoing : List ℕ) (held : Option (List ℕ)) → under_way ≡ [] → held ≡ None
+    → time ≡ no_time →
+    outgoing ≡ [] → record {
+      gateway = gateway;
+      under_way = under_way;
+      held = held;
+      accepted = 0;
+      time = time;
+      outgoing = outgoing;
+      number = 1;
+      logged_on = false;
+      closing = None;
+    } ≡ fresh gateway
 is_fresh gateway under_way time outgoing held none free before nothing = cc

@@ -19,7 +19,8 @@ both a b = record {
 }
 
 -- the same lists, written in another way
-pub at-same : (s : Standing) (input input' : List ℕ) (messages messages' : List (List ℕ)) (outs outs' : List Said) (written written' : List ℕ) →
+pub at-same : (s : Standing) (input input' : List ℕ) (messages messages' : List (List ℕ)) (outs outs' : List Said)
+    (written written' : List ℕ) →
     input ≡ input' → messages ≡ messages' → outs ≡ outs' → written ≡ written' →
     At s input messages outs written → At s input' messages' outs' written'
 at-same s input input' messages messages' outs outs' written written' i m o w at =
@@ -30,20 +31,26 @@ at-same s input input' messages messages' outs outs' written written' i m o w at
 
 pub moves-then : (a b c : Standing) (m n : Moved) → Moves a b m → Moves b c n → Moves a c (both m n)
 moves-then a b c m n first second input messages outs written at =
-    at-same c ((input ++ m.fed) ++ n.fed) (input ++ (m.fed ++ n.fed)) ((messages ++ m.messages) ++ n.messages) (messages ++ (m.messages ++ n.messages))
-    ((outs ++ m.handed) ++ n.handed) (outs ++ (m.handed ++ n.handed)) ((written ++ m.put) ++ n.put) (written ++ (m.put ++ n.put))
-    (append_assoc input m.fed n.fed) (append_assoc messages m.messages n.messages) (append_assoc outs m.handed n.handed) (append_assoc written m.put n.put)
-    (second (input ++ m.fed) (messages ++ m.messages) (outs ++ m.handed) (written ++ m.put) (first input messages outs written at))
+    at-same c ((input ++ m.fed) ++ n.fed) (input ++ (m.fed ++ n.fed)) ((messages ++ m.messages) ++ n.messages)
+    (messages ++ (m.messages ++ n.messages))
+    ((outs ++ m.handed) ++ n.handed) (outs ++ (m.handed ++ n.handed)) ((written ++ m.put) ++ n.put)
+    (written ++ (m.put ++ n.put))
+    (append_assoc input m.fed n.fed) (append_assoc messages m.messages n.messages) (append_assoc outs m.handed n.handed)
+    (append_assoc written m.put n.put)
+    (second (input ++ m.fed) (messages ++ m.messages) (outs ++ m.handed) (written ++ m.put)
+    (first input messages outs written at))
 
 pub step-then : (a b c : Standing) (u v w : List ℕ) (p q r : Told) (d e f : Ledger) (m n : Moved) →
-    Step (place a u p d) (place b v q e) m → Step (place b v q e) (place c w r f) n → Step (place a u p d) (place c w r f) (both m n)
+    Step (place a u p d) (place b v q e) m → Step (place b v q e) (place c w r f) n
+    → Step (place a u p d) (place c w r f) (both m n)
 step-then a b c u v w p q r d e f m n first second = record {
   moves = moves-then a b c m n first.moves second.moves;
   input = append_assoc m.fed n.fed w ∙ ap (λ x. m.fed ++ x) second.input ∙ sym (append_assoc m.fed v n.got)
       ∙ ap (λ x. x ++ n.got) first.input ∙ append_assoc u m.got n.got;
   gave = second.gave ∙ ap (λ t. grown t n.got) first.gave ∙ grown-append p.gave m.got n.got;
   took = second.took ∙ ap (λ t. grown t n.put) first.took ∙ grown-append p.took m.put n.put;
-  published = second.published ∙ ap (λ ms. ms ++ n.messages) first.published ∙ append_assoc d.published m.messages n.messages;
+  published = second.published ∙ ap (λ ms. ms ++ n.messages) first.published
+      ∙ append_assoc d.published m.messages n.messages;
   gateway = second.gateway ∙ first.gateway;
 }
 
@@ -61,7 +68,8 @@ pub flush-step : (old new : Standing) (waiting put : List ℕ) (wire wire' : Tol
 flush-step old new waiting put wire wire' desk split new_is gave took = record {
   moves = λ input messages outs written at.
       subst (λ (s : Standing). At s (input ++ []) (messages ++ []) (outs ++ []) (written ++ put)) (sym new_is)
-      (at-same (record old { outgoing = new.outgoing }) input (input ++ []) messages (messages ++ []) outs (outs ++ []) (written ++ put) (written ++ put)
+      (at-same (record old { outgoing = new.outgoing }) input (input ++ []) messages (messages ++ []) outs (outs ++ [])
+      (written ++ put) (written ++ put)
       (sym (append-nil input)) (sym (append-nil messages)) (sym (append-nil outs)) refl
       (at-flushed old input messages outs written put new.outgoing split at));
   input = sym (append-nil waiting);

@@ -1,5 +1,6 @@
 -- What a gateway has taken: the texts of outputs as their count grows.
-use Rattle.std.proofs.Common.{◌≡◌, ◌≢◌, ℕ, suc, ◌+◌, ◌^◌, ◌≤◌, Bool, true, false, List, [], ◌∷◌, ◌++◌, length, take, drop, ap, sym, ◌∙◌, arith, append-nil, length-drop, add-zero, take-append-drop}
+use Rattle.std.proofs.Common.{◌≡◌, ◌≢◌, ℕ, suc, ◌+◌, ◌^◌, ◌≤◌, Bool, true, false, List, [], ◌∷◌, ◌++◌, length, take}
+use Rattle.std.proofs.Common.{drop, ap, sym, ◌∙◌, arith, append-nil, length-drop, add-zero, take-append-drop}
 use Rattle.std.specs.Prelude.{◌==◌, if◌then◌else◌}
 use Rattle.std.proofs.lemmas.Bool.Decides.{nat_tests}
 use Rattle.std.proofs.lemmas.List.{length-take-le, take-append-le, drop-append-le}
@@ -37,8 +38,10 @@ texts-one_more k place (x ∷ xs) o =
     ) [ true ↦ ap (λ l. text x place ∷ l) rest | false ↦ rest ]
 
 -- what is taken behind the outputs at the start when the count goes over one output more
-taken-one_more : (k given : ℕ) (all : List Output) (count : ℕ) (o : Output) → get_elem? all count ≡ some o → given ≤ count →
-    texts_to k given (drop given (take (suc count) all)) ≡ texts_to k given (drop given (take count all)) ++ one_text k count o
+taken-one_more : (k given : ℕ) (all : List Output) (count : ℕ) (o : Output) → get_elem? all count ≡ some o
+    → given ≤ count →
+    texts_to k given (drop given (take (suc count) all)) ≡ texts_to k given (drop given (take count all))
+    ++ one_text k count o
 taken-one_more k given all count o at from =
     let there = within all count o at in
     let front = length-take-le count all (omega (arith, there)) in
@@ -64,7 +67,8 @@ others k place o other = ap (λ (b : Bool). if b then text o place ∷ [] else [
 
 -- TAKING
 
-module _ (k : ℕ) (limits : Limits) (base history : List Message) (p q : Person) (o : Output) (start : ℕ) (takes : TakesNext start p history q)
+module _ (k : ℕ) (limits : Limits) (base history : List Message) (p q : Person) (o : Output) (start : ℕ)
+    (takes : TakesNext start p history q)
     (next : get_elem? (outputs_of limits history) p.own ≡ some o) where
   abbrev given : ℕ
   given = length (outputs_of limits base)
@@ -91,18 +95,22 @@ module _ (k : ℕ) (limits : Limits) (base history : List Message) (p q : Person
     stays : texts_to k given (drop given (take p.own (outputs_of limits history))) ≡ taken_by k limits base p
     stays =
         let rest : List Message = drop (length p.seen) history in
-        let grown : history ≡ p.seen ++ rest = sym (take-append-drop (length p.seen) history) ∙ ap (λ (h : List Message). h ++ rest) (sym takes.begins) in
+        let grown : history ≡ p.seen ++ rest = sym (take-append-drop (length p.seen) history)
+        ∙ ap (λ (h : List Message). h ++ rest) (sym takes.begins) in
         let more = grows-by (reads_at limits) limits.symbols p.seen rest in
         ap (λ (h : List Message). texts_to k given (drop given (take p.own (outputs_of limits h)))) grown
         ∙ ap (λ (os : List Output). texts_to k given (drop given (take p.own os))) more.1
-        ∙ ap (λ (os : List Output). texts_to k given (drop given os)) (take-append-le p.own (outputs_of limits p.seen) more.0 to)
+        ∙ ap (λ (os : List Output). texts_to k given (drop given os))
+        (take-append-le p.own (outputs_of limits p.seen) more.0 to)
 
     one_more : taken_by k limits base q ≡ taken_by k limits base p ++ one_text k p.own o
-    one_more = ap (taken_by k limits base) takes.taken ∙ taken-one_more k given (outputs_of limits history) p.own o next from
+    one_more = ap (taken_by k limits base) takes.taken ∙ taken-one_more k given (outputs_of limits history) p.own o next
+        from
         ∙ ap (λ (ts : List Said). ts ++ one_text k p.own o) stays
 
     pub taken_mine : o.to ≡ k → taken_by k limits base q ≡ taken_by k limits base p ++ text o p.own ∷ []
     taken_mine is = one_more ∙ ap (λ (ts : List Said). taken_by k limits base p ++ ts) (mine k p.own o is)
 
     pub taken_other : o.to ≢ k → taken_by k limits base q ≡ taken_by k limits base p
-    taken_other other = one_more ∙ ap (λ (ts : List Said). taken_by k limits base p ++ ts) (others k p.own o other) ∙ append-nil (taken_by k limits base p)
+    taken_other other = one_more ∙ ap (λ (ts : List Said). taken_by k limits base p ++ ts) (others k p.own o other)
+        ∙ append-nil (taken_by k limits base p)

@@ -1,5 +1,7 @@
 -- What the parts of a turn come to, one behind the other.
-use Rattle.std.proofs.Common.{◌≡◌, ◌≢◌, ◌⊎◌, inl, inr, ℕ, suc, nat_lt, ◌+◌, ◌≤◌, ◌<◌, ◌^◌, Bool, true, false, true≢false, if◌then◌else◌, List, [], ◌∷◌, ◌++◌, length, refl, ap, sym, subst, ◌∙◌, arith, append-nil, append_assoc, length-append, Some, None}
+use Rattle.std.proofs.Common.{◌≡◌, ◌≢◌, ◌⊎◌, inl, inr, ℕ, suc, nat_lt, ◌+◌, ◌≤◌, ◌<◌, ◌^◌, Bool, true, false}
+use Rattle.std.proofs.Common.{true≢false, if◌then◌else◌, List, [], ◌∷◌, ◌++◌, length, refl, ap, sym, subst, ◌∙◌, arith}
+use Rattle.std.proofs.Common.{append-nil, append_assoc, length-append, Some, None}
 use borrow.Author.Tests.{ltb-true, ltb-false}
 use Rattle.fix_orders.specs.Text.{Said}
 use Rattle.gateway.specs.declared.ending.Reason.{Reason}
@@ -7,26 +9,39 @@ use Rattle.gateway.specs.declared.ending.Reason.TheVariants.{Closed, WireFailed,
 use Rattle.gateway.specs.declared.ending.Turned.{Turned}
 use Rattle.gateway.specs.declared.ending.Turned.TheVariants.{Worked, Quiet, Ended}
 use Rattle.wires.specs.declared.flushed.Flushed.TheVariants as flushed
-use Rattle.gateway.specs.declared.gateway.Heard.{Heard}
-use Rattle.gateway.specs.declared.gateway.Heard.TheVariants.{Something, Nothing, Failed}
+use Rattle.gateway.specs.declared.gateway.Found.{Found}
+use Rattle.gateway.specs.declared.gateway.Found.TheVariants.{Something, Nothing, Failed}
 use Rattle.venue_model.specs.Counts.{Rose}
 use Rattle.wires.specs.Wires.{Told, grown}
 use Rattle.ring_words.specs.declared.view.Load.{Load}
 use Rattle.ring_words.specs.Places.{claim, marshalled}
 use Rattle.ring_words.specs.Seats.{load_of}
-use Rattle.gateway.specs.Ledgers.{Ledger, loading}
+use Rattle.gateway.specs.Ledgers.{Ledger, ledger_loading}
 use Rattle.wires.specs.Flushing.{Flushes}
 use Rattle.gateway.specs.Standing.{Standing}
 use Rattle.gateway.specs.SessionFields.{ClosesItself}
-use Rattle.gateway.specs.Turns.{World, place, world, Front, Moved, nothing_moved, Step, Takes, WasRefused, WasExhausted, FoundNone, ClosesBy, Silence, Hearing, IsQuiet, GoesOn, EndedBy, Means, CountsTurns, Attends, Turn}
+use Rattle.gateway.specs.Turns.{World, place, world, Front, Moved, nothing_moved, Step, Takes, WasRefused, WasExhausted}
+use Rattle.gateway.specs.Turns.{FoundNone, ClosesBy, Silence, Hearing, IsQuiet, GoesOn, EndedBy, Means, CountsTurns}
+use Rattle.gateway.specs.Turns.{Attends, Turn}
 use Rattle.gateway.specs.TurnParts.{Hears, HeardSo, HandsOn, TookSo, Waits, Rests, RestsSo, Stuck, StuckSo}
 use Rattle.gateway.proofs.StepLemmas.{both, step-then, flush-step}
 use Rattle.wires.specs.WireLaws.{grown-nil}
 
 -- no outputs are taken
-no_takes : (on : Bool) (old new : Front) (desk desk' : Ledger) → desk'.taken ≡ desk.taken → new.passed ≡ old.passed → Takes on old new desk desk' []
-no_takes true old new desk desk' none same = record { these = []; taken = none ∙ sym (append-nil desk.taken); given = refl; passed = omega arith }
-no_takes false old new desk desk' none same = record { these = []; taken = none ∙ sym (append-nil desk.taken); given = refl; passed = omega arith }
+no_takes : (on : Bool) (old new : Front) (desk desk' : Ledger) → desk'.taken ≡ desk.taken → new.passed ≡ old.passed
+    → Takes on old new desk desk' []
+no_takes true old new desk desk' none same = record {
+  these = [];
+  taken = none ∙ sym (append-nil desk.taken);
+  given = refl;
+  passed = omega arith;
+}
+no_takes false old new desk desk' none same = record {
+  these = [];
+  taken = none ∙ sym (append-nil desk.taken);
+  given = refl;
+  passed = omega arith;
+}
 
 -- what was written is nothing only if nothing was written
 no_front : (put rest : List ℕ) → put ++ rest ≡ [] → put ≡ []
@@ -58,7 +73,8 @@ no_rest [] rest e = sym e
 no_rest (b ∷ put) rest e = no_rest put rest cc
 
 -- a session that has ended needn't attend to anything
-over-attends : (old new : Front) (wire wire' : Told) (desk desk' : Ledger) (m : Moved) → new.live ≡ false → Attends (world old wire desk) (world new wire' desk') m
+over-attends : (old new : Front) (wire wire' : Told) (desk desk' : Ledger) (m : Moved) → new.live ≡ false
+    → Attends (world old wire desk) (world new wire' desk') m
 over-attends old new wire wire' desk desk' m over = record {
   writes = λ live. absurd (true≢false (sym live ∙ over));
   listens = λ live. absurd (true≢false (sym live ∙ over));
@@ -68,7 +84,8 @@ over-attends old new wire wire' desk desk' m over = record {
 -- where nothing was loaded it wasn't seen that no sequence was left
 unloaded : (desk : Ledger) → WasExhausted desk desk → ⊥
 unloaded desk (ls, is, rest, loads) =
-    let long : length desk.loads ≡ length desk.loads + length (ls ++ rest) = ap length loads ∙ length-append desk.loads (ls ++ rest) in
+    let long : length desk.loads ≡ length desk.loads + length (ls ++ rest) = ap length loads
+    ∙ length-append desk.loads (ls ++ rest) in
     let more : length (ls ++ rest) ≡ suc (length rest) = ap (λ l. length (l ++ rest)) is in
     absurd (omega (arith, long, more))
 
@@ -76,16 +93,21 @@ unloaded desk (ls, is, rest, loads) =
 module _ (old : Front) (session : Standing) (wire wire' : Told) (desk : Ledger) (put : List ℕ)
     (split : old.session.outgoing ≡ put ++ session.outgoing)
     (session_is : session ≡ record old.session { outgoing = session.outgoing })
-    (gave : wire'.gave ≡ wire.gave) (took : wire'.took ≡ grown wire.took put) (ends : wire'.ends ≡ wire.ends) (deaf : ℕ) (live : Bool) where
+    (gave : wire'.gave ≡ wire.gave) (took : wire'.took ≡ grown wire.took put) (ends : wire'.ends ≡ wire.ends) (deaf : ℕ)
+    (live : Bool) where
   flushed-turn : (answer : Turned) → (wire'.failures ≢ wire.failures → answer ≡ Ended WireFailed) →
-      Attends (world old wire desk) (world (record old { session = session; deaf = deaf; live = live }) wire' desk) (record nothing_moved { put = put }) →
-      Means (world old wire desk) (world (record old { session = session; deaf = deaf; live = live }) wire' desk) (record nothing_moved { put = put }) answer →
-      CountsTurns (world old wire desk) (world (record old { session = session; deaf = deaf; live = live }) wire' desk) (record nothing_moved { put = put }) answer →
+      Attends (world old wire desk) (world (record old { session = session; deaf = deaf; live = live }) wire' desk)
+      (record nothing_moved { put = put }) →
+      Means (world old wire desk) (world (record old { session = session; deaf = deaf; live = live }) wire' desk)
+      (record nothing_moved { put = put }) answer →
+      CountsTurns (world old wire desk) (world (record old { session = session; deaf = deaf; live = live }) wire' desk)
+      (record nothing_moved { put = put }) answer →
       Turn (world old wire desk) (world (record old { session = session; deaf = deaf; live = live }) wire' desk) answer
   flushed-turn answer fails attends means counts = record {
     moved = record nothing_moved { put = put };
     step = flush-step old.session session old.waiting put wire wire' desk split session_is gave took;
-    takes = no_takes session.logged_on old (record old { session = session; deaf = deaf; live = live }) desk desk refl refl;
+    takes = no_takes session.logged_on old (record old { session = session; deaf = deaf; live = live }) desk desk refl
+        refl;
     means = means;
     counts = counts;
     attends = attends;
@@ -100,8 +122,10 @@ no_more : (desk : Ledger) (A : Type 0) → desk.count < desk.count → A
 no_more desk A more = absurd (omega (arith, more))
 
 -- a session is over: its counts are as they were, or the first began again
-over-counts : (old new : Front) (wire wire' : Told) (desk desk' : Ledger) (m : Moved) (answer : Turned) → new.live ≡ false → (new.deaf ≡ 0) ⊎ (new.deaf ≡ old.deaf) →
-    new.idle ≡ old.idle → (answer ≢ Ended WireFailed → old.session.outgoing ≢ [] → m.put ≢ []) → (answer ≢ Ended WireFailed → new.session.closing ≢ None) →
+over-counts : (old new : Front) (wire wire' : Told) (desk desk' : Ledger) (m : Moved) (answer : Turned)
+    → new.live ≡ false → (new.deaf ≡ 0) ⊎ (new.deaf ≡ old.deaf) →
+    new.idle ≡ old.idle → (answer ≢ Ended WireFailed → old.session.outgoing ≢ [] → m.put ≢ [])
+    → (answer ≢ Ended WireFailed → new.session.closing ≢ None) →
     CountsTurns (world old wire desk) (world new wire' desk') m answer
 over-counts old new wire wire' desk desk' m answer over deaf idle all closes = record {
   deaf = elim deaf [ inl zero ↦ inl zero | inr same ↦ inr (inl same) ];
@@ -119,23 +143,31 @@ pub turn-failed : (old : Front) (session : Standing) (wire wire' : Told) (desk :
     Flushes old.session.outgoing session.outgoing wire wire' flushed.Failed →
     Turn (world old wire desk) (world (record old { session = session; live = false }) wire' desk) (Ended WireFailed)
 turn-failed old session wire wire' desk session_is (put, split, (rose, tells)) =
-    flushed-turn old session wire wire' desk put split session_is (ap (λ (t : Told). t.gave) tells) (ap (λ (t : Told). t.took) tells) (ap (λ (t : Told). t.ends) tells)
-    old.deaf false (Ended WireFailed) (λ more. refl) (over-attends old (record old { session = session; live = false }) wire wire' desk desk (record nothing_moved { put = put }) refl) (rose, refl)
-    (over-counts old (record old { session = session; live = false }) wire wire' desk desk (record nothing_moved { put = put }) (Ended WireFailed) refl (inr refl) refl
+    flushed-turn old session wire wire' desk put split session_is (ap (λ (t : Told). t.gave) tells)
+    (ap (λ (t : Told). t.took) tells) (ap (λ (t : Told). t.ends) tells)
+    old.deaf false (Ended WireFailed) (λ more. refl)
+    (over-attends old (record old { session = session; live = false }) wire wire' desk desk
+    (record nothing_moved { put = put }) refl) (rose, refl)
+    (over-counts old (record old { session = session; live = false }) wire wire' desk desk
+    (record nothing_moved { put = put }) (Ended WireFailed) refl (inr refl) refl
     (λ other. absurd (other refl)) (λ other. absurd (other refl)))
 
 -- the wire took no more in the flush
 stuck-means : (old new : Front) (wire wire' : Told) (desk : Ledger) (put : List ℕ) (wrote : Bool) (answer : Turned) →
     old.session.outgoing ≡ put ++ new.session.outgoing → new.session.outgoing ≢ [] → old.live ≡ true →
-    wrote ≡ nat_lt (length new.session.outgoing) (length old.session.outgoing) → Rose wire.full_writes wire'.full_writes →
-    StuckSo old new wrote answer → Means (world old wire desk) (world new wire' desk) (record nothing_moved { put = put }) answer
+    wrote ≡ nat_lt (length new.session.outgoing) (length old.session.outgoing)
+    → Rose wire.full_writes wire'.full_writes →
+    StuckSo old new wrote answer → Means (world old wire desk) (world new wire' desk)
+    (record nothing_moved { put = put }) answer
 stuck-means old new wire wire' desk put wrote Worked split left live wrote_is rose so = (
-  inl (λ same. wrote_some old.session.outgoing put new.session.outgoing split (sym wrote_is ∙ so.1) (ap (λ (m : Moved). m.put) same)),
+  inl (λ same. wrote_some old.session.outgoing put new.session.outgoing split (sym wrote_is ∙ so.1)
+      (ap (λ (m : Moved). m.put) same)),
   record { live = so.0 ∙ live; unsaid = λ closing. left },
 )
 stuck-means old new wire wire' desk put wrote Quiet split left live wrote_is rose so = (
   record {
-    still = ap (λ p. record nothing_moved { put = p }) (wrote_none old.session.outgoing put new.session.outgoing split (sym wrote_is ∙ so.1));
+    still = ap (λ p. record nothing_moved { put = p })
+        (wrote_none old.session.outgoing put new.session.outgoing split (sym wrote_is ∙ so.1));
     stuck = λ stood. rose;
     unheard = λ silent. absurd (left (no_end put new.session.outgoing (sym split ∙ silent)));
     untaken = refl;
@@ -145,10 +177,12 @@ stuck-means old new wire wire' desk put wrote Quiet split left live wrote_is ros
 )
 stuck-means old new wire wire' desk put wrote (Ended reason) split left live wrote_is rose so =
     let full = so.2 in let more = so.4 in
-    subst (λ (r : Reason). EndedBy (world old wire desk) (world new wire' desk) r × (new.live ≡ false)) (sym so.1) ((so.2, omega (arith, full, more)), so.0)
+    subst (λ (r : Reason). EndedBy (world old wire desk) (world new wire' desk) r × (new.live ≡ false)) (sym so.1)
+    ((so.2, omega (arith, full, more)), so.0)
 
 -- what the stuck part says of the gateway before the flush, and of its end
-stuck-so : (old : Front) (session : Standing) (new : Front) (wrote : Bool) (answer : Turned) → Stuck (record old { session = session }) new wrote answer →
+stuck-so : (old : Front) (session : Standing) (new : Front) (wrote : Bool) (answer : Turned)
+    → Stuck (record old { session = session }) new wrote answer →
     StuckSo old (record old { session = session; deaf = new.deaf; live = new.live }) wrote answer
 stuck-so old session new wrote Worked stuck = stuck.so
 stuck-so old session new wrote Quiet stuck = stuck.so
@@ -157,12 +191,15 @@ stuck-so old session new wrote (Ended reason) stuck = stuck.so
 -- the counts of a turn that couldn't write all
 stuck-counts : (old new : Front) (wire wire' : Told) (desk : Ledger) (put : List ℕ) (wrote : Bool) (answer : Turned) →
     old.session.outgoing ≡ put ++ new.session.outgoing → new.session.outgoing ≢ [] → new.idle ≡ old.idle →
-    wrote ≡ nat_lt (length new.session.outgoing) (length old.session.outgoing) → Rose wire.full_writes wire'.full_writes →
-    StuckSo old new wrote answer → CountsTurns (world old wire desk) (world new wire' desk) (record nothing_moved { put = put }) answer
+    wrote ≡ nat_lt (length new.session.outgoing) (length old.session.outgoing)
+    → Rose wire.full_writes wire'.full_writes →
+    StuckSo old new wrote answer → CountsTurns (world old wire desk) (world new wire' desk)
+    (record nothing_moved { put = put }) answer
 stuck-counts old new wire wire' desk put wrote Worked split left idle wrote_is rose so = record {
   deaf = inl so.2;
   idle = inr (inl idle);
-  deaf_rises = λ other stood none. absurd (wrote_some old.session.outgoing put new.session.outgoing split (sym wrote_is ∙ so.1) none);
+  deaf_rises = λ other stood none. absurd
+      (wrote_some old.session.outgoing put new.session.outgoing split (sym wrote_is ∙ so.1) none);
   idle_rises = λ other closed is_open silent. absurd (left (no_end put new.session.outgoing (sym split ∙ silent)));
   wrote = λ live some. so.2;
   wrote_all = λ live some all. absurd (left (no_rest put new.session.outgoing (all ∙ split)));
@@ -189,23 +226,34 @@ stuck-counts old new wire wire' desk put wrote (Ended reason) split left idle wr
       took = λ live more. no_more desk _ more;
     }
 
-pub turn-stuck : (old : Front) (session : Standing) (new : Front) (wire wire' : Told) (desk : Ledger) (wrote : Bool) (answer : Turned) →
+pub turn-stuck : (old : Front) (session : Standing) (new : Front) (wire wire' : Told) (desk : Ledger) (wrote : Bool)
+    (answer : Turned) →
     session ≡ record old.session { outgoing = session.outgoing } → old.live ≡ true →
     Flushes old.session.outgoing session.outgoing wire wire' flushed.Full →
     wrote ≡ nat_lt (length session.outgoing) (length old.session.outgoing) →
     Stuck (record old { session = session }) new wrote answer →
     Turn (world old wire desk) (world new wire' desk) answer
-turn-stuck old session new wire wire' desk wrote answer session_is live (put, split, (left, rose, tells)) wrote_is stuck =
+turn-stuck old session new wire wire' desk wrote answer session_is live (put, split, (left, rose, tells)) wrote_is
+    stuck =
     let end = record old { session = session; deaf = new.deaf; live = new.live } in
     subst (λ (f : Front). Turn (world old wire desk) (world f wire' desk) answer) (sym stuck.others)
-    (flushed-turn old session wire wire' desk put split session_is (ap (λ (t : Told). t.gave) tells) (ap (λ (t : Told). t.took) tells) (ap (λ (t : Told). t.ends) tells)
+    (flushed-turn old session wire wire' desk put split session_is (ap (λ (t : Told). t.gave) tells)
+    (ap (λ (t : Told). t.took) tells) (ap (λ (t : Told). t.ends) tells)
     new.deaf new.live answer (λ more. absurd (more (ap (λ (t : Told). t.failures) tells)))
-    (record { writes = λ lives. inr (rose, refl, refl); listens = λ lives all. absurd (left (no_rest put session.outgoing (all ∙ split))); looks = λ lives all. absurd (left (no_rest put session.outgoing (all ∙ split))) })
-    (stuck-means old end wire wire' desk put wrote answer split left live wrote_is rose (stuck-so old session new wrote answer stuck))
-    (stuck-counts old end wire wire' desk put wrote answer split left refl wrote_is rose (stuck-so old session new wrote answer stuck)))
+    (record {
+      writes = λ lives. inr (rose, refl, refl);
+      listens =
+          λ lives all. absurd (left (no_rest put session.outgoing (all ∙ split)));
+      looks = λ lives all. absurd (left (no_rest put session.outgoing (all ∙ split)));
+    })
+    (stuck-means old end wire wire' desk put wrote answer split left live wrote_is rose
+    (stuck-so old session new wrote answer stuck))
+    (stuck-counts old end wire wire' desk put wrote answer split left refl wrote_is rose
+    (stuck-so old session new wrote answer stuck)))
 
 -- the session was closing, and all is written
-closed-by : (old new : World) (reason : Reason) → ClosesItself reason → new.front.session.closing ≡ Some reason → new.front.session.outgoing ≡ [] →
+closed-by : (old new : World) (reason : Reason) → ClosesItself reason → new.front.session.closing ≡ Some reason
+    → new.front.session.outgoing ≡ [] →
     EndedBy old new reason
 closed-by old new LoggedOut own closing none = (closing, none)
 closed-by old new Refused own closing none = (closing, none)
@@ -218,12 +266,20 @@ pub turn-closed : (old : Front) (session : Standing) (wire wire' : Told) (desk :
     session ≡ record old.session { outgoing = session.outgoing } →
     Flushes old.session.outgoing session.outgoing wire wire' flushed.All →
     ClosesItself reason → session.closing ≡ Some reason →
-    Turn (world old wire desk) (world (record old { session = session; deaf = 0; live = false }) wire' desk) (Ended reason)
+    Turn (world old wire desk) (world (record old { session = session; deaf = 0; live = false }) wire' desk)
+    (Ended reason)
 turn-closed old session wire wire' desk reason session_is (put, split, (none, tells)) own closing =
-    flushed-turn old session wire wire' desk put split session_is (ap (λ (t : Told). t.gave) tells) (ap (λ (t : Told). t.took) tells) (ap (λ (t : Told). t.ends) tells)
+    flushed-turn old session wire wire' desk put split session_is (ap (λ (t : Told). t.gave) tells)
+    (ap (λ (t : Told). t.took) tells) (ap (λ (t : Told). t.ends) tells)
     0 false (Ended reason) (λ more. absurd (more (ap (λ (t : Told). t.failures) tells)))
-    (over-attends old (record old { session = session; deaf = 0; live = false }) wire wire' desk desk (record nothing_moved { put = put }) refl) (closed-by (world old wire desk) (world (record old { session = session; deaf = 0; live = false }) wire' desk) reason own closing none, refl)
-    (over-counts old (record old { session = session; deaf = 0; live = false }) wire wire' desk desk (record nothing_moved { put = put }) (Ended reason) refl (inl refl) refl
+    (over-attends old (record old { session = session; deaf = 0; live = false }) wire wire' desk desk
+    (record nothing_moved { put = put }) refl) (
+      closed-by (world old wire desk) (world (record old { session = session; deaf = 0; live = false }) wire' desk)
+          reason own closing none,
+      refl,
+    )
+    (over-counts old (record old { session = session; deaf = 0; live = false }) wire wire' desk desk
+    (record nothing_moved { put = put }) (Ended reason) refl (inl refl) refl
     (λ other stood unput. stood (split ∙ ap (λ p. p ++ session.outgoing) unput ∙ none)) (λ other is_open. cc))
 
 -- nothing fed, read, written, published or handed on is nothing moved
@@ -248,43 +304,63 @@ first_value : (k l : Load) (ks ls : List Load) → k ∷ ks ≡ l ∷ ls → k.v
 first_value k l ks ls e = let same : k ≡ l = cc in ap (λ (m : Load). m.value) same
 
 -- a claim that was refused, and what was loaded behind it
-later-refused : (desk desk' desk'' : Ledger) (more : List Load) → desk''.loads ≡ desk'.loads ++ more → WasRefused desk desk' → WasRefused desk desk''
-later-refused desk desk' desk'' more grown (ls, why, rest, loads) =
-    (ls, why, rest ++ more, grown ∙ ap (λ x. x ++ more) loads ∙ append_assoc desk.loads (ls ++ rest) more ∙ ap (λ x. desk.loads ++ x) (append_assoc ls rest more))
+later-refused : (desk desk' desk'' : Ledger) (more : List Load) → desk''.loads ≡ desk'.loads ++ more
+    → WasRefused desk desk' → WasRefused desk desk''
+later-refused desk desk' desk'' more grown (ls, why, rest, loads) = (
+  ls,
+  why,
+  rest ++ more,
+  grown ∙ ap (λ x. x ++ more) loads ∙ append_assoc desk.loads (ls ++ rest) more
+      ∙ ap (λ x. desk.loads ++ x) (append_assoc ls rest more),
+)
 
-later-exhausted : (desk desk' desk'' : Ledger) (more : List Load) → desk''.loads ≡ desk'.loads ++ more → WasExhausted desk desk' → WasExhausted desk desk''
-later-exhausted desk desk' desk'' more grown (ls, why, rest, loads) =
-    (ls, why, rest ++ more, grown ∙ ap (λ x. x ++ more) loads ∙ append_assoc desk.loads (ls ++ rest) more ∙ ap (λ x. desk.loads ++ x) (append_assoc ls rest more))
+later-exhausted : (desk desk' desk'' : Ledger) (more : List Load) → desk''.loads ≡ desk'.loads ++ more
+    → WasExhausted desk desk' → WasExhausted desk desk''
+later-exhausted desk desk' desk'' more grown (ls, why, rest, loads) = (
+  ls,
+  why,
+  rest ++ more,
+  grown ∙ ap (λ x. x ++ more) loads ∙ append_assoc desk.loads (ls ++ rest) more
+      ∙ ap (λ x. desk.loads ++ x) (append_assoc ls rest more),
+)
 
 -- the held message is that of before the flush
-module _ (old h : Front) (session : Standing) (wire wire' wire'' : Told) (desk desk' : Ledger) (put : List ℕ) (answer : Heard)
+module _ (old h : Front) (session : Standing) (wire wire' wire'' : Told) (desk desk' : Ledger) (put : List ℕ)
+    (answer : Found)
     (split : old.session.outgoing ≡ put ++ session.outgoing)
     (session_is : session ≡ record old.session { outgoing = session.outgoing })
     (none : session.outgoing ≡ []) (tells : wire' ≡ record wire { took = grown wire.took put })
     (hears : Hears (world (record old { session = session; deaf = 0 }) wire' desk) (world h wire'' desk') answer) where
-  flush_step : Step (place old.session old.waiting wire desk) (place session old.waiting wire' desk) (record nothing_moved { put = put })
-  flush_step = flush-step old.session session old.waiting put wire wire' desk split session_is (ap (λ (t : Told). t.gave) tells) (ap (λ (t : Told). t.took) tells)
+  flush_step : Step (place old.session old.waiting wire desk) (place session old.waiting wire' desk)
+      (record nothing_moved { put = put })
+  flush_step = flush-step old.session session old.waiting put wire wire' desk split session_is
+      (ap (λ (t : Told). t.gave) tells) (ap (λ (t : Told). t.took) tells)
 
   abbrev heard-moved : Moved
   heard-moved = both (record nothing_moved { put = put }) hears.moved
 
   heard-step : Step (place old.session old.waiting wire desk) (place h.session h.waiting wire'' desk') heard-moved
-  heard-step = step-then old.session session h.session old.waiting old.waiting h.waiting wire wire' wire'' desk desk desk'
+  heard-step = step-then old.session session h.session old.waiting old.waiting h.waiting wire wire' wire'' desk desk
+      desk'
       (record nothing_moved { put = put }) hears.moved flush_step hears.step
 
   -- the message held was lost since no sequence was left
   lost_heard : h.session.closing ≡ Some Exhausted → (old.session.held ≢ None) × WasExhausted desk desk'
-  lost_heard is = let lost = hears.lost is in ((λ none. lost.0 (ap (λ (s : Standing). s.held) session_is ∙ none)), lost.1)
+  lost_heard is = let lost = hears.lost is in
+      ((λ none. lost.0 (ap (λ (s : Standing). s.held) session_is ∙ none)), lost.1)
 
   -- it was seen that no sequence was left: then the message held is lost, and the session closes
-  heard_exhausts : (desk'' : Ledger) (more : List Load) → desk''.loads ≡ desk'.loads ++ more → old.session.held ≢ None → WasExhausted desk desk'' →
+  heard_exhausts : (desk'' : Ledger) (more : List Load) → desk''.loads ≡ desk'.loads ++ more → old.session.held ≢ None
+      → WasExhausted desk desk'' →
       h.session.closing ≡ Some Exhausted
   heard_exhausts desk'' more grown holds (ls, is, rest, loads) =
       let tried = hears.tried (λ free. holds (sym (ap (λ (s : Standing). s.held) session_is) ∙ free)) in
       let all : desk.loads ++ (hears.loaded ++ more) ≡ desk.loads ++ (ls ++ rest) =
-      sym (append_assoc desk.loads hears.loaded more) ∙ ap (λ l. l ++ more) (sym (ap (λ (l : Ledger). l.loads) hears.ledger)) ∙ sym grown ∙ loads in
+      sym (append_assoc desk.loads hears.loaded more) ∙ ap (λ l. l ++ more)
+      (sym (ap (λ (l : Ledger). l.loads) hears.ledger)) ∙ sym grown ∙ loads in
       let same : load_of claim tried.0 ∷ (tried.1 ++ more) ≡ load_of claim (2 ^ 48) ∷ rest =
-      ap (λ l. l ++ more) (sym tried.2) ∙ cancel_left desk.loads (hears.loaded ++ more) (ls ++ rest) all ∙ ap (λ l. l ++ rest) is in
+      ap (λ l. l ++ more) (sym tried.2) ∙ cancel_left desk.loads (hears.loaded ++ more) (ls ++ rest) all
+      ∙ ap (λ l. l ++ rest) is in
       tried.3 (first_value (load_of claim tried.0) (load_of claim (2 ^ 48)) (tried.1 ++ more) rest same)
 
   -- the client's side closed in the read, or didn't
@@ -292,16 +368,22 @@ module _ (old h : Front) (session : Standing) (wire wire' wire'' : Told) (desk d
   heard_closes = subst (λ n. ClosesBy old.closed h.closed n wire''.ends) (ap (λ (t : Told). t.ends) tells) hears.closes
 
   -- the wire failed in the read
-  pub turn-unheard : answer ≡ Failed → Turn (world old wire desk) (world (record h { live = false }) wire'' desk') (Ended WireFailed)
+  pub turn-unheard : answer ≡ Failed → Turn (world old wire desk) (world (record h { live = false }) wire'' desk')
+      (Ended WireFailed)
   turn-unheard failed =
-      let rose : Rose wire'.failures wire''.failures = subst (λ (a : Heard). HeardSo (world (record old { session = session; deaf = 0 }) wire' desk) (world h wire'' desk') hears.moved a) failed hears.so in
+      let rose : Rose wire'.failures wire''.failures = subst
+      (λ (a : Found). HeardSo (world (record old { session = session; deaf = 0 }) wire' desk) (world h wire'' desk')
+      hears.moved a) failed hears.so in
       record {
         moved = heard-moved;
         step = heard-step;
-        takes = subst (λ (t : List Said). Takes h.session.logged_on old (record h { live = false }) desk desk' t) (sym hears.unhanded)
-            (no_takes h.session.logged_on old (record h { live = false }) desk desk' (ap (λ (l : Ledger). l.taken) hears.ledger) (ap (λ (f : Front). f.passed) hears.others));
+        takes = subst (λ (t : List Said). Takes h.session.logged_on old (record h { live = false }) desk desk' t)
+            (sym hears.unhanded)
+            (no_takes h.session.logged_on old (record h { live = false }) desk desk'
+            (ap (λ (l : Ledger). l.taken) hears.ledger) (ap (λ (f : Front). f.passed) hears.others));
         means = (subst (λ n. Rose n wire''.failures) (ap (λ (t : Told). t.failures) tells) rose, refl);
-        counts = over-counts old (record h { live = false }) wire wire'' desk desk' heard-moved (Ended WireFailed) refl (inl (ap (λ (f : Front). f.deaf) hears.others)) (ap (λ (f : Front). f.idle) hears.others)
+        counts = over-counts old (record h { live = false }) wire wire'' desk desk' heard-moved (Ended WireFailed) refl
+            (inl (ap (λ (f : Front). f.deaf) hears.others)) (ap (λ (f : Front). f.idle) hears.others)
             (λ other. absurd (other refl)) (λ other. absurd (other refl));
         attends = over-attends old (record h { live = false }) wire wire'' desk desk' heard-moved refl;
         closes = heard_closes;
@@ -329,7 +411,8 @@ module _ (old h : Front) (session : Standing) (wire wire' wire'' : Told) (desk d
     }
 
     all-step : Step (place old.session old.waiting wire desk) (place t.session t.waiting wire'' desk'') all-moved
-    all-step = step-then old.session h.session t.session old.waiting h.waiting t.waiting wire wire'' wire'' desk desk' desk''
+    all-step = step-then old.session h.session t.session old.waiting h.waiting t.waiting wire wire'' wire'' desk desk'
+        desk''
         heard-moved given-moved heard-step hand-step
 
     all-takes : Takes t.session.logged_on old t desk desk'' all-moved.handed
@@ -340,7 +423,8 @@ module _ (old h : Front) (session : Standing) (wire wire' wire'' : Told) (desk d
           these = hands.takes.these;
           taken = hands.takes.taken ∙ ap (λ x. x ++ hands.takes.these) (ap (λ (l : Ledger). l.taken) hears.ledger);
           given = hands.takes.given;
-          passed = hands.takes.passed ∙ ap (λ n. n + (if t.session.logged_on then 0 else length hands.takes.these)) passed;
+          passed = hands.takes.passed ∙ ap (λ n. n + (if t.session.logged_on then 0 else length hands.takes.these))
+              passed;
         })
 
     count_same : desk'.count ≡ desk.count
@@ -351,12 +435,14 @@ module _ (old h : Front) (session : Standing) (wire wire' wire'' : Told) (desk d
     unheard_all same =
         let fed : hears.moved.fed ≡ [] = sym (append-nil hears.moved.fed) ∙ ap (λ (m : Moved). m.fed) same in
         let got : hears.moved.got ≡ [] = sym (append-nil hears.moved.got) ∙ ap (λ (m : Moved). m.got) same in
-        let messages : hears.moved.messages ≡ [] = sym (append-nil hears.moved.messages) ∙ ap (λ (m : Moved). m.messages) same in
+        let messages : hears.moved.messages ≡ [] = sym (append-nil hears.moved.messages)
+        ∙ ap (λ (m : Moved). m.messages) same in
         is_still hears.moved fed got hears.unwritten messages hears.unhanded
 
     -- and nothing was written
     unwritten_all : all-moved ≡ nothing_moved → put ≡ []
-    unwritten_all same = no_front put hears.moved.put (sym (append-nil (put ++ hears.moved.put)) ∙ ap (λ (m : Moved). m.put) same)
+    unwritten_all same = no_front put hears.moved.put
+        (sym (append-nil (put ++ hears.moved.put)) ∙ ap (λ (m : Moved). m.put) same)
 
     -- nothing was written, heard or handed on
     still_all : put ≡ [] → hears.moved ≡ nothing_moved → hands.handed ≡ [] → all-moved ≡ nothing_moved
@@ -366,7 +452,8 @@ module _ (old h : Front) (session : Standing) (wire wire' wire'' : Told) (desk d
         ∙ ap (λ x. both (both nothing_moved nothing_moved) (record nothing_moved { handed = x })) handed
 
     -- where none was found, that is why
-    found : (hands.handed ≡ []) × (t ≡ h) × (desk''.count ≡ desk'.count) × (h.session.closing ≡ None → desk'' ≡ loading desk' (load_of marshalled desk'.count ∷ [])) →
+    found : (hands.handed ≡ []) × (t ≡ h) × (desk''.count ≡ desk'.count)
+        × (h.session.closing ≡ None → desk'' ≡ ledger_loading desk' (load_of marshalled desk'.count ∷ [])) →
         t.session.closing ≡ None → FoundNone desk desk''
     found (handed, stays, uncounted, looked) is_open =
         let at_end = looked (sym (ap (λ (f : Front). f.session.closing) stays) ∙ is_open) in (
@@ -374,31 +461,44 @@ module _ (old h : Front) (session : Standing) (wire wire' wire'' : Told) (desk d
           ap (λ (l : Ledger). l.loads) at_end
               ∙ ap (λ ls. ls ++ load_of marshalled desk'.count ∷ []) (ap (λ (l : Ledger). l.loads) hears.ledger)
               ∙ append_assoc desk.loads hears.loaded (load_of marshalled desk'.count ∷ [])
-              ∙ ap (λ n. desk.loads ++ (hears.loaded ++ load_of marshalled n ∷ [])) (sym (ap (λ (l : Ledger). l.count) at_end)),
+              ∙ ap (λ n. desk.loads ++ (hears.loaded ++ load_of marshalled n ∷ []))
+              (sym (ap (λ (l : Ledger). l.count) at_end)),
         )
 
     -- what was heard, in the whole turn
-    hearing_all : Hearing (world (record old { session = session; deaf = 0 }) wire' desk) hears.moved → Hearing (world old wire desk) all-moved
+    hearing_all : Hearing (world (record old { session = session; deaf = 0 }) wire' desk) hears.moved
+        → Hearing (world old wire desk) all-moved
     hearing_all (inl (free, fed)) =
-        inl (sym (ap (λ (s : Standing). s.held) session_is) ∙ free, λ none. fed (sym (append-nil hears.moved.fed) ∙ none))
+        inl (
+          sym (ap (λ (s : Standing). s.held) session_is) ∙ free,
+          λ none. fed (sym (append-nil hears.moved.fed) ∙ none),
+        )
     hearing_all (inr messages) = inr (λ none. messages (sym (append-nil hears.moved.messages) ∙ none))
 
     -- why nothing was heard, in the whole turn
     silent_all : (end : Front) → end.waiting ≡ t.waiting → end.closed ≡ t.closed →
         ((old.session.held ≢ None) × WasRefused desk desk')
-        ⊎ ((old.session.held ≡ None) × (h.waiting ≡ []) × (Rose wire.empty_reads wire''.empty_reads ⊎ (h.closed ≡ true))) →
+        ⊎ ((old.session.held ≡ None) × (h.waiting ≡ [])
+        × (Rose wire.empty_reads wire''.empty_reads ⊎ (h.closed ≡ true))) →
         Silence (world old wire desk) (world end wire'' desk'')
     silent_all end waiting_end closed_end (inl (held, refused)) =
         inl (held, later-refused desk desk' desk'' hands.loaded (ap (λ (l : Ledger). l.loads) hands.ledger) refused)
     silent_all end waiting_end closed_end (inr (free, fed, why)) = inr (
       free,
       waiting_end ∙ ap (λ (f : Front). f.waiting) hands.others ∙ fed,
-      elim why [ inl rose ↦ inl rose | inr closed ↦ inr (closed_end ∙ ap (λ (f : Front). f.closed) hands.others ∙ closed) ],
+      elim why [
+        | inl rose ↦ inl rose
+        | inr closed ↦
+            inr (closed_end ∙ ap (λ (f : Front). f.closed) hands.others ∙ closed)
+      ],
     )
 
-    quiet-all : (end : Front) → put ≡ [] → hears.moved ≡ nothing_moved → (hands.handed ≡ []) × (t ≡ h) × (desk''.count ≡ desk'.count) × (h.session.closing ≡ None → desk'' ≡ loading desk' (load_of marshalled desk'.count ∷ [])) →
+    quiet-all : (end : Front) → put ≡ [] → hears.moved ≡ nothing_moved
+        → (hands.handed ≡ []) × (t ≡ h) × (desk''.count ≡ desk'.count)
+        × (h.session.closing ≡ None → desk'' ≡ ledger_loading desk' (load_of marshalled desk'.count ∷ [])) →
         (((old.session.held ≢ None) × WasRefused desk desk')
-        ⊎ ((old.session.held ≡ None) × (h.waiting ≡ []) × (Rose wire.empty_reads wire''.empty_reads ⊎ (h.closed ≡ true)))) →
+        ⊎ ((old.session.held ≡ None) × (h.waiting ≡ [])
+        × (Rose wire.empty_reads wire''.empty_reads ⊎ (h.closed ≡ true)))) →
         end.session ≡ t.session → end.waiting ≡ t.waiting → end.closed ≡ t.closed →
         IsQuiet (world old wire desk) (world end wire'' desk'') all-moved
     quiet-all end written heard (handed, stays, uncounted, looked) silence session_end waiting_end closed_end = record {
@@ -411,15 +511,23 @@ module _ (old h : Front) (session : Standing) (wire wire' wire'' : Told) (desk d
     }
 
     -- what was heard, if it wasn't something and the wire didn't fail
-    heard-nothing : (a : Heard) → a ≢ Something → a ≢ Failed → HeardSo (world (record old { session = session; deaf = 0 }) wire' desk) (world h wire'' desk') hears.moved a →
+    heard-nothing : (a : Found) → a ≢ Something → a ≢ Failed
+        → HeardSo (world (record old { session = session; deaf = 0 }) wire' desk) (world h wire'' desk') hears.moved a →
         (hears.moved ≡ nothing_moved) × (((old.session.held ≢ None) × WasRefused desk desk')
-        ⊎ ((old.session.held ≡ None) × (h.waiting ≡ []) × (Rose wire.empty_reads wire''.empty_reads ⊎ (h.closed ≡ true))))
+        ⊎ ((old.session.held ≡ None) × (h.waiting ≡ [])
+        × (Rose wire.empty_reads wire''.empty_reads ⊎ (h.closed ≡ true))))
     heard-nothing Something other alive so = absurd (other refl)
     heard-nothing Failed other alive so = absurd (alive refl)
     heard-nothing Nothing other alive (still, inl (held, rose)) =
         (still, inl ((λ free. held (ap (λ (s : Standing). s.held) session_is ∙ free)), rose))
-    heard-nothing Nothing other alive (still, inr (free, fed, inl rose)) =
-        (still, inr (sym (ap (λ (s : Standing). s.held) session_is) ∙ free, fed, inl (subst (λ n. Rose n wire''.empty_reads) (ap (λ (w : Told). w.empty_reads) tells) rose)))
+    heard-nothing Nothing other alive (still, inr (free, fed, inl rose)) = (
+      still,
+      inr (
+        sym (ap (λ (s : Standing). s.held) session_is) ∙ free,
+        fed,
+        inl (subst (λ n. Rose n wire''.empty_reads) (ap (λ (w : Told). w.empty_reads) tells) rose),
+      ),
+    )
     heard-nothing Nothing other alive (still, inr (free, fed, inr closed)) =
         (still, inr (sym (ap (λ (s : Standing). s.held) session_is) ∙ free, fed, inr closed))
 
@@ -429,33 +537,41 @@ module _ (old h : Front) (session : Standing) (wire wire' wire'' : Told) (desk d
 
     -- the first count begins again in a turn that wrote all
     end_deaf : (end : Front) → end ≡ record t { idle = end.idle; live = end.live } → end.deaf ≡ 0
-    end_deaf end end_is = ap (λ (f : Front). f.deaf) end_is ∙ ap (λ (f : Front). f.deaf) hands.others ∙ ap (λ (f : Front). f.deaf) hears.others
+    end_deaf end end_is = ap (λ (f : Front). f.deaf) end_is ∙ ap (λ (f : Front). f.deaf) hands.others
+        ∙ ap (λ (f : Front). f.deaf) hears.others
 
     -- what was put in all is what stood to be written
     put_all : all-moved.put ≡ old.session.outgoing
-    put_all = append-nil (put ++ hears.moved.put) ∙ ap (λ p. put ++ p) hears.unwritten ∙ ap (λ p. put ++ p) (sym none) ∙ sym split
+    put_all = append-nil (put ++ hears.moved.put) ∙ ap (λ p. put ++ p) hears.unwritten ∙ ap (λ p. put ++ p) (sym none)
+        ∙ sym split
 
     -- where nothing stood to be written nothing was
     silent_put : old.session.outgoing ≡ [] → put ≡ []
     silent_put silent = no_front put session.outgoing (sym split ∙ silent)
 
     -- the second count rises
-    idle_rises : (end : Front) (wrote : Bool) (b : Bool) → took ≡ b → wrote ≡ nat_lt (length session.outgoing) (length old.session.outgoing) →
-        end ≡ record t { idle = end.idle; live = end.live } → Waits t end wrote b → end.closed ≡ true → end.session.closing ≡ None →
+    idle_rises : (end : Front) (wrote : Bool) (b : Bool) → took ≡ b
+        → wrote ≡ nat_lt (length session.outgoing) (length old.session.outgoing) →
+        end ≡ record t { idle = end.idle; live = end.live } → Waits t end wrote b → end.closed ≡ true
+        → end.session.closing ≡ None →
         old.session.outgoing ≡ [] → desk''.count ≡ desk.count → end.idle ≡ old.idle + 1
     idle_rises end true b took_is wrote_is end_is waits closed is_open silent same =
         absurd (wrote_some old.session.outgoing put session.outgoing split (sym wrote_is) (silent_put silent))
     idle_rises end false true took_is wrote_is end_is waits closed is_open silent same =
-        let more = subst (λ n. n < desk''.count) count_same (subst (λ (b : Bool). TookSo h t desk' desk'' hands.handed b) took_is hands.so) in
+        let more = subst (λ n. n < desk''.count) count_same
+        (subst (λ (b : Bool). TookSo h t desk' desk'' hands.handed b) took_is hands.so) in
         absurd (omega (arith, more, same))
     idle_rises end false false took_is wrote_is end_is (inl (stays, never)) closed is_open silent same =
-        absurd (never (sym (ap (λ (f : Front). f.closed) end_is) ∙ closed) (sym (ap (λ (f : Front). f.session.closing) end_is) ∙ is_open))
+        absurd (never (sym (ap (λ (f : Front). f.closed) end_is) ∙ closed)
+        (sym (ap (λ (f : Front). f.session.closing) end_is) ∙ is_open))
     idle_rises end false false took_is wrote_is end_is (inr (more, closed_is, open_is)) closed is_open silent same =
         more ∙ ap (λ n. n + 1) (ap (λ (f : Front). f.idle) hands.others ∙ ap (λ (f : Front). f.idle) hears.others)
 
     -- the counts of a turn that wrote all
-    all-counts : (end : Front) (wrote : Bool) (b : Bool) (turned : Turned) → took ≡ b → wrote ≡ nat_lt (length session.outgoing) (length old.session.outgoing) →
-        end ≡ record t { idle = end.idle; live = end.live } → Waits t end wrote b → CountsTurns (world old wire desk) (world end wire'' desk'') all-moved turned
+    all-counts : (end : Front) (wrote : Bool) (b : Bool) (turned : Turned) → took ≡ b
+        → wrote ≡ nat_lt (length session.outgoing) (length old.session.outgoing) →
+        end ≡ record t { idle = end.idle; live = end.live } → Waits t end wrote b
+        → CountsTurns (world old wire desk) (world end wire'' desk'') all-moved turned
     all-counts end true b turned took_is wrote_is end_is waits = record {
       deaf = inl (end_deaf end end_is);
       idle = inl waits;
@@ -479,9 +595,11 @@ module _ (old h : Front) (session : Standing) (wire wire' wire'' : Told) (desk d
         let nothing = subst (λ (b : Bool). TookSo h t desk' desk'' hands.handed b) took_is hands.so in record {
           deaf = inl (end_deaf end end_is);
           idle = elim waits [
-            | inl (same, never) ↦ inr (inl (same ∙ ap (λ (f : Front). f.idle) hands.others ∙ ap (λ (f : Front). f.idle) hears.others))
+            | inl (same, never) ↦ inr (inl
+                (same ∙ ap (λ (f : Front). f.idle) hands.others ∙ ap (λ (f : Front). f.idle) hears.others))
             | inr (more, closed, is_open) ↦ inr (inr (
-              more ∙ ap (λ n. n + 1) (ap (λ (f : Front). f.idle) hands.others ∙ ap (λ (f : Front). f.idle) hears.others),
+              more ∙ ap (λ n. n + 1) (ap (λ (f : Front). f.idle) hands.others
+                  ∙ ap (λ (f : Front). f.idle) hears.others),
               ap (λ (f : Front). f.closed) end_is ∙ closed,
               none,
               found nothing is_open,
@@ -495,10 +613,13 @@ module _ (old h : Front) (session : Standing) (wire wire' wire'' : Told) (desk d
         }
 
     -- a turn that went on behind its writes listened
-    all-listens : (end : Front) (a : Heard) → a ≢ Failed → HeardSo (world (record old { session = session; deaf = 0 }) wire' desk) (world h wire'' desk') hears.moved a →
-        end.waiting ≡ t.waiting → end.closed ≡ t.closed → Hearing (world old wire desk) all-moved ⊎ Silence (world old wire desk) (world end wire'' desk'')
+    all-listens : (end : Front) (a : Found) → a ≢ Failed → HeardSo
+        (world (record old { session = session; deaf = 0 }) wire' desk) (world h wire'' desk') hears.moved a →
+        end.waiting ≡ t.waiting → end.closed ≡ t.closed → Hearing (world old wire desk) all-moved
+        ⊎ Silence (world old wire desk) (world end wire'' desk'')
     all-listens end Something alive so waiting_end closed_end = inl (hearing_all so)
-    all-listens end Nothing alive so waiting_end closed_end = inr (silent_all end waiting_end closed_end (heard-nothing Nothing (λ is. cc) alive so).1)
+    all-listens end Nothing alive so waiting_end closed_end =
+        inr (silent_all end waiting_end closed_end (heard-nothing Nothing (λ is. cc) alive so).1)
     all-listens end Failed alive so waiting_end closed_end = absurd (alive refl)
 
     -- and looked for an output
@@ -510,26 +631,39 @@ module _ (old h : Front) (session : Standing) (wire wire' wire'' : Told) (desk d
     -- the client's side, and the failures of the wire, are as the part that hears left them
     all_closes : (end : Front) → end.closed ≡ t.closed → ClosesBy old.closed end.closed wire.ends wire''.ends
     all_closes end closed_end =
-        subst (λ (c : Bool). ClosesBy old.closed c wire.ends wire''.ends) (sym (closed_end ∙ ap (λ (f : Front). f.closed) hands.others)) heard_closes
+        subst (λ (c : Bool). ClosesBy old.closed c wire.ends wire''.ends)
+        (sym (closed_end ∙ ap (λ (f : Front). f.closed) hands.others)) heard_closes
 
     goes-on : (end : Front) → end.live ≡ true → old.session.closing ≡ None → GoesOn old end
     goes-on end live is_open = record { live = live; unsaid = λ closes. absurd (closes is_open) }
 
     all-means : (end : Front) (wrote : Bool) (turned : Turned) →
-        wrote ≡ nat_lt (length session.outgoing) (length old.session.outgoing) → answer ≢ Failed → t.live ≡ true → old.session.closing ≡ None →
+        wrote ≡ nat_lt (length session.outgoing) (length old.session.outgoing) → answer ≢ Failed → t.live ≡ true
+        → old.session.closing ≡ None →
         end ≡ record t { idle = end.idle; live = end.live } → RestsSo t end wrote answer took turned →
         Means (world old wire desk) (world end wire'' desk'') all-moved turned
-    all-means end wrote Worked wrote_is alive live is_open end_is (same, inl did) =
-        (inl (λ still. wrote_some old.session.outgoing put session.outgoing split (sym wrote_is ∙ did) (unwritten_all still)), goes-on end (same ∙ live) is_open)
-    all-means end wrote Worked wrote_is alive live is_open end_is (same, inr (inl did)) =
-        (inr (subst (λ n. n < desk''.count) count_same (subst (λ (b : Bool). TookSo h t desk' desk'' hands.handed b) did hands.so)), goes-on end (same ∙ live) is_open)
-    all-means end wrote Worked wrote_is alive live is_open end_is (same, inr (inr did)) =
-        (inl (λ still. hearing_moves (world (record old { session = session; deaf = 0 }) wire' desk) hears.moved (subst (λ (a : Heard). HeardSo (world (record old { session = session; deaf = 0 }) wire' desk) (world h wire'' desk') hears.moved a) did hears.so) (unheard_all still)), goes-on end (same ∙ live) is_open)
+    all-means end wrote Worked wrote_is alive live is_open end_is (same, inl did) = (
+      inl (λ still. wrote_some old.session.outgoing put session.outgoing split (sym wrote_is ∙ did)
+          (unwritten_all still)),
+      goes-on end (same ∙ live) is_open,
+    )
+    all-means end wrote Worked wrote_is alive live is_open end_is (same, inr (inl did)) = (
+      inr (subst (λ n. n < desk''.count) count_same
+          (subst (λ (b : Bool). TookSo h t desk' desk'' hands.handed b) did hands.so)),
+      goes-on end (same ∙ live) is_open,
+    )
+    all-means end wrote Worked wrote_is alive live is_open end_is (same, inr (inr did)) = (
+      inl (λ still. hearing_moves (world (record old { session = session; deaf = 0 }) wire' desk) hears.moved
+          (subst (λ (a : Found). HeardSo (world (record old { session = session; deaf = 0 }) wire' desk)
+          (world h wire'' desk') hears.moved a) did hears.so) (unheard_all still)),
+      goes-on end (same ∙ live) is_open,
+    )
     all-means end wrote Quiet wrote_is alive live is_open end_is (same, no_bytes, no_output, no_news) =
         let silent = heard-nothing answer no_news alive hears.so in (
           quiet-all end (wrote_none old.session.outgoing put session.outgoing split (sym wrote_is ∙ no_bytes)) silent.0
               (subst (λ (b : Bool). TookSo h t desk' desk'' hands.handed b) no_output hands.so) silent.1
-              (ap (λ (f : Front). f.session) end_is) (ap (λ (f : Front). f.waiting) end_is) (ap (λ (f : Front). f.closed) end_is),
+              (ap (λ (f : Front). f.session) end_is) (ap (λ (f : Front). f.waiting) end_is)
+              (ap (λ (f : Front). f.closed) end_is),
           goes-on end (same ∙ live) is_open,
         )
     all-means end wrote (Ended reason) wrote_is alive live is_open end_is (same, why, closed, last, before) = (
@@ -542,33 +676,45 @@ module _ (old h : Front) (session : Standing) (wire wire' wire'' : Told) (desk d
     )
 
     pub turn-rested : (end : Front) (wrote : Bool) (turned : Turned) →
-        wrote ≡ nat_lt (length session.outgoing) (length old.session.outgoing) → answer ≢ Failed → old.live ≡ true → session.closing ≡ None →
+        wrote ≡ nat_lt (length session.outgoing) (length old.session.outgoing) → answer ≢ Failed → old.live ≡ true
+        → session.closing ≡ None →
         Rests t end wrote answer took turned → Turn (world old wire desk) (world end wire'' desk'') turned
     turn-rested end wrote turned wrote_is alive live is_open rests =
         let session_end = ap (λ (f : Front). f.session) rests.others in
-        let t_live : t.live ≡ true = ap (λ (f : Front). f.live) hands.others ∙ ap (λ (f : Front). f.live) hears.others ∙ live in
+        let t_live : t.live ≡ true = ap (λ (f : Front). f.live) hands.others ∙ ap (λ (f : Front). f.live) hears.others
+        ∙ live in
         record {
           moved = all-moved;
-          step = subst (λ (s : Standing). Step (place old.session old.waiting wire desk) (place s end.waiting wire'' desk'') all-moved) (sym session_end)
-              (subst (λ w. Step (place old.session old.waiting wire desk) (place t.session w wire'' desk'') all-moved) (sym (ap (λ (f : Front). f.waiting) rests.others)) all-step);
-          takes = subst (λ (s : Standing). Takes s.logged_on old end desk desk'' all-moved.handed) (sym session_end) (record {
-            these = all-takes.these;
-            taken = all-takes.taken;
-            given = all-takes.given;
-            passed = ap (λ (f : Front). f.passed) rests.others ∙ all-takes.passed;
-          });
-          means = all-means end wrote turned wrote_is alive t_live (sym (ap (λ (s : Standing). s.closing) session_is) ∙ is_open) rests.others rests.so;
+          step = subst (λ (s : Standing). Step (place old.session old.waiting wire desk)
+              (place s end.waiting wire'' desk'') all-moved) (sym session_end)
+              (subst (λ w. Step (place old.session old.waiting wire desk) (place t.session w wire'' desk'') all-moved)
+              (sym (ap (λ (f : Front). f.waiting) rests.others)) all-step);
+          takes = subst (λ (s : Standing). Takes s.logged_on old end desk desk'' all-moved.handed) (sym session_end)
+              (record {
+                these = all-takes.these;
+                taken = all-takes.taken;
+                given = all-takes.given;
+                passed = ap (λ (f : Front). f.passed) rests.others ∙ all-takes.passed;
+              });
+          means = all-means end wrote turned wrote_is alive t_live
+              (sym (ap (λ (s : Standing). s.closing) session_is) ∙ is_open) rests.others rests.so;
           counts = all-counts end wrote took turned refl wrote_is rests.others rests.waits;
           attends = record {
             writes = λ lives. inl put_all;
-            listens = λ lives all. all-listens end answer alive hears.so (ap (λ (f : Front). f.waiting) rests.others) (ap (λ (f : Front). f.closed) rests.others);
-            looks = λ lives all still_open. all-looks end took hands.so (sym (ap (λ (s : Standing). s.closing) session_end) ∙ still_open);
+            listens = λ lives all. all-listens end answer alive hears.so (ap (λ (f : Front). f.waiting) rests.others)
+                (ap (λ (f : Front). f.closed) rests.others);
+            looks = λ lives all still_open. all-looks end took hands.so
+                (sym (ap (λ (s : Standing). s.closing) session_end) ∙ still_open);
           };
           closes = all_closes end (ap (λ (f : Front). f.closed) rests.others);
           fails = λ more. absurd (more (hears.alive alive ∙ ap (λ (t : Told). t.failures) tells));
           exhausts = λ holds seen.
-              ap (λ (s : Standing). s.closing) session_end ∙ hands.closing ∙ heard_exhausts desk'' hands.loaded (ap (λ (l : Ledger). l.loads) hands.ledger) holds seen;
+              ap (λ (s : Standing). s.closing) session_end ∙ hands.closing
+              ∙ heard_exhausts desk'' hands.loaded (ap (λ (l : Ledger). l.loads) hands.ledger) holds seen;
           lost = λ open_before is.
-              let lost = lost_heard (sym hands.closing ∙ sym (ap (λ (s : Standing). s.closing) session_end) ∙ is) in
-              (lost.0, later-exhausted desk desk' desk'' hands.loaded (ap (λ (l : Ledger). l.loads) hands.ledger) lost.1);
+              let lost = lost_heard (sym hands.closing ∙ sym (ap (λ (s : Standing). s.closing) session_end) ∙ is) in (
+                lost.0,
+                later-exhausted desk desk' desk'' hands.loaded (ap (λ (l : Ledger). l.loads) hands.ledger)
+                    lost.1,
+              );
         }

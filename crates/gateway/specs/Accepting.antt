@@ -68,5 +68,5 @@ AttendsFor n zero old new = new ≡ old
 AttendsFor n (suc k) old new = (mid : Accepting) × AttendsFor n k old mid × Goes n mid new
 
 -- it went on, with one client behind the other
-abbrev pub Attends : ℕ → Accepting → Accepting → Type 0
-Attends n old new = (k : ℕ) × AttendsFor n k old new
+abbrev pub AttendsClients : ℕ → Accepting → Accepting → Type 0
+AttendsClients n old new = (k : ℕ) × AttendsFor n k old new

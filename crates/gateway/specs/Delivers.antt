@@ -48,8 +48,8 @@ abbrev pub starts : ℕ → AtRings → Told → Start
 starts n g wire = record { desk = ledger_of n g.seat; wire = wire; passed = g.front.passed }
 
 -- a session that is begun has had no course, whatever the wire
-abbrev pub Begins : AtRings → Type 0
-Begins g = (n : ℕ) (wire : Told) → Delivers (starts n g wire) g.front wire (ledger_of n g.seat) nothing_yet
+abbrev pub BeginsSession : AtRings → Type 0
+BeginsSession g = (n : ℕ) (wire : Told) → Delivers (starts n g wire) g.front wire (ledger_of n g.seat) nothing_yet
 
 -- A turn of the gateway: and whatever course the session had before, it has had the same with what moved in this turn.
 pub record Proceeds (n : ℕ) (old new : AtRings) (wire wire_after : Told) (answer : Turned) : Type 0 where

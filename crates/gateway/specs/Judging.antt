@@ -4,7 +4,7 @@ use Rattle.gateway.specs.declared.hearing.Judged.{Judged}
 use Rattle.gateway.specs.declared.hearing.Judged.TheVariants as judged
 use Rattle.fix_frame.specs.Grammar.{IsField, Field}
 use Rattle.fix_orders.specs.Text.{field}
-use Rattle.gateway.specs.Verdict.{Verdict, Welcome, Beat, Hold, Pass, Leave, Refuse, is_field}
+use Rattle.gateway.specs.Verdict.{Verdict, Welcome, Beat, Hold, Pass, Leave, Refuse, is_this_field}
 
 abbrev pub verdict_of : Judged → Verdict
 verdict_of judged.Welcome = Welcome
@@ -53,4 +53,4 @@ CanEcho (judged.Refuse refusal) = ⊤
 -- this field stands first
 abbrev pub begins_with : ℕ → List ℕ → List Field → Bool
 begins_with tag value [] = false
-begins_with tag value (f ∷ fields) = is_field tag value f
+begins_with tag value (f ∷ fields) = is_this_field tag value f

@@ -24,8 +24,8 @@ pub record Ledger : Type 0 where
   pub loads : List Load
 
 -- these words were loaded besides
-abbrev pub loading : Ledger → List Load → Ledger
-loading l ls = record l { loads = l.loads ++ ls }
+abbrev pub ledger_loading : Ledger → List Load → Ledger
+ledger_loading l ls = record l { loads = l.loads ++ ls }
 
 -- A claim in a ring of n rows came too early: the claim word was s, then the processed word was p, and all rows from p on were claimed. Or too late: there
 -- was room for s, by the processed value that the earlier loads had found last or by one loaded for it, but then the claim word was t, above s.
@@ -47,12 +47,12 @@ IsExhausted ls = ls ≡ load_of claim (2 ^ 48) ∷ []
 
 -- what a try to publish with this answer tells
 abbrev pub PublishTells : Ledger → Ledger → List ℕ → TryPublish → Type 0
-PublishTells old new message Done = (ls : List Load) × IsClaimed old.rows old.loads ls × (new ≡ record (loading old ls) { published = old.published ++ message ∷ [] })
-PublishTells old new message Refused = (ls : List Load) × IsRefused old.rows old.loads ls × (new ≡ loading old ls)
-PublishTells old new message Exhausted = (ls : List Load) × IsExhausted ls × (new ≡ loading old ls)
+PublishTells old new message Done = (ls : List Load) × IsClaimed old.rows old.loads ls × (new ≡ record (ledger_loading old ls) { published = old.published ++ message ∷ [] })
+PublishTells old new message Refused = (ls : List Load) × IsRefused old.rows old.loads ls × (new ≡ ledger_loading old ls)
+PublishTells old new message Exhausted = (ls : List Load) × IsExhausted ls × (new ≡ ledger_loading old ls)
 
 -- a head and the bytes of a body say this
-pub record Carries (head : Head) (body : List ℕ) (said : Said) : Type 0 where
+pub record CarriesSaid (head : Head) (body : List ℕ) (said : Said) : Type 0 where
   pub type : said.kind ≡ msg_type_code head.msg_type
   pub time : said.time ≡ time_text head.sending_time
   pub bytes : print_fields said.body ≡ take head.len body
@@ -62,7 +62,7 @@ pub record Carries (head : Head) (body : List ℕ) (said : Said) : Type 0 where
 -- what a look with this answer tells. Outputs are fewer than 2 ^ 62. Where there is none, the marshalled word is loaded, and shows none at the count
 abbrev pub TakeTells : Ledger → Ledger → List ℕ → Take → Type 0
 TakeTells old new body (Mine head) =
-    (said : Said) × Carries head body said × (old.count + 1 ≤ 2 ^ 62)
-    × (ls : List Load) × (new ≡ record (loading old ls) { taken = old.taken ++ said ∷ []; count = old.count + 1 })
-TakeTells old new body Passed = (old.count + 1 ≤ 2 ^ 62) × (ls : List Load) × (new ≡ record (loading old ls) { count = old.count + 1 })
-TakeTells old new body Nothing = new ≡ loading old (load_of marshalled old.count ∷ [])
+    (said : Said) × CarriesSaid head body said × (old.count + 1 ≤ 2 ^ 62)
+    × (ls : List Load) × (new ≡ record (ledger_loading old ls) { taken = old.taken ++ said ∷ []; count = old.count + 1 })
+TakeTells old new body Passed = (old.count + 1 ≤ 2 ^ 62) × (ls : List Load) × (new ≡ record (ledger_loading old ls) { count = old.count + 1 })
+TakeTells old new body Nothing = new ≡ ledger_loading old (load_of marshalled old.count ∷ [])

@@ -20,7 +20,7 @@ use Rattle.barrier.specs.declared.taking.Take.{Take}
 use Rattle.barrier.specs.declared.taking.Take.TheVariants.{Mine, Passed, Nothing}
 use Rattle.gateway.specs.declared.seat.TryPublish.{TryPublish}
 use Rattle.gateway.specs.declared.seat.TryPublish.TheVariants.{Done, Refused, Exhausted}
-use Rattle.gateway.specs.Ledgers.{Ledger, Carries}
+use Rattle.gateway.specs.Ledgers.{Ledger, CarriesSaid}
 
 -- WHAT IT KNOWS
 
@@ -105,7 +105,7 @@ pub record TakesOne (s t : At Limits) (output : Output) : Type 0 where
 -- What a look with this answer hands on: an output to this gateway, which is carried; or one to another, which is passed over; or none, since the
 -- marshalled word that was loaded showed none at the gateway's count.
 abbrev pub Looks : At Limits → At Limits → List ℕ → Take → Type 0
-Looks s t body (Mine head) = (o : Output) × TakesOne s t o × (o.to ≡ number s) × Carries head body (text o s.who.own)
+Looks s t body (Mine head) = (o : Output) × TakesOne s t o × (o.to ≡ number s) × CarriesSaid head body (text o s.who.own)
 Looks s t body Passed = (o : Output) × TakesOne s t o × (o.to ≢ number s)
 Looks s t body Nothing = Steps s (looked s.who place.marshalled s.who.own) t
 

@@ -4,32 +4,32 @@ use Rattle.fix_orders.specs.Text.{Said}
 use Rattle.gateway.specs.declared.ending.Reason.TheVariants.{Closed, Stalled, Exhausted}
 use Rattle.gateway.specs.declared.ending.Turned.{Turned}
 use Rattle.gateway.specs.declared.ending.Turned.TheVariants.{Worked, Quiet, Ended}
-use Rattle.gateway.specs.declared.gateway.Heard.{Heard}
-use Rattle.gateway.specs.declared.gateway.Heard.TheVariants.{Something, Nothing, Failed}
+use Rattle.gateway.specs.declared.gateway.Found.{Found}
+use Rattle.gateway.specs.declared.gateway.Found.TheVariants.{Something, Nothing, Failed}
 use Rattle.venue_model.specs.Counts.{Rose}
 use Rattle.wires.specs.Wires.{Told, grown}
 use Rattle.ring_words.specs.declared.view.Load.{Load}
 use Rattle.ring_words.specs.Places.{claim, marshalled}
 use Rattle.ring_words.specs.Seats.{load_of}
-use Rattle.gateway.specs.Ledgers.{Ledger, loading}
-use Rattle.gateway.specs.Turns.{Front, World, world, place_of, Moved, nothing_moved, Moves, Step, Takes, Counts, WasExhausted, ClosesBy, Hearing, Silence}
+use Rattle.gateway.specs.Ledgers.{Ledger, ledger_loading}
+use Rattle.gateway.specs.Turns.{Front, World, world, turn_place, Moved, nothing_moved, Moves, Step, Takes, CountsMessages, WasExhausted, ClosesBy, Hearing, Silence}
 
 -- what was heard
-abbrev pub HeardSo : World → World → Moved → Heard → Type 0
+abbrev pub HeardSo : World → World → Moved → Found → Type 0
 HeardSo old new m Something = Hearing old m
 HeardSo old new m Nothing = (m ≡ nothing_moved) × Silence old new
 HeardSo old new m Failed = Rose old.wire.failures new.wire.failures
 
 -- the part of a turn that publishes, or reads and hears
-pub record Hears (old new : World) (answer : Heard) : Type 0 where
+pub record Hears (old new : World) (answer : Found) : Type 0 where
   pub moved : Moved
-  pub step : Step (place_of old) (place_of new) moved
+  pub step : Step (turn_place old) (turn_place new) moved
   pub others : new.front ≡ record old.front { session = new.front.session; waiting = new.front.waiting; closed = new.front.closed }
   pub loaded : List Load
-  pub ledger : new.desk ≡ record (loading old.desk loaded) { published = new.desk.published }
+  pub ledger : new.desk ≡ record (ledger_loading old.desk loaded) { published = new.desk.published }
   pub unwritten : moved.put ≡ []
   pub unhanded : moved.handed ≡ []
-  pub counts : (count : ℕ) → Counts old.front.session count → Counts new.front.session count
+  pub counts : (count : ℕ) → CountsMessages old.front.session count → CountsMessages new.front.session count
   pub room : length new.front.session.outgoing ≤ 512
   pub next : new.front.session.number ≤ old.front.session.number + 1
   pub lost : new.front.session.closing ≡ Some Exhausted → (old.front.session.held ≢ None) × WasExhausted old.desk new.desk
@@ -40,18 +40,18 @@ pub record Hears (old new : World) (answer : Heard) : Type 0 where
   pub so : HeardSo old new moved answer
 
 -- the message held was tried to publish, and the wire wasn't touched
-abbrev pub Publishes : Front → Front → Ledger → Ledger → Heard → Type 0
+abbrev pub Publishes : Front → Front → Ledger → Ledger → Found → Type 0
 Publishes old new desk desk_after answer = (wire : Told) → Hears (world old wire desk) (world new wire desk_after) answer
 
 -- what a read gave
-abbrev pub ReadSo : Front → Front → Told → Told → List ℕ → Heard → Type 0
+abbrev pub ReadSo : Front → Front → Told → Told → List ℕ → Found → Type 0
 ReadSo old new wire wire_after got Something = got ≢ []
 ReadSo old new wire wire_after got Nothing =
     (got ≡ []) × ((old.waiting ≢ []) ⊎ (Rose wire.empty_reads wire_after.empty_reads ⊎ (new.closed ≡ true)))
 ReadSo old new wire wire_after got Failed = (got ≡ []) × Rose wire.failures wire_after.failures
 
 -- a read, where one was due
-pub record Reads (old new : Front) (wire wire_after : Told) (answer : Heard) : Type 0 where
+pub record Reads (old new : Front) (wire wire_after : Told) (answer : Found) : Type 0 where
   pub got : List ℕ
   pub others : new ≡ record old { waiting = new.waiting; closed = new.closed }
   pub waiting : new.waiting ≡ old.waiting ++ got
@@ -65,7 +65,7 @@ pub record Reads (old new : Front) (wire wire_after : Told) (answer : Heard) : T
 abbrev pub TookSo : Front → Front → Ledger → Ledger → List Said → Bool → Type 0
 TookSo old new desk desk_after handed true = desk.count < desk_after.count
 TookSo old new desk desk_after handed false =
-    (handed ≡ []) × (new ≡ old) × (desk_after.count ≡ desk.count) × (old.session.closing ≡ None → desk_after ≡ loading desk (load_of marshalled desk.count ∷ []))
+    (handed ≡ []) × (new ≡ old) × (desk_after.count ≡ desk.count) × (old.session.closing ≡ None → desk_after ≡ ledger_loading desk (load_of marshalled desk.count ∷ []))
 
 -- the part of a turn that takes an output
 pub record HandsOn (old new : Front) (desk desk_after : Ledger) (took : Bool) : Type 0 where
@@ -77,8 +77,8 @@ pub record HandsOn (old new : Front) (desk desk_after : Ledger) (took : Bool) : 
   pub held : new.session.held ≡ old.session.held
   pub takes : Takes new.session.logged_on old new desk desk_after handed
   pub loaded : List Load
-  pub ledger : desk_after ≡ record (loading desk loaded) { taken = desk_after.taken; count = desk_after.count }
-  pub counts : Counts old.session desk.count → Counts new.session desk_after.count
+  pub ledger : desk_after ≡ record (ledger_loading desk loaded) { taken = desk_after.taken; count = desk_after.count }
+  pub counts : CountsMessages old.session desk.count → CountsMessages new.session desk_after.count
   pub passed_over : old.passed ≤ desk.count → new.passed ≤ desk_after.count
   pub few : desk.count ≤ 2 ^ 62 → desk_after.count ≤ 2 ^ 62
   pub so : TookSo old new desk desk_after handed took
@@ -86,7 +86,7 @@ pub record HandsOn (old new : Front) (desk desk_after : Ledger) (took : Bool) : 
 -- an output was passed over, whoever it goes to, or there was none
 abbrev pub PassedSo : Ledger → Ledger → Bool → Type 0
 PassedSo desk desk_after true = desk_after.count ≡ desk.count + 1
-PassedSo desk desk_after false = desk_after ≡ loading desk (load_of marshalled desk.count ∷ [])
+PassedSo desk desk_after false = desk_after ≡ ledger_loading desk (load_of marshalled desk.count ∷ [])
 
 -- a look of a gateway without a session; outputs that go to its client are counted
 pub record PassesOver (old new : Front) (desk desk_after : Ledger) (took : Bool) : Type 0 where
@@ -94,11 +94,11 @@ pub record PassesOver (old new : Front) (desk desk_after : Ledger) (took : Bool)
   pub taken : desk_after.taken ≡ desk.taken ++ these
   pub passed : new ≡ record old { passed = old.passed + length these }
   pub loaded : List Load
-  pub ledger : desk_after ≡ record (loading desk loaded) { taken = desk_after.taken; count = desk_after.count }
+  pub ledger : desk_after ≡ record (ledger_loading desk loaded) { taken = desk_after.taken; count = desk_after.count }
   pub so : PassedSo desk desk_after took
 
 -- what a turn comes to that wrote all: it worked, or rested, or rested once too often behind the client's end
-abbrev pub RestsSo : Front → Front → Bool → Heard → Bool → Turned → Type 0
+abbrev pub RestsSo : Front → Front → Bool → Found → Bool → Turned → Type 0
 RestsSo old new wrote heard took Worked = (new.live ≡ old.live) × ((wrote ≡ true) ⊎ (took ≡ true) ⊎ (heard ≡ Something))
 RestsSo old new wrote heard took Quiet = (new.live ≡ old.live) × (wrote ≡ false) × (took ≡ false) × (heard ≢ Something)
 RestsSo old new wrote heard took (Ended reason) = (new.live ≡ false) × (reason ≡ Closed) × (old.closed ≡ true) × (new.idle ≡ 1000) × (old.idle ≡ 999)
@@ -111,7 +111,7 @@ Waits old new false false =
     ((new.idle ≡ old.idle) × (old.closed ≡ true → old.session.closing ≡ None → ⊥))
     ⊎ ((new.idle ≡ old.idle + 1) × (old.closed ≡ true) × (old.session.closing ≡ None))
 
-pub record Rests (old new : Front) (wrote : Bool) (heard : Heard) (took : Bool) (answer : Turned) : Type 0 where
+pub record Rests (old new : Front) (wrote : Bool) (heard : Found) (took : Bool) (answer : Turned) : Type 0 where
   pub waits : Waits old new wrote took
   pub others : new ≡ record old { idle = new.idle; live = new.live }
   pub so : RestsSo old new wrote heard took answer

@@ -35,17 +35,17 @@ abbrev pub world : Front → Told → Ledger → World
 world front wire desk = record { front = front; wire = wire; desk = desk }
 
 -- where a part of a turn stands: the session, the bytes read and not yet fed, and what wire and seat tell
-pub record Place : Type 0 where
+pub record TurnPlace : Type 0 where
   pub session : Standing
   pub waiting : List ℕ
   pub wire : Told
   pub desk : Ledger
 
-abbrev pub place : Standing → List ℕ → Told → Ledger → Place
+abbrev pub place : Standing → List ℕ → Told → Ledger → TurnPlace
 place session waiting wire desk = record { session = session; waiting = waiting; wire = wire; desk = desk }
 
-abbrev pub place_of : World → Place
-place_of w = place w.front.session w.front.waiting w.wire w.desk
+abbrev pub turn_place : World → TurnPlace
+turn_place w = place w.front.session w.front.waiting w.wire w.desk
 
 -- what moves in a part of a turn: bytes fed to the session, bytes that the wire gave and took, messages published,
 -- and outputs handed to the session
@@ -68,7 +68,7 @@ Moves old new m =
 
 -- the session moves so; what was fed and what is left is what stood in the buffer and what the wire gave; the wire
 -- and the desk tell the rest
-pub record Step (old new : Place) (m : Moved) : Type 0 where
+pub record Step (old new : TurnPlace) (m : Moved) : Type 0 where
   pub moves : Moves old.session new.session m
   pub input : m.fed ++ new.waiting ≡ old.waiting ++ m.got
   pub gave : new.wire.gave ≡ grown old.wire.gave m.got
@@ -175,7 +175,7 @@ pub record Attends (old new : World) (m : Moved) : Type 0 where
 -- a whole turn
 pub record Turn (old new : World) (answer : Turned) : Type 0 where
   pub moved : Moved
-  pub step : Step (place_of old) (place_of new) moved
+  pub step : Step (turn_place old) (turn_place new) moved
   pub takes : Takes new.front.session.logged_on old.front new.front old.desk new.desk moved.handed
   pub means : Means old new moved answer
   pub counts : CountsTurns old new moved answer
@@ -192,12 +192,12 @@ farewell None = 0
 farewell (Some reason) = 1
 
 -- Each message said answers an accepted message or is an output taken, but for the Logout.
-abbrev pub Counts : Standing → ℕ → Type 0
-Counts s count = s.number ≤ 1 + s.accepted + count + farewell s.closing
+abbrev pub CountsMessages : Standing → ℕ → Type 0
+CountsMessages s count = s.number ≤ 1 + s.accepted + count + farewell s.closing
 
 -- The seat that counts so many outputs is the one that the session was begun with, so it has given all the outputs that the session has said. So
 -- the next MsgSeqNum, and the count of outputs passed over, are numbers that the machine has.
 pub record GoesWith (s : Standing) (passed count : ℕ) : Type 0 where
-  pub number : Counts s count
+  pub number : CountsMessages s count
   pub passed_over : passed ≤ count
   pub few : count ≤ 2 ^ 62

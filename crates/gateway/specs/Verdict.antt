@@ -39,12 +39,12 @@ abbrev pub is_type : Header → List ℕ → Bool
 is_type h type = bytes_eq h.msg_type type
 
 -- the field is this one
-abbrev pub is_field : ℕ → List ℕ → Field → Bool
-is_field tag value f = f.tag == tag && bytes_eq f.value value
+abbrev pub is_this_field : ℕ → List ℕ → Field → Bool
+is_this_field tag value f = f.tag == tag && bytes_eq f.value value
 
 -- EncryptMethod none, HeartBtInt none, ResetSeqNumFlag: the one body of Logon
 abbrev pub is_logon_body : List Field → Bool
-is_logon_body (a ∷ b ∷ c ∷ []) = is_field 98 (codes "0") a && is_field 108 (codes "0") b && is_field 141 (codes "Y") c
+is_logon_body (a ∷ b ∷ c ∷ []) = is_this_field 98 (codes "0") a && is_this_field 108 (codes "0") b && is_this_field 141 (codes "Y") c
 is_logon_body _ = false
 
 -- TestRequest has one TestReqID of 1 to 32 bytes

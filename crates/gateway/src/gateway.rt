@@ -50,7 +50,7 @@ impl Model for Gateway {
 
 /// What a turn found to hear.
 #[derive(Clone, Copy, Debug, PartialEq, Eq)]
-enum Heard {
+enum Found {
     /// A byte was read or fed, or a message published.
     Something,
     /// Nothing.
@@ -62,7 +62,7 @@ enum Heard {
 impl Gateway {
     ghost use Rattle.ring_words.specs.At.{IsAt, number};
     ghost use Rattle.gateway.specs.Gateways.{around, Idles};
-    ghost use Rattle.gateway.specs.Delivers.{Begins, Proceeds};
+    ghost use Rattle.gateway.specs.Delivers.{BeginsSession, Proceeds};
     ghost use Rattle.gateway.specs.Gateways.{begun};
     ghost use Rattle.gateway.specs.TurnParts.{Hears, Publishes, Reads, HandsOn, Rests, Stuck};
     ghost use Rattle.gateway.specs.Seats.{HasSeen, StaysSeated, LooksOnce, MayEnter, MayLook, Uses, ledger_of};
@@ -96,7 +96,7 @@ impl Gateway {
     /// Begins a new session of the client.
     pub fn begin(&mut self)
         ensures new { self.new ≡ record self.old { front = begun (number self.old.seat) self.old.front.passed } }
-        ensures begins { Begins self.new }
+        ensures begins { BeginsSession self.new }
     {
         self.session.begin();
         self.waiting = Input::new();
@@ -129,7 +129,7 @@ impl Gateway {
             return self.over(reason);
         }
         let heard = self.hear(rings, wire);
-        if heard == Heard::Failed {
+        if heard == Found::Failed {
             return self.over(Reason::WireFailed);
         }
         let took = self.hand_on(rings);
@@ -179,7 +179,7 @@ impl Gateway {
         &mut self,
         rings: &Rings<BookLogic, N, M, G>,
         wire: &mut W,
-    ) -> Heard
+    ) -> Found
         requires at { IsAt rings.now self.old.seat }
         requires open { self.old.front.session.closing ≡ None }
         requires silent { self.old.front.session.outgoing ≡ [] }
@@ -192,19 +192,19 @@ impl Gateway {
             return self.publish(rings);
         }
         let read = self.read(wire);
-        if read == Heard::Failed || self.waiting.is_empty() {
+        if read == Found::Failed || self.waiting.is_empty() {
             return read;
         }
         let fed = self.session.feed(self.waiting.as_slice());
         self.waiting.skip(fed);
-        Heard::Something
+        Found::Something
     }
 
     /// Tries to publish the message held: one that is published is let go of, and one that is refused stays held.
     fn publish<const N: usize, const M: usize, const G: usize>(
         &mut self,
         rings: &Rings<BookLogic, N, M, G>,
-    ) -> Heard
+    ) -> Found
         requires at { IsAt rings.now self.old.seat }
         requires open { self.old.front.session.closing ≡ None }
         requires held { self.old.front.session.held ≢ None }
@@ -217,32 +217,32 @@ impl Gateway {
         match try_publish(rings, &mut self.seat, self.session.message()) {
             TryPublish::Done => {
                 self.session.published();
-                Heard::Something
+                Found::Something
             }
-            TryPublish::Refused => Heard::Nothing,
+            TryPublish::Refused => Found::Nothing,
             TryPublish::Exhausted => {
                 self.session.exhausted();
-                Heard::Nothing
+                Found::Nothing
             }
         }
     }
 
     /// Reads once, where all is fed and the client hasn't closed its side.
-    fn read<W: Wire>(&mut self, wire: &mut W) -> Heard
+    fn read<W: Wire>(&mut self, wire: &mut W) -> Found
         ensures reads { Reads self.old.front self.new.front (W.tells wire.old) (W.tells wire.new) result }
         ensures seat { self.new.seat ≡ self.old.seat }
     {
         if self.closed || !self.waiting.is_empty() {
-            return Heard::Nothing;
+            return Found::Nothing;
         }
         match self.waiting.fill(wire) {
-            TryRead::Got(_) => Heard::Something,
-            TryRead::Nothing => Heard::Nothing,
+            TryRead::Got(_) => Found::Something,
+            TryRead::Nothing => Found::Nothing,
             TryRead::End => {
                 self.closed = true;
-                Heard::Nothing
+                Found::Nothing
             }
-            TryRead::Failed => Heard::Failed,
+            TryRead::Failed => Found::Failed,
         }
     }
 
@@ -279,7 +279,7 @@ impl Gateway {
     }
 
     /// Ends a turn that wrote all that stood to be written.
-    fn rest(&mut self, wrote: bool, heard: Heard, took: bool) -> Turned
+    fn rest(&mut self, wrote: bool, heard: Found, took: bool) -> Turned
         requires live { self.old.front.live ≡ true }
         ensures rests { Rests self.old.front self.new.front wrote heard took result }
         ensures seat { self.new.seat ≡ self.old.seat }
@@ -295,7 +295,7 @@ impl Gateway {
                 return Turned::Ended(Reason::Closed);
             }
         }
-        if heard == Heard::Something {
+        if heard == Found::Something {
             Turned::Worked
         } else {
             Turned::Quiet

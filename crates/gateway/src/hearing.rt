@@ -1,8 +1,8 @@
 //! A whole frame, judged: what the session does with it.
 ghost use Rattle.std.specs.Prelude.{◌≡◌, ◌≤◌, length, drop};
-ghost use Rattle.fix_frame.specs.Borrowed.{body_fields, fields_left};
+ghost use Rattle.fix_frame.specs.Borrowed.{frame_fields, fields_left};
 ghost use Rattle.fix_orders.specs.Formats.{time_text};
-ghost use Rattle.fix_orders.specs.Header.{header as as_header};
+ghost use Rattle.fix_orders.specs.Header.{as_header as as_header};
 ghost use Rattle.gateway.specs.Verdict.{verdict, header_verdict, first_verdict, later_verdict, test_verdict, is_party, is_type, is_order, is_logon_body};
 ghost use Rattle.gateway.specs.Answers.{time_after};
 ghost use Rattle.gateway.specs.Judging.{verdict_of, CanCount, CanEcho, begins_with};
@@ -39,8 +39,8 @@ pub struct Heard {
 
 /// Judges a frame, when so many messages were accepted before it and the last right header had this time.
 pub fn hear(frame: &Frame, gateway: u8, accepted: u32, last: u64) -> Heard
-    ensures verdict { verdict_of result.verdict ≡ verdict gateway accepted (body_fields frame.now) }
-    ensures time { time_text result.time ≡ time_after (time_text last) (body_fields frame.now) }
+    ensures verdict { verdict_of result.verdict ≡ verdict gateway accepted (frame_fields frame.now) }
+    ensures time { time_text result.time ≡ time_after (time_text last) (frame_fields frame.now) }
     ensures counts { CanCount accepted result.verdict }
     ensures echo { CanEcho result.verdict }
 {

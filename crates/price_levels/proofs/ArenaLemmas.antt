@@ -1,5 +1,6 @@
 -- The free places, as one is taken and one comes back.
-use Rattle.std.proofs.Common.{◌≡◌, ℕ, ◌+◌, ◌<◌, Bool, true, false, ◌&&◌, List, [], ◌∷◌, ◌++◌, length, Option, Some, None, refl, ap, sym, subst, ◌∙◌, arith, length-append}
+use Rattle.std.proofs.Common.{◌≡◌, ℕ, ◌+◌, ◌<◌, Bool, true, false, ◌&&◌, List, [], ◌∷◌, ◌++◌, length, Option, Some}
+use Rattle.std.proofs.Common.{None, refl, ap, sym, subst, ◌∙◌, arith, length-append}
 use Rattle.std.specs.Prelude.{◌≢◌, nat_eq, nat_lt, is_none, count_by, if◌then◌else◌}
 use Rattle.std.proofs.Math.Decide.{ℕ_discrete}
 use Rattle.std.proofs.lemmas.Bool.Decides.{nat_tests}
@@ -14,17 +15,20 @@ abbrev pub bit : Bool → ℕ
 bit t = if t then 1 else 0
 
 -- a place's vacancy by its order
-vacancy-by : (nodes : List Node) (p : ℕ) (x : Option Order) → p < length nodes → order_at nodes p ≡ x → vacancy nodes p ≡ bit (is_none x)
+vacancy-by : (nodes : List Node) (p : ℕ) (x : Option Order) → p < length nodes → order_at nodes p ≡ x
+    → vacancy nodes p ≡ bit (is_none x)
 vacancy-by nodes p x within is =
     let in_nodes : nat_lt p (length nodes) ≡ true = grind (arith, nat_tests, within) in
     ap (λ t. bit (t && is_none (order_at nodes p))) in_nodes ∙ ap (λ o. bit (is_none o)) is
 
-vacancy-same : (old new : List Node) (p : ℕ) → length new ≡ length old → order_at new p ≡ order_at old p → vacancy new p ≡ vacancy old p
+vacancy-same : (old new : List Node) (p : ℕ) → length new ≡ length old → order_at new p ≡ order_at old p
+    → vacancy new p ≡ vacancy old p
 vacancy-same old new p long same = ap (λ n. bit (nat_lt p n && is_none (order_at new p))) long ∙ ap (λ o. bit (nat_lt p
     (length old) && is_none o)) same
 
 -- what a vacancy says
-vacant-by : (nodes : List Node) (p : ℕ) (t : Bool) (x : Option Order) → nat_lt p (length nodes) ≡ t → order_at nodes p ≡ x → 0 < bit
+vacant-by : (nodes : List Node) (p : ℕ) (t : Bool) (x : Option Order) → nat_lt p (length nodes) ≡ t
+    → order_at nodes p ≡ x → 0 < bit
     (t && is_none x) →
     (p < length nodes) × (order_at nodes p ≡ None)
 vacant-by nodes p true None lt is some = (grind (arith, nat_tests, lt), is)
@@ -35,7 +39,8 @@ is-vacant : (nodes : List Node) (p : ℕ) → 0 < vacancy nodes p → (p < lengt
 is-vacant nodes p some = vacant-by nodes p (nat_lt p (length nodes)) (order_at nodes p) refl refl some
 
 -- one number more at the end
-pub count-end : (p x : ℕ) (free : List ℕ) → count_by (nat_eq p) (free ++ x ∷ []) ≡ count_by (nat_eq p) free + bit (nat_eq p x)
+pub count-end : (p x : ℕ) (free : List ℕ) → count_by (nat_eq p) (free ++ x ∷ [])
+    ≡ count_by (nat_eq p) free + bit (nat_eq p x)
 count-end p x free = let parts = sum_by-append (λ y. bit (nat_eq p y)) free (x ∷ []) in omega (arith, parts)
 
 same-number : (p : ℕ) → nat_eq p p ≡ true
@@ -86,7 +91,8 @@ module _ (nodes : List Node) (free : List ℕ) (x : ℕ) (arena : IsArena nodes 
       }
 
 -- a place comes back
-pub given : (nodes new : List Node) (free : List ℕ) (x : ℕ) (o : Order) → IsArena nodes free → order_at nodes x ≡ Some o →
+pub given : (nodes new : List Node) (free : List ℕ) (x : ℕ) (o : Order) → IsArena nodes free
+    → order_at nodes x ≡ Some o →
     Seen nodes new x None → IsArena new (free ++ x ∷ [])
 given nodes new free x o arena here seen =
     let sets = seen-sets nodes new x None seen in
@@ -100,7 +106,8 @@ given nodes new free x o arena here seen =
             let long = seen.long in
             let within = seen.within in
             let now = vacancy-by new x None (omega (arith, long, within)) sets.here in
-            let all : count_by (nat_eq x) (free ++ x ∷ []) ≡ vacancy new x = omega (arith, once, parts, same, was, now) in
+            let all : count_by (nat_eq x) (free ++ x ∷ []) ≡ vacancy new x =
+            omega (arith, once, parts, same, was, now) in
             subst (λ n. count_by (nat_eq n) (free ++ x ∷ []) ≡ vacancy new n) (sym is) all
         | no other ↦
             let once = arena.once q in
@@ -119,7 +126,8 @@ given nodes new free x o arena here seen =
     }
 
 -- an order stands in place of another
-pub stays : (nodes new : List Node) (free : List ℕ) (x : ℕ) (o y : Order) → IsArena nodes free → order_at nodes x ≡ Some o →
+pub stays : (nodes new : List Node) (free : List ℕ) (x : ℕ) (o y : Order) → IsArena nodes free
+    → order_at nodes x ≡ Some o →
     Seen nodes new x (Some y) → IsArena new free
 stays nodes new free x o y arena here seen =
     let sets = seen-sets nodes new x (Some y) seen in
@@ -144,6 +152,7 @@ stays nodes new free x o y arena here seen =
     }
 
 -- where an order has room, some place is free
-pub some-free : (nodes : List Node) (free : List ℕ) → IsArena nodes free → length (standing (places_of nodes)) < length nodes →
+pub some-free : (nodes : List Node) (free : List ℕ) → IsArena nodes free
+    → length (standing (places_of nodes)) < length nodes →
     0 < length free
 some-free nodes free arena room = let all = arena.all in omega (arith, all, room)

@@ -1,5 +1,6 @@
 -- The best order of a symbol and side, and the next one behind an order.
-use Rattle.std.proofs.Common.{◌≡◌, ℕ, ◌<◌, ◌⊎◌, inl, inr, true, false, List, [], ◌∷◌, ◌++◌, take, drop, Option, Some, None, refl, ap, sym, subst, ◌∙◌, arith, take-append-drop}
+use Rattle.std.proofs.Common.{◌≡◌, ℕ, ◌<◌, ◌⊎◌, inl, inr, true, false, List, [], ◌∷◌, ◌++◌, take, drop, Option, Some}
+use Rattle.std.proofs.Common.{None, refl, ap, sym, subst, ◌∙◌, arith, take-append-drop}
 use Rattle.std.specs.Prelude.{◌≢◌, option_map, MatchOption, if◌then◌else◌}
 use Rattle.std.specs.List.{AllByRecursion}
 use Rattle.std.proofs.Math.Decide.{ℕ_discrete}
@@ -8,17 +9,20 @@ use Rattle.venue_model.specs.declared.orders.Order.{Order}
 use Rattle.price_levels.specs.declared.keys.Key.{Key}
 use Rattle.price_levels.specs.declared.keys.Level.{Level}
 use Rattle.price_levels.specs.declared.nodes.Node.{Node}
-use Rattle.price_levels.specs.Places.{IsAt, IsOf, NoneOf, BestOf}
+use Rattle.price_levels.specs.Places.{StandsAt, IsOf, NoneOf, BestOf}
 use Rattle.price_levels.specs.Keys.{key_of, key_before, before_side, InOrder, level_of}
-use Rattle.price_levels.specs.Arena.{End, end_to, of_side, first_in, order_at, next_point, prev_point, places_of, AreLevels}
+use Rattle.price_levels.specs.Arena.{End, end_to, of_side, first_in, order_at, next_point, prev_point, places_of}
+use Rattle.price_levels.specs.Arena.{AreLevels}
 use Rattle.price_levels.proofs.KeyLemmas.{key-apart, key-trans}
 use Rattle.price_levels.proofs.Rings.{some-same, at-apart}
 use Rattle.price_levels.proofs.RingLaws.{first}
-use Rattle.price_levels.proofs.LevelLists.{all-map, all-append, order-back, order-before, order-behind, level-all, level-key, level-here, not-before-key}
+use Rattle.price_levels.proofs.LevelLists.{all-map, all-append, order-back, order-before, order-behind, level-all}
+use Rattle.price_levels.proofs.LevelLists.{level-key, level-here, not-before-key}
 use Rattle.price_levels.proofs.NodeLemmas.{order-is}
 use Rattle.price_levels.proofs.Totals.{first-stands}
 use Rattle.price_levels.proofs.Leavings.{has-level}
-use Rattle.price_levels.proofs.Groups.{of-means, of-is, of-not-before, beyond, false-if, not-both, head_in, first-head, by-stamp, key-ahead}
+use Rattle.price_levels.proofs.Groups.{of-means, of-is, of-not-before, beyond, false-if, not-both, head_in, first-head}
+use Rattle.price_levels.proofs.Groups.{by-stamp, key-ahead}
 
 -- a key isn't before itself, nor two before one another
 pub not-round : (a b : Key) → key_before a b ≡ true → key_before b a ≡ true → ⊥
@@ -30,18 +34,22 @@ module _ (nodes : List Node) (levels : List Level) (are : AreLevels nodes levels
       order_at nodes p ≡ Some o → P (key_of o)
   of-its-level P p o all here =
       let level = has-level nodes levels are p o here in
-      subst P (level-key (key_of o) levels level.0 level.1) (level-all (λ l. P l.key) (key_of o) levels level.0 all level.1)
+      subst P (level-key (key_of o) levels level.0 level.1)
+      (level-all (λ l. P l.key) (key_of o) levels level.0 all level.1)
 
   -- the first order of a level came before the others
-  pub first-earlier : (k : Key) (l : Level) (is : level_of k levels ≡ Some l) (q : ℕ) (x : Order) → order_at nodes q ≡ Some x →
+  pub first-earlier : (k : Key) (l : Level) (is : level_of k levels ≡ Some l) (q : ℕ) (x : Order)
+      → order_at nodes q ≡ Some x →
       key_of x ≡ k → q ≢ l.first →
       (first-stands nodes levels are k l is).order.stamp < x.stamp
   first-earlier k l is q x here key other =
       let fo = first-stands nodes levels are k l is in
       let least = first (order_at nodes) (next_point nodes levels) (prev_point nodes levels) are.rings q x here in
-      let place : l.first ≡ least.place = at-apart l.first least.place (ap (λ y. end_to (option_map (λ (m : Level). m.first) y) k)
+      let place : l.first ≡ least.place = at-apart l.first least.place
+      (ap (λ y. end_to (option_map (λ (m : Level). m.first) y) k)
       (sym is) ∙ ap (λ j. next_point nodes levels (End j)) (sym key) ∙ least.leads) in
-      let same : fo.order ≡ least.first = some-same fo.order least.first (sym fo.is ∙ ap (order_at nodes) place ∙ least.is) in
+      let same : fo.order ≡ least.first = some-same fo.order least.first
+      (sym fo.is ∙ ap (order_at nodes) place ∙ least.is) in
       let stamp : fo.order.stamp ≡ least.first.stamp = ap (λ (z : Order). z.stamp) same in
       let no_later = least.least in
       elim (ℕ_discrete fo.order.stamp x.stamp) [
@@ -52,7 +60,8 @@ module _ (nodes : List Node) (levels : List Level) (are : AreLevels nodes levels
 -- the keys of levels that a symbol and side has from a place on: the first, and others behind it
 module _ (symbol : List ℕ) (side : Side) where
   -- none
-  pub none-head : (ls : List Level) → InOrder ls → AllByRecursion (λ (l : Level). before_side symbol side l.key ≡ false) ls →
+  pub none-head : (ls : List Level) → InOrder ls → AllByRecursion (λ (l : Level). before_side symbol side l.key ≡ false)
+      ls →
       head_in symbol side ls ≡ None →
       AllByRecursion (λ (l : Level). of_side symbol side l.key ≡ false) ls
   none-head [] order not none = tt
@@ -84,23 +93,25 @@ module _ (symbol : List ℕ) (side : Side) where
       ] refl e
 
 module _ (nodes : List Node) (levels : List Level) (are : AreLevels nodes levels) (symbol : List ℕ) (side : Side) where
-  stands-at : (q : ℕ) (x : Order) → IsAt (places_of nodes) q x → order_at nodes q ≡ Some x
+  stands-at : (q : ℕ) (x : Order) → StandsAt (places_of nodes) q x → order_at nodes q ≡ Some x
   stands-at q x is = sym (order-is nodes q) ∙ is
 
-  is-at : (q : ℕ) (x : Order) → order_at nodes q ≡ Some x → IsAt (places_of nodes) q x
+  is-at : (q : ℕ) (x : Order) → order_at nodes q ≡ Some x → StandsAt (places_of nodes) q x
   is-at q x is = order-is nodes q ∙ is
 
   order-of : (x : Order) → IsOf symbol side x → of_side symbol side (key_of x) ≡ true
   order-of x is = of-is symbol side (key_of x) is.symbol_is is.side_is
 
   -- no level of theirs, no order
-  pub none-best : AllByRecursion (λ (l : Level). of_side symbol side l.key ≡ false) levels → NoneOf symbol side (places_of nodes)
+  pub none-best : AllByRecursion (λ (l : Level). of_side symbol side l.key ≡ false) levels
+      → NoneOf symbol side (places_of nodes)
   none-best none q x is of = not-both (of_side symbol side (key_of x)) (order-of x of)
       (of-its-level nodes levels are (λ k. of_side symbol side k ≡ false) q x none (stands-at q x is))
 
   -- the first order of their first level
   pub first-best : (l : Level) (is : level_of l.key levels ≡ Some l) → of_side symbol side l.key ≡ true →
-      AllByRecursion (λ (m : Level). of_side symbol side m.key ≡ true → (m.key ≡ l.key) ⊎ (key_before l.key m.key ≡ true)) levels →
+      AllByRecursion (λ (m : Level). of_side symbol side m.key ≡ true
+      → (m.key ≡ l.key) ⊎ (key_before l.key m.key ≡ true)) levels →
       BestOf symbol side (places_of nodes) l.first
   first-best l is of all =
       let fo = first-stands nodes levels are l.key l is in
@@ -122,7 +133,8 @@ module _ (nodes : List Node) (levels : List Level) (are : AreLevels nodes levels
             } in
             elim (of-its-level nodes levels are (λ k. of_side symbol side k ≡ true → (k ≡ l.key) ⊎
             (key_before l.key k ≡ true)) q x all at_q (order-of x of_x)) [
-              | inl same ↦ by-stamp fo.order x with_o.side_is (ap (λ (k : Key). k.price) same ∙ sym (ap (λ (k : Key). k.price) fo.key))
+              | inl same ↦ by-stamp fo.order x with_o.side_is
+                  (ap (λ (k : Key). k.price) same ∙ sym (ap (λ (k : Key). k.price) fo.key))
                   (first-earlier nodes levels are l.key l is q x at_q same other)
               | inr before ↦ key-ahead fo.order x with_o (ap (λ k. key_before k (key_of x)) fo.key ∙ before)
             ];
@@ -131,15 +143,20 @@ module _ (nodes : List Node) (levels : List Level) (are : AreLevels nodes levels
   module _ (n : ℕ) (before : AllByRecursion (λ (l : Level). before_side symbol side l.key ≡ true) (take n levels))
       (behind : AllByRecursion (λ (l : Level). before_side symbol side l.key ≡ false) (drop n levels)) where
     rest-order : InOrder (drop n levels)
-    rest-order = order-back (take n levels) (drop n levels) (subst InOrder (sym (take-append-drop n levels)) are.in_order)
+    rest-order = order-back (take n levels) (drop n levels)
+        (subst InOrder (sym (take-append-drop n levels)) are.in_order)
 
     front-none : AllByRecursion (λ (l : Level). of_side symbol side l.key ≡ false) (take n levels)
-    front-none = all-map (λ (l : Level). before_side symbol side l.key ≡ true) (λ (l : Level). of_side symbol side l.key ≡ false)
-        (λ l h. false-if (of_side symbol side l.key) (λ of. of-not-before symbol side l.key of h)) (take n levels) before
+    front-none = all-map (λ (l : Level). before_side symbol side l.key ≡ true)
+        (λ (l : Level). of_side symbol side l.key ≡ false)
+        (λ l h. false-if (of_side symbol side l.key) (λ of. of-not-before symbol side l.key of h)) (take n levels)
+        before
 
-    by-head : (r : Option ℕ) → head_in symbol side (drop n levels) ≡ r → MatchOption r (NoneOf symbol side (places_of nodes))
+    by-head : (r : Option ℕ) → head_in symbol side (drop n levels) ≡ r
+        → MatchOption r (NoneOf symbol side (places_of nodes))
         (BestOf symbol side (places_of nodes))
-    by-head None h = none-best (subst (AllByRecursion (λ (l : Level). of_side symbol side l.key ≡ false)) (take-append-drop n levels)
+    by-head None h = none-best (subst (AllByRecursion (λ (l : Level). of_side symbol side l.key ≡ false))
+        (take-append-drop n levels)
         (all-append (λ (l : Level). of_side symbol side l.key ≡ false) (take n levels) (drop n levels) front-none
         (none-head symbol side (drop n levels) rest-order behind h)))
     by-head (Some f) h =
@@ -161,6 +178,7 @@ module _ (nodes : List Node) (levels : List Level) (are : AreLevels nodes levels
               (take n levels) head.rest head.level order),
         ))))
 
-    pub best-is : (r : Option ℕ) → r ≡ first_in symbol side levels n → MatchOption r (NoneOf symbol side (places_of nodes))
+    pub best-is : (r : Option ℕ) → r ≡ first_in symbol side levels n
+        → MatchOption r (NoneOf symbol side (places_of nodes))
         (BestOf symbol side (places_of nodes))
     best-is r is = by-head r (sym (first-head symbol side levels n) ∙ sym is)

@@ -1,5 +1,6 @@
 -- An order in the levels is another now, of its level and stamp: all else stays.
-use Rattle.std.proofs.Common.{◌≡◌, ℕ, ◌+◌, ◌-◌, ◌*◌, ◌^◌, ◌<◌, ◌≤◌, inl, inr, List, Option, Some, None, refl, ap, sym, subst, ◌∙◌, arith}
+use Rattle.std.proofs.Common.{◌≡◌, ℕ, ◌+◌, ◌-◌, ◌*◌, ◌^◌, ◌<◌, ◌≤◌, inl, inr, List, Option, Some, None, refl, ap, sym}
+use Rattle.std.proofs.Common.{subst, ◌∙◌, arith}
 use Rattle.std.specs.Prelude.{option_map, unwrap_or, slice_set}
 use Rattle.std.proofs.Math.Decide.{ℕ_discrete}
 use Rattle.venue_model.specs.declared.orders.Order.{Order}
@@ -8,7 +9,8 @@ use Rattle.price_levels.specs.declared.keys.Key.{Key}
 use Rattle.price_levels.specs.declared.keys.Level.{Level}
 use Rattle.price_levels.specs.declared.nodes.Node.{Node}
 use Rattle.price_levels.specs.Keys.{key_of, level_of}
-use Rattle.price_levels.specs.Arena.{Point, At, End, leads_to, end_to, AreRings, key_at, node_at, order_at, next_point, prev_point, places_of, left_of, total_left, AreLevels, Replaces, vacant}
+use Rattle.price_levels.specs.Arena.{Point, At, End, leads_to, end_to, AreRings, key_at, node_at, order_at, next_point}
+use Rattle.price_levels.specs.Arena.{prev_point, places_of, left_of, total_left, AreLevels, Replaces, vacant}
 use Rattle.price_levels.proofs.KeyLemmas.{decide_key}
 use Rattle.price_levels.proofs.Rings.{Sets, some-same}
 use Rattle.price_levels.proofs.LevelLists.{Changes}
@@ -23,7 +25,8 @@ record Stood (order : ℕ → Option Order) (q : ℕ) (x : Order) : Type 0 where
   pub key : key_of x ≡ key_of old
   pub stamp : x.stamp ≡ old.stamp
 
-module _ (nodes : List Node) (levels levels' : List Level) (are : AreLevels nodes levels) (p : ℕ) (o y : Order) (l m : Level)
+module _ (nodes : List Node) (levels levels' : List Level) (are : AreLevels nodes levels) (p : ℕ) (o y : Order)
+    (l m : Level)
     (here : order_at nodes p ≡ Some o) (replaces : Replaces o y) (changes : Changes levels levels' (key_of o) (Some m))
     (level : level_of (key_of o) levels ≡ Some l) (first : m.first ≡ l.first) (last : m.last ≡ l.last)
     (left : m.left ≡ l.left - leaves o + leaves y) where
@@ -48,7 +51,8 @@ module _ (nodes : List Node) (levels levels' : List Level) (are : AreLevels node
 
   keys : (q : ℕ) → option_map key_of (order_at nodes' q) ≡ option_map key_of (order_at nodes q)
   keys q = elim (ℕ_discrete q p) [
-    | yes is ↦ ap (λ r. option_map key_of (order_at nodes' r)) is ∙ ap (option_map key_of) sets.here ∙ ap Some replaces.key ∙ sym (ap
+    | yes is ↦ ap (λ r. option_map key_of (order_at nodes' r)) is ∙ ap (option_map key_of) sets.here
+        ∙ ap Some replaces.key ∙ sym (ap
         (option_map key_of) here) ∙ sym (ap (λ r. option_map key_of (order_at nodes r)) is)
     | no other ↦ ap (option_map key_of) (sets.others q other)
   ]
@@ -64,14 +68,16 @@ module _ (nodes : List Node) (levels levels' : List Level) (are : AreLevels node
   next-same : (x : Point) → next_point nodes' levels' x ≡ next_point nodes levels x
   next-same (At q) =
       leads-same (order_at nodes' q) (order_at nodes q) (node_at nodes' q).next q (keys q)
-      ∙ ap (λ n. leads_to (order_at nodes q) n q) (kept (λ n. n.next) nodes nodes' (map-set_same (λ n. n.next) nodes p (record
+      ∙ ap (λ n. leads_to (order_at nodes q) n q)
+      (kept (λ n. n.next) nodes nodes' (map-set_same (λ n. n.next) nodes p (record
       (node_at nodes p) { order = Some y }) vacant refl) q)
   next-same (End j) = ap (λ n. end_to n j) (ends (λ n. n.first) first j)
 
   prev-same : (x : Point) → prev_point nodes' levels' x ≡ prev_point nodes levels x
   prev-same (At q) =
       leads-same (order_at nodes' q) (order_at nodes q) (node_at nodes' q).prev q (keys q)
-      ∙ ap (λ n. leads_to (order_at nodes q) n q) (kept (λ n. n.prev) nodes nodes' (map-set_same (λ n. n.prev) nodes p (record
+      ∙ ap (λ n. leads_to (order_at nodes q) n q)
+      (kept (λ n. n.prev) nodes nodes' (map-set_same (λ n. n.prev) nodes p (record
       (node_at nodes p) { order = Some y }) vacant refl) q)
   prev-same (End j) = ap (λ n. end_to n j) (ends (λ n. n.last) last j)
 
@@ -106,14 +112,17 @@ module _ (nodes : List Node) (levels levels' : List Level) (are : AreLevels node
 
   rings' : AreRings (order_at nodes') (next_point nodes' levels') (prev_point nodes' levels')
   rings' = record {
-    there = λ x. prev-same (next_point nodes' levels' x) ∙ ap (prev_point nodes levels) (next-same x) ∙ are.rings.there x;
+    there = λ x. prev-same (next_point nodes' levels' x) ∙ ap (prev_point nodes levels) (next-same x)
+        ∙ are.rings.there x;
     back = λ x. next-same (prev_point nodes' levels' x) ∙ ap (next_point nodes levels) (prev-same x) ∙ are.rings.back x;
-    key = λ x. ap (key_at (order_at nodes')) (next-same x) ∙ key-same (next_point nodes levels x) ∙ are.rings.key x ∙ sym (key-same x);
+    key = λ x. ap (key_at (order_at nodes')) (next-same x) ∙ key-same (next_point nodes levels x) ∙ are.rings.key x
+        ∙ sym (key-same x);
     later = later-same;
     apart = λ q r a b at_q at_r same stamp.
         let a_was = stood q a at_q in
         let b_was = stood r b at_r in
-        are.rings.apart q r a_was.old b_was.old a_was.was b_was.was (sym b_was.key ∙ same ∙ a_was.key) (sym b_was.stamp ∙ stamp
+        are.rings.apart q r a_was.old b_was.old a_was.was b_was.was (sym b_was.key ∙ same ∙ a_was.key)
+        (sym b_was.stamp ∙ stamp
         ∙ a_was.stamp);
   }
 
@@ -124,7 +133,8 @@ module _ (nodes : List Node) (levels levels' : List Level) (are : AreLevels node
         (λ i h. left-other i o (λ e. h (sym e))) (λ i h. left-other i y (λ e. h (sym e ∙ replaces.key)))
         (leaves o) (leaves y) (left-own k (Some o) o refl refl) (left-own k (Some y) y refl replaces.key)
         (let m_is = ap (λ x. unwrap_or (option_map (λ (n : Level). n.left) x) 0) changes.here in
-        let l_is = ap (λ x. unwrap_or (option_map (λ (n : Level). n.left) x) 0) level in omega (arith, m_is, l_is, left)))
+        let l_is = ap (λ x. unwrap_or (option_map (λ (n : Level). n.left) x) 0) level in
+        omega (arith, m_is, l_is, left)))
     | inr other ↦ left-elsewhere nodes nodes' levels levels' p (Some o) (Some y) k seen here are.left changes.others
         (λ i h. left-other i o (λ e. h (sym e))) (λ i h. left-other i y (λ e. h (sym e ∙ replaces.key))) j other
   ]

@@ -1,5 +1,6 @@
 -- An order comes into the levels: the rings, the order of the levels and what they have left are right again.
-use Rattle.std.proofs.Common.{◌≡◌, ℕ, ◌+◌, ◌*◌, ◌^◌, ◌<◌, ◌≤◌, inl, inr, List, length, Option, Some, None, refl, ap, sym, subst, ◌∙◌, arith}
+use Rattle.std.proofs.Common.{◌≡◌, ℕ, ◌+◌, ◌*◌, ◌^◌, ◌<◌, ◌≤◌, inl, inr, List, length, Option, Some, None, refl, ap}
+use Rattle.std.proofs.Common.{sym, subst, ◌∙◌, arith}
 use Rattle.std.specs.Prelude.{◌≢◌, option_map, MatchOption, unwrap_or}
 use Rattle.std.proofs.Math.Decide.{ℕ_discrete}
 use Rattle.venue_model.specs.declared.orders.Order.{Order}
@@ -9,26 +10,33 @@ use Rattle.price_levels.specs.declared.keys.Level.{Level}
 use Rattle.price_levels.specs.declared.nodes.Node.{Node}
 use Rattle.price_levels.specs.Places.{ComesLater}
 use Rattle.price_levels.specs.Keys.{key_of}
-use Rattle.price_levels.specs.Arena.{At, End, leads_to, end_to, key_at, node_at, order_at, first_of, last_of, next_point, prev_point, places_of, left_of, total_left, AreLevels, node_behind, nodes_with, IsWithin}
+use Rattle.price_levels.specs.Arena.{At, End, leads_to, end_to, key_at, node_at, order_at, first_of, last_of}
+use Rattle.price_levels.specs.Arena.{next_point, prev_point, places_of, left_of, total_left, AreLevels, node_behind}
+use Rattle.price_levels.specs.Arena.{nodes_with, IsWithinNodes}
 use Rattle.price_levels.proofs.KeyLemmas.{decide_key}
 use Rattle.price_levels.proofs.Rings.{Moves, Sets, rings-come, some-same, not-here, key-before}
 use Rattle.price_levels.proofs.RingLaws.{Stands, stands}
 use Rattle.price_levels.proofs.LevelLists.{Changes}
 use Rattle.price_levels.proofs.PointLemmas.{Turns, moves}
-use Rattle.price_levels.proofs.NodeLemmas.{Seen, seen-sets, order-is, within-nodes, with-seen, with-here, with-next, with-next-else, with-prev}
+use Rattle.price_levels.proofs.NodeLemmas.{Seen, seen-sets, order-is, within-nodes, with-seen, with-here, with-next}
+use Rattle.price_levels.proofs.NodeLemmas.{with-next-else, with-prev}
 use Rattle.price_levels.proofs.LeftLemmas.{left-own, left-other, left-elsewhere, left-here}
 
 -- the last order of a level stands
-pub last-stands : (nodes : List Node) (levels : List Level) → AreLevels nodes levels → (k : Key) (q : ℕ) → last_of levels k ≡ Some q →
+pub last-stands : (nodes : List Node) (levels : List Level) → AreLevels nodes levels → (k : Key) (q : ℕ)
+    → last_of levels k ≡ Some q →
     Stands (order_at nodes) q k
 last-stands nodes levels are k q is =
     let prev_is : prev_point nodes levels (End k) ≡ At q = ap (λ x. end_to x k) is in
     stands (order_at nodes) q k (ap (λ x. key_at (order_at nodes) x) (sym prev_is) ∙ key-before (order_at nodes)
     (next_point nodes levels) (prev_point nodes levels) are.rings (End k))
 
-module _ (nodes : List Node) (levels levels' : List Level) (are : AreLevels nodes levels) (p : ℕ) (o : Order) (last : Option ℕ) (m : Level)
-    (within : p < length nodes) (free : order_at nodes p ≡ None) (total : o.total ≤ 1000000) (later : ComesLater (places_of nodes) o)
-    (last_is : last ≡ last_of levels (key_of o)) (changes : Changes levels levels' (key_of o) (Some m)) (m_last : m.last ≡ p)
+module _ (nodes : List Node) (levels levels' : List Level) (are : AreLevels nodes levels) (p : ℕ) (o : Order)
+    (last : Option ℕ) (m : Level)
+    (within : p < length nodes) (free : order_at nodes p ≡ None) (total : o.total ≤ 1000000)
+    (later : ComesLater (places_of nodes) o)
+    (last_is : last ≡ last_of levels (key_of o)) (changes : Changes levels levels' (key_of o) (Some m))
+    (m_last : m.last ≡ p)
     (m_first : MatchOption last (m.first ≡ p) (λ q. Some m.first ≡ first_of levels (key_of o)))
     (m_left : m.left ≡ left_of levels (key_of o) + leaves o) where
   abbrev k : Key
@@ -37,7 +45,7 @@ module _ (nodes : List Node) (levels levels' : List Level) (are : AreLevels node
   abbrev nodes' : List Node
   nodes' = nodes_with nodes last p o
 
-  last-in : (l : Option ℕ) → l ≡ last_of levels k → IsWithin nodes l
+  last-in : (l : Option ℕ) → l ≡ last_of levels k → IsWithinNodes nodes l
   last-in None is = tt
   last-in (Some q) is = let at_q = last-stands nodes levels are k q (sym is) in within-nodes nodes q at_q.order at_q.is
 
@@ -53,9 +61,11 @@ module _ (nodes : List Node) (levels levels' : List Level) (are : AreLevels node
   last-now : last_of levels' k ≡ Some p
   last-now = ap (option_map (λ (l : Level). l.last)) changes.here ∙ ap Some m_last
 
-  from-last : (l : Option ℕ) → l ≡ last_of levels k → ((q : ℕ) → q ≢ p → l ≡ Some q → (node_at nodes' q).next ≡ Some p) →
+  from-last : (l : Option ℕ) → l ≡ last_of levels k
+      → ((q : ℕ) → q ≢ p → l ≡ Some q → (node_at nodes' q).next ≡ Some p) →
       MatchOption l (m.first ≡ p) (λ q. Some m.first ≡ first_of levels k) →
-      MatchOption l (first_of levels' k ≡ Some p) (λ q. (q ≢ p) × (Stands (order_at nodes) q k × (((node_at nodes' q).next ≡ Some p) ×
+      MatchOption l (first_of levels' k ≡ Some p) (λ q. (q ≢ p)
+      × (Stands (order_at nodes) q k × (((node_at nodes' q).next ≡ Some p) ×
       (first_of levels' k ≡ first_of levels k))))
   from-last None is nexts first = first-now ∙ ap Some first
   from-last (Some q) is nexts first =
@@ -83,7 +93,8 @@ module _ (nodes : List Node) (levels levels' : List Level) (are : AreLevels node
   here-now = with-here nodes last p o (last-in last last_is) within
 
   next-moves : Moves (next_point nodes levels) (next_point nodes' levels') (At p) (end_to last k) (End k) (At p)
-  next-moves = moves (order_at nodes) (order_at nodes') (λ q. (node_at nodes q).next) (λ q. (node_at nodes' q).next) (first_of levels)
+  next-moves = moves (order_at nodes) (order_at nodes') (λ q. (node_at nodes q).next) (λ q. (node_at nodes' q).next)
+      (first_of levels)
       (first_of levels') p k (Some o) sets
       last (Some p) (End k) next-turns (ap (λ (n : Node). leads_to (Some o) n.next p) here-now)
 
@@ -92,7 +103,8 @@ module _ (nodes : List Node) (levels levels' : List Level) (are : AreLevels node
   to-last (Some q) = refl
 
   prev-moves : Moves (prev_point nodes levels) (prev_point nodes' levels') (At p) (End k) (end_to last k) (At p)
-  prev-moves = moves (order_at nodes) (order_at nodes') (λ q. (node_at nodes q).prev) (λ q. (node_at nodes' q).prev) (last_of levels)
+  prev-moves = moves (order_at nodes) (order_at nodes') (λ q. (node_at nodes q).prev) (λ q. (node_at nodes' q).prev)
+      (last_of levels)
       (last_of levels') p k (Some o) sets
       None (Some p) (end_to last k) prev-turns (ap (λ (n : Node). leads_to (Some o) n.prev p) here-now ∙ to-last last)
 
@@ -112,8 +124,10 @@ module _ (nodes : List Node) (levels levels' : List Level) (are : AreLevels node
         (left-here nodes nodes' levels levels' p None (Some o) k seen free are.left changes.others (λ i other. refl)
         (λ i other. left-other i o (λ e. other (sym e)))
         0 (leaves o) refl (left-own k (Some o) o refl refl)
-        (let m_is = ap (λ l. unwrap_or (option_map (λ (n : Level). n.left) l) 0) changes.here in omega (arith, m_is, m_left)))
-    | inr other ↦ left-elsewhere nodes nodes' levels levels' p None (Some o) k seen free are.left changes.others (λ i h. refl)
+        (let m_is = ap (λ l. unwrap_or (option_map (λ (n : Level). n.left) l) 0) changes.here in
+        omega (arith, m_is, m_left)))
+    | inr other ↦ left-elsewhere nodes nodes' levels levels' p None (Some o) k seen free are.left changes.others
+        (λ i h. refl)
         (λ i h. left-other i o (λ e. h (sym e))) j other
   ]
 
@@ -121,16 +135,20 @@ module _ (nodes : List Node) (levels levels' : List Level) (are : AreLevels node
   come = record {
     bounds = record {
       each = λ q x is. elim (ℕ_discrete q p) [
-        | yes here ↦ subst (λ (y : Order). y.total ≤ 1000000) (some-same o x (sym sets.here ∙ ap (order_at nodes') (sym here) ∙ is)) total
+        | yes here ↦ subst (λ (y : Order). y.total ≤ 1000000)
+            (some-same o x (sym sets.here ∙ ap (order_at nodes') (sym here) ∙ is)) total
         | no other ↦ are.bounds.each q x (sym (sets.others q other) ∙ is)
       ];
       fits = let long = seen.long in let fits = are.bounds.fits in subst (λ n. n * 1000000 < 2 ^ 64) (sym long) fits;
     };
     rings = rings-come (order_at nodes) (next_point nodes levels) (prev_point nodes levels) are.rings (order_at nodes')
         (next_point nodes' levels') (prev_point nodes' levels') p o free
-        (ap (λ x. leads_to x (node_at nodes p).next p) free) (ap (λ x. leads_to x (node_at nodes p).prev p) free) come-later sets
-        (subst (λ a. Moves (next_point nodes levels) (next_point nodes' levels') (At p) a (End k) (At p)) (sym before-end) next-moves)
-        (subst (λ a. Moves (prev_point nodes levels) (prev_point nodes' levels') (At p) (End k) a (At p)) (sym before-end) prev-moves);
+        (ap (λ x. leads_to x (node_at nodes p).next p) free) (ap (λ x. leads_to x (node_at nodes p).prev p) free)
+        come-later sets
+        (subst (λ a. Moves (next_point nodes levels) (next_point nodes' levels') (At p) a (End k) (At p))
+        (sym before-end) next-moves)
+        (subst (λ a. Moves (prev_point nodes levels) (prev_point nodes' levels') (At p) (End k) a (At p))
+        (sym before-end) prev-moves);
     in_order = changes.order;
     left = left-come;
   }

@@ -1,5 +1,6 @@
 -- Where what passes a test stands first, it ends at the number of those that pass.
-use Rattle.std.proofs.Common.{◌≡◌, ℕ, zero, suc, ◌+◌, ◌*◌, ◌⊎◌, inl, inr, ◌<◌, ◌≤◌, Bool, true, false, true≢false, List, [], ◌∷◌, length, get_or, refl, ap, sym, ◌∙◌, arith}
+use Rattle.std.proofs.Common.{◌≡◌, ℕ, zero, suc, ◌+◌, ◌*◌, ◌⊎◌, inl, inr, ◌<◌, ◌≤◌, Bool, true, false, true≢false, List}
+use Rattle.std.proofs.Common.{[], ◌∷◌, length, get_or, refl, ap, sym, ◌∙◌, arith}
 use Rattle.std.specs.Prelude.{cond}
 use Rattle.std.specs.List.{count_by}
 use Rattle.std.specs.List.Sorted.{IsPartitionedBy}
@@ -32,7 +33,8 @@ module _ {X : Type 0} (p : X → Bool) where
   rest-parted : (x : X) (xs : List X) → IsPartitionedBy p (x ∷ xs) → IsPartitionedBy p xs
   rest-parted x xs parts = λ i j d le lt h. parts (suc i) (suc j) d (omega (arith, le)) (omega (arith, lt)) h
 
-  pub ends-behind : (xs : List X) → IsPartitionedBy p xs → (i : ℕ) (d : X) → i < length xs → p (get_or xs i d) ≡ true → i < count_by p xs
+  pub ends-behind : (xs : List X) → IsPartitionedBy p xs → (i : ℕ) (d : X) → i < length xs → p (get_or xs i d) ≡ true
+      → i < count_by p xs
   ends-behind [] parts i d lt h = absurd (omega (arith, lt))
   ends-behind (x ∷ xs) parts zero d lt h = let e = count-of x xs h in omega arith
   ends-behind (x ∷ xs) parts (suc i) d lt h =
@@ -40,7 +42,8 @@ module _ {X : Type 0} (p : X → Bool) where
       let more = ends-behind xs (rest-parted x xs parts) i d (omega (arith, lt)) h in
       omega arith
 
-  pub ends-before : (xs : List X) → IsPartitionedBy p xs → (i : ℕ) (d : X) → p (get_or xs i d) ≡ false → i < length xs → count_by p xs ≤ i
+  pub ends-before : (xs : List X) → IsPartitionedBy p xs → (i : ℕ) (d : X) → p (get_or xs i d) ≡ false → i < length xs
+      → count_by p xs ≤ i
   ends-before [] parts i d h lt = absurd (omega (arith, lt))
   ends-before (x ∷ xs) parts (suc i) d h lt =
       let any = count-any x xs in
@@ -56,7 +59,8 @@ module _ {X : Type 0} (p : X → Bool) where
       omega arith
 
 -- what one look at a level tells of where those of a better price end
-pub one-look : (side : Side) (price : ℕ) (levels : List Level) (i : ℕ) (d : Level) (b : Bool) → BetterFirst side price levels →
+pub one-look : (side : Side) (price : ℕ) (levels : List Level) (i : ℕ) (d : Level) (b : Bool)
+    → BetterFirst side price levels →
     i < length levels → b ≡ is_better side (get_or levels i d).key.price price →
     ((b ≡ true) × (i < count_better side price levels)) ⊎ ((b ≡ false) × (count_better side price levels ≤ i))
 one-look side price levels i d true parts lt is =
@@ -65,7 +69,8 @@ one-look side price levels i d false parts lt is =
     inr (refl, ends-before (λ (l : Level). is_better side l.key.price price) levels parts i d (sym is) lt)
 
 -- one level more is looked at: it is counted, or those of a better price ended
-pub count-on : (at next n end : ℕ) (b : Bool) → ((b ≡ true) × (next < end)) ⊎ ((b ≡ false) × (end ≤ next)) → n ≡ bool_byte b →
+pub count-on : (at next n end : ℕ) (b : Bool) → ((b ≡ true) × (next < end)) ⊎ ((b ≡ false) × (end ≤ next))
+    → n ≡ bool_byte b →
     (next ≤ end → at ≡ next) → (end ≤ next → at ≡ end) →
     (next + 1 ≤ end → at + n ≡ next + 1) × (end ≤ next + 1 → at + n ≡ end)
 count-on at next n end b (inl (better, lt)) is all past =
@@ -80,7 +85,8 @@ past-eights from eights eight end le all past = grind arith
 
 pub eights-on : (from eights eight n end : ℕ) (b : Bool) →
     ((b ≡ true) × (from + 8 * eight + 7 < end)) ⊎ ((b ≡ false) × (end ≤ from + 8 * eight + 7)) → n ≡ bool_byte b →
-    from + 8 * eights ≤ end → (from + 8 * eight ≤ end → eights ≡ eight) → (end < from + 8 * eight → end < from + 8 * eights + 8) →
+    from + 8 * eights ≤ end → (from + 8 * eight ≤ end → eights ≡ eight)
+    → (end < from + 8 * eight → end < from + 8 * eights + 8) →
     (from + 8 * (eights + n) ≤ end) × (from + 8 * (eight + 1) ≤ end → eights + n ≡ eight + 1) ×
     (end < from + 8 * (eight + 1) → end < from + 8 * (eights + n) + 8)
 eights-on from eights eight n end b (inl (better, lt)) is at all past =

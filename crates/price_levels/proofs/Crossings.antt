@@ -1,5 +1,6 @@
 -- What an order would cross, by levels and by orders.
-use Rattle.std.proofs.Common.{◌≡◌, ℕ, suc, ◌+◌, ◌*◌, ◌^◌, ◌<◌, ◌≤◌, Bool, true, false, List, [], ◌∷◌, take, drop, Option, Some, None, refl, ap, sym, subst, ◌∙◌, arith, take-append-drop}
+use Rattle.std.proofs.Common.{◌≡◌, ℕ, suc, ◌+◌, ◌*◌, ◌^◌, ◌<◌, ◌≤◌, Bool, true, false, List, [], ◌∷◌, take, drop}
+use Rattle.std.proofs.Common.{Option, Some, None, refl, ap, sym, subst, ◌∙◌, arith, take-append-drop}
 use Rattle.std.specs.Prelude.{sum_by, filter, is_some, if◌then◌else◌}
 use Rattle.std.specs.List.{AllByRecursion}
 use Rattle.std.proofs.lemmas.List.{length-map}
@@ -55,11 +56,14 @@ module _ (symbol : List ℕ) (side : Side) (price : ℕ) where
   when t n = if t then n else 0
 
   -- of levels from the first of the other side on
-  by-sum : (ls : List Level) → InOrder ls → AllByRecursion (λ (l : Level). before_side symbol (opposite side) l.key ≡ false) ls →
+  by-sum : (ls : List Level) → InOrder ls → AllByRecursion
+      (λ (l : Level). before_side symbol (opposite side) l.key ≡ false) ls →
       crossed_left symbol side price ls ≡ sum_by (λ (l : Level). when (key_crossed symbol side price l.key) l.left) ls
   by-sum [] order not = refl
-  by-sum (l ∷ ls) order not = elim (key_crossed symbol side price l.key) as (λ t. key_crossed symbol side price l.key ≡ t →
-      when t (l.left + crossed_left symbol side price ls) ≡ sum_by (λ (m : Level). when (key_crossed symbol side price m.key) m.left)
+  by-sum (l ∷ ls) order not = elim (key_crossed symbol side price l.key) as (λ t. key_crossed symbol side price l.key
+      ≡ t →
+      when t (l.left + crossed_left symbol side price ls) ≡ sum_by
+      (λ (m : Level). when (key_crossed symbol side price m.key) m.left)
       (l ∷ ls)) [
         | true ↦ λ h.
             let rest = by-sum ls order.1 not.1 in
@@ -68,8 +72,10 @@ module _ (symbol : List ℕ) (side : Side) (price : ℕ) where
             omega (arith, rest, cons, here)
         | false ↦ λ h.
             let none = zero-all (λ (m : Level). when (key_crossed symbol side price m.key) m.left) ls
-            (all-map (λ (m : Level). key_before l.key m.key ≡ true) (λ (m : Level). when (key_crossed symbol side price m.key) m.left ≡ 0)
-            (λ m before. ap (λ t. when t m.left) (no-further symbol side price l.key m.key before not.0 h)) ls order.0) in
+            (all-map (λ (m : Level). key_before l.key m.key ≡ true)
+            (λ (m : Level). when (key_crossed symbol side price m.key) m.left ≡ 0)
+            (λ m before. ap (λ t. when t m.left) (no-further symbol side price l.key m.key before not.0 h)) ls
+            order.0) in
             let cons = sum_by-cons (λ (m : Level). when (key_crossed symbol side price m.key) m.left) l ls in
             let here = ap (λ t. when t l.left) h in
             omega (arith, none, cons, here)
@@ -79,16 +85,19 @@ module _ (symbol : List ℕ) (side : Side) (price : ℕ) where
   pub from-there : (levels : List Level) (n : ℕ) → InOrder levels → AllByRecursion (λ (l : Level). before_side symbol
       (opposite side) l.key ≡ true) (take n levels) →
       AllByRecursion (λ (l : Level). before_side symbol (opposite side) l.key ≡ false) (drop n levels) →
-      crossed_left symbol side price (drop n levels) ≡ sum_by (λ (l : Level). when (key_crossed symbol side price l.key) l.left) levels
+      crossed_left symbol side price (drop n levels) ≡ sum_by
+      (λ (l : Level). when (key_crossed symbol side price l.key) l.left) levels
   from-there levels n order before behind =
       let whole = take-append-drop n levels in
       let f = λ (l : Level). when (key_crossed symbol side price l.key) l.left in
       let none = zero-all f (take n levels) (all-map (λ (l : Level). before_side symbol (opposite side) l.key ≡ true) (λ
       (l : Level). f l ≡ 0)
-      (λ l h. ap (λ t. when t l.left) (false-if (key_crossed symbol side price l.key) (λ c. of-not-before symbol (opposite side) l.key
+      (λ l h. ap (λ t. when t l.left)
+      (false-if (key_crossed symbol side price l.key) (λ c. of-not-before symbol (opposite side) l.key
       (crossed-of symbol side price l.key c) h)))
       (take n levels) before) in
-      let rest = by-sum (drop n levels) (order-back (take n levels) (drop n levels) (subst InOrder (sym whole) order)) behind in
+      let rest = by-sum (drop n levels) (order-back (take n levels) (drop n levels) (subst InOrder (sym whole) order))
+      behind in
       let parts = sum_by-append f (take n levels) (drop n levels) in
       let all = ap (sum_by f) whole in
       omega (arith, none, rest, parts, all)
@@ -104,7 +113,8 @@ module _ (symbol : List ℕ) (side : Side) (price : ℕ) where
   when-sum : (t : Bool) (f : Option Order → ℕ) (ps : Places) → when t (sum_by f ps) ≡ sum_by (λ x. when t (f x)) ps
   when-sum true f ps = refl
   when-sum false f [] = refl
-  when-sum false f (x ∷ ps) = let rest = when-sum false f ps in let cons = sum_by-cons (λ (y : Option Order). when false (f y)) x ps
+  when-sum false f (x ∷ ps) = let rest = when-sum false f ps in
+      let cons = sum_by-cons (λ (y : Option Order). when false (f y)) x ps
       in omega (arith, rest, cons)
 
   when-none : (t : Bool) → when t 0 ≡ 0
@@ -115,34 +125,44 @@ module _ (symbol : List ℕ) (side : Side) (price : ℕ) where
   all-none [] = tt
   all-none (l ∷ ls) = (when-none (key_crossed symbol side price l.key), all-none ls)
 
-  adds-own : (k : Key) (o : Order) → adds k (Some o) ≡ when (same_key k (key_of o)) (when (key_crossed symbol side price (key_of o))
+  adds-own : (k : Key) (o : Order) → adds k (Some o) ≡ when (same_key k (key_of o))
+      (when (key_crossed symbol side price (key_of o))
       (leaves o))
   adds-own k o = elim (same_key (key_of o) k) as (λ t. same_key (key_of o) k ≡ t →
-      when (key_crossed symbol side price k) (when t (leaves o)) ≡ when (same_key k (key_of o)) (when (key_crossed symbol side price
+      when (key_crossed symbol side price k) (when t (leaves o))
+      ≡ when (same_key k (key_of o)) (when (key_crossed symbol side price
       (key_of o)) (leaves o))) [
         | true ↦ λ h.
             ap (λ j. when (key_crossed symbol side price j) (leaves o)) (sym (key-is (key_of o) k h))
-            ∙ sym (ap (λ t. when t (when (key_crossed symbol side price (key_of o)) (leaves o))) (same-either k (key_of o) ∙ h))
+            ∙ sym (ap (λ t. when t (when (key_crossed symbol side price (key_of o)) (leaves o)))
+            (same-either k (key_of o) ∙ h))
         | false ↦ λ h.
-            when-none (key_crossed symbol side price k) ∙ sym (ap (λ t. when t (when (key_crossed symbol side price (key_of o))
+            when-none (key_crossed symbol side price k) ∙ sym
+            (ap (λ t. when t (when (key_crossed symbol side price (key_of o))
             (leaves o))) (same-either k (key_of o) ∙ h))
       ] refl
 
   module _ (nodes : List Node) (levels : List Level) (are : AreLevels nodes levels) where
-    in-levels : (p : ℕ) (x : Option Order) → order_at nodes p ≡ x → sum_by (λ (l : Level). adds l.key x) levels ≡ crossed_by x
+    in-levels : (p : ℕ) (x : Option Order) → order_at nodes p ≡ x
+        → sum_by (λ (l : Level). adds l.key x) levels ≡ crossed_by x
     in-levels p None here = zero-all (λ (l : Level). adds l.key None) levels (all-none levels)
     in-levels p (Some o) here =
         let level = has-level nodes levels are p o here in
         let n = when (key_crossed symbol side price (key_of o)) (leaves o) in
-        same-sum (λ (l : Level). adds l.key (Some o)) (λ (l : Level). when (same_key l.key (key_of o)) n) levels (λ l. adds-own l.key o)
+        same-sum (λ (l : Level). adds l.key (Some o)) (λ (l : Level). when (same_key l.key (key_of o)) n) levels
+        (λ l. adds-own l.key o)
         ∙ once (key_of o) n levels are.in_order
         ∙ ap (λ x. if is_some x then n else 0) level.1
 
-    by-orders : (ps : Places) → sum_by crossed_by ps ≡ sum_by leaves (filter (crosses_at symbol side price) (standing ps))
+    by-orders : (ps : Places) → sum_by crossed_by ps ≡ sum_by leaves
+        (filter (crosses_at symbol side price) (standing ps))
     by-orders [] = refl
-    by-orders (None ∷ ps) = let rest = by-orders ps in let cons = sum_by-cons crossed_by None ps in omega (arith, rest, cons)
+    by-orders (None ∷ ps) = let rest = by-orders ps in
+        let cons = sum_by-cons crossed_by None ps in
+        omega (arith, rest, cons)
     by-orders (Some o ∷ ps) = elim (crosses_at symbol side price o) as (λ t. crosses_at symbol side price o ≡ t →
-        sum_by crossed_by (Some o ∷ ps) ≡ sum_by leaves (if t then o ∷ filter (crosses_at symbol side price) (standing ps) else filter
+        sum_by crossed_by (Some o ∷ ps)
+        ≡ sum_by leaves (if t then o ∷ filter (crosses_at symbol side price) (standing ps) else filter
         (crosses_at symbol side price) (standing ps))) [
           | true ↦ λ h.
               let rest = by-orders ps in
@@ -157,7 +177,8 @@ module _ (symbol : List ℕ) (side : Side) (price : ℕ) where
               omega (arith, rest, cons, here)
         ] refl
 
-    left-known : AllByRecursion (λ (l : Level). when (key_crossed symbol side price l.key) l.left ≡ sum_by (λ x. adds l.key x)
+    left-known : AllByRecursion (λ (l : Level). when (key_crossed symbol side price l.key) l.left
+        ≡ sum_by (λ x. adds l.key x)
         (places_of nodes)) levels
     left-known = all-found (λ l. when (key_crossed symbol side price l.key) l.left ≡ sum_by (λ x. adds l.key x)
         (places_of nodes)) levels are.in_order (λ l is.
@@ -167,7 +188,8 @@ module _ (symbol : List ℕ) (side : Side) (price : ℕ) where
     pub crossing-is : sum_by (λ (l : Level). when
         (key_crossed symbol side price l.key) l.left) levels ≡ crossing_leaves symbol side price (places_of nodes)
     crossing-is =
-        same-all (λ (l : Level). when (key_crossed symbol side price l.key) l.left) (λ (l : Level). sum_by (λ x. adds l.key x)
+        same-all (λ (l : Level). when (key_crossed symbol side price l.key) l.left)
+        (λ (l : Level). sum_by (λ x. adds l.key x)
         (places_of nodes)) levels left-known
         ∙ exchange (λ (l : Level) x. adds l.key x) levels (places_of nodes)
         ∙ same-at (λ x. sum_by (λ (l : Level). adds l.key x) levels) crossed_by (places_of nodes) (λ p. in-levels p (at

@@ -1,5 +1,6 @@
 -- Levels without orders: all places free.
-use Rattle.std.proofs.Common.{◌≡◌, ℕ, zero, suc, ◌+◌, ◌*◌, ◌^◌, ◌<◌, Bool, true, false, ◌&&◌, List, [], ◌∷◌, ◌++◌, length, Option, Some, None, refl, ap, sym, subst, ◌∙◌, arith, length-append}
+use Rattle.std.proofs.Common.{◌≡◌, ℕ, zero, suc, ◌+◌, ◌*◌, ◌^◌, ◌<◌, Bool, true, false, ◌&&◌, List, [], ◌∷◌, ◌++◌}
+use Rattle.std.proofs.Common.{length, Option, Some, None, refl, ap, sym, subst, ◌∙◌, arith, length-append}
 use Rattle.std.specs.Prelude.{replicate, nat_eq, nat_lt, is_none, count_by}
 use Rattle.std.proofs.Math.Decide.{ℕ_discrete}
 use Rattle.std.proofs.lemmas.Bool.Decides.{nat_tests}
@@ -8,7 +9,8 @@ use Rattle.venue_model.specs.declared.orders.Order.{Order}
 use Rattle.price_levels.specs.declared.keys.Key.{Key}
 use Rattle.price_levels.specs.declared.nodes.Node.{Node}
 use Rattle.price_levels.specs.Places.{Places, standing}
-use Rattle.price_levels.specs.Arena.{Point, At, End, leads_to, key_at, vacant, node_at, order_at, next_point, prev_point, places_of, total_left, IsArena, AreLevels, IsLevels}
+use Rattle.price_levels.specs.Arena.{Point, At, End, leads_to, key_at, vacant, node_at, order_at, next_point}
+use Rattle.price_levels.specs.Arena.{prev_point, places_of, total_left, IsArena, AreLevels, IsLevels}
 use Rattle.price_levels.proofs.ArenaLemmas.{bit, count-end}
 use Rattle.price_levels.proofs.NodeLemmas.{order-is}
 use Rattle.price_levels.proofs.LeftLemmas.{none-left}
@@ -97,12 +99,17 @@ vacant-there false o is = refl
 
 pub empty-arena : (n : ℕ) (free : List ℕ) → AreFirst free n → IsArena (replicate n vacant) free
 empty-arena n free first = record {
-  once = λ p. first.once p ∙ ap (λ m. bit (nat_lt p m)) (sym (length-replicate n vacant)) ∙ vacant-there (nat_lt p (length
+  once = λ p. first.once p ∙ ap (λ m. bit (nat_lt p m)) (sym (length-replicate n vacant))
+      ∙ vacant-there (nat_lt p (length
       (replicate n vacant))) (order_at (replicate n vacant) p) (empty-at n p);
-  all = let none = none-stands n in let long = length-replicate n vacant in let all = first.long in omega (arith, none, long, all);
+  all = let none = none-stands n in
+      let long = length-replicate n vacant in
+      let all = first.long in
+      omega (arith, none, long, all);
 }
 
-pub empty : (nodes : List Node) (free : List ℕ) (n : ℕ) → nodes ≡ replicate n vacant → n * 1000000 < 2 ^ 64 → AreFirst free n →
+pub empty : (nodes : List Node) (free : List ℕ) (n : ℕ) → nodes ≡ replicate n vacant → n * 1000000 < 2 ^ 64
+    → AreFirst free n →
     IsLevels nodes free []
 empty nodes free n is fits first = subst (λ ns. IsLevels ns free []) (sym is) (record {
   arena = empty-arena n free first;

@@ -1,6 +1,9 @@
 -- Whole calls, as the code reads and writes: an order comes, leaves or changes.
-use Rattle.std.proofs.Common.{◌≡◌, ℕ, ◌+◌, ◌-◌, ◌^◌, ◌<◌, ◌≤◌, inl, inr, Bool, true, false, List, [], ◌∷◌, ◌++◌, length, get_or, take, drop, Option, Some, None, refl, ap, sym, subst, ◌∙◌, arith, zero-add, length-append, Ok, Err}
-use Rattle.std.specs.Prelude.{◌≢◌, option_map, option_to_list, MatchOption, unwrap_or, slice_set, IsOk, is_ok, Result, if◌then◌else◌}
+use Rattle.std.proofs.Common.{◌≡◌, ℕ, ◌+◌, ◌-◌, ◌^◌, ◌<◌, ◌≤◌, inl, inr, Bool, true, false, List, [], ◌∷◌, ◌++◌, length}
+use Rattle.std.proofs.Common.{get_or, take, drop, Option, Some, None, refl, ap, sym, subst, ◌∙◌, arith, zero-add}
+use Rattle.std.proofs.Common.{length-append, Ok, Err}
+use Rattle.std.specs.Prelude.{◌≢◌, option_map, option_to_list, MatchOption, unwrap_or, slice_set, IsOk, is_ok, Result}
+use Rattle.std.specs.Prelude.{if◌then◌else◌}
 use Rattle.std.specs.List.{AllByRecursion, insert}
 use Rattle.std.proofs.lemmas.Bool.{cases_lt}
 use Rattle.std.proofs.lemmas.List.{get_or_default}
@@ -11,9 +14,13 @@ use Rattle.price_levels.specs.declared.keys.Level.{Level}
 use Rattle.price_levels.specs.declared.nodes.Node.{Node}
 use Rattle.price_levels.specs.Places.{ComesLater, standing}
 use Rattle.price_levels.specs.Keys.{key_of, key_before, InOrder, level_of}
-use Rattle.price_levels.specs.Arena.{node_at, order_at, first_of, last_of, places_of, left_in, left_of, holds, vacant, IsArena, AreLevels, IsLevels, IsChange, Replaces, nodes_with, nodes_without, level_without, levels_with}
-use Rattle.price_levels.proofs.LevelLists.{IsLevelAt, Changes, found-holds, found-level, found-within, opened, replaced, closed, level-is, none-there}
-use Rattle.price_levels.proofs.NodeLemmas.{Seen, within-nodes, beyond, with-seen, without-seen, changed-seen, member-seen}
+use Rattle.price_levels.specs.Arena.{node_at, order_at, first_of, last_of, places_of, left_in, left_of, holds, vacant}
+use Rattle.price_levels.specs.Arena.{IsArena, AreLevels, IsLevels, IsChange, Replaces, nodes_with, nodes_without}
+use Rattle.price_levels.specs.Arena.{level_without, levels_with}
+use Rattle.price_levels.proofs.LevelLists.{IsLevelAt, Changes, found-holds, found-level, found-within, opened, replaced}
+use Rattle.price_levels.proofs.LevelLists.{closed, level-is, none-there}
+use Rattle.price_levels.proofs.NodeLemmas.{Seen, within-nodes, beyond, with-seen, without-seen, changed-seen}
+use Rattle.price_levels.proofs.NodeLemmas.{member-seen}
 use Rattle.price_levels.proofs.ArenaLemmas.{given}
 use Rattle.price_levels.proofs.LeftLemmas.{total-fits, left-own}
 use Rattle.price_levels.proofs.Comings.{last-stands, come}
@@ -28,25 +35,30 @@ pub record Searched (k : Key) (levels : List Level) (at : ℕ) : Type 0 where
   pub behind : AllByRecursion (λ l. key_before l.key k ≡ false) (drop at levels)
 
 -- said of the levels and the key themselves
-pub searched : (s levels : List Level) (k' k : Key) (at : ℕ) → s ≡ levels → k' ≡ k → AllByRecursion (λ l. key_before l.key k' ≡ true)
+pub searched : (s levels : List Level) (k' k : Key) (at : ℕ) → s ≡ levels → k' ≡ k
+    → AllByRecursion (λ l. key_before l.key k' ≡ true)
     (take at s) →
     AllByRecursion (λ l. key_before l.key k' ≡ false) (drop at s) → Searched k levels at
 searched s levels k' k at s_is k_is before behind =
-    subst (λ j. Searched j levels at) k_is (subst (λ x. Searched k' x at) s_is (record { before = before; behind = behind }))
+    subst (λ j. Searched j levels at) k_is
+    (subst (λ x. Searched k' x at) s_is (record { before = before; behind = behind }))
 
-pub holds-there : (s levels : List Level) (k' k : Key) (at : ℕ) (b : Bool) → s ≡ levels → k' ≡ k → holds s at k' ≡ b → holds levels at k ≡ b
+pub holds-there : (s levels : List Level) (k' k : Key) (at : ℕ) (b : Bool) → s ≡ levels → k' ≡ k → holds s at k' ≡ b
+    → holds levels at k ≡ b
 holds-there s levels k' k at b s_is k_is h = sym (ap (λ x. holds x at k') s_is ∙ ap (holds levels at) k_is) ∙ h
 
 pub popped : (nodes : List Node) (free free' : List ℕ) (pop : Option ℕ) (place : ℕ) → IsArena nodes free →
     free ≡ free' ++ option_to_list pop → pop ≡ Some place →
     IsArena nodes (free' ++ place ∷ [])
-popped nodes free free' pop place arena items is = subst (IsArena nodes) (items ∙ ap (λ x. free' ++ option_to_list x) is) arena
+popped nodes free free' pop place arena items is = subst (IsArena nodes)
+    (items ∙ ap (λ x. free' ++ option_to_list x) is) arena
 
 pub left-is : (levels : List Level) (k : Key) (l : Level) → level_of k levels ≡ Some l → left_of levels k ≡ l.left
 left-is levels k l is = ap (λ x. unwrap_or (option_map (λ (m : Level). m.left) x) 0) is
 
 -- the order of the levels, where a search found its place
-module _ (nodes : List Node) (levels : List Level) (are : AreLevels nodes levels) (o : Order) (at : ℕ) (search : Searched
+module _ (nodes : List Node) (levels : List Level) (are : AreLevels nodes levels) (o : Order) (at : ℕ)
+    (search : Searched
     (key_of o) levels at) where
   module _ (l : Level) (h : holds levels at (key_of o) ≡ true) (l_is : l ≡ get_or levels at l) where
     level-at : IsLevelAt levels at (key_of o) l
@@ -56,7 +68,8 @@ module _ (nodes : List Node) (levels : List Level) (are : AreLevels nodes levels
     level-found = level-is levels at (key_of o) l are.in_order level-at
 
     pub join-last : l.last < length nodes
-    join-last = let last = last-stands nodes levels are (key_of o) l.last (ap (option_map (λ (m : Level). m.last)) level-found)
+    join-last = let last = last-stands nodes levels are (key_of o) l.last
+        (ap (option_map (λ (m : Level). m.last)) level-found)
         in within-nodes nodes l.last last.order last.is
 
   -- its level is there: it is behind the last one now
@@ -70,9 +83,11 @@ module _ (nodes : List Node) (levels : List Level) (are : AreLevels nodes levels
       longer-changes = replaced levels at (key_of o) l are.in_order (level-at l h l_is) longer refl
 
       longer-come : AreLevels (nodes_with nodes (Some l.last) place o) (levels_with levels at (longer ∷ []))
-      longer-come = come nodes levels (levels_with levels at (longer ∷ [])) are place o (Some l.last) longer within free total later
+      longer-come = come nodes levels (levels_with levels at (longer ∷ [])) are place o (Some l.last) longer within free
+          total later
           (sym (ap (option_map (λ (m : Level). m.last)) (level-found l h l_is))) longer-changes refl
-          (sym (ap (option_map (λ (m : Level). m.first)) (level-found l h l_is))) (ap (λ n. n + leaves o) (sym (left-is levels
+          (sym (ap (option_map (λ (m : Level). m.first)) (level-found l h l_is)))
+          (ap (λ n. n + leaves o) (sym (left-is levels
           (key_of o) l (level-found l h l_is))))
 
       pub join-fits : l.left + leaves o < 2 ^ 64
@@ -99,8 +114,10 @@ module _ (nodes : List Node) (levels : List Level) (are : AreLevels nodes levels
 
       pub open-levels : AreLevels (nodes_with nodes None place o) (insert levels at alone)
       open-levels = come nodes levels (insert levels at alone) are place o None alone within free total later
-          (sym (ap (option_map (λ (m : Level). m.last)) no-level)) (opened levels at alone are.in_order search.before search.behind h) refl
-          refl (sym (zero-add (leaves o)) ∙ ap (λ x. unwrap_or (option_map (λ (m : Level). m.left) x) 0 + leaves o) (sym no-level))
+          (sym (ap (option_map (λ (m : Level). m.last)) no-level))
+          (opened levels at alone are.in_order search.before search.behind h) refl
+          refl (sym (zero-add (leaves o)) ∙ ap (λ x. unwrap_or (option_map (λ (m : Level). m.left) x) 0 + leaves o)
+          (sym no-level))
 
       pub open-seen : Seen nodes (nodes_with nodes None place o) place (Some o)
       open-seen = with-seen nodes None place o tt within
@@ -134,31 +151,36 @@ shorter levels at k l None None quantity order is = record {
 }
 shorter levels at k l None (Some q) quantity order is = record {
   level = Some (record { key = l.key; first = q; last = l.last; left = l.left - quantity });
-  changes = replaced levels at k l order is (record { key = l.key; first = q; last = l.last; left = l.left - quantity }) refl;
+  changes = replaced levels at k l order is (record { key = l.key; first = q; last = l.last; left = l.left - quantity })
+      refl;
   firsts = refl;
   lasts = refl;
   lefts = refl;
 }
 shorter levels at k l (Some p) None quantity order is = record {
   level = Some (record { key = l.key; first = l.first; last = p; left = l.left - quantity });
-  changes = replaced levels at k l order is (record { key = l.key; first = l.first; last = p; left = l.left - quantity }) refl;
+  changes = replaced levels at k l order is
+      (record { key = l.key; first = l.first; last = p; left = l.left - quantity }) refl;
   firsts = refl;
   lasts = refl;
   lefts = refl;
 }
 shorter levels at k l (Some p) (Some q) quantity order is = record {
   level = Some (record { key = l.key; first = l.first; last = l.last; left = l.left - quantity });
-  changes = replaced levels at k l order is (record { key = l.key; first = l.first; last = l.last; left = l.left - quantity }) refl;
+  changes = replaced levels at k l order is
+      (record { key = l.key; first = l.first; last = l.last; left = l.left - quantity }) refl;
   firsts = refl;
   lasts = refl;
   lefts = refl;
 }
 
-match-same : {X Y : Type 0} (x : Option X) (A : Type 0) (a b c : Y) → b ≡ c → MatchOption x A (λ q. a ≡ b) → MatchOption x A (λ q. a ≡ c)
+match-same : {X Y : Type 0} (x : Option X) (A : Type 0) (a b c : Y) → b ≡ c → MatchOption x A (λ q. a ≡ b)
+    → MatchOption x A (λ q. a ≡ c)
 match-same None A a b c is h = h
 match-same (Some q) A a b c is h = h ∙ is
 
-less : (level : Option Level) (prev next : Option ℕ) (m n : ℕ) → m ≡ n → MatchOption level ((prev ≡ None) × (next ≡ None))
+less : (level : Option Level) (prev next : Option ℕ) (m n : ℕ) → m ≡ n
+    → MatchOption level ((prev ≡ None) × (next ≡ None))
     (λ l. l.left ≡ m) →
     MatchOption level ((prev ≡ None) × (next ≡ None)) (λ l. l.left ≡ n)
 less None prev next m n is h = h
@@ -190,10 +212,12 @@ module _ (nodes : List Node) (levels : List Level) (are : AreLevels nodes levels
         let left = left-is levels (key_of o) l its-level in
         gone nodes levels are p o here (levels_with levels at (level_without l prev next
         (leaves o))) prev next short.level prev_was next_was short.changes
-        (match-same prev (option_map (λ (m : Level). m.first) short.level ≡ next) (option_map (λ (m : Level). m.first) short.level)
+        (match-same prev (option_map (λ (m : Level). m.first) short.level ≡ next)
+        (option_map (λ (m : Level). m.first) short.level)
         (Some l.first) (first_of levels (key_of o))
         (sym (ap (option_map (λ (m : Level). m.first)) its-level)) short.firsts)
-        (match-same next (option_map (λ (m : Level). m.last) short.level ≡ prev) (option_map (λ (m : Level). m.last) short.level)
+        (match-same next (option_map (λ (m : Level). m.last) short.level ≡ prev)
+        (option_map (λ (m : Level). m.last) short.level)
         (Some l.last) (last_of levels (key_of o))
         (sym (ap (option_map (λ (m : Level). m.last)) its-level)) short.lasts)
         (less short.level prev next (l.left - leaves o) (left_of levels (key_of o) - leaves o) (ap (λ n. n - leaves o)
@@ -206,7 +230,8 @@ module _ (nodes : List Node) (levels : List Level) (are : AreLevels nodes levels
         let all = are.left (key_of o) in
         let fits = total-fits nodes are.bounds (key_of o) in
         let own = left-own (key_of o) (order_at nodes p) o here refl in
-        let member = member-seen (left_in (key_of o)) nodes (slice_set nodes p (record (node_at nodes p) { order = Some o })) p
+        let member = member-seen (left_in (key_of o)) nodes
+        (slice_set nodes p (record (node_at nodes p) { order = Some o })) p
         (Some o) (changed-seen nodes p o within-here) refl in
         omega (arith, left, all, fits, own, member, less)
 
@@ -219,7 +244,8 @@ module _ (nodes : List Node) (levels : List Level) (are : AreLevels nodes levels
         (record l { left = l.left - leaves o + leaves y }) it.within))
         (change nodes levels (levels_with levels at (record l { left = l.left - leaves o + leaves y } ∷ [])) are p o y l
         (record l { left = l.left - leaves o + leaves y }) here replaces
-        (replaced levels at (key_of o) l are.in_order it (record l { left = l.left - leaves o + leaves y }) refl) its-level refl refl refl)
+        (replaced levels at (key_of o) l are.in_order it (record l { left = l.left - leaves o + leaves y }) refl)
+        its-level refl refl refl)
 
 -- what an insertion with room leaves
 pub when-ok : {T F X : Type 0} (r : Result T F) (a b : X) → IsOk r → (if is_ok r then a else b) ≡ a
@@ -227,7 +253,8 @@ when-ok (Ok x) a b ok = refl
 when-ok (Err e) a b ok = absurd (let h : false ≡ true = ok in cc)
 
 -- nodes, free places and levels together
-pub whole : (nodes' nodes : List Node) (free' free : List ℕ) (levels' levels : List Level) → nodes' ≡ nodes → free' ≡ free →
+pub whole : (nodes' nodes : List Node) (free' free : List ℕ) (levels' levels : List Level) → nodes' ≡ nodes
+    → free' ≡ free →
     levels' ≡ levels →
     IsArena nodes free → AreLevels nodes levels → IsLevels nodes' free' levels'
 whole nodes' nodes free' free levels' levels n f l arena ordered = record {
@@ -236,12 +263,14 @@ whole nodes' nodes free' free levels' levels n f l arena ordered = record {
 }
 
 -- there is room for one more level where there is for one more order
-pub room : (nodes : List Node) (levels : List Level) → AreLevels nodes levels → length (standing (places_of nodes)) < length nodes →
+pub room : (nodes : List Node) (levels : List Level) → AreLevels nodes levels
+    → length (standing (places_of nodes)) < length nodes →
     length levels < length nodes
 room nodes levels are space = let no_more = few nodes levels are in omega (arith, no_more, space)
 
 -- and room in the list of free places for that of an order
-pub room-free : (nodes : List Node) (free : List ℕ) (p : ℕ) (o : Order) → IsArena nodes free → order_at nodes p ≡ Some o →
+pub room-free : (nodes : List Node) (free : List ℕ) (p : ℕ) (o : Order) → IsArena nodes free
+    → order_at nodes p ≡ Some o →
     length free < length nodes
 room-free nodes free p o arena here =
     let within = within-nodes nodes p o here in

@@ -1,5 +1,6 @@
 -- The first order of a level by its place.
-use Rattle.std.proofs.Common.{◌≡◌, ℕ, zero, suc, ◌<◌, ◌≤◌, true, false, List, [], ◌∷◌, length, get_or, Some, None, refl, ap, sym, ◌∙◌, arith}
+use Rattle.std.proofs.Common.{◌≡◌, ℕ, zero, suc, ◌<◌, ◌≤◌, true, false, List, [], ◌∷◌, length, get_or, Some, None, refl}
+use Rattle.std.proofs.Common.{ap, sym, ◌∙◌, arith}
 use Rattle.std.specs.Prelude.{if◌then◌else◌}
 use Rattle.venue_model.specs.declared.orders.Side.{Side}
 use Rattle.price_levels.specs.declared.keys.Level.{Level}
@@ -15,12 +16,14 @@ module _ (symbol : List ℕ) (side : Side) where
       of_side symbol side l.key ≡ true → first_in symbol side levels at ≡ Some l.first
   first-here [] at l within is of = absurd (omega (arith, within))
   first-here (m ∷ levels) zero l within is of =
-      ap (λ (x : Level). if of_side symbol side x.key then Some x.first else None) (sym is) ∙ ap (λ t. if t then Some l.first else None) of
+      ap (λ (x : Level). if of_side symbol side x.key then Some x.first else None) (sym is)
+      ∙ ap (λ t. if t then Some l.first else None) of
   first-here (m ∷ levels) (suc at) l within is of = first-here levels at l (omega (arith, within)) is of
 
   pub first-other : (levels : List Level) (at : ℕ) (l : Level) → at < length levels → l ≡ get_or levels at l →
       of_side symbol side l.key ≡ false → first_in symbol side levels at ≡ None
   first-other [] at l within is of = absurd (omega (arith, within))
   first-other (m ∷ levels) zero l within is of =
-      ap (λ (x : Level). if of_side symbol side x.key then Some x.first else None) (sym is) ∙ ap (λ t. if t then Some l.first else None) of
+      ap (λ (x : Level). if of_side symbol side x.key then Some x.first else None) (sym is)
+      ∙ ap (λ t. if t then Some l.first else None) of
   first-other (m ∷ levels) (suc at) l within is of = first-other levels at l (omega (arith, within)) is of

@@ -1,5 +1,6 @@
 -- The levels of a symbol and side stand together: what is behind one that is beyond them is beyond them too.
-use Rattle.std.proofs.Common.{◌≡◌, ℕ, zero, suc, ◌<◌, ◌⊎◌, inl, inr, Bool, true, false, true≢false, ◌&&◌, ◌||◌, List, [], ◌∷◌, drop, Option, Some, None, refl, ap, sym, ◌∙◌, arith}
+use Rattle.std.proofs.Common.{◌≡◌, ℕ, zero, suc, ◌<◌, ◌⊎◌, inl, inr, Bool, true, false, true≢false, ◌&&◌, ◌||◌, List}
+use Rattle.std.proofs.Common.{[], ◌∷◌, drop, Option, Some, None, refl, ap, sym, ◌∙◌, arith}
 use Rattle.std.specs.Prelude.{nat_eq, nat_lt, if◌then◌else◌}
 use Rattle.std.specs.Str.{bytes_eq}
 use Rattle.std.proofs.lemmas.Slice.Eq.{bytes_eq-Decides}
@@ -14,7 +15,8 @@ use Rattle.price_levels.specs.declared.keys.Level.{Level}
 use Rattle.price_levels.specs.Places.{IsOf, Leads}
 use Rattle.price_levels.specs.Keys.{key_of, key_before, before_side, symbol_before, key_crossed}
 use Rattle.price_levels.specs.Arena.{of_side, first_in}
-use Rattle.price_levels.proofs.KeyLemmas.{Before, before-means, before-is, both, symbol-apart, same-bytes, better-not, key-made}
+use Rattle.price_levels.proofs.KeyLemmas.{Before, before-means, before-is, both, symbol-apart, same-bytes, better-not}
+use Rattle.price_levels.proofs.KeyLemmas.{key-made}
 use Rattle.price_levels.proofs.SearchLemmas.{side-means, side-is-before, side-down}
 
 pub false-if : (t : Bool) → (t ≡ true → ⊥) → t ≡ false
@@ -34,7 +36,8 @@ module _ (symbol : List ℕ) (side : Side) where
 
   pub of-is : (k : Key) → k.symbol ≡ symbol → k.side ≡ side → of_side symbol side k ≡ true
   of-is k symbols sides =
-      ap (λ t. t && same_side k.side side) (same-bytes k.symbol symbol symbols) ∙ ap (λ d. same_side k.side d) (sym sides)
+      ap (λ t. t && same_side k.side side) (same-bytes k.symbol symbol symbols)
+      ∙ ap (λ d. same_side k.side d) (sym sides)
       ∙ side_itself k.side k.side refl
 
   -- a level of theirs isn't before them
@@ -45,16 +48,20 @@ module _ (symbol : List ℕ) (side : Side) where
   ]
 
   -- nor is one behind one of theirs
-  pub behind-not-before : (a b : Key) → of_side symbol side a ≡ true → key_before a b ≡ true → before_side symbol side b ≡ true → ⊥
+  pub behind-not-before : (a b : Key) → of_side symbol side a ≡ true → key_before a b ≡ true
+      → before_side symbol side b ≡ true → ⊥
   behind-not-before a b of before h = of-not-before a of (side-down symbol side a b before h)
 
-  beyond-by : (a b : Key) → Before a b → before_side symbol side a ≡ false → of_side symbol side a ≡ false → (b.symbol ≡ symbol) ×
+  beyond-by : (a b : Key) → Before a b → before_side symbol side a ≡ false → of_side symbol side a ≡ false
+      → (b.symbol ≡ symbol) ×
       (b.side ≡ side) → ⊥
   beyond-by a b (inl earlier) not_before not_of is =
-      not-both (before_side symbol side a) (side-is-before symbol side a (inl (ap (λ s. symbol_before a.symbol s) (sym is.0)
+      not-both (before_side symbol side a)
+      (side-is-before symbol side a (inl (ap (λ s. symbol_before a.symbol s) (sym is.0)
       ∙ earlier))) not_before
   beyond-by a b (inr (same, inl (buy, sell))) not_before not_of is =
-      not-both (before_side symbol side a) (side-is-before symbol side a (inr (same ∙ is.0, (buy, sym is.1 ∙ sell)))) not_before
+      not-both (before_side symbol side a) (side-is-before symbol side a (inr (same ∙ is.0, (buy, sym is.1 ∙ sell))))
+      not_before
   beyond-by a b (inr (same, inr (sides, better))) not_before not_of is =
       not-both (of_side symbol side a) (of-is a (same ∙ is.0) (sides ∙ is.1)) not_of
 
@@ -102,10 +109,12 @@ by-stamp o x side price earlier =
     let behind : nat_lt x.stamp o.stamp ≡ false = grind (arith, nat_tests, earlier) in
     let back : nat_eq x.price o.price ≡ true = grind (arith, nat_tests, price) in
     record {
-      ahead_of = ap (λ t. t || (nat_eq o.price x.price && nat_lt o.stamp x.stamp)) (same-not-better o.side o.price x.price price)
+      ahead_of = ap (λ t. t || (nat_eq o.price x.price && nat_lt o.stamp x.stamp))
+          (same-not-better o.side o.price x.price price)
           ∙ ap (λ t. t && nat_lt o.stamp x.stamp) same ∙ before;
       not_behind = ap (λ d. is_better d x.price o.price || (nat_eq x.price o.price && nat_lt x.stamp o.stamp)) side
-          ∙ ap (λ t. t || (nat_eq x.price o.price && nat_lt x.stamp o.stamp)) (same-not-better o.side x.price o.price (sym price))
+          ∙ ap (λ t. t || (nat_eq x.price o.price && nat_lt x.stamp o.stamp))
+          (same-not-better o.side x.price o.price (sym price))
           ∙ ap (λ t. t && nat_lt x.stamp o.stamp) back ∙ behind;
     }
 
@@ -117,25 +126,29 @@ by-keys o x is (inr (same, inr (sides, better))) = by-price o x is.side_is bette
 pub key-ahead : (o x : Order) → IsOf o.symbol o.side x → key_before (key_of o) (key_of x) ≡ true → Leads o x
 key-ahead o x is before = by-keys o x is (before-means (key_of o) (key_of x) before)
 
-ahead-by : (better same earlier : Bool) → (better || (same && earlier)) ≡ true → (better ≡ true) ⊎ ((same ≡ true) × (earlier ≡ true))
+ahead-by : (better same earlier : Bool) → (better || (same && earlier)) ≡ true
+    → (better ≡ true) ⊎ ((same ≡ true) × (earlier ≡ true))
 ahead-by true same earlier h = inl refl
 ahead-by false true earlier h = inr (refl, h)
 ahead-by false false earlier h = absurd (true≢false (sym h))
 
 -- an order of the symbol and side that it is ahead of: of a level behind, or later in its own
-pub ahead-means : (o x : Order) → IsOf o.symbol o.side x → ahead o x ≡ true → (key_before (key_of o) (key_of x) ≡ true) ⊎
+pub ahead-means : (o x : Order) → IsOf o.symbol o.side x → ahead o x ≡ true
+    → (key_before (key_of o) (key_of x) ≡ true) ⊎
     ((key_of x ≡ key_of o) × (o.stamp < x.stamp))
-ahead-means o x is h = elim (ahead-by (is_better o.side o.price x.price) (nat_eq o.price x.price) (nat_lt o.stamp x.stamp) h) [
-  | inl better ↦ inl (before-is (key_of o) (key_of x) (inr (sym is.symbol_is, inr (sym is.side_is, better))))
-  | inr later ↦
-      let price : x.price ≡ o.price = grind (arith, nat_tests, later.0) in
-      let earlier : o.stamp < x.stamp = grind (arith, nat_tests, later.1) in
-      inr (key-made (key_of x) (key_of o) is.symbol_is is.side_is price, earlier)
-]
+ahead-means o x is h = elim (ahead-by (is_better o.side o.price x.price) (nat_eq o.price x.price)
+    (nat_lt o.stamp x.stamp) h) [
+      | inl better ↦ inl (before-is (key_of o) (key_of x) (inr (sym is.symbol_is, inr (sym is.side_is, better))))
+      | inr later ↦
+          let price : x.price ≡ o.price = grind (arith, nat_tests, later.0) in
+          let earlier : o.stamp < x.stamp = grind (arith, nat_tests, later.1) in
+          inr (key-made (key_of x) (key_of o) is.symbol_is is.side_is price, earlier)
+    ]
 
 -- what an order would cross: the levels of the other side, as far as its price goes
 module _ (symbol : List ℕ) (side : Side) (price : ℕ) where
-  pub crossed-means : (k : Key) → key_crossed symbol side price k ≡ true → (k.symbol ≡ symbol) × ((k.side ≡ opposite side) ×
+  pub crossed-means : (k : Key) → key_crossed symbol side price k ≡ true
+      → (k.symbol ≡ symbol) × ((k.side ≡ opposite side) ×
       (meets side price k.side k.price ≡ true))
   crossed-means k h =
       let parts = both (bytes_eq symbol k.symbol) (meets side price k.side k.price) h in
@@ -151,7 +164,8 @@ module _ (symbol : List ℕ) (side : Side) (price : ℕ) where
   meets-better Buy Buy p q r better met = met
   meets-better Sell Sell p q r better met = met
 
-  not-further : (a b : Key) → Before a b → before_side symbol (opposite side) a ≡ false → key_crossed symbol side price a ≡ false →
+  not-further : (a b : Key) → Before a b → before_side symbol (opposite side) a ≡ false
+      → key_crossed symbol side price a ≡ false →
       (b.symbol ≡ symbol) × ((b.side ≡ opposite side) × (meets side price b.side b.price ≡ true)) → ⊥
   not-further a b (inl earlier) not_before not_crossed is =
       not-both (before_side symbol (opposite side) a) (side-is-before symbol (opposite side) a (inl (ap
@@ -174,4 +188,5 @@ module _ (symbol : List ℕ) (side : Side) (price : ℕ) where
   pub no-further : (a b : Key) → key_before a b ≡ true → before_side symbol (opposite side) a ≡ false →
       key_crossed symbol side price a ≡ false → key_crossed symbol side price b ≡ false
   no-further a b before not_before not_crossed =
-      false-if (key_crossed symbol side price b) (λ h. not-further a b (before-means a b before) not_before not_crossed (crossed-means b h))
+      false-if (key_crossed symbol side price b)
+      (λ h. not-further a b (before-means a b before) not_before not_crossed (crossed-means b h))

@@ -1,5 +1,6 @@
 -- Keys and points: whether two are one, and the order of the keys.
-use Rattle.std.proofs.Common.{◌≡◌, ℕ, ◌⊎◌, inl, inr, Bool, true, false, ◌&&◌, List, refl, ap, sym, ◌∙◌, arith, true≢false}
+use Rattle.std.proofs.Common.{◌≡◌, ℕ, ◌⊎◌, inl, inr, Bool, true, false, ◌&&◌, List, refl, ap, sym, ◌∙◌, arith}
+use Rattle.std.proofs.Common.{true≢false}
 use Rattle.std.specs.Prelude.{◌≢◌, nat_eq, if◌then◌else◌}
 use Rattle.std.specs.Str.{bytes_eq}
 use Rattle.std.specs.Ordering.{nat_cmp, is_lt, is_eq, ordering_reverse}
@@ -55,8 +56,16 @@ decide_key a b = elim (same_key a b) as (λ t. same_key a b ≡ t → (a ≡ b) 
 ] refl
 
 pub decide_point : (x y : Point) → (x ≡ y) ⊎ (x ≢ y)
-decide_point (At p) (At q) = elim (ℕ_discrete p q) [ yes h ↦ inl (ap At h) | no h ↦ inr (λ is. h (let e : p ≡ q = cc in e)) ]
-decide_point (End k) (End j) = elim (decide_key k j) [ inl h ↦ inl (ap End h) | inr h ↦ inr (λ is. h (let e : k ≡ j = cc in e)) ]
+decide_point (At p) (At q) = elim (ℕ_discrete p q) [
+  | yes h ↦ inl (ap At h)
+  | no h ↦
+      inr (λ is. h (let e : p ≡ q = cc in e))
+]
+decide_point (End k) (End j) = elim (decide_key k j) [
+  | inl h ↦ inl (ap End h)
+  | inr h ↦
+      inr (λ is. h (let e : k ≡ j = cc in e))
+]
 decide_point (At p) (End j) = inr (λ is. cc)
 decide_point (End k) (At q) = inr (λ is. cc)
 
@@ -67,7 +76,8 @@ is-less Equal e = cc
 is-less Greater e = cc
 
 pub symbol-trans : (a b c : List ℕ) → symbol_before a b ≡ true → symbol_before b c ≡ true → symbol_before a c ≡ true
-symbol-trans a b c h g = ap is_lt (nat_list_cmp_total.trans a b c (is-less (slice_cmp nat_cmp a b) h) (is-less (slice_cmp nat_cmp b c) g))
+symbol-trans a b c h g = ap is_lt
+    (nat_list_cmp_total.trans a b c (is-less (slice_cmp nat_cmp a b) h) (is-less (slice_cmp nat_cmp b c) g))
 
 symbol-itself : (a : List ℕ) → symbol_before a a ≡ false
 symbol-itself a = ap is_lt (tied_itself nat_list_cmp_total a)
@@ -86,7 +96,8 @@ pub symbol-cases : (a b : List ℕ) → (symbol_before a b ≡ true) ⊎ ((a ≡
 symbol-cases a b = by_ordering a b (slice_cmp nat_cmp a b) refl
 
 -- the order of the prices of a side
-better-trans : (side : Side) (p q r : ℕ) → is_better side p q ≡ true → is_better side q r ≡ true → is_better side p r ≡ true
+better-trans : (side : Side) (p q r : ℕ) → is_better side p q ≡ true → is_better side q r ≡ true
+    → is_better side p r ≡ true
 better-trans Buy p q r h g = grind (arith, nat_tests)
 better-trans Sell p q r h g = grind (arith, nat_tests)
 
@@ -121,8 +132,12 @@ sides-same Sell t = refl
 
 pub before-means : (a b : Key) → key_before a b ≡ true → Before a b
 before-means a b h = elim (bytes_eq a.symbol b.symbol) as (λ t. bytes_eq a.symbol b.symbol ≡ t →
-    (if t then side_before a.side b.side (is_better a.side a.price b.price) else symbol_before a.symbol b.symbol) ≡ true → Before a b) [
-      | true ↦ λ same g. inr ((bytes_eq-Decides a.symbol b.symbol).0 same, sides-before a.side b.side (is_better a.side a.price b.price) g)
+    (if t then side_before a.side b.side (is_better a.side a.price b.price) else symbol_before a.symbol b.symbol) ≡ true
+    → Before a b) [
+      | true ↦ λ same g. inr (
+        (bytes_eq-Decides a.symbol b.symbol).0 same,
+        sides-before a.side b.side (is_better a.side a.price b.price) g,
+      )
       | false ↦ λ other g. inl g
     ] refl h
 
@@ -137,15 +152,18 @@ other-bytes a b other = elim (bytes_eq a b) as (λ t. bytes_eq a b ≡ t → t �
 
 pub before-is : (a b : Key) → Before a b → key_before a b ≡ true
 before-is a b (inl h) =
-    ap (λ t. if t then side_before a.side b.side (is_better a.side a.price b.price) else symbol_before a.symbol b.symbol)
+    ap (λ t. if t then side_before a.side b.side (is_better a.side a.price b.price) else symbol_before a.symbol
+    b.symbol)
     (other-bytes a.symbol b.symbol (symbol-apart a.symbol b.symbol h)) ∙ h
 before-is a b (inr (symbol, inl (buy, sell))) =
-    ap (λ t. if t then side_before a.side b.side (is_better a.side a.price b.price) else symbol_before a.symbol b.symbol)
+    ap (λ t. if t then side_before a.side b.side (is_better a.side a.price b.price) else symbol_before a.symbol
+    b.symbol)
     (same-bytes a.symbol b.symbol symbol)
     ∙ ap (λ d. side_before d b.side (is_better a.side a.price b.price)) buy
     ∙ ap (λ e. side_before Buy e (is_better a.side a.price b.price)) sell
 before-is a b (inr (symbol, inr (side, better))) =
-    ap (λ t. if t then side_before a.side b.side (is_better a.side a.price b.price) else symbol_before a.symbol b.symbol)
+    ap (λ t. if t then side_before a.side b.side (is_better a.side a.price b.price) else symbol_before a.symbol
+    b.symbol)
     (same-bytes a.symbol b.symbol symbol)
     ∙ ap (λ e. side_before a.side e (is_better a.side a.price b.price)) (sym side) ∙ sides-same a.side
     (is_better a.side a.price b.price) ∙ better
@@ -155,7 +173,11 @@ of-symbol-trans a b c (inl (buy, sell)) (inl (buys, sells)) = inl (buy, sells)
 of-symbol-trans a b c (inl (buy, sell)) (inr (side, better)) = inl (buy, sym side ∙ sell)
 of-symbol-trans a b c (inr (side, better)) (inl (buy, sell)) = inl (side ∙ buy, sell)
 of-symbol-trans a b c (inr (side, better)) (inr (sides, more)) =
-    inr (side ∙ sides, better-trans a.side a.price b.price c.price better (ap (λ d. is_better d b.price c.price) side ∙ more))
+    inr (
+      side ∙ sides,
+      better-trans a.side a.price b.price c.price better
+          (ap (λ d. is_better d b.price c.price) side ∙ more),
+    )
 
 before-trans : (a b c : Key) → Before a b → Before b c → Before a c
 before-trans a b c (inl h) (inl g) = inl (symbol-trans a.symbol b.symbol c.symbol h g)
@@ -168,7 +190,8 @@ key-trans a b c h g = before-is a c (before-trans a b c (before-means a b h) (be
 
 key-not-itself : (a : Key) → Before a a → ⊥
 key-not-itself a (inl h) = symbol-apart a.symbol a.symbol h refl
-key-not-itself a (inr (same, inl (buy, sell))) = let e : Buy ≡ Sell = sym buy ∙ sell in absurd (true≢false (ap (same_side Buy) e))
+key-not-itself a (inr (same, inl (buy, sell))) = let e : Buy ≡ Sell = sym buy ∙ sell in
+    absurd (true≢false (ap (same_side Buy) e))
 key-not-itself a (inr (same, inr (side, better))) = absurd (true≢false (sym better ∙ better-itself a.side a.price))
 
 pub key-apart : (a b : Key) → key_before a b ≡ true → a ≢ b

@@ -1,5 +1,6 @@
 -- What a call on one ladder does to all levels, as the code reads and writes.
-use Rattle.std.proofs.Common.{◌≡◌, ℕ, zero, suc, ◌+◌, ◌-◌, ◌<◌, ◌≤◌, false, List, [], ◌∷◌, ◌++◌, length, get_or, take, drop, refl, ap, sym, subst, ◌∙◌, arith, take_all, length-append}
+use Rattle.std.proofs.Common.{◌≡◌, ℕ, zero, suc, ◌+◌, ◌-◌, ◌<◌, ◌≤◌, false, List, [], ◌∷◌, ◌++◌, length, get_or, take}
+use Rattle.std.proofs.Common.{drop, refl, ap, sym, subst, ◌∙◌, arith, take_all, length-append}
 use Rattle.std.specs.Prelude.{slice_set}
 use Rattle.std.specs.List.{AllByRecursion, insert}
 use Rattle.std.specs.Global.{Vec}
@@ -13,10 +14,12 @@ use Rattle.price_levels.specs.declared.ladders.Home.{Home}
 use Rattle.price_levels.specs.declared.ladders.Rung.{Rung}
 use Rattle.venue_model.specs.Orders.{opposite}
 use Rattle.price_levels.specs.Arena.{holds, first_in, of_side, crossed_left, levels_with}
-use Rattle.price_levels.specs.Ladders.{Laddered, joined, all, number, around, beyond, items_of, Belongs, AreParted, AreLadders}
+use Rattle.price_levels.specs.Ladders.{Laddered, joined, all, rung_number, around, beyond, items_of, BelongsToHome}
+use Rattle.price_levels.specs.Ladders.{AreParted, AreLadders}
 use Rattle.price_levels.proofs.LevelLists.{all-append}
 use Rattle.price_levels.proofs.SearchLemmas.{all-at}
-use Rattle.price_levels.proofs.LadderLists.{cut, cut-set, get-at, insert-at, with-at, set-at, drop-at, first-row, holds-row, crossed-row}
+use Rattle.price_levels.proofs.LadderLists.{cut, cut-set, get-at, insert-at, with-at, set-at, drop-at, first-row}
+use Rattle.price_levels.proofs.LadderLists.{holds-row, crossed-row}
 use Rattle.price_levels.proofs.LadderLemmas.{parted-set}
 
 module _ {X : Type 0} (P : X → Type 0) where
@@ -45,10 +48,12 @@ module _ (l : Laddered) (ladders : List (Vec Level)) (is : l.ladders ≡ items_o
   ahead = joined (take r.ladder l.ladders)
 
   pub within-ladders : r.ladder < length ladders
-  within-ladders = let long = ap length is ∙ length-map ladders (λ (v : Vec Level). v.items) in omega (arith, within, long)
+  within-ladders = let long = ap length is ∙ length-map ladders (λ (v : Vec Level). v.items) in
+      omega (arith, within, long)
 
   pub around-is : around l r ≡ one.items
-  around-is = ap (λ xs. get_or xs r.ladder []) is ∙ get_or-map (λ (v : Vec Level). v.items) ladders r.ladder one [] within-ladders
+  around-is = ap (λ xs. get_or xs r.ladder []) is ∙ get_or-map (λ (v : Vec Level). v.items) ladders r.ladder one []
+      within-ladders
       ∙ ap (λ (v : Vec Level). v.items) (sym here)
 
   pub whole : all l ≡ ahead ++ (one.items ++ beyond l r)
@@ -57,11 +62,15 @@ module _ (l : Laddered) (ladders : List (Vec Level)) (is : l.ladders ≡ items_o
   pub long-is : length (around l r) ≡ length one.items
   long-is = ap length around-is
 
-  pub level-is : (m : Level) → r.at < length one.items → m ≡ get_or one.items r.at m → m ≡ get_or (all l) (number l r) m
-  level-is m lt m_is = m_is ∙ sym (get-at ahead one.items (beyond l r) r.at m lt) ∙ ap (λ ys. get_or ys (number l r) m) (sym whole)
+  pub level-is : (m : Level) → r.at < length one.items → m ≡ get_or one.items r.at m
+      → m ≡ get_or (all l) (rung_number l r) m
+  level-is m lt m_is = m_is ∙ sym (get-at ahead one.items (beyond l r) r.at m lt)
+      ∙ ap (λ ys. get_or ys (rung_number l r) m) (sym whole)
 
-  pub key-there : (m : Level) → r.at < length one.items → (get_or (all l) (number l r) m).key ≡ (get_or one.items r.at m).key
-  key-there m lt = ap (λ ys. (get_or ys (number l r) m).key) whole ∙ ap (λ (x : Level). x.key) (get-at ahead one.items (beyond l r) r.at m lt)
+  pub key-there : (m : Level) → r.at < length one.items → (get_or (all l) (rung_number l r) m).key
+      ≡ (get_or one.items r.at m).key
+  key-there m lt = ap (λ ys. (get_or ys (rung_number l r) m).key) whole
+      ∙ ap (λ (x : Level). x.key) (get-at ahead one.items (beyond l r) r.at m lt)
 
   -- a ladder has no more levels than all
   pub no-longer : length one.items ≤ length (all l)
@@ -71,55 +80,66 @@ module _ (l : Laddered) (ladders : List (Vec Level)) (is : l.ladders ≡ items_o
       let more = length-append one.items (beyond l r) in
       omega (arith, all_is, parts, more)
 
-  pub holds-is-here : (k : Key) → r.at ≤ length one.items → AllByRecursion (λ (m : Level). of_side k.symbol k.side m.key ≡ false) (beyond l r) →
-      holds (all l) (number l r) k ≡ holds one.items r.at k
-  holds-is-here k le alone = ap (λ ys. holds ys (number l r) k) whole ∙ holds-row k.symbol k.side k refl refl ahead one.items (beyond l r) r.at le alone
+  pub holds-is-here : (k : Key) → r.at ≤ length one.items
+      → AllByRecursion (λ (m : Level). of_side k.symbol k.side m.key ≡ false) (beyond l r) →
+      holds (all l) (rung_number l r) k ≡ holds one.items r.at k
+  holds-is-here k le alone = ap (λ ys. holds ys (rung_number l r) k) whole
+      ∙ holds-row k.symbol k.side k refl refl ahead one.items (beyond l r) r.at le alone
 
-  pub first-is : (symbol : List ℕ) (side : Side) → r.at ≤ length one.items → AllByRecursion (λ (m : Level). of_side symbol side m.key ≡ false)
-      (beyond l r) → first_in symbol side (all l) (number l r) ≡ first_in symbol side one.items r.at
-  first-is symbol side le alone = ap (λ ys. first_in symbol side ys (number l r)) whole
+  pub first-is : (symbol : List ℕ) (side : Side) → r.at ≤ length one.items
+      → AllByRecursion (λ (m : Level). of_side symbol side m.key ≡ false)
+      (beyond l r) → first_in symbol side (all l) (rung_number l r) ≡ first_in symbol side one.items r.at
+  first-is symbol side le alone = ap (λ ys. first_in symbol side ys (rung_number l r)) whole
       ∙ first-row symbol side ahead one.items (beyond l r) r.at le alone
 
   pub crossed-is : (symbol : List ℕ) (side : Side) (price : ℕ) → r.at ≤ length one.items →
       AllByRecursion (λ (m : Level). of_side symbol (opposite side) m.key ≡ false) (beyond l r) →
-      crossed_left symbol side price (drop (number l r) (all l)) ≡ crossed_left symbol side price (take (length one.items - r.at)
+      crossed_left symbol side price (drop (rung_number l r) (all l))
+      ≡ crossed_left symbol side price (take (length one.items - r.at)
       (drop r.at one.items))
   crossed-is symbol side price le alone =
       let rest = length-drop r.at one.items in
-      ap (λ ys. crossed_left symbol side price (drop (number l r) ys)) whole
+      ap (λ ys. crossed_left symbol side price (drop (rung_number l r) ys)) whole
       ∙ ap (crossed_left symbol side price) (drop-at ahead one.items (beyond l r) r.at le)
       ∙ crossed-row symbol side price (drop r.at one.items) (beyond l r) alone
-      ∙ ap (crossed_left symbol side price) (sym (take_all (length one.items - r.at) (drop r.at one.items) (omega (arith, rest))))
+      ∙ ap (crossed_left symbol side price)
+      (sym (take_all (length one.items - r.at) (drop r.at one.items) (omega (arith, rest))))
 
   -- it is another one now
   module _ (other : Vec Level) where
     pub replaced-is : joined (items_of (slice_set ladders r.ladder other)) ≡ ahead ++ (other.items ++ beyond l r)
-    replaced-is = ap joined (map-set (λ (v : Vec Level). v.items) ladders r.ladder other ∙ ap (λ xs. slice_set xs r.ladder other.items) (sym is))
+    replaced-is = ap joined (map-set (λ (v : Vec Level). v.items) ladders r.ladder other
+        ∙ ap (λ xs. slice_set xs r.ladder other.items) (sym is))
         ∙ cut-set l.ladders r.ladder other.items within
 
     pub set-is : (m : Level) → r.at < length one.items → other.items ≡ slice_set one.items r.at m →
-        joined (items_of (slice_set ladders r.ladder other)) ≡ slice_set (all l) (number l r) m
-    set-is m lt items = replaced-is ∙ ap (λ g. ahead ++ (g ++ beyond l r)) items ∙ sym (set-at ahead one.items (beyond l r) r.at m lt)
-        ∙ ap (λ ys. slice_set ys (number l r) m) (sym whole)
+        joined (items_of (slice_set ladders r.ladder other)) ≡ slice_set (all l) (rung_number l r) m
+    set-is m lt items = replaced-is ∙ ap (λ g. ahead ++ (g ++ beyond l r)) items
+        ∙ sym (set-at ahead one.items (beyond l r) r.at m lt)
+        ∙ ap (λ ys. slice_set ys (rung_number l r) m) (sym whole)
 
     pub insert-is : (m : Level) → r.at ≤ length one.items → other.items ≡ insert one.items r.at m →
-        joined (items_of (slice_set ladders r.ladder other)) ≡ insert (all l) (number l r) m
-    insert-is m le items = replaced-is ∙ ap (λ g. ahead ++ (g ++ beyond l r)) items ∙ sym (insert-at ahead one.items (beyond l r) r.at m le)
-        ∙ ap (λ ys. insert ys (number l r) m) (sym whole)
+        joined (items_of (slice_set ladders r.ladder other)) ≡ insert (all l) (rung_number l r) m
+    insert-is m le items = replaced-is ∙ ap (λ g. ahead ++ (g ++ beyond l r)) items
+        ∙ sym (insert-at ahead one.items (beyond l r) r.at m le)
+        ∙ ap (λ ys. insert ys (rung_number l r) m) (sym whole)
 
     pub remove-is : r.at < length one.items → other.items ≡ levels_with one.items r.at [] →
-        joined (items_of (slice_set ladders r.ladder other)) ≡ levels_with (all l) (number l r) []
-    remove-is lt items = replaced-is ∙ ap (λ g. ahead ++ (g ++ beyond l r)) items ∙ sym (with-at ahead one.items (beyond l r) r.at [] lt)
-        ∙ ap (λ ys. levels_with ys (number l r) []) (sym whole)
+        joined (items_of (slice_set ladders r.ladder other)) ≡ levels_with (all l) (rung_number l r) []
+    remove-is lt items = replaced-is ∙ ap (λ g. ahead ++ (g ++ beyond l r)) items
+        ∙ sym (with-at ahead one.items (beyond l r) r.at [] lt)
+        ∙ ap (λ ys. levels_with ys (rung_number l r) []) (sym whole)
 
     -- the ladders are right with it
     pub ladders-with : (fences : List Fence) (homes : List Home) (room : ℕ) → AreLadders fences homes ladders room →
-        AllByRecursion (λ (m : Level). Belongs fences r.ladder m.key.symbol m.key.side) other.items → room ≤ vec_capacity other →
+        AllByRecursion (λ (m : Level). BelongsToHome fences r.ladder m.key.symbol m.key.side) other.items
+        → room ≤ vec_capacity other →
         AreLadders fences homes (slice_set ladders r.ladder other) room
     ladders-with fences homes room are belong roomy = record {
       count = length-set ladders r.ladder other ∙ are.count;
       parted = subst (AreParted fences) (sym (map-set (λ (v : Vec Level). v.items) ladders r.ladder other))
-          (parted-set fences (items_of ladders) r.ladder other.items are.parted (let long = ap length is in omega (arith, within, long)) belong);
+          (parted-set fences (items_of ladders) r.ladder other.items are.parted
+          (let long = ap length is in omega (arith, within, long)) belong);
       roomy = all-set (λ (v : Vec Level). room ≤ vec_capacity v) ladders r.ladder other are.roomy roomy;
       known = are.known;
     }
@@ -127,27 +147,38 @@ module _ (l : Laddered) (ladders : List (Vec Level)) (is : l.ladders ≡ items_o
   -- what holds of the levels of a ladder
   module _ (fences : List Fence) (homes : List Home) (room : ℕ) (are : AreLadders fences homes ladders room) where
     abbrev Belong : List Level → Type 0
-    Belong levels = AllByRecursion (λ (m : Level). Belongs fences r.ladder m.key.symbol m.key.side) levels
+    Belong levels = AllByRecursion (λ (m : Level). BelongsToHome fences r.ladder m.key.symbol m.key.side) levels
 
     pub belong-there : Belong one.items
     belong-there = subst Belong (ap (λ xs. get_or xs r.ladder []) (sym is) ∙ around-is) (are.parted r.ladder)
 
     pub roomy-there : room ≤ vec_capacity one
-    roomy-there = subst (λ v. room ≤ vec_capacity v) (sym here) (all-at (λ (v : Vec Level). room ≤ vec_capacity v) ladders r.ladder one
+    roomy-there = subst (λ v. room ≤ vec_capacity v) (sym here)
+        (all-at (λ (v : Vec Level). room ≤ vec_capacity v) ladders r.ladder one
         within-ladders are.roomy)
 
-    pub belong-set : (m old : Level) → r.at < length one.items → old ≡ get_or one.items r.at old → m.key ≡ old.key → Belong (slice_set one.items r.at m)
-    belong-set m old lt old_is same = all-set (λ (x : Level). Belongs fences r.ladder x.key.symbol x.key.side) one.items r.at m belong-there
-        (subst (λ (k : Key). Belongs fences r.ladder k.symbol k.side) (sym same)
-        (subst (λ (x : Level). Belongs fences r.ladder x.key.symbol x.key.side) (sym old_is)
-        (all-at (λ (x : Level). Belongs fences r.ladder x.key.symbol x.key.side) one.items r.at old lt belong-there)))
+    pub belong-set : (m old : Level) → r.at < length one.items → old ≡ get_or one.items r.at old → m.key ≡ old.key
+        → Belong (slice_set one.items r.at m)
+    belong-set m old lt old_is same = all-set (λ (x : Level). BelongsToHome fences r.ladder x.key.symbol x.key.side)
+        one.items r.at m belong-there
+        (subst (λ (k : Key). BelongsToHome fences r.ladder k.symbol k.side) (sym same)
+        (subst (λ (x : Level). BelongsToHome fences r.ladder x.key.symbol x.key.side) (sym old_is)
+        (all-at (λ (x : Level). BelongsToHome fences r.ladder x.key.symbol x.key.side) one.items r.at old lt
+        belong-there)))
 
-    pub belong-insert : (m : Level) → Belongs fences r.ladder m.key.symbol m.key.side → Belong (insert one.items r.at m)
-    belong-insert m its = all-append (λ (x : Level). Belongs fences r.ladder x.key.symbol x.key.side) (take r.at one.items) (m ∷ drop r.at one.items)
-        (all-take-n (λ (x : Level). Belongs fences r.ladder x.key.symbol x.key.side) one.items r.at belong-there)
-        (its, all-drop-n (λ (x : Level). Belongs fences r.ladder x.key.symbol x.key.side) one.items r.at belong-there)
+    pub belong-insert : (m : Level) → BelongsToHome fences r.ladder m.key.symbol m.key.side
+        → Belong (insert one.items r.at m)
+    belong-insert m its = all-append (λ (x : Level). BelongsToHome fences r.ladder x.key.symbol x.key.side)
+        (take r.at one.items) (m ∷ drop r.at one.items)
+        (all-take-n (λ (x : Level). BelongsToHome fences r.ladder x.key.symbol x.key.side) one.items r.at belong-there) (
+          its,
+          all-drop-n (λ (x : Level). BelongsToHome fences r.ladder x.key.symbol x.key.side) one.items r.at
+              belong-there,
+        )
 
     pub belong-remove : Belong (levels_with one.items r.at [])
-    belong-remove = all-append (λ (x : Level). Belongs fences r.ladder x.key.symbol x.key.side) (take r.at one.items) (drop (r.at + 1) one.items)
-        (all-take-n (λ (x : Level). Belongs fences r.ladder x.key.symbol x.key.side) one.items r.at belong-there)
-        (all-drop-n (λ (x : Level). Belongs fences r.ladder x.key.symbol x.key.side) one.items (r.at + 1) belong-there)
+    belong-remove = all-append (λ (x : Level). BelongsToHome fences r.ladder x.key.symbol x.key.side)
+        (take r.at one.items) (drop (r.at + 1) one.items)
+        (all-take-n (λ (x : Level). BelongsToHome fences r.ladder x.key.symbol x.key.side) one.items r.at belong-there)
+        (all-drop-n (λ (x : Level). BelongsToHome fences r.ladder x.key.symbol x.key.side) one.items (r.at + 1)
+        belong-there)

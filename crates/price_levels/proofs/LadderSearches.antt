@@ -1,5 +1,6 @@
 -- What a search in the ladder of a key has found among all levels.
-use Rattle.std.proofs.Common.{◌≡◌, ℕ, ◌<◌, ◌≤◌, true, false, List, [], length, get_or, take, drop, ap, sym, subst, ◌∙◌, arith}
+use Rattle.std.proofs.Common.{◌≡◌, ℕ, ◌<◌, ◌≤◌, true, false, List, [], length, get_or, take, drop, ap, sym, subst, ◌∙◌}
+use Rattle.std.proofs.Common.{arith}
 use Rattle.std.specs.List.{AllByRecursion}
 use Rattle.std.specs.Global.{Vec}
 use Rattle.std.proofs.lemmas.List.{length-map}
@@ -10,25 +11,31 @@ use Rattle.price_levels.specs.declared.ladders.Fence.{Fence}
 use Rattle.price_levels.specs.declared.ladders.Home.{Home}
 use Rattle.price_levels.specs.declared.ladders.Rung.{Rung}
 use Rattle.price_levels.specs.Keys.{key_before, before_side, InOrder}
-use Rattle.price_levels.specs.Ladders.{Laddered, all, number, items_of, IsRung, IsHome, Belongs, AreParted, IsHomeOf, AreLadders}
+use Rattle.price_levels.specs.Ladders.{Laddered, all, rung_number, items_of, IsRung, IsHome, BelongsToHome, AreParted}
+use Rattle.price_levels.specs.Ladders.{IsHomeOf, AreLadders}
 use Rattle.price_levels.proofs.SearchLemmas.{all-at}
-use Rattle.price_levels.proofs.LadderLemmas.{belongs-within, beyond-alone, ladder-order, search-before, search-behind, side-search-before, side-search-behind}
+use Rattle.price_levels.proofs.LadderLemmas.{belongs-within, beyond-alone, ladder-order, search-before, search-behind}
+use Rattle.price_levels.proofs.LadderLemmas.{side-search-before, side-search-behind}
 use Rattle.price_levels.proofs.LadderCalls.{around-is}
 
 -- the home of a symbol, as it was read
-pub home-known : (fences : List Fence) (homes read : List Home) (i : ℕ) (home : Home) → read ≡ homes → i < length read → home ≡ get_or read i home →
+pub home-known : (fences : List Fence) (homes read : List Home) (i : ℕ) (home : Home) → read ≡ homes → i < length read
+    → home ≡ get_or read i home →
     AllByRecursion (IsHomeOf fences) homes → IsHomeOf fences home
 home-known fences homes read i home same within is known = subst (IsHomeOf fences) (sym is)
     (all-at (IsHomeOf fences) read i home within (subst (AllByRecursion (IsHomeOf fences)) (sym same) known))
 
-pub at-home : (own fences : List Fence) (i : ℕ) (s symbol : List ℕ) (d side : Side) → own ≡ fences → s ≡ symbol → d ≡ side → Belongs own i s d →
-    Belongs fences i symbol side
-at-home own fences i s symbol d side same symbols sides belongs = subst (λ e. Belongs fences i symbol e) sides (subst (λ t. Belongs fences i t d)
-    symbols (subst (λ fs. Belongs fs i s d) same belongs))
+pub at-home : (own fences : List Fence) (i : ℕ) (s symbol : List ℕ) (d side : Side) → own ≡ fences → s ≡ symbol
+    → d ≡ side → BelongsToHome own i s d →
+    BelongsToHome fences i symbol side
+at-home own fences i s symbol d side same symbols sides belongs =
+    subst (λ e. BelongsToHome fences i symbol e) sides (subst (λ t. BelongsToHome fences i t d)
+    symbols (subst (λ fs. BelongsToHome fs i s d) same belongs))
 
 module _ (l : Laddered) (fences : List Fence) (homes : List Home) (ladders : List (Vec Level)) (room : ℕ)
-    (are : AreLadders fences homes ladders room) (fences_are : l.fences ≡ fences) (is : l.ladders ≡ items_of ladders) (k : Key) (i : ℕ)
-    (belongs : Belongs l.fences i k.symbol k.side) where
+    (are : AreLadders fences homes ladders room) (fences_are : l.fences ≡ fences) (is : l.ladders ≡ items_of ladders)
+    (k : Key) (i : ℕ)
+    (belongs : BelongsToHome l.fences i k.symbol k.side) where
   pub there : i < length ladders
   there =
       let no_more = belongs-within l.fences i k.symbol k.side belongs in
@@ -43,7 +50,8 @@ module _ (l : Laddered) (fences : List Fence) (homes : List Home) (ladders : Lis
       omega (arith, own, long)
 
   parted : AreParted l.fences l.ladders
-  parted = subst (λ gs. AreParted l.fences gs) (sym is) (subst (λ fs. AreParted fs (items_of ladders)) (sym fences_are) are.parted)
+  parted = subst (λ gs. AreParted l.fences gs) (sym is)
+      (subst (λ fs. AreParted fs (items_of ladders)) (sym fences_are) are.parted)
 
   -- in its ladder, as it was read, the search has come to a place
   module _ (one : Vec Level) (here : one ≡ get_or ladders i one) where
@@ -67,21 +75,29 @@ module _ (l : Laddered) (fences : List Fence) (homes : List Home) (ladders : Lis
       is-home = record { belongs = belongs; alone = beyond-alone l.fences l.ladders parted i k belongs }
 
       pub key-before : AllByRecursion (λ (m : Level). key_before m.key k ≡ true) (take j one.items) →
-          AllByRecursion (λ (m : Level). key_before m.key k ≡ true) (take (number l (record { ladder = i; at = j })) (all l))
+          AllByRecursion (λ (m : Level). key_before m.key k ≡ true)
+          (take (rung_number l (record { ladder = i; at = j })) (all l))
       key-before all = search-before l.fences l.ladders parted i j k belongs there-seen le-seen
-          (subst (λ (levels : List Level). AllByRecursion (λ (m : Level). key_before m.key k ≡ true) (take j levels)) (sym its-levels) all)
+          (subst (λ (levels : List Level). AllByRecursion (λ (m : Level). key_before m.key k ≡ true) (take j levels))
+          (sym its-levels) all)
 
       pub key-behind : AllByRecursion (λ (m : Level). key_before m.key k ≡ false) (drop j one.items) →
-          AllByRecursion (λ (m : Level). key_before m.key k ≡ false) (drop (number l (record { ladder = i; at = j })) (all l))
+          AllByRecursion (λ (m : Level). key_before m.key k ≡ false)
+          (drop (rung_number l (record { ladder = i; at = j })) (all l))
       key-behind all = search-behind l.fences l.ladders parted i j k belongs there-seen le-seen
-          (subst (λ (levels : List Level). AllByRecursion (λ (m : Level). key_before m.key k ≡ false) (drop j levels)) (sym its-levels) all)
+          (subst (λ (levels : List Level). AllByRecursion (λ (m : Level). key_before m.key k ≡ false) (drop j levels))
+          (sym its-levels) all)
 
       pub side-before : AllByRecursion (λ (m : Level). before_side k.symbol k.side m.key ≡ true) (take j one.items) →
-          AllByRecursion (λ (m : Level). before_side k.symbol k.side m.key ≡ true) (take (number l (record { ladder = i; at = j })) (all l))
+          AllByRecursion (λ (m : Level). before_side k.symbol k.side m.key ≡ true)
+          (take (rung_number l (record { ladder = i; at = j })) (all l))
       side-before all = side-search-before l.fences l.ladders parted i j k belongs there-seen le-seen
-          (subst (λ (levels : List Level). AllByRecursion (λ (m : Level). before_side k.symbol k.side m.key ≡ true) (take j levels)) (sym its-levels) all)
+          (subst (λ (levels : List Level). AllByRecursion (λ (m : Level). before_side k.symbol k.side m.key ≡ true)
+          (take j levels)) (sym its-levels) all)
 
       pub side-behind : AllByRecursion (λ (m : Level). before_side k.symbol k.side m.key ≡ false) (drop j one.items) →
-          AllByRecursion (λ (m : Level). before_side k.symbol k.side m.key ≡ false) (drop (number l (record { ladder = i; at = j })) (all l))
+          AllByRecursion (λ (m : Level). before_side k.symbol k.side m.key ≡ false)
+          (drop (rung_number l (record { ladder = i; at = j })) (all l))
       side-behind all = side-search-behind l.fences l.ladders parted i j k belongs there-seen le-seen
-          (subst (λ (levels : List Level). AllByRecursion (λ (m : Level). before_side k.symbol k.side m.key ≡ false) (drop j levels)) (sym its-levels) all)
+          (subst (λ (levels : List Level). AllByRecursion (λ (m : Level). before_side k.symbol k.side m.key ≡ false)
+          (drop j levels)) (sym its-levels) all)

@@ -1,5 +1,6 @@
 -- An order leaves the levels: the rings, the order of the levels and what they have left are right again.
-use Rattle.std.proofs.Common.{◌≡◌, ℕ, ◌-◌, ◌*◌, ◌^◌, ◌<◌, inl, inr, List, length, Option, Some, None, refl, ap, sym, subst, ◌∙◌, arith}
+use Rattle.std.proofs.Common.{◌≡◌, ℕ, ◌-◌, ◌*◌, ◌^◌, ◌<◌, inl, inr, List, length, Option, Some, None, refl, ap, sym}
+use Rattle.std.proofs.Common.{subst, ◌∙◌, arith}
 use Rattle.std.specs.Prelude.{◌≢◌, option_map, MatchOption, unwrap_or}
 use Rattle.venue_model.specs.declared.orders.Order.{Order}
 use Rattle.venue_model.specs.Orders.{leaves}
@@ -7,13 +8,16 @@ use Rattle.price_levels.specs.declared.keys.Key.{Key}
 use Rattle.price_levels.specs.declared.keys.Level.{Level}
 use Rattle.price_levels.specs.declared.nodes.Node.{Node}
 use Rattle.price_levels.specs.Keys.{key_of, level_of}
-use Rattle.price_levels.specs.Arena.{Point, At, End, leads_to, end_to, AreRings, key_at, node_at, order_at, first_of, last_of, next_point, prev_point, places_of, left_of, total_left, AreLevels, nodes_without, IsWithin}
+use Rattle.price_levels.specs.Arena.{Point, At, End, leads_to, end_to, AreRings, key_at, node_at, order_at, first_of}
+use Rattle.price_levels.specs.Arena.{last_of, next_point, prev_point, places_of, left_of, total_left, AreLevels}
+use Rattle.price_levels.specs.Arena.{nodes_without, IsWithinNodes}
 use Rattle.price_levels.proofs.KeyLemmas.{decide_key}
 use Rattle.price_levels.proofs.Rings.{Moves, Sets, rings-left, not-here, key-before, leads-on, leads-back}
 use Rattle.price_levels.proofs.RingLaws.{Stands, stands, first}
 use Rattle.price_levels.proofs.LevelLists.{Changes}
 use Rattle.price_levels.proofs.PointLemmas.{Turns, moves}
-use Rattle.price_levels.proofs.NodeLemmas.{Seen, seen-sets, within-nodes, without-seen, without-next, without-next-else, without-prev, without-prev-else}
+use Rattle.price_levels.proofs.NodeLemmas.{Seen, seen-sets, within-nodes, without-seen, without-next, without-next-else}
+use Rattle.price_levels.proofs.NodeLemmas.{without-prev, without-prev-else}
 use Rattle.price_levels.proofs.LeftLemmas.{left-own, left-other, left-elsewhere, left-here, empty-left}
 
 module _ (nodes : List Node) (levels : List Level) (are : AreLevels nodes levels) (p : ℕ) (o : Order)
@@ -36,26 +40,29 @@ module _ (nodes : List Node) (levels : List Level) (are : AreLevels nodes levels
 
   -- its neighbours stand in its level
   pub next-stands : (q : ℕ) → (node_at nodes p).next ≡ Some q → Stands (order_at nodes) q (key_of o)
-  next-stands q is = stands (order_at nodes) q (key_of o) (ap (key_at (order_at nodes)) (sym (next-is ∙ ap (λ l. end_to l (key_of o)) is))
+  next-stands q is = stands (order_at nodes) q (key_of o)
+      (ap (key_at (order_at nodes)) (sym (next-is ∙ ap (λ l. end_to l (key_of o)) is))
       ∙ are.rings.key (At p) ∙ ap (option_map key_of) here)
 
   pub prev-stands : (q : ℕ) → (node_at nodes p).prev ≡ Some q → Stands (order_at nodes) q (key_of o)
-  prev-stands q is = stands (order_at nodes) q (key_of o) (ap (key_at (order_at nodes)) (sym (prev-is ∙ ap (λ l. end_to l (key_of o)) is))
+  prev-stands q is = stands (order_at nodes) q (key_of o)
+      (ap (key_at (order_at nodes)) (sym (prev-is ∙ ap (λ l. end_to l (key_of o)) is))
       ∙ key-before (order_at nodes) next-at prev-at are.rings (At p) ∙ ap (option_map key_of) here)
 
   pub next-other : (q : ℕ) → (node_at nodes p).next ≡ Some q → q ≢ p
-  next-other q is = λ same. leads-on (order_at nodes) next-at prev-at are.rings p o here (next-is ∙ ap (λ l. end_to l (key_of o)) is
+  next-other q is = λ same. leads-on (order_at nodes) next-at prev-at are.rings p o here
+      (next-is ∙ ap (λ l. end_to l (key_of o)) is
       ∙ ap At same)
 
   pub prev-other : (q : ℕ) → (node_at nodes p).prev ≡ Some q → q ≢ p
   prev-other q is = λ same. leads-back (order_at nodes) next-at prev-at are.rings p o here (prev-is ∙ ap (λ l. end_to l
       (key_of o)) is ∙ ap At same)
 
-  pub next-in : (l : Option ℕ) → (node_at nodes p).next ≡ l → IsWithin nodes l
+  pub next-in : (l : Option ℕ) → (node_at nodes p).next ≡ l → IsWithinNodes nodes l
   next-in None is = tt
   next-in (Some q) is = let at_q = next-stands q is in within-nodes nodes q at_q.order at_q.is
 
-  pub prev-in : (l : Option ℕ) → (node_at nodes p).prev ≡ l → IsWithin nodes l
+  pub prev-in : (l : Option ℕ) → (node_at nodes p).prev ≡ l → IsWithinNodes nodes l
   prev-in None is = tt
   prev-in (Some q) is = let at_q = prev-stands q is in within-nodes nodes q at_q.order at_q.is
 
@@ -63,14 +70,16 @@ module _ (nodes : List Node) (levels : List Level) (are : AreLevels nodes levels
   pub has-level : (l : Level) × (level_of (key_of o) levels ≡ Some l)
   has-level =
       let first = first (order_at nodes) next-at prev-at are.rings p o here in
-      elim (level_of (key_of o) levels) as (λ x. end_to (option_map (λ (l : Level). l.first) x) (key_of o) ≡ At first.place →
+      elim (level_of (key_of o) levels) as (λ x. end_to (option_map (λ (l : Level). l.first) x) (key_of o)
+      ≡ At first.place →
       (l : Level) × (x ≡ Some l)) [
         | None ↦ λ e. let f : End (key_of o) ≡ At first.place = e in absurd (cc)
         | Some l ↦ λ e. (l, refl)
       ] first.leads
 
   -- it goes, and its level with it or with other ends
-  module _ (levels' : List Level) (prev next : Option ℕ) (v : Option Level) (prev_was : (node_at nodes p).prev ≡ prev) (next_was :
+  module _ (levels' : List Level) (prev next : Option ℕ) (v : Option Level) (prev_was : (node_at nodes p).prev ≡ prev)
+      (next_was :
       (node_at nodes p).next ≡ next)
       (changes : Changes levels levels' (key_of o) v)
       (firsts : MatchOption prev (option_map (λ (l : Level). l.first) v ≡ next) (λ q. option_map (λ
@@ -93,9 +102,12 @@ module _ (nodes : List Node) (levels : List Level) (are : AreLevels nodes levels
     abbrev sets : Sets (order_at nodes) (order_at nodes') p None
     sets = seen-sets nodes nodes' p None seen
 
-    from-prev : (l : Option ℕ) → (node_at nodes p).prev ≡ l → ((q : ℕ) → q ≢ p → l ≡ Some q → (node_at nodes' q).next ≡ next) →
-        MatchOption l (option_map (λ (m : Level). m.first) v ≡ next) (λ q. option_map (λ (m : Level). m.first) v ≡ first_of levels k) →
-        MatchOption l (first_of levels' k ≡ next) (λ q. (q ≢ p) × (Stands (order_at nodes) q k × (((node_at nodes' q).next ≡ next) ×
+    from-prev : (l : Option ℕ) → (node_at nodes p).prev ≡ l
+        → ((q : ℕ) → q ≢ p → l ≡ Some q → (node_at nodes' q).next ≡ next) →
+        MatchOption l (option_map (λ (m : Level). m.first) v ≡ next)
+        (λ q. option_map (λ (m : Level). m.first) v ≡ first_of levels k) →
+        MatchOption l (first_of levels' k ≡ next) (λ q. (q ≢ p)
+        × (Stands (order_at nodes) q k × (((node_at nodes' q).next ≡ next) ×
         (first_of levels' k ≡ first_of levels k))))
     from-prev None was nexts first = ap (option_map (λ (m : Level). m.first)) changes.here ∙ first
     from-prev (Some q) was nexts first = (
@@ -110,9 +122,12 @@ module _ (nodes : List Node) (levels : List Level) (are : AreLevels nodes levels
       ),
     )
 
-    from-next : (l : Option ℕ) → (node_at nodes p).next ≡ l → ((q : ℕ) → q ≢ p → l ≡ Some q → (node_at nodes' q).prev ≡ prev) →
-        MatchOption l (option_map (λ (m : Level). m.last) v ≡ prev) (λ q. option_map (λ (m : Level). m.last) v ≡ last_of levels k) →
-        MatchOption l (last_of levels' k ≡ prev) (λ q. (q ≢ p) × (Stands (order_at nodes) q k × (((node_at nodes' q).prev ≡ prev) ×
+    from-next : (l : Option ℕ) → (node_at nodes p).next ≡ l
+        → ((q : ℕ) → q ≢ p → l ≡ Some q → (node_at nodes' q).prev ≡ prev) →
+        MatchOption l (option_map (λ (m : Level). m.last) v ≡ prev)
+        (λ q. option_map (λ (m : Level). m.last) v ≡ last_of levels k) →
+        MatchOption l (last_of levels' k ≡ prev) (λ q. (q ≢ p)
+        × (Stands (order_at nodes) q k × (((node_at nodes' q).prev ≡ prev) ×
         (last_of levels' k ≡ last_of levels k))))
     from-next None was prevs last = ap (option_map (λ (m : Level). m.last)) changes.here ∙ last
     from-next (Some q) was prevs last = (
@@ -130,7 +145,8 @@ module _ (nodes : List Node) (levels : List Level) (are : AreLevels nodes levels
     next-turns : Turns (order_at nodes) (λ q. (node_at nodes q).next) (λ q. (node_at nodes' q).next) (first_of levels)
         (first_of levels') p k prev next
     next-turns = record {
-      at_from = from-prev prev prev_was (without-next nodes p prev next (prev-in prev prev_was) (next-in next next_was) within) firsts;
+      at_from = from-prev prev prev_was
+          (without-next nodes p prev next (prev-in prev prev_was) (next-in next next_was) within) firsts;
       links = without-next-else nodes p prev next (prev-in prev prev_was) (next-in next next_was) within;
       ends = λ j other. ap (option_map (λ (l : Level). l.first)) (changes.others j other);
     }
@@ -138,7 +154,8 @@ module _ (nodes : List Node) (levels : List Level) (are : AreLevels nodes levels
     prev-turns : Turns (order_at nodes) (λ q. (node_at nodes q).prev) (λ q. (node_at nodes' q).prev) (last_of levels)
         (last_of levels') p k next prev
     prev-turns = record {
-      at_from = from-next next next_was (without-prev nodes p prev next (prev-in prev prev_was) (next-in next next_was) within) lasts;
+      at_from = from-next next next_was
+          (without-prev nodes p prev next (prev-in prev prev_was) (next-in next next_was) within) lasts;
       links = without-prev-else nodes p prev next (prev-in prev prev_was) (next-in next next_was) within;
       ends = λ j other. ap (option_map (λ (l : Level). l.last)) (changes.others j other);
     }
@@ -152,14 +169,16 @@ module _ (nodes : List Node) (levels : List Level) (are : AreLevels nodes levels
     next-moves : Moves next-at (next_point nodes' levels') (At p) (prev-at (At p)) (At p) (next-at (At p))
     next-moves = subst (λ a. Moves next-at (next_point nodes' levels') (At p) a (At p) (next-at (At p))) (sym prev-to)
         (subst (λ b. Moves next-at (next_point nodes' levels') (At p) (end_to prev k) (At p) b) (sym next-to)
-        (moves (order_at nodes) (order_at nodes') (λ q. (node_at nodes q).next) (λ q. (node_at nodes' q).next) (first_of levels)
+        (moves (order_at nodes) (order_at nodes') (λ q. (node_at nodes q).next) (λ q. (node_at nodes' q).next)
+        (first_of levels)
         (first_of levels') p k None sets
         prev next (At p) next-turns refl))
 
     prev-moves : Moves prev-at (prev_point nodes' levels') (At p) (next-at (At p)) (At p) (prev-at (At p))
     prev-moves = subst (λ a. Moves prev-at (prev_point nodes' levels') (At p) a (At p) (prev-at (At p))) (sym next-to)
         (subst (λ b. Moves prev-at (prev_point nodes' levels') (At p) (end_to next k) (At p) b) (sym prev-to)
-        (moves (order_at nodes) (order_at nodes') (λ q. (node_at nodes q).prev) (λ q. (node_at nodes' q).prev) (last_of levels)
+        (moves (order_at nodes) (order_at nodes') (λ q. (node_at nodes q).prev) (λ q. (node_at nodes' q).prev)
+        (last_of levels)
         (last_of levels') p k None sets
         next prev (At p) prev-turns refl))
 
@@ -169,19 +188,24 @@ module _ (nodes : List Node) (levels : List Level) (are : AreLevels nodes levels
 
     left-now : (x : Option Level) → level_of k levels' ≡ x → MatchOption x ((prev ≡ None) × (next ≡ None))
         (λ m. m.left ≡ left_of levels k - leaves o) →
-        MatchOption prev (option_map (λ (l : Level). l.first) x ≡ next) (λ q. option_map (λ (l : Level). l.first) x ≡ first_of levels k) →
+        MatchOption prev (option_map (λ (l : Level). l.first) x ≡ next)
+        (λ q. option_map (λ (l : Level). l.first) x ≡ first_of levels k) →
         left_of levels' k ≡ total_left k (places_of nodes')
     left-now None is gone first =
         ap (λ l. unwrap_or (option_map (λ (n : Level). n.left) l) 0) is
-        ∙ sym (empty-left nodes' (next_point nodes' levels') (prev_point nodes' levels') rings' k (ap (λ l. end_to (option_map (λ
+        ∙ sym (empty-left nodes' (next_point nodes' levels') (prev_point nodes' levels') rings' k
+        (ap (λ l. end_to (option_map (λ
         (m : Level). m.first) l) k) is))
-    left-now (Some m) is less first = left-here nodes nodes' levels levels' p (Some o) None k seen here are.left changes.others
-        (λ i other. left-other i o (λ e. other (sym e))) (λ i other. refl) (leaves o) 0 (left-own k (Some o) o refl refl) refl
+    left-now (Some m) is less first = left-here nodes nodes' levels levels' p (Some o) None k seen here are.left
+        changes.others
+        (λ i other. left-other i o (λ e. other (sym e))) (λ i other. refl) (leaves o) 0
+        (left-own k (Some o) o refl refl) refl
         (let m_is = ap (λ l. unwrap_or (option_map (λ (n : Level). n.left) l) 0) is in omega (arith, m_is, less))
 
     left-gone : (j : Key) → left_of levels' j ≡ total_left j (places_of nodes')
     left-gone j = elim (decide_key j k) [
-      | inl is ↦ subst (λ i. left_of levels' i ≡ total_left i (places_of nodes')) (sym is) (left-now v changes.here lefts firsts)
+      | inl is ↦ subst (λ i. left_of levels' i ≡ total_left i (places_of nodes')) (sym is)
+          (left-now v changes.here lefts firsts)
       | inr other ↦ left-elsewhere nodes nodes' levels levels' p (Some o) None k seen here are.left changes.others
           (λ i h. left-other i o (λ e. h (sym e))) (λ i h. refl) j other
     ]

@@ -1,5 +1,6 @@
 -- Nodes that are written: what stands at each place then, and its neighbours.
-use Rattle.std.proofs.Common.{◌≡◌, ℕ, zero, suc, ◌+◌, ◌<◌, ◌≤◌, inl, inr, List, [], ◌∷◌, length, map, get_or, Option, Some, None, refl, ap, sym, ◌∙◌, arith}
+use Rattle.std.proofs.Common.{◌≡◌, ℕ, zero, suc, ◌+◌, ◌<◌, ◌≤◌, inl, inr, List, [], ◌∷◌, length, map, get_or, Option}
+use Rattle.std.proofs.Common.{Some, None, refl, ap, sym, ◌∙◌, arith}
 use Rattle.std.specs.Prelude.{◌≢◌, slice_set, sum_by}
 use Rattle.std.proofs.lemmas.Bool.{cases_lt}
 use Rattle.std.proofs.lemmas.List.{map-set, length-map, length-set, get_or-set_same, get_or-set_other, get_or_past}
@@ -9,13 +10,16 @@ use Rattle.std.proofs.Math.Seq.{map-set_same}
 use Rattle.venue_model.specs.declared.orders.Order.{Order}
 use Rattle.price_levels.specs.declared.nodes.Node.{Node}
 use Rattle.price_levels.specs.Places.{Places, at, standing}
-use Rattle.price_levels.specs.Arena.{vacant, node_at, order_at, places_of, set_next, set_prev, node_behind, nodes_with, nodes_without, IsWithin}
+use Rattle.price_levels.specs.Arena.{vacant, node_at, order_at, places_of, set_next, set_prev, node_behind, nodes_with}
+use Rattle.price_levels.specs.Arena.{nodes_without, IsWithinNodes}
 use Rattle.price_levels.proofs.Rings.{Sets}
 
 -- a part of the nodes that is as it was everywhere is as it was at each place
-pub kept : {Y : Type 0} (f : Node → Y) (nodes nodes' : List Node) → map f nodes' ≡ map f nodes → (q : ℕ) → f (node_at nodes' q) ≡ f
+pub kept : {Y : Type 0} (f : Node → Y) (nodes nodes' : List Node) → map f nodes' ≡ map f nodes → (q : ℕ)
+    → f (node_at nodes' q) ≡ f
     (node_at nodes q)
-kept f nodes nodes' same q = sym (get_or-map f nodes' q vacant) ∙ ap (λ l. get_or l q (f vacant)) same ∙ get_or-map f nodes q vacant
+kept f nodes nodes' same q = sym (get_or-map f nodes' q vacant) ∙ ap (λ l. get_or l q (f vacant)) same
+    ∙ get_or-map f nodes q vacant
 
 pub order-is : (nodes : List Node) (q : ℕ) → at (places_of nodes) q ≡ order_at nodes q
 order-is nodes q = get_or-map (λ n. n.order) nodes q vacant
@@ -33,12 +37,14 @@ within-nodes nodes q o is = elim (cases_lt q (length nodes)) [
 pub next-kept : {Y : Type 0} (f : Node → Y) → ((n : Node) (v : Option ℕ) → f (record n { next = v }) ≡ f n) →
     (nodes : List Node) (m v : Option ℕ) → map f (set_next nodes m v) ≡ map f nodes
 next-kept f same nodes None v = refl
-next-kept f same nodes (Some p) v = map-set_same f nodes p (record (node_at nodes p) { next = v }) vacant (same (node_at nodes p) v)
+next-kept f same nodes (Some p) v = map-set_same f nodes p (record (node_at nodes p) { next = v }) vacant
+    (same (node_at nodes p) v)
 
 pub prev-kept : {Y : Type 0} (f : Node → Y) → ((n : Node) (v : Option ℕ) → f (record n { prev = v }) ≡ f n) →
     (nodes : List Node) (m v : Option ℕ) → map f (set_prev nodes m v) ≡ map f nodes
 prev-kept f same nodes None v = refl
-prev-kept f same nodes (Some p) v = map-set_same f nodes p (record (node_at nodes p) { prev = v }) vacant (same (node_at nodes p) v)
+prev-kept f same nodes (Some p) v = map-set_same f nodes p (record (node_at nodes p) { prev = v }) vacant
+    (same (node_at nodes p) v)
 
 pub length-next : (nodes : List Node) (m v : Option ℕ) → length (set_next nodes m v) ≡ length nodes
 length-next nodes None v = refl
@@ -54,14 +60,16 @@ written nodes p n within = get_or-set_same nodes p n vacant within
 pub not-written : (nodes : List Node) (p q : ℕ) (n : Node) → q ≢ p → node_at (slice_set nodes p n) q ≡ node_at nodes q
 not-written nodes p q n other = get_or-set_other nodes p q n vacant other
 
-next-there : (nodes : List Node) (m v : Option ℕ) (q : ℕ) → IsWithin nodes m → m ≡ Some q → (node_at (set_next nodes m v) q).next ≡ v
+next-there : (nodes : List Node) (m v : Option ℕ) (q : ℕ) → IsWithinNodes nodes m → m ≡ Some q
+    → (node_at (set_next nodes m v) q).next ≡ v
 next-there nodes None v q within is = let e : None ≡ Some q = is in absurd (cc)
 next-there nodes (Some p) v q within is =
     let same : q ≡ p = cc in
     ap (λ r. (node_at (set_next nodes (Some p) v) r).next) same ∙ ap (λ (n : Node). n.next) (written nodes p (record
     (node_at nodes p) { next = v }) within)
 
-prev-there : (nodes : List Node) (m v : Option ℕ) (q : ℕ) → IsWithin nodes m → m ≡ Some q → (node_at (set_prev nodes m v) q).prev ≡ v
+prev-there : (nodes : List Node) (m v : Option ℕ) (q : ℕ) → IsWithinNodes nodes m → m ≡ Some q
+    → (node_at (set_prev nodes m v) q).prev ≡ v
 prev-there nodes None v q within is = let e : None ≡ Some q = is in absurd (cc)
 prev-there nodes (Some p) v q within is =
     let same : q ≡ p = cc in
@@ -70,11 +78,13 @@ prev-there nodes (Some p) v q within is =
 
 next-else : (nodes : List Node) (m v : Option ℕ) (q : ℕ) → m ≢ Some q → node_at (set_next nodes m v) q ≡ node_at nodes q
 next-else nodes None v q other = refl
-next-else nodes (Some p) v q other = not-written nodes p q (record (node_at nodes p) { next = v }) (λ is. other (ap Some (sym is)))
+next-else nodes (Some p) v q other = not-written nodes p q (record (node_at nodes p) { next = v })
+    (λ is. other (ap Some (sym is)))
 
 prev-else : (nodes : List Node) (m v : Option ℕ) (q : ℕ) → m ≢ Some q → node_at (set_prev nodes m v) q ≡ node_at nodes q
 prev-else nodes None v q other = refl
-prev-else nodes (Some p) v q other = not-written nodes p q (record (node_at nodes p) { prev = v }) (λ is. other (ap Some (sym is)))
+prev-else nodes (Some p) v q other = not-written nodes p q (record (node_at nodes p) { prev = v })
+    (λ is. other (ap Some (sym is)))
 
 -- what contracts see of the nodes when one place is another
 pub record Seen (old new : List Node) (p : ℕ) (o : Option Order) : Type 0 where
@@ -82,24 +92,29 @@ pub record Seen (old new : List Node) (p : ℕ) (o : Option Order) : Type 0 wher
   pub long : length new ≡ length old
   pub within : p < length old
 
-pub seen-sets : (old new : List Node) (p : ℕ) (o : Option Order) → Seen old new p o → Sets (order_at old) (order_at new) p o
+pub seen-sets : (old new : List Node) (p : ℕ) (o : Option Order) → Seen old new p o
+    → Sets (order_at old) (order_at new) p o
 seen-sets old new p o seen =
     let long : length (places_of old) ≡ length old = length-map old (λ (n : Node). n.order) in
     let within = seen.within in
     record {
-      here = sym (order-is new p) ∙ ap (λ ps. at ps p) seen.places ∙ get_or-set_same (places_of old) p o None (omega (arith, long, within));
-      others = λ q other. sym (order-is new q) ∙ ap (λ ps. at ps q) seen.places ∙ get_or-set_other (places_of old) p q o None other
+      here = sym (order-is new p) ∙ ap (λ ps. at ps p) seen.places
+          ∙ get_or-set_same (places_of old) p o None (omega (arith, long, within));
+      others = λ q other. sym (order-is new q) ∙ ap (λ ps. at ps q) seen.places
+          ∙ get_or-set_other (places_of old) p q o None other
           ∙ order-is old q;
     }
 
 -- an order comes to a place
-module _ (nodes : List Node) (last : Option ℕ) (p : ℕ) (o : Order) (last_in : IsWithin nodes last) (within : p < length nodes) where
+module _ (nodes : List Node) (last : Option ℕ) (p : ℕ) (o : Order) (last_in : IsWithinNodes nodes last)
+    (within : p < length nodes) where
   pub with-within : p < length (set_next nodes last (Some p))
   with-within = let long = length-next nodes last (Some p) in omega (arith, long, within)
 
   pub with-seen : Seen nodes (nodes_with nodes last p o) p (Some o)
   with-seen = record {
-    places = map-set (λ n. n.order) (set_next nodes last (Some p)) p (node_behind last o) ∙ ap (λ ps. slice_set ps p (Some o))
+    places = map-set (λ n. n.order) (set_next nodes last (Some p)) p (node_behind last o)
+        ∙ ap (λ ps. slice_set ps p (Some o))
         (next-kept (λ n. n.order) (λ n v. refl) nodes last (Some p));
     long = length-set (set_next nodes last (Some p)) p (node_behind last o) ∙ length-next nodes last (Some p);
     within = within;
@@ -109,19 +124,25 @@ module _ (nodes : List Node) (last : Option ℕ) (p : ℕ) (o : Order) (last_in 
   with-here = written (set_next nodes last (Some p)) p (node_behind last o) with-within
 
   pub with-next : (q : ℕ) → q ≢ p → last ≡ Some q → (node_at (nodes_with nodes last p o) q).next ≡ Some p
-  with-next q other is = ap (λ (n : Node). n.next) (not-written (set_next nodes last (Some p)) p q (node_behind last o) other)
+  with-next q other is = ap (λ (n : Node). n.next)
+      (not-written (set_next nodes last (Some p)) p q (node_behind last o) other)
       ∙ next-there nodes last (Some p) q last_in is
 
-  pub with-next-else : (q : ℕ) → q ≢ p → last ≢ Some q → (node_at (nodes_with nodes last p o) q).next ≡ (node_at nodes q).next
-  with-next-else q other not = ap (λ (n : Node). n.next) (not-written (set_next nodes last (Some p)) p q (node_behind last o) other
+  pub with-next-else : (q : ℕ) → q ≢ p → last ≢ Some q → (node_at (nodes_with nodes last p o) q).next
+      ≡ (node_at nodes q).next
+  with-next-else q other not = ap (λ (n : Node). n.next)
+      (not-written (set_next nodes last (Some p)) p q (node_behind last o) other
       ∙ next-else nodes last (Some p) q not)
 
   pub with-prev : (q : ℕ) → q ≢ p → (node_at (nodes_with nodes last p o) q).prev ≡ (node_at nodes q).prev
-  with-prev q other = ap (λ (n : Node). n.prev) (not-written (set_next nodes last (Some p)) p q (node_behind last o) other)
-      ∙ kept (λ n. n.prev) nodes (set_next nodes last (Some p)) (next-kept (λ n. n.prev) (λ n v. refl) nodes last (Some p)) q
+  with-prev q other = ap (λ (n : Node). n.prev)
+      (not-written (set_next nodes last (Some p)) p q (node_behind last o) other)
+      ∙ kept (λ n. n.prev) nodes (set_next nodes last (Some p))
+      (next-kept (λ n. n.prev) (λ n v. refl) nodes last (Some p)) q
 
 -- an order leaves a place
-module _ (nodes : List Node) (p : ℕ) (prev next : Option ℕ) (prev_in : IsWithin nodes prev) (next_in : IsWithin nodes next)
+module _ (nodes : List Node) (p : ℕ) (prev next : Option ℕ) (prev_in : IsWithinNodes nodes prev)
+    (next_in : IsWithinNodes nodes next)
     (within : p < length nodes) where
   abbrev between : List Node
   between = set_next nodes prev next
@@ -135,7 +156,8 @@ module _ (nodes : List Node) (p : ℕ) (prev next : Option ℕ) (prev_in : IsWit
   pub without-seen : Seen nodes (nodes_without nodes p prev next) p None
   without-seen = record {
     places = map-set (λ n. n.order) around p vacant
-        ∙ ap (λ ps. slice_set ps p None) (prev-kept (λ n. n.order) (λ n v. refl) between next prev ∙ next-kept (λ n. n.order)
+        ∙ ap (λ ps. slice_set ps p None)
+        (prev-kept (λ n. n.order) (λ n v. refl) between next prev ∙ next-kept (λ n. n.order)
         (λ n v. refl) nodes prev next);
     long = length-set around p vacant ∙ without-long;
     within = within;
@@ -148,19 +170,23 @@ module _ (nodes : List Node) (p : ℕ) (prev next : Option ℕ) (prev_in : IsWit
   pub without-next : (q : ℕ) → q ≢ p → prev ≡ Some q → (node_at (nodes_without nodes p prev next) q).next ≡ next
   without-next q other is = next-around q other ∙ next-there nodes prev next q prev_in is
 
-  pub without-next-else : (q : ℕ) → q ≢ p → prev ≢ Some q → (node_at (nodes_without nodes p prev next) q).next ≡ (node_at nodes q).next
+  pub without-next-else : (q : ℕ) → q ≢ p → prev ≢ Some q
+      → (node_at (nodes_without nodes p prev next) q).next ≡ (node_at nodes q).next
   without-next-else q other not = next-around q other ∙ ap (λ (n : Node). n.next) (next-else nodes prev next q not)
 
-  next_in' : (m : Option ℕ) → IsWithin nodes m → IsWithin between m
+  next_in' : (m : Option ℕ) → IsWithinNodes nodes m → IsWithinNodes between m
   next_in' None h = h
   next_in' (Some q) h = let long = length-next nodes prev next in omega (arith, long, h)
 
   pub without-prev : (q : ℕ) → q ≢ p → next ≡ Some q → (node_at (nodes_without nodes p prev next) q).prev ≡ prev
-  without-prev q other is = ap (λ (n : Node). n.prev) (not-written around p q vacant other) ∙ prev-there between next prev q
+  without-prev q other is = ap (λ (n : Node). n.prev) (not-written around p q vacant other)
+      ∙ prev-there between next prev q
       (next_in' next next_in) is
 
-  pub without-prev-else : (q : ℕ) → q ≢ p → next ≢ Some q → (node_at (nodes_without nodes p prev next) q).prev ≡ (node_at nodes q).prev
-  without-prev-else q other not = ap (λ (n : Node). n.prev) (not-written around p q vacant other ∙ prev-else between next prev q not)
+  pub without-prev-else : (q : ℕ) → q ≢ p → next ≢ Some q
+      → (node_at (nodes_without nodes p prev next) q).prev ≡ (node_at nodes q).prev
+  without-prev-else q other not = ap (λ (n : Node). n.prev)
+      (not-written around p q vacant other ∙ prev-else between next prev q not)
       ∙ kept (λ n. n.prev) nodes between (next-kept (λ n. n.prev) (λ n v. refl) nodes prev next) q
 
 -- another order at a place
@@ -182,7 +208,8 @@ sum-seen f old new p o seen =
     ∙ ap (λ x. sum_by f (slice_set (places_of old) p o) + f x) (sym (order-is old p))
     ∙ sum_by-set f (places_of old) p o None (omega (arith, long, within))
 
-pub member-seen : (f : Option Order → ℕ) (old new : List Node) (p : ℕ) (o : Option Order) → Seen old new p o → f None ≡ 0 →
+pub member-seen : (f : Option Order → ℕ) (old new : List Node) (p : ℕ) (o : Option Order) → Seen old new p o
+    → f None ≡ 0 →
     f (order_at old p) ≤ sum_by f (places_of old)
 member-seen f old new p o seen nothing =
     let long : length (places_of old) ≡ length old = length-map old (λ (n : Node). n.order) in
@@ -215,6 +242,8 @@ count-seen old new p o seen =
     ∙ count-set (places_of old) p o (omega (arith, long, within))
 
 -- the nodes are as many as before
-pub as-long : (old new : List Node) (p : ℕ) (o : Option Order) → places_of new ≡ slice_set (places_of old) p o → length new ≡ length old
-as-long old new p o same = sym (length-map new (λ (n : Node). n.order)) ∙ ap (length {A = Option Order}) same ∙ length-set
+pub as-long : (old new : List Node) (p : ℕ) (o : Option Order) → places_of new ≡ slice_set (places_of old) p o
+    → length new ≡ length old
+as-long old new p o same = sym (length-map new (λ (n : Node). n.order)) ∙ ap (length {A = Option Order}) same
+    ∙ length-set
     (places_of old) p o ∙ length-map old (λ (n : Node). n.order)

@@ -1,4 +1,5 @@
--- What the rings mean: the first order of a level came before all others of it, and behind each stands the next that came.
+-- What the rings mean: the first order of a level came before all others of it, and behind each stands the next that
+-- came.
 use Rattle.std.proofs.Common.{◌≡◌, ℕ, zero, suc, ◌<◌, ◌≤◌, ◌⊎◌, inl, inr, Option, Some, None, refl, ap, sym, ◌∙◌, arith}
 use Rattle.std.specs.Prelude.{option_map}
 use Rattle.std.proofs.lemmas.Bool.{cases_lt}
@@ -51,8 +52,10 @@ three m n = elim (ℕ_discrete m n) [
 
 module _ (orders : ℕ → Option Order) (next prev : Point → Point) (rings : AreRings orders next prev) where
   -- the key of the point before an order
-  key-of-prev : (p : ℕ) (o : Order) (x : Point) → orders p ≡ Some o → prev (At p) ≡ x → key_at orders x ≡ Some (key_of o)
-  key-of-prev p o x here is = ap (key_at orders) (sym is) ∙ key-before orders next prev rings (At p) ∙ ap (option_map key_of) here
+  key-of-prev : (p : ℕ) (o : Order) (x : Point) → orders p ≡ Some o → prev (At p) ≡ x
+      → key_at orders x ≡ Some (key_of o)
+  key-of-prev p o x here is = ap (key_at orders) (sym is) ∙ key-before orders next prev rings (At p)
+      ∙ ap (option_map key_of) here
 
   leads-here : (p : ℕ) (x : Point) → prev (At p) ≡ x → next x ≡ At p
   leads-here p x is = ap next (sym is) ∙ rings.back (At p)
@@ -75,7 +78,8 @@ module _ (orders : ℕ → Option Order) (next prev : Point → Point) (rings : 
       }
   by-prev n p o (At q) below lt here is =
       let before = stands orders q (key_of o) (key-of-prev p o (At q) here is) in
-      let earlier : before.order.stamp < o.stamp = rings.later q p before.order o (leads-here p (At q) is) before.is here in
+      let earlier : before.order.stamp < o.stamp = rings.later q p before.order o (leads-here p (At q) is) before.is
+      here in
       let first = below q before.order (omega (arith, earlier, lt)) before.is in
       let least = first.least in
       record {
@@ -96,16 +100,20 @@ module _ (orders : ℕ → Option Order) (next prev : Point → Point) (rings : 
 
   -- an order of the level that came later has one behind it that came no later than that
   abbrev NextBelow : ℕ → Type 0
-  NextBelow n = (p q : ℕ) (o x : Order) → x.stamp < n → orders p ≡ Some o → orders q ≡ Some x → key_of x ≡ key_of o → o.stamp < x.stamp →
+  NextBelow n = (p q : ℕ) (o x : Order) → x.stamp < n → orders p ≡ Some o → orders q ≡ Some x → key_of x ≡ key_of o
+      → o.stamp < x.stamp →
       NextOf orders next p (key_of o) x.stamp
 
-  next-by-prev : (n p q : ℕ) (o x : Order) (y : Point) → NextBelow n → x.stamp < suc n → orders p ≡ Some o → orders q ≡ Some x →
+  next-by-prev : (n p q : ℕ) (o x : Order) (y : Point) → NextBelow n → x.stamp < suc n → orders p ≡ Some o
+      → orders q ≡ Some x →
       key_of x ≡ key_of o → o.stamp < x.stamp → prev (At q) ≡ y → NextOf orders next p (key_of o) x.stamp
   next-by-prev n p q o x (End k) below lt at_p at_q key later is =
       let key_is : k ≡ key_of x = some-same k (key_of x) (key-of-prev q x (End k) at_q is) in
       let least = first p o at_p in
-      let led : At least.place ≡ At q = sym least.leads ∙ ap (λ j. next (End j)) (sym (key_is ∙ key)) ∙ leads-here q (End k) is in
-      let same : x ≡ least.first = some-same x least.first (sym at_q ∙ ap orders (sym (at-apart least.place q led)) ∙ least.is) in
+      let led : At least.place ≡ At q = sym least.leads ∙ ap (λ j. next (End j)) (sym (key_is ∙ key))
+      ∙ leads-here q (End k) is in
+      let same : x ≡ least.first = some-same x least.first
+      (sym at_q ∙ ap orders (sym (at-apart least.place q led)) ∙ least.is) in
       let no_later = least.least in
       let stamp : x.stamp ≡ least.first.stamp = ap (λ (z : Order). z.stamp) same in
       absurd (omega (arith, later, no_later, stamp))
@@ -114,7 +122,14 @@ module _ (orders : ℕ → Option Order) (next prev : Point → Point) (rings : 
       let led : next (At r) ≡ At q = leads-here q (At r) is in
       let earlier : before.order.stamp < x.stamp = rings.later r q before.order x led before.is at_q in
       elim (ℕ_discrete p r) [
-        | yes same ↦ record { place = q; order = x; leads = ap (λ j. next (At j)) same ∙ led; is = at_q; key = key; least = omega arith }
+        | yes same ↦ record {
+          place = q;
+          order = x;
+          leads = ap (λ j. next (At j)) same ∙ led;
+          is = at_q;
+          key = key;
+          least = omega arith;
+        }
         | no other ↦ elim (three o.stamp before.order.stamp) [
           | inl less ↦
               let more = below p r o before.order (omega (arith, earlier, lt)) at_p before.is (before.key ∙ key) less in
@@ -128,10 +143,13 @@ module _ (orders : ℕ → Option Order) (next prev : Point → Point) (rings : 
                 least = omega
                     (arith, least, earlier);
               }
-          | inr (inl same) ↦ absurd (other (rings.apart p r o before.order at_p before.is (before.key ∙ key) (sym same)))
+          | inr (inl same) ↦ absurd (other
+              (rings.apart p r o before.order at_p before.is (before.key ∙ key) (sym same)))
           | inr (inr less) ↦
-              let between = below r p before.order o (omega (arith, later, lt)) before.is at_p (sym (before.key ∙ key)) less in
-              let is_x : x ≡ between.order = some-same x between.order (sym at_q ∙ ap orders (at-apart q between.place (sym led
+              let between = below r p before.order o (omega (arith, later, lt)) before.is at_p (sym (before.key ∙ key))
+              less in
+              let is_x : x ≡ between.order = some-same x between.order
+              (sym at_q ∙ ap orders (at-apart q between.place (sym led
               ∙ between.leads)) ∙ between.is) in
               let stamp : x.stamp ≡ between.order.stamp = ap (λ (z : Order). z.stamp) is_x in
               let least = between.least in
@@ -141,8 +159,10 @@ module _ (orders : ℕ → Option Order) (next prev : Point → Point) (rings : 
 
   next-of : (n : ℕ) → NextBelow n
   next-of zero p q o x lt at_p at_q key later = absurd (omega (arith, lt))
-  next-of (suc n) p q o x lt at_p at_q key later = next-by-prev n p q o x (prev (At q)) (next-of n) lt at_p at_q key later refl
+  next-of (suc n) p q o x lt at_p at_q key later = next-by-prev n p q o x (prev (At q)) (next-of n) lt at_p at_q key
+      later refl
 
-  pub next-behind : (p q : ℕ) (o x : Order) → orders p ≡ Some o → orders q ≡ Some x → key_of x ≡ key_of o → o.stamp < x.stamp →
+  pub next-behind : (p q : ℕ) (o x : Order) → orders p ≡ Some o → orders q ≡ Some x → key_of x ≡ key_of o
+      → o.stamp < x.stamp →
       NextOf orders next p (key_of o) x.stamp
   next-behind p q o x at_p at_q key later = next-of (suc x.stamp) p q o x (omega arith) at_p at_q key later

@@ -6,7 +6,8 @@ use Rattle.price_levels.specs.Keys.{key_of}
 use Rattle.price_levels.specs.Arena.{Point, At, End, AreRings, key_at}
 use Rattle.price_levels.proofs.KeyLemmas.{decide_point}
 
--- A point m between a and b is cut out, so that it leads to itself. Or the other way round: with the new ones as the old ones.
+-- A point m between a and b is cut out, so that it leads to itself. Or the other way round: with the new ones as the
+-- old ones.
 module _ (next prev next' prev' : Point → Point) (m a b : Point) where
   pub cut : ((x : Point) → prev (next x) ≡ x) → prev m ≡ a → next m ≡ b → next' m ≡ m → next' a ≡ b →
       ((x : Point) → x ≢ m → x ≢ a → next' x ≡ next x) → prev' m ≡ m → prev' b ≡ a →
@@ -81,27 +82,34 @@ module _ (order : ℕ → Option Order) (next prev : Point → Point) (rings : A
 
     key-left : (x : Point) → key_at order' (next' x) ≡ key_at order' x
     key-left x = elim (decide_point x (At p)) [
-      | inl is_p ↦ ap (λ y. key_at order' (next' y)) is_p ∙ ap (key_at order') nexts.at_m ∙ sym (ap (key_at order') is_p)
+      | inl is_p ↦ ap (λ y. key_at order' (next' y)) is_p ∙ ap (key_at order') nexts.at_m
+          ∙ sym (ap (key_at order') is_p)
       | inr not_p ↦ elim (decide_point x (prev (At p))) [
         | inl is_a ↦
-            ap (λ y. key_at order' (next' y)) is_a ∙ ap (key_at order') nexts.at_a ∙ key-other (next (At p)) (leads-on p o here)
+            ap (λ y. key_at order' (next' y)) is_a ∙ ap (key_at order') nexts.at_a
+            ∙ key-other (next (At p)) (leads-on p o here)
             ∙ rings.key (At p) ∙ sym (key-before (At p)) ∙ sym (key-other (prev (At p)) (leads-back p o here)) ∙ sym (ap
             (key_at order') is_a)
         | inr not_a ↦
             let still : (next x ≡ At p) → ⊥ = λ h. not_a (sym (rings.there x) ∙ ap prev h) in
-            ap (key_at order') (nexts.others x not_p not_a) ∙ key-other (next x) still ∙ rings.key x ∙ sym (key-other x not_p)
+            ap (key_at order') (nexts.others x not_p not_a) ∙ key-other (next x) still ∙ rings.key x
+            ∙ sym (key-other x not_p)
       ]
     ]
 
-    later-left : (q r : ℕ) (x y : Order) → next' (At q) ≡ At r → order' q ≡ Some x → order' r ≡ Some y → x.stamp < y.stamp
+    later-left : (q r : ℕ) (x y : Order) → next' (At q) ≡ At r → order' q ≡ Some x → order' r ≡ Some y
+        → x.stamp < y.stamp
     later-left q r x y leads at_q at_r =
         let not_p : (At q ≡ At p) → ⊥ = λ h. not-here order' p q x orders.here at_q (at-apart q p h) in
         elim (decide_point (At q) (prev (At p))) [
           | inl is_a ↦
-              let first : x.stamp < o.stamp = rings.later q p x o (ap next is_a ∙ rings.back (At p)) (stood q x at_q) here in
-              let second : o.stamp < y.stamp = rings.later p r o y (sym nexts.at_a ∙ sym (ap next' is_a) ∙ leads) here (stood r y at_r) in
+              let first : x.stamp < o.stamp = rings.later q p x o (ap next is_a ∙ rings.back (At p)) (stood q x at_q)
+              here in
+              let second : o.stamp < y.stamp = rings.later p r o y (sym nexts.at_a ∙ sym (ap next' is_a) ∙ leads) here
+              (stood r y at_r) in
               omega (arith, first, second)
-          | inr not_a ↦ rings.later q r x y (sym (nexts.others (At q) not_p not_a) ∙ leads) (stood q x at_q) (stood r y at_r)
+          | inr not_a ↦ rings.later q r x y (sym (nexts.others (At q) not_p not_a) ∙ leads) (stood q x at_q)
+              (stood r y at_r)
         ]
 
     pub rings-left : AreRings order' next' prev'
@@ -133,15 +141,18 @@ module _ (order : ℕ → Option Order) (next prev : Point → Point) (rings : A
     key-come : (x : Point) → key_at order' (next' x) ≡ key_at order' x
     key-come x = elim (decide_point x (At p)) [
       | inl is_p ↦
-          ap (λ y. key_at order' (next' y)) is_p ∙ ap (key_at order') nexts.at_m ∙ sym (ap (option_map key_of) orders.here)
+          ap (λ y. key_at order' (next' y)) is_p ∙ ap (key_at order') nexts.at_m
+          ∙ sym (ap (option_map key_of) orders.here)
           ∙ sym (ap (key_at order') is_p)
       | inr not_p ↦ elim (decide_point x (prev (End (key_of o)))) [
         | inl is_a ↦
             ap (λ y. key_at order' (next' y)) is_a ∙ ap (key_at order') nexts.at_a ∙ ap (option_map key_of) orders.here
-            ∙ sym (key-before (End (key_of o))) ∙ sym (key-others (prev (End (key_of o))) last-is) ∙ sym (ap (key_at order') is_a)
+            ∙ sym (key-before (End (key_of o))) ∙ sym (key-others (prev (End (key_of o))) last-is)
+            ∙ sym (ap (key_at order') is_a)
         | inr not_a ↦
             let still : (next x ≡ At p) → ⊥ = λ h. not_p (sym (rings.there x) ∙ ap prev h ∙ alone_back) in
-            ap (key_at order') (nexts.others x not_p not_a) ∙ key-others (next x) still ∙ rings.key x ∙ sym (key-others x not_p)
+            ap (key_at order') (nexts.others x not_p not_a) ∙ key-others (next x) still ∙ rings.key x
+            ∙ sym (key-others x not_p)
       ]
     ]
 
@@ -152,32 +163,38 @@ module _ (order : ℕ → Option Order) (next prev : Point → Point) (rings : A
       | inr not ↦ let other : q ≢ p = λ h. not (ap At h) in inr (other, sym (orders.others q other) ∙ at_q)
     ]
 
-    later-come : (q r : ℕ) (x y : Order) → next' (At q) ≡ At r → order' q ≡ Some x → order' r ≡ Some y → x.stamp < y.stamp
+    later-come : (q r : ℕ) (x y : Order) → next' (At q) ≡ At r → order' q ≡ Some x → order' r ≡ Some y
+        → x.stamp < y.stamp
     later-come q r x y leads at_q at_r = elim (come q x at_q) [
       | inl new ↦ let e : End (key_of o) ≡ At r = sym nexts.at_m ∙ sym (ap (λ n. next' (At n)) new.0) ∙ leads in cc
-      | inr old ↦ let not_p : (At q ≡ At p) → ⊥ = λ h. old.0 (at-apart q p h) in elim (decide_point (At q) (prev (End (key_of o)))) [
-        | inl is_a ↦
-            let r_is : r ≡ p = at-apart r p (sym leads ∙ ap next' is_a ∙ nexts.at_a) in
-            let y_is : y ≡ o = some-same y o (sym at_r ∙ ap order' r_is ∙ orders.here) in
-            let key : key_of x ≡ key_of o = some-same (key_of x) (key_of o) (sym (ap (option_map key_of) old.1) ∙ ap
-            (key_at order) is_a ∙ key-before (End (key_of o))) in
-            subst (λ (z : Order). x.stamp < z.stamp) (sym y_is) (last q x old.1 key)
-        | inr not_a ↦ let led : next (At q) ≡ At r = sym (nexts.others (At q) not_p not_a) ∙ leads in elim (come r y at_r) [
-          | inl new ↦ absurd (not_p (sym (rings.there (At q)) ∙ ap prev (led ∙ ap At new.0) ∙ alone_back))
-          | inr more ↦ rings.later q r x y led old.1 more.1
-        ]
-      ]
+      | inr old ↦ let not_p : (At q ≡ At p) → ⊥ = λ h. old.0 (at-apart q p h) in
+          elim (decide_point (At q) (prev (End (key_of o)))) [
+            | inl is_a ↦
+                let r_is : r ≡ p = at-apart r p (sym leads ∙ ap next' is_a ∙ nexts.at_a) in
+                let y_is : y ≡ o = some-same y o (sym at_r ∙ ap order' r_is ∙ orders.here) in
+                let key : key_of x ≡ key_of o = some-same (key_of x) (key_of o) (sym (ap (option_map key_of) old.1) ∙ ap
+                (key_at order) is_a ∙ key-before (End (key_of o))) in
+                subst (λ (z : Order). x.stamp < z.stamp) (sym y_is) (last q x old.1 key)
+            | inr not_a ↦ let led : next (At q) ≡ At r = sym (nexts.others (At q) not_p not_a) ∙ leads in
+                elim (come r y at_r) [
+                  | inl new ↦ absurd (not_p (sym (rings.there (At q)) ∙ ap prev (led ∙ ap At new.0) ∙ alone_back))
+                  | inr more ↦ rings.later q r x y led old.1 more.1
+                ]
+          ]
     ]
 
-    apart-come : (q r : ℕ) (x y : Order) → order' q ≡ Some x → order' r ≡ Some y → key_of y ≡ key_of x → y.stamp ≡ x.stamp → q ≡ r
+    apart-come : (q r : ℕ) (x y : Order) → order' q ≡ Some x → order' r ≡ Some y → key_of y ≡ key_of x
+        → y.stamp ≡ x.stamp → q ≡ r
     apart-come q r x y at_q at_r same stamp = elim (come q x at_q) [
       | inl new ↦ elim (come r y at_r) [
         | inl more ↦ new.0 ∙ sym more.0
-        | inr old ↦ let lt : y.stamp < o.stamp = last r y old.1 (same ∙ ap key_of new.1) in let e : x.stamp ≡ o.stamp = ap (λ
+        | inr old ↦ let lt : y.stamp < o.stamp = last r y old.1 (same ∙ ap key_of new.1) in
+            let e : x.stamp ≡ o.stamp = ap (λ
             (z : Order). z.stamp) new.1 in absurd (omega (arith, lt, e, stamp))
       ]
       | inr old ↦ elim (come r y at_r) [
-        | inl new ↦ let lt : x.stamp < o.stamp = last q x old.1 (sym same ∙ ap key_of new.1) in let e : y.stamp ≡ o.stamp = ap (λ
+        | inl new ↦ let lt : x.stamp < o.stamp = last q x old.1 (sym same ∙ ap key_of new.1) in
+            let e : y.stamp ≡ o.stamp = ap (λ
             (z : Order). z.stamp) new.1 in absurd (omega (arith, lt, e, stamp))
         | inr more ↦ rings.apart q r x y old.1 more.1 same stamp
       ]
@@ -187,7 +204,8 @@ module _ (order : ℕ → Option Order) (next prev : Point → Point) (rings : A
     rings-come = record {
       there = join next prev next' prev' (At p) (prev (End (key_of o))) (End (key_of o)) rings.there alone_back refl
           nexts.at_m nexts.at_a nexts.others prevs.at_m prevs.at_a prevs.others;
-      back = join prev next prev' next' (At p) (End (key_of o)) (prev (End (key_of o))) rings.back alone (rings.back (End (key_of o)))
+      back = join prev next prev' next' (At p) (End (key_of o)) (prev (End (key_of o))) rings.back alone
+          (rings.back (End (key_of o)))
           prevs.at_m prevs.at_a prevs.others nexts.at_m nexts.at_a nexts.others;
       key = key-come;
       later = later-come;

@@ -148,8 +148,8 @@ abbrev pub levels_with : List Level → ℕ → List Level → List Level
 levels_with levels at new = take at levels ++ (new ++ drop (at + 1) levels)
 
 -- a place that is given is one of the nodes'
-abbrev pub IsWithin : List Node → Option ℕ → Type 0
-IsWithin nodes place = MatchOption place ⊤ (λ p. p < length nodes)
+abbrev pub IsWithinNodes : List Node → Option ℕ → Type 0
+IsWithinNodes nodes place = MatchOption place ⊤ (λ p. p < length nodes)
 
 -- the level at this place is the key's
 abbrev pub holds : List Level → ℕ → Key → Bool

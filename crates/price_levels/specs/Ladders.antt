@@ -29,8 +29,8 @@ abbrev pub all : Laddered → List Level
 all l = joined l.ladders
 
 -- the place of a rung among all levels
-abbrev pub number : Laddered → Rung → ℕ
-number l r = length (joined (take r.ladder l.ladders)) + r.at
+abbrev pub rung_number : Laddered → Rung → ℕ
+rung_number l r = length (joined (take r.ladder l.ladders)) + r.at
 
 -- the levels of the ladder that a rung is of
 abbrev pub around : Laddered → Rung → List Level
@@ -55,20 +55,20 @@ abbrev pub is_before : Fence → List ℕ → Side → Bool
 is_before f symbol side = if bytes_eq symbol f.symbol then side_before side f.side false else symbol_before symbol f.symbol
 
 -- their levels stand in the ladder of this number: behind all fences ahead of it, and before the next
-abbrev pub Belongs : List Fence → ℕ → List ℕ → Side → Type 0
-Belongs [] zero symbol side = ⊤
-Belongs [] (suc i) symbol side = ⊥
-Belongs (f ∷ fences) zero symbol side = is_before f symbol side ≡ true
-Belongs (f ∷ fences) (suc i) symbol side = (is_before f symbol side ≡ false) × Belongs fences i symbol side
+abbrev pub BelongsToHome : List Fence → ℕ → List ℕ → Side → Type 0
+BelongsToHome [] zero symbol side = ⊤
+BelongsToHome [] (suc i) symbol side = ⊥
+BelongsToHome (f ∷ fences) zero symbol side = is_before f symbol side ≡ true
+BelongsToHome (f ∷ fences) (suc i) symbol side = (is_before f symbol side ≡ false) × BelongsToHome fences i symbol side
 
 -- the rung's ladder is theirs, and none of their levels stands farther on
 pub record IsHome (l : Laddered) (r : Rung) (symbol : List ℕ) (side : Side) : Type 0 where
-  pub belongs : Belongs l.fences r.ladder symbol side
+  pub belongs : BelongsToHome l.fences r.ladder symbol side
   pub alone : AllByRecursion (λ (m : Level). of_side symbol side m.key ≡ false) (beyond l r)
 
 -- each level stands where it belongs
 abbrev pub AreParted : List Fence → List (List Level) → Type 0
-AreParted fences ladders = (i : ℕ) → AllByRecursion (λ (m : Level). Belongs fences i m.key.symbol m.key.side) (get_or ladders i [])
+AreParted fences ladders = (i : ℕ) → AllByRecursion (λ (m : Level). BelongsToHome fences i m.key.symbol m.key.side) (get_or ladders i [])
 
 abbrev pub items_of : List (Vec Level) → List (List Level)
 items_of ladders = map (λ v. v.items) ladders
@@ -79,8 +79,8 @@ IsEmpty room v = (v.items ≡ []) × (room ≤ vec_capacity v)
 
 -- where a symbol's ladders are
 pub record IsHomeOf (fences : List Fence) (home : Home) : Type 0 where
-  pub buys : Belongs fences home.buys home.symbol Buy
-  pub sells : Belongs fences home.sells home.symbol Sell
+  pub buys : BelongsToHome fences home.buys home.symbol Buy
+  pub sells : BelongsToHome fences home.sells home.symbol Sell
 
 pub record AreLadders (fences : List Fence) (homes : List Home) (ladders : List (Vec Level)) (room : ℕ) : Type 0 where
   pub count : length ladders ≡ suc (length fences)

@@ -15,8 +15,8 @@ abbrev pub at : Places → ℕ → Option Order
 at places p = get_or places p None
 
 -- this order stands at this place
-abbrev pub IsAt : Places → ℕ → Order → Type 0
-IsAt places p o = at places p ≡ Some o
+abbrev pub StandsAt : Places → ℕ → Order → Type 0
+StandsAt places p o = at places p ≡ Some o
 
 -- the orders that stand, in the order of their places
 abbrev pub standing : Places → List Order
@@ -37,7 +37,7 @@ pub record InOneLevel (o x : Order) : Type 0 where
 
 -- an order that may rest behind the others of its level: all of these came before it
 abbrev pub ComesLater : Places → Order → Type 0
-ComesLater places o = (p : ℕ) (x : Order) → IsAt places p x → InOneLevel o x → x.stamp < o.stamp
+ComesLater places o = (p : ℕ) (x : Order) → StandsAt places p x → InOneLevel o x → x.stamp < o.stamp
 
 -- it stands ahead of the other, and not the other way round
 pub record Leads (o x : Order) : Type 0 where
@@ -46,14 +46,14 @@ pub record Leads (o x : Order) : Type 0 where
 
 -- no order of this symbol and side stands
 abbrev pub NoneOf : List ℕ → Side → Places → Type 0
-NoneOf symbol side places = (p : ℕ) (x : Order) → IsAt places p x → IsOf symbol side x → ⊥
+NoneOf symbol side places = (p : ℕ) (x : Order) → StandsAt places p x → IsOf symbol side x → ⊥
 
 -- at this place stands the order of the symbol and side that is ahead of all others
 pub record BestOf (symbol : List ℕ) (side : Side) (places : Places) (p : ℕ) : Type 0 where
   pub order : Order
-  pub stands : IsAt places p order
+  pub stands : StandsAt places p order
   pub is_of : IsOf symbol side order
-  pub leads : (q : ℕ) (x : Order) → q ≢ p → IsAt places q x → IsOf symbol side x → Leads order x
+  pub leads : (q : ℕ) (x : Order) → q ≢ p → StandsAt places q x → IsOf symbol side x → Leads order x
 
 -- an order behind this one: of its symbol and side, and this one is ahead of it
 pub record StandsBehind (o x : Order) : Type 0 where
@@ -62,16 +62,16 @@ pub record StandsBehind (o x : Order) : Type 0 where
 
 -- none stands behind the order of this place
 abbrev pub NoneBehind : Places → ℕ → Type 0
-NoneBehind places p = (o : Order) → IsAt places p o → (q : ℕ) (x : Order) → IsAt places q x → StandsBehind o x → ⊥
+NoneBehind places p = (o : Order) → StandsAt places p o → (q : ℕ) (x : Order) → StandsAt places q x → StandsBehind o x → ⊥
 
 -- of those behind the order of the first place, the one at the second is ahead of all others
 pub record NextBehind (places : Places) (p q : ℕ) : Type 0 where
   pub order : Order
   pub next : Order
-  pub stands : IsAt places p order
-  pub next_stands : IsAt places q next
+  pub stands : StandsAt places p order
+  pub next_stands : StandsAt places q next
   pub behind : StandsBehind order next
-  pub leads : (r : ℕ) (x : Order) → r ≢ q → IsAt places r x → StandsBehind order x → Leads next x
+  pub leads : (r : ℕ) (x : Order) → r ≢ q → StandsAt places r x → StandsBehind order x → Leads next x
 
 -- a fill at its own price that leaves something of the order; what it has cost fits
 pub record LeavesSome (quantity : ℕ) (o : Order) : Type 0 where
@@ -88,8 +88,8 @@ pub record CanAmend (total : ℕ) (o : Order) : Type 0 where
   pub some : o.cum < total
 
 -- the order under its new name, with its new total
-abbrev pub amended : ℕ → ℕ → Order → Order
-amended name total o = record o { cl_ord_id = name; total = total }
+abbrev pub renamed_to : ℕ → ℕ → Order → Order
+renamed_to name total o = record o { cl_ord_id = name; total = total }
 
 -- an order stands at the place, and this holds of it
 abbrev pub HoldsAt : Places → ℕ → (Order → Type 0) → Type 0

@@ -7,8 +7,8 @@ use Rattle.std.proofs.lemmas.List.Sums.{sum_by-cons}
 use Rattle.venue_model.specs.declared.orders.Order.{Order}
 use Rattle.venue_model.specs.declared.orders.Side.{Side}
 use Rattle.venue_model.specs.Orders.{leaves}
-use Rattle.price_levels.specs.Places.{Places, at, IsAt, standing, IsOf, Leads, BestOf}
-use Rattle.price_levels.specs.Stamps.{insert_by_stamp, by_stamp, Alone, StampsApart, Seated, AreRising}
+use Rattle.price_levels.specs.Places.{Places, at, StandsAt, standing, IsOf, Leads, BestOf}
+use Rattle.price_levels.specs.Stamps.{insert_by_stamp, by_stamp, Alone, StampsApart, SeatedByStamp, AreRising}
 
 -- it is earlier, or not
 earlier : (a b : ℕ) → nat_lt a b ≡ true → a < b
@@ -44,12 +44,12 @@ module _ (P : Order → Type 0) where
       [ true ↦ λ h. (h.0, h.1) | false ↦ λ h. let rest = put-each o xs h.1 in (rest.0, (h.0, rest.1)) ] all
 
   -- what holds of the order at each place holds of each in the list, and the other way round
-  pub each-listed : (places : Places) → ((p : ℕ) (o : Order) → IsAt places p o → P o) → AllByRecursion P (by_stamp places)
+  pub each-listed : (places : Places) → ((p : ℕ) (o : Order) → StandsAt places p o → P o) → AllByRecursion P (by_stamp places)
   each-listed [] all = tt
   each-listed (None ∷ places) all = each-listed places (λ p o is. all (suc p) o is)
   each-listed (Some o ∷ places) all = each-put o (by_stamp places) (all 0 o refl) (each-listed places (λ p x is. all (suc p) x is))
 
-  pub each-stands : (places : Places) → AllByRecursion P (by_stamp places) → (p : ℕ) (o : Order) → IsAt places p o → P o
+  pub each-stands : (places : Places) → AllByRecursion P (by_stamp places) → (p : ℕ) (o : Order) → StandsAt places p o → P o
   each-stands [] all p o is = absurd (let e : None ≡ Some o = is in cc)
   each-stands (None ∷ places) all zero o is = absurd (let e : None ≡ Some o = is in cc)
   each-stands (None ∷ places) all (suc p) o is = each-stands places all p o is
@@ -212,13 +212,13 @@ sits (Some x ∷ places) (suc p) o within alone =
       with = λ y same. ap (insert_by_stamp x) (rest.with y same) ∙ put.with y same;
     }
 
-set-itself : (places : Places) (p : ℕ) (o : Order) → IsAt places p o → slice_set places p (Some o) ≡ places
+set-itself : (places : Places) (p : ℕ) (o : Order) → StandsAt places p o → slice_set places p (Some o) ≡ places
 set-itself [] p o is = refl
 set-itself (x ∷ places) zero o is = ap (λ y. y ∷ places) (sym is)
 set-itself (x ∷ places) (suc p) o is = ap (λ ys. x ∷ ys) (set-itself places p o is)
 
 -- the order of a place, whose stamp no other has, in the list
-pub seated : (places : Places) (p : ℕ) (o : Order) → p < length places → IsAt places p o → Alone places p o.stamp → Seated places p o
+pub seated : (places : Places) (p : ℕ) (o : Order) → p < length places → StandsAt places p o → Alone places p o.stamp → SeatedByStamp places p o
 seated places p o within is alone =
     let here = sits places p o within alone in
     record {
@@ -230,7 +230,7 @@ seated places p o within is alone =
     }
 
 -- what holds of all other orders holds of those before it and behind it
-unset : (places : Places) (p q : ℕ) (x : Order) → IsAt (slice_set places p None) q x → (q ≢ p) × IsAt places q x
+unset : (places : Places) (p q : ℕ) (x : Order) → StandsAt (slice_set places p None) q x → (q ≢ p) × StandsAt places q x
 unset [] p q x is = absurd (let e : None ≡ Some x = is in cc)
 unset (y ∷ places) zero zero x is = absurd (let e : None ≡ Some x = is in cc)
 unset (y ∷ places) zero (suc q) x is = ((λ e. let f : suc q ≡ 0 = e in omega (arith, f)), is)
@@ -241,8 +241,8 @@ unset (y ∷ places) (suc p) (suc q) x is = let rest = unset places p q x is in 
   rest.1,
 )
 
-pub others : (P : Order → Type 0) (places : Places) (p : ℕ) (o : Order) (seat : Seated places p o) → ((q : ℕ) (x : Order) → q ≢ p →
-    IsAt places q x → P x) →
+pub others : (P : Order → Type 0) (places : Places) (p : ℕ) (o : Order) (seat : SeatedByStamp places p o) → ((q : ℕ) (x : Order) → q ≢ p →
+    StandsAt places q x → P x) →
     AllByRecursion P seat.before × AllByRecursion P seat.behind
 others P places p o seat all =
     let rest = subst (AllByRecursion P) seat.without (each-listed P (slice_set places p None)
@@ -260,7 +260,7 @@ put-ahead x o (z ∷ xs) lt = elim (nat_lt x.stamp z.stamp) as (λ t. (if t then
     (xs ++ o ∷ []))
     ≡ (if t then x ∷ z ∷ xs else z ∷ insert_by_stamp x xs) ++ o ∷ []) [ true ↦ refl | false ↦ ap (λ zs. z ∷ zs) (put-ahead x o xs lt) ]
 
-pub pushed : (places : Places) (p : ℕ) (o : Order) → p < length places → at places p ≡ None → ((q : ℕ) (x : Order) → IsAt places q x →
+pub pushed : (places : Places) (p : ℕ) (o : Order) → p < length places → at places p ≡ None → ((q : ℕ) (x : Order) → StandsAt places q x →
     x.stamp < o.stamp) →
     by_stamp (slice_set places p (Some o)) ≡ by_stamp places ++ o ∷ []
 pushed [] p o within free last = absurd (omega (arith, within))
@@ -315,14 +315,14 @@ module _ (t : Order → Bool) where
       omega (arith, rest, put, cons)
 
 -- an order stands within the places
-pub is-within : (places : Places) (p : ℕ) (o : Order) → IsAt places p o → p < length places
+pub is-within : (places : Places) (p : ℕ) (o : Order) → StandsAt places p o → p < length places
 is-within [] p o is = absurd (let e : None ≡ Some o = is in cc)
 is-within (x ∷ places) zero o is = omega arith
 is-within (x ∷ places) (suc p) o is = let rest = is-within places p o is in omega (arith, rest)
 
 -- what stands once a place is set: what was put there, or what stood
-pub at-set : (places : Places) (p q : ℕ) (v : Option Order) (x : Order) → IsAt (slice_set places p v) q x →
-    ((q ≡ p) × (v ≡ Some x)) ⊎ ((q ≢ p) × IsAt places q x)
+pub at-set : (places : Places) (p q : ℕ) (v : Option Order) (x : Order) → StandsAt (slice_set places p v) q x →
+    ((q ≡ p) × (v ≡ Some x)) ⊎ ((q ≢ p) × StandsAt places q x)
 at-set [] p q v x is = absurd (let e : None ≡ Some x = is in cc)
 at-set (y ∷ places) zero zero v x is = inl (refl, is)
 at-set (y ∷ places) zero (suc q) v x is = inr ((λ e. let f : suc q ≡ 0 = e in omega (arith, f)), is)
@@ -350,14 +350,14 @@ apart-set places p v apart alone = λ a o at_a q x other at_q. elim (at-set plac
 pub apart-unset : (places : Places) (p : ℕ) → StampsApart places → StampsApart (slice_set places p None)
 apart-unset places p apart = apart-set places p None apart (λ x e. absurd (let f : None ≡ Some x = e in cc))
 
-pub apart-changed : (places : Places) (p : ℕ) (o y : Order) → StampsApart places → IsAt places p o → y.stamp ≡ o.stamp →
+pub apart-changed : (places : Places) (p : ℕ) (o y : Order) → StampsApart places → StandsAt places p o → y.stamp ≡ o.stamp →
     StampsApart (slice_set places p (Some y))
 apart-changed places p o y apart is same = apart-set places p (Some y) apart (λ x e q z other at_q equal.
     let f : y ≡ x = cc in
     let stamp : y.stamp ≡ x.stamp = ap (λ (w : Order). w.stamp) f in
     apart p o is q z other at_q (equal ∙ sym stamp ∙ same))
 
-pub apart-pushed : (places : Places) (p : ℕ) (o : Order) → StampsApart places → ((q : ℕ) (x : Order) → IsAt places q x → x.stamp < o.stamp) →
+pub apart-pushed : (places : Places) (p : ℕ) (o : Order) → StampsApart places → ((q : ℕ) (x : Order) → StandsAt places q x → x.stamp < o.stamp) →
     StampsApart (slice_set places p (Some o))
 apart-pushed places p o apart last = apart-set places p (Some o) apart (λ x e q z other at_q equal.
     let f : o ≡ x = cc in

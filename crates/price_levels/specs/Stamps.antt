@@ -2,7 +2,7 @@
 use Rattle.std.specs.Prelude.{◌≡◌, ◌≢◌, ⊤, ℕ, ◌<◌, nat_lt, List, [], ◌∷◌, ◌++◌, Some, None, slice_set, if◌then◌else◌}
 use Rattle.std.specs.List.{AllByRecursion}
 use Rattle.venue_model.specs.declared.orders.Order.{Order}
-use Rattle.price_levels.specs.Places.{Places, IsAt}
+use Rattle.price_levels.specs.Places.{Places, StandsAt}
 
 -- an order put into a list that stands in the order of stamps
 abbrev pub insert_by_stamp : Order → List Order → List Order
@@ -17,14 +17,14 @@ by_stamp (Some o ∷ places) = insert_by_stamp o (by_stamp places)
 
 -- no order at another place has this stamp
 abbrev pub Alone : Places → ℕ → ℕ → Type 0
-Alone places p stamp = (q : ℕ) (x : Order) → q ≢ p → IsAt places q x → x.stamp ≢ stamp
+Alone places p stamp = (q : ℕ) (x : Order) → q ≢ p → StandsAt places q x → x.stamp ≢ stamp
 
 -- no two places have orders of one stamp
 abbrev pub StampsApart : Places → Type 0
-StampsApart places = (p : ℕ) (o : Order) → IsAt places p o → Alone places p o.stamp
+StampsApart places = (p : ℕ) (o : Order) → StandsAt places p o → Alone places p o.stamp
 
 -- where the order of a place stands in the list: the list without it, and with another of its stamp in its place
-pub record Seated (places : Places) (p : ℕ) (o : Order) : Type 0 where
+pub record SeatedByStamp (places : Places) (p : ℕ) (o : Order) : Type 0 where
   pub before : List Order
   pub behind : List Order
   pub split : by_stamp places ≡ before ++ o ∷ behind

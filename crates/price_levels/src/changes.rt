@@ -3,8 +3,8 @@ ghost use Rattle.std.specs.Prelude.{◌≡◌, ◌≢◌, ◌<◌, ◌≤◌, �
 ghost use Rattle.std.specs.Vec.{vec_len, vec_capacity};
 ghost use Rattle.price_levels.specs.Keys.{key_of};
 ghost use Rattle.price_levels.specs.Places.{standing, ComesLater};
-ghost use Rattle.price_levels.specs.Arena.{IsWithin, IsArena, AreLevels, IsLevels, IsChange, places_of, order_at, nodes_with, nodes_without, level_without, levels_with};
-ghost use Rattle.price_levels.specs.Ladders.{IsOn, all, number};
+ghost use Rattle.price_levels.specs.Arena.{IsWithinNodes, IsArena, AreLevels, IsLevels, IsChange, places_of, order_at, nodes_with, nodes_without, level_without, levels_with};
+ghost use Rattle.price_levels.specs.Ladders.{IsOn, all, rung_number};
 
 use crate::keys::{Level, key_of};
 use crate::ladders::{Ladders, Rung};
@@ -13,7 +13,7 @@ use venue_model::Order;
 
 /// An order takes a free place behind the last one of its level, whose place is given, or alone.
 fn seat(nodes: &mut Vec<Node>, last: Option<usize>, place: usize, order: &Order)
-    requires last { IsWithin nodes.old.items last }
+    requires last { IsWithinNodes nodes.old.items last }
     requires place { place < length nodes.old.items }
     ensures { nodes.new.items ≡ nodes_with nodes.old.items last place order.now }
 {
@@ -70,8 +70,8 @@ pub(crate) fn push(
 /// The neighbours of an order that leaves meet, and its place is free.
 fn unseat(nodes: &mut Vec<Node>, place: usize, prev: Option<usize>, next: Option<usize>)
     requires place { place < length nodes.old.items }
-    requires prev { IsWithin nodes.old.items prev }
-    requires next { IsWithin nodes.old.items next }
+    requires prev { IsWithinNodes nodes.old.items prev }
+    requires next { IsWithinNodes nodes.old.items next }
     ensures { nodes.new.items ≡ nodes_without nodes.old.items place prev next }
 {
     set_next(nodes, prev, next);
@@ -88,8 +88,8 @@ fn shorten(
     quantity: u64,
 )
     requires on { IsOn ladders.old rung }
-    ensures levels { (level : Level) → level ≡ get_or (all ladders.old) (number ladders.old rung) level →
-        all ladders.new ≡ levels_with (all ladders.old) (number ladders.old rung) (level_without level prev next quantity) }
+    ensures levels { (level : Level) → level ≡ get_or (all ladders.old) (rung_number ladders.old rung) level →
+        all ladders.new ≡ levels_with (all ladders.old) (rung_number ladders.old rung) (level_without level prev next quantity) }
     ensures room { ladders.new.room ≡ ladders.old.room }
 {
     let level = ladders.level(rung);

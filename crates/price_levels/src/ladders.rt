@@ -6,7 +6,7 @@ ghost use Rattle.venue_model.specs.Orders.{opposite};
 ghost use Rattle.price_levels.specs.Keys.{key_before, before_side, InOrder};
 ghost use Rattle.price_levels.specs.Arena.{holds, of_side, first_in, crossed_left, levels_with};
 ghost use Rattle.price_levels.specs.declared.ladders.Fence.{Fence};
-ghost use Rattle.price_levels.specs.Ladders.{Belongs, IsRung, IsOn, IsHome, IsHomeOf, IsEmpty, all, number};
+ghost use Rattle.price_levels.specs.Ladders.{BelongsToHome, IsRung, IsOn, IsHome, IsHomeOf, IsEmpty, all, rung_number};
 
 use crate::finds::{crossed_left, first_in, holds, is_of};
 use crate::keys::{Key, Level, comes_before, comes_before_side, search, search_price, search_side};
@@ -82,7 +82,7 @@ impl Ladders {
     /// The ladder of a symbol and side.
     #[inline(never)]
     fn ladder_of(&self, symbol: &Symbol, side: Side) -> usize
-        ensures { Belongs self.now.fences result symbol.now side }
+        ensures { BelongsToHome self.now.fences result symbol.now side }
     {
         let spot = spot(symbol);
         match self.known_ladder(spot, symbol, side) {
@@ -94,7 +94,7 @@ impl Ladders {
     /// The ladder of a symbol and side, where the home that stands there is the symbol's.
     #[inline(always)]
     fn known_ladder(&self, at: usize, symbol: &Symbol, side: Side) -> Option<usize>
-        ensures { IfSome result (λ ladder. Belongs self.now.fences ladder symbol.now side) }
+        ensures { IfSome result (λ ladder. BelongsToHome self.now.fences ladder symbol.now side) }
     {
         let home = self.homes.get(at)?;
         if !home.symbol.is(symbol) {
@@ -111,7 +111,7 @@ impl Ladders {
     #[inline(never)]
     fn ladder_beside(&self, spot: usize, symbol: &Symbol, side: Side) -> usize
         requires { spot < SPOTS }
-        ensures { Belongs self.now.fences result symbol.now side }
+        ensures { BelongsToHome self.now.fences result symbol.now side }
     {
         for at in spot + 1..spot + SIDE_BY_SIDE {
             if let Some(ladder) = self.known_ladder(at, symbol, side) {
@@ -126,8 +126,8 @@ impl Ladders {
         requires { InOrder (all self.now) }
         ensures rung { IsRung self.now result }
         ensures home { IsHome self.now result key.now.symbol key.now.side }
-        ensures before { AllByRecursion (λ l. key_before l.key key.now ≡ true) (take (number self.now result) (all self.now)) }
-        ensures behind { AllByRecursion (λ l. key_before l.key key.now ≡ false) (drop (number self.now result) (all self.now)) }
+        ensures before { AllByRecursion (λ l. key_before l.key key.now ≡ true) (take (rung_number self.now result) (all self.now)) }
+        ensures behind { AllByRecursion (λ l. key_before l.key key.now ≡ false) (drop (rung_number self.now result) (all self.now)) }
     {
         let ladder = self.ladder_of(&key.symbol, key.side);
         let at = place_in(&self.ladders[ladder], key);
@@ -140,8 +140,8 @@ impl Ladders {
         requires { InOrder (all self.now) }
         ensures rung { IsRung self.now result }
         ensures home { IsHome self.now result symbol.now side }
-        ensures before { AllByRecursion (λ l. before_side symbol.now side l.key ≡ true) (take (number self.now result) (all self.now)) }
-        ensures behind { AllByRecursion (λ l. before_side symbol.now side l.key ≡ false) (drop (number self.now result) (all self.now)) }
+        ensures before { AllByRecursion (λ l. before_side symbol.now side l.key ≡ true) (take (rung_number self.now result) (all self.now)) }
+        ensures behind { AllByRecursion (λ l. before_side symbol.now side l.key ≡ false) (drop (rung_number self.now result) (all self.now)) }
     {
         let ladder = self.ladder_of(symbol, side);
         let at = start_of(&self.ladders[ladder], symbol, side);
@@ -152,7 +152,7 @@ impl Ladders {
     pub(crate) fn holds(&self, rung: Rung, key: &Key) -> bool
         requires rung { IsRung self.now rung }
         requires home { IsHome self.now rung key.now.symbol key.now.side }
-        ensures holds { result ≡ holds (all self.now) (number self.now rung) key.now }
+        ensures holds { result ≡ holds (all self.now) (rung_number self.now rung) key.now }
         ensures on { result ≡ true → IsOn self.now rung }
     {
         holds(&self.ladders[rung.ladder], rung.at, key)
@@ -161,7 +161,7 @@ impl Ladders {
     /// The level at a place.
     pub(crate) fn level(&self, rung: Rung) -> Level
         requires { IsOn self.now rung }
-        ensures { result ≡ get_or (all self.now) (number self.now rung) result }
+        ensures { result ≡ get_or (all self.now) (rung_number self.now rung) result }
     {
         self.ladders[rung.ladder][rung.at]
     }
@@ -169,8 +169,8 @@ impl Ladders {
     /// The level at a place is another of its key now.
     pub(crate) fn set(&mut self, rung: Rung, level: Level)
         requires on { IsOn self.old rung }
-        requires key { level.key ≡ (get_or (all self.old) (number self.old rung) level).key }
-        ensures levels { all self.new ≡ slice_set (all self.old) (number self.old rung) level }
+        requires key { level.key ≡ (get_or (all self.old) (rung_number self.old rung) level).key }
+        ensures levels { all self.new ≡ slice_set (all self.old) (rung_number self.old rung) level }
         ensures room { self.new.room ≡ self.old.room }
     {
         self.ladders[rung.ladder][rung.at] = level;
@@ -181,7 +181,7 @@ impl Ladders {
         requires rung { IsRung self.old rung }
         requires home { IsHome self.old rung level.key.symbol level.key.side }
         requires room { length (all self.old) < self.old.room }
-        ensures levels { all self.new ≡ insert (all self.old) (number self.old rung) level }
+        ensures levels { all self.new ≡ insert (all self.old) (rung_number self.old rung) level }
         ensures room { self.new.room ≡ self.old.room }
     {
         let _ = self.ladders[rung.ladder].insert(rung.at, level);
@@ -190,7 +190,7 @@ impl Ladders {
     /// The level at a place goes.
     pub(crate) fn remove(&mut self, rung: Rung)
         requires { IsOn self.old rung }
-        ensures levels { all self.new ≡ levels_with (all self.old) (number self.old rung) [] }
+        ensures levels { all self.new ≡ levels_with (all self.old) (rung_number self.old rung) [] }
         ensures room { self.new.room ≡ self.old.room }
     {
         self.ladders[rung.ladder].remove(rung.at);
@@ -201,7 +201,7 @@ impl Ladders {
     pub(crate) fn first_in(&self, rung: Rung, symbol: &Symbol, side: Side) -> Option<usize>
         requires rung { IsRung self.now rung }
         requires home { IsHome self.now rung symbol.now side }
-        ensures { result ≡ first_in symbol.now side (all self.now) (number self.now rung) }
+        ensures { result ≡ first_in symbol.now side (all self.now) (rung_number self.now rung) }
     {
         first_in(&self.ladders[rung.ladder], rung.at, symbol, side)
     }
@@ -210,8 +210,8 @@ impl Ladders {
     pub(crate) fn crossed_left(&self, rung: Rung, symbol: &Symbol, side: Side, price: u64) -> u64
         requires rung { IsRung self.now rung }
         requires home { IsHome self.now rung symbol.now (opposite side) }
-        requires fits { crossed_left symbol.now side price (drop (number self.now rung) (all self.now)) < 2 ^ 64 }
-        ensures { result ≡ crossed_left symbol.now side price (drop (number self.now rung) (all self.now)) }
+        requires fits { crossed_left symbol.now side price (drop (rung_number self.now rung) (all self.now)) < 2 ^ 64 }
+        ensures { result ≡ crossed_left symbol.now side price (drop (rung_number self.now rung) (all self.now)) }
     {
         crossed_left(&self.ladders[rung.ladder][rung.at..], symbol, side, price)
     }
@@ -247,7 +247,7 @@ fn put(fences: &mut Vec<Fence>, symbol: &Symbol, side: Side)
 #[cold]
 #[inline(never)]
 fn fence_at(fences: &[Fence], symbol: &Symbol, side: Side) -> usize
-    ensures belongs { Belongs fences.now result symbol.now side }
+    ensures belongs { BelongsToHome fences.now result symbol.now side }
     ensures within { result ≤ length fences.now }
 {
     let key = Key {

@@ -1,6 +1,6 @@
 //! The levels: where orders rest, each found by its place. All room is made at the start.
 ghost use Rattle.std.specs.Prelude.{◌≡◌, ◌≢◌, ◌<◌, ◌≤◌, ◌+◌, ◌-◌, ◌*◌, ◌^◌, None, Some, length, get_or, slice_set, replicate, IfOk, MatchOption};
-ghost use Rattle.price_levels.specs.Places.{standing, ComesLater, IsAt, NoneOf, BestOf, NoneBehind, NextBehind, HoldsAt, LeavesSome, CanAmend, reduced, amended, changed, crossing_leaves};
+ghost use Rattle.price_levels.specs.Places.{standing, ComesLater, StandsAt, NoneOf, BestOf, NoneBehind, NextBehind, HoldsAt, LeavesSome, CanAmend, reduced, renamed_to, changed, crossing_leaves};
 
 use crate::changes::{change, push, take_out};
 use crate::finds::{after, best, crossing_total};
@@ -148,7 +148,7 @@ impl Levels {
     /// It keeps its place in time.
     pub fn amend(&mut self, place: Place, cl_ord_id: u64, total: u64)
         requires { HoldsAt self.old place.number (CanAmend total) }
-        ensures { self.new ≡ changed (amended cl_ord_id total) self.old place.number }
+        ensures { self.new ≡ changed (renamed_to cl_ord_id total) self.old place.number }
     {
         let order = self.nodes[place.number].order.unwrap();
         let order = Order {

@@ -1,6 +1,6 @@
 //! The arena's nodes: at each place an order and its neighbours in its level, or nothing.
 ghost use Rattle.std.specs.Prelude.{◌≡◌, ◌<◌, length, MatchOption, slice_set};
-ghost use Rattle.price_levels.specs.Arena.{set_next, set_prev, IsWithin};
+ghost use Rattle.price_levels.specs.Arena.{set_next, set_prev, IsWithinNodes};
 
 use venue_model::Order;
 
@@ -21,7 +21,7 @@ pub(crate) const VACANT: Node = Node {
 
 /// The order behind the one at a place, where there is one, is another now.
 pub(crate) fn set_next(nodes: &mut Vec<Node>, place: Option<usize>, next: Option<usize>)
-    requires { IsWithin nodes.old.items place }
+    requires { IsWithinNodes nodes.old.items place }
     ensures { nodes.new.items ≡ set_next nodes.old.items place next }
 {
     if let Some(place) = place {
@@ -31,7 +31,7 @@ pub(crate) fn set_next(nodes: &mut Vec<Node>, place: Option<usize>, next: Option
 
 /// The order before the one at a place, where there is one, is another now.
 pub(crate) fn set_prev(nodes: &mut Vec<Node>, place: Option<usize>, prev: Option<usize>)
-    requires { IsWithin nodes.old.items place }
+    requires { IsWithinNodes nodes.old.items place }
     ensures { nodes.new.items ≡ set_prev nodes.old.items place prev }
 {
     if let Some(place) = place {

@@ -1,6 +1,7 @@
 -- What is written piece by piece, and the lines of a report.
 use Rattle.std.proofs.Common.{◌≡◌, ℕ, zero, suc, ◌+◌, ◌<◌, Option, Some, None, Result, Ok, Err, OnOk}
-use Rattle.std.proofs.Common.{List, [], ◌∷◌, ◌++◌, length, get_or, take, drop, slice_get, append_assoc, append-nil, take-append-drop}
+use Rattle.std.proofs.Common.{List, [], ◌∷◌, ◌++◌, length, get_or, take, drop, slice_get, append_assoc, append-nil}
+use Rattle.std.proofs.Common.{take-append-drop}
 use Rattle.std.proofs.Common.{refl, ap, sym, ◌∙◌, subst}
 use Rattle.std.specs.List.{flat_map}
 use Rattle.std.specs.Io.KnownBytes.{Appends}
@@ -32,7 +33,8 @@ then_written before between behind xs ys (Err e) first then = tt
 -- MsgType and SendingTime in a buffer, and the body behind them, are what is said
 pub said_put : (blank typed timed whole : List ℕ) (at end upto : ℕ) (type time body : List ℕ) (said : Said) →
     type ≡ said.kind → time ≡ said.time → body ≡ print_fields said.body →
-    PutsFields blank typed 0 at (field 35 type ∷ []) → PutsFields typed timed at end (field 52 time ∷ []) → Puts timed whole end upto body →
+    PutsFields blank typed 0 at (field 35 type ∷ []) → PutsFields typed timed at end (field 52 time ∷ [])
+    → Puts timed whole end upto body →
     take upto whole ≡ print_fields (said_fields said)
 said_put blank typed timed whole at end upto type time body said type_is time_is body_is first then last =
     let both = first ⨟ then in
@@ -60,20 +62,23 @@ IsAt all i (Some o) = (before : List Order) × (all ≡ before ++ o ∷ drop i a
 -- then the next one is the first of those that are left
 pub next_at : (all : List Order) (i : ℕ) (from next : Option Order) → IsAt all i from →
     (from ≡ None → next ≡ slice_get all 0) →
-    ((before behind : List Order) (o : Order) → from ≡ Some o → all ≡ before ++ o ∷ behind → next ≡ slice_get behind 0) →
+    ((before behind : List Order) (o : Order) → from ≡ Some o → all ≡ before ++ o ∷ behind
+    → next ≡ slice_get behind 0) →
     next ≡ slice_get (drop i all) 0
 next_at all i None next at first then = rw at (first refl)
 next_at all i (Some o) next at first then = then at.0 (drop i all) o refl at.1
 
 -- the first of those that are left stands in front of the others
-first_left : (all : List Order) (i : ℕ) (o : Order) → Some o ≡ slice_get (drop i all) 0 → drop i all ≡ o ∷ drop (suc i) all
+first_left : (all : List Order) (i : ℕ) (o : Order) → Some o ≡ slice_get (drop i all) 0
+    → drop i all ≡ o ∷ drop (suc i) all
 first_left [] zero o is = cc
 first_left [] (suc i) o is = cc
 first_left (x ∷ xs) zero o is = cc
 first_left (x ∷ xs) (suc i) o is = first_left xs i o is
 
 -- and behind those that were written
-take_first : (all : List Order) (i : ℕ) (o : Order) → Some o ≡ slice_get (drop i all) 0 → take (suc i) all ≡ take i all ++ o ∷ []
+take_first : (all : List Order) (i : ℕ) (o : Order) → Some o ≡ slice_get (drop i all) 0
+    → take (suc i) all ≡ take i all ++ o ∷ []
 take_first [] zero o is = cc
 take_first [] (suc i) o is = cc
 take_first (x ∷ xs) zero o is = cc
@@ -81,13 +86,19 @@ take_first (x ∷ xs) (suc i) o is = ap (λ (l : List Order). x ∷ l) (take_fir
 
 -- n are written, the last of them o, and their lines are those of i orders and o's
 abbrev pub OneMore : List Order → ℕ → Order → ℕ → Type 0
-OneMore all i o n = IsAt all n (Some o) × (flat_map order_line (take i all) ++ order_line o ≡ flat_map order_line (take n all))
+OneMore all i o n = IsAt all n (Some o)
+    × (flat_map order_line (take i all) ++ order_line o ≡ flat_map order_line (take n all))
 
 -- the next one is written too
-pub one_more : (all : List Order) (i n : ℕ) (o : Order) → Some o ≡ slice_get (drop i all) 0 → suc i ≡ n → OneMore all i o n
+pub one_more : (all : List Order) (i n : ℕ) (o : Order) → Some o ≡ slice_get (drop i all) 0 → suc i ≡ n
+    → OneMore all i o n
 one_more all i n o is more =
     subst (OneMore all i o) more (
-      (take i all, sym (take-append-drop i all) ∙ ap (λ (rest : List Order). take i all ++ rest) (first_left all i o is)),
+      (
+        take i all,
+        sym (take-append-drop i all) ∙ ap (λ (rest : List Order). take i all ++ rest)
+            (first_left all i o is),
+      ),
       sym (ap (flat_map order_line) (take_first all i o is) ∙ flat_map-append order_line (take i all) (o ∷ [])
           ∙ ap (λ t. flat_map order_line (take i all) ++ t) (append-nil (order_line o))),
     )

@@ -18,5 +18,5 @@ is_memory journals.Memory = true
 is_memory _ = false
 
 -- want of memory is said as such, and all else as the journal's fault, with its number and place
-abbrev pub of_journal : JournalFault → ReplayFault
-of_journal fault = if is_memory fault then Memory else Journal fault
+abbrev pub report_fault_of : JournalFault → ReplayFault
+report_fault_of fault = if is_memory fault then Memory else Journal fault

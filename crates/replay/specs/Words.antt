@@ -10,7 +10,7 @@ IsNamed word Book = word ≡ codes "book"
 IsNamed word (Client n) = (1 ≤ n) × (n ≤ 8) × (word ≡ codes "C" ++ (48 + n) ∷ [])
 
 -- the words `JOURNAL SUBJECT SYMBOL...` with this journal, subject and symbols
-pub record AreWords (words : List (List ℕ)) (journal : List ℕ) (subject : Subject) (symbols : List (List ℕ)) : Type 0 where
+pub record AreReportWords (words : List (List ℕ)) (journal : List ℕ) (subject : Subject) (symbols : List (List ℕ)) : Type 0 where
   pub word : List ℕ
   pub spelled : words ≡ journal ∷ word ∷ symbols
   pub named : 1 ≤ length journal

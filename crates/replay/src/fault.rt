@@ -35,9 +35,9 @@ impl From<LimitsFault> for ReplayFault {
 }
 
 impl From<JournalFault> for ReplayFault {
-    ghost use Rattle.replay.specs.Faults.{of_journal};
+    ghost use Rattle.replay.specs.Faults.{report_fault_of};
 
-    ghost from_gives = { λ fault e. e ≡ of_journal fault };
+    ghost from_gives = { λ fault e. e ≡ report_fault_of fault };
 
     fn from(fault: JournalFault) -> ReplayFault {
         match fault {

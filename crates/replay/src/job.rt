@@ -1,7 +1,7 @@
 //! The words of the command line: what is to be reported of which journal.
 ghost use Rattle.std.specs.Prelude.{◌≡◌, ◌↔◌, ℕ, List, map, string_bytes, IfOk, IsErrOf, IfErr, MatchOption, ◌⊎◌};
 ghost use Rattle.replay.specs.declared.job.Subject.{Subject};
-ghost use Rattle.replay.specs.Words.{AreWords, IsNamed};
+ghost use Rattle.replay.specs.Words.{AreReportWords, IsNamed};
 
 use crate::fault::ReplayFault;
 use std::alloc::Global;
@@ -30,9 +30,9 @@ pub struct Job {
 impl Job {
     /// Reads the words behind the program's name.
     pub fn read(alloc: Global, words: &[String]) -> Result<Job, ReplayFault>
-        ensures said { IfOk result (λ job. AreWords (map string_bytes words.now) (string_bytes job.journal) job.subject job.limits.symbols) }
+        ensures said { IfOk result (λ job. AreReportWords (map string_bytes words.now) (string_bytes job.journal) job.subject job.limits.symbols) }
         ensures wrong { IsErrOf result ReplayFault.Usage → (journal : List ℕ) (subject : Subject) (symbols : List (List ℕ))
-            → AreWords (map string_bytes words.now) journal subject symbols → ⊥ }
+            → AreReportWords (map string_bytes words.now) journal subject symbols → ⊥ }
         ensures fault { IfErr result (λ fault. (fault ≡ ReplayFault.Usage) ⊎ (fault ≡ ReplayFault.Memory)) }
     {
         let [journal, subject, symbols @ ..] = words else {

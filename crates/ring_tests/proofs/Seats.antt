@@ -8,7 +8,7 @@ use Rattle.ring_words.specs.At.{Opened, At, at, Steps, number}
 use Rattle.ring_words.specs.declared.view.Role.TheVariants.{Gateway}
 use Rattle.ring_words.specs.Rule.{newcomer}
 use Rattle.ring_words.specs.Crew.{AreGateways, AreNewGateways}
-use Rattle.ring_tests.specs.Seats.{IsSpent, AreSpent}
+use Rattle.ring_tests.specs.Seats.{IsSpent, ComeBackSpent}
 use Rattle.ring_words.specs.Meeting.{met}
 use Rattle.ring_words.specs.SeatLaws.{still_at}
 
@@ -22,13 +22,16 @@ last_one [] a = refl
 last_one (x ∷ l) a = last_one l a
 
 -- one more behind those of which it holds, counted from 1
-pub one_more : {A : Type 0} (P : ℕ → A → Type 0) (l : List A) (a : A) → ((i : ℕ) (x : A) → get_elem? l i ≡ some x → P (i + 1) x) → P (length l + 1) a
+pub one_more : {A : Type 0} (P : ℕ → A → Type 0) (l : List A) (a : A)
+    → ((i : ℕ) (x : A) → get_elem? l i ≡ some x → P (i + 1) x) → P (length l + 1) a
     → (i : ℕ) (x : A) → get_elem? (l ++ a ∷ []) i ≡ some x → P (i + 1) x
 one_more P l a each last i x there = ⊎_elim (λ was. each i x was)
-    (λ (end : (i ≡ length l) × (a ≡ x)). subst (λ y. P (i + 1) y) end.1 (subst (λ (j : ℕ). P (j + 1) a) (sym end.0) last)) (at_end l a x i there)
+    (λ (end : (i ≡ length l) × (a ≡ x)). subst (λ y. P (i + 1) y) end.1
+    (subst (λ (j : ℕ). P (j + 1) a) (sym end.0) last)) (at_end l a x i there)
 
 -- a gateway that met another has no claim left that it hadn't before
-pub met_spent : {L : Type 0} (rings : Opened L) (k : ℕ) (s t : At L) (r : ℕ) (h : List Message) → Steps s (met s.who r h) t → IsSpent rings k s → IsSpent rings k t
+pub met_spent : {L : Type 0} (rings : Opened L) (k : ℕ) (s t : At L) (r : ℕ) (h : List Message)
+    → Steps s (met s.who r h) t → IsSpent rings k s → IsSpent rings k t
 met_spent rings k s t r h step spent = record {
   at = still_at rings s t _ spent.at step;
   role = ap (λ (a : At _). a.who.role) step ∙ spent.role;
@@ -36,19 +39,26 @@ met_spent rings k s t r h step spent = record {
 }
 
 -- the last of new seats is new, and so are those before it
-module _ {L : Type 0} (rings : Opened L) (all front : List (At L)) (s : At L) (is : all ≡ front ++ s ∷ []) (new : AreNewGateways rings all) where
+module _ {L : Type 0} (rings : Opened L) (all front : List (At L)) (s : At L) (is : all ≡ front ++ s ∷ [])
+    (new : AreNewGateways rings all) where
   pub new_last : s ≡ at rings (newcomer (Gateway (number s)) rings.base rings.given)
   new_last =
-      let last = new (length front) s (subst (λ (l : List (At L)). get_elem? l (length front) ≡ some s) (sym is) (last_one front s)) in
-      subst (λ (k : ℕ). s ≡ at rings (newcomer (Gateway k) rings.base rings.given)) (sym (ap (λ (a : At L). number a) last)) last
+      let last = new (length front) s
+      (subst (λ (l : List (At L)). get_elem? l (length front) ≡ some s) (sym is) (last_one front s)) in
+      subst (λ (k : ℕ). s ≡ at rings (newcomer (Gateway k) rings.base rings.given))
+      (sym (ap (λ (a : At L). number a) last)) last
 
   pub new_front : AreNewGateways rings front
-  new_front i x there = new i x (subst (λ (l : List (At L)). get_elem? l i ≡ some x) (sym is) (stays front (s ∷ []) i x there))
+  new_front i x there = new i x (subst (λ (l : List (At L)). get_elem? l i ≡ some x) (sym is)
+      (stays front (s ∷ []) i x there))
 
 -- what `close` asks of the gateways' seats
-pub are_gateways : {L : Type 0} (rings : Opened L) (seats : List (At L)) → AreSpent rings seats → AreGateways rings seats
+pub are_gateways : {L : Type 0} (rings : Opened L) (seats : List (At L)) → ComeBackSpent rings seats
+    → AreGateways rings seats
 are_gateways rings seats spent i s there = ((spent i s there).at, (spent i s there).role)
 
 -- new seats have no claim
-pub new_spent : {L : Type 0} (rings : Opened L) (seats : List (At L)) → AreNewGateways rings seats → AreSpent rings seats
-new_spent rings seats new i s there = subst (λ (t : At _). IsSpent rings (i + 1) t) (sym (new i s there)) (record { at = refl; role = refl; claims = refl })
+pub new_spent : {L : Type 0} (rings : Opened L) (seats : List (At L)) → AreNewGateways rings seats
+    → ComeBackSpent rings seats
+new_spent rings seats new i s there = subst (λ (t : At _). IsSpent rings (i + 1) t) (sym (new i s there))
+    (record { at = refl; role = refl; claims = refl })

@@ -13,8 +13,8 @@ module _ {L : Type 0} where
     pub claims : s.who.claims ≡ []
 
   -- such seats, in the order of the numbers
-  abbrev pub AreSpent : Opened L → List (At L) → Type 0
-  AreSpent rings seats = (i : ℕ) (s : At L) → get_elem? seats i ≡ some s → IsSpent rings (i + 1) s
+  abbrev pub ComeBackSpent : Opened L → List (At L) → Type 0
+  ComeBackSpent rings seats = (i : ℕ) (s : At L) → get_elem? seats i ≡ some s → IsSpent rings (i + 1) s
 
   -- a seat that had no claim left still has none, at the same rings
   abbrev pub StaysSpent : At L → At L → Type 0

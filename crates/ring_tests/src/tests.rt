@@ -1,5 +1,6 @@
 //! On one thread small rings and all stages, on threads of their own gateways and stages all at once; and the wires.
 
+mod client_wires;
 mod crew;
 mod gateways_meet;
 mod member;
@@ -11,4 +12,3 @@ mod ring_of_two;
 mod sessions;
 mod small_rings;
 mod venue;
-mod client_wires;

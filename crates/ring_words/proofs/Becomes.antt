@@ -6,7 +6,7 @@ use Rattle.ring_words.specs.declared.view.Person.{Person}
 use Rattle.atomic_table.specs.Seated.{TableId}
 use Rattle.ring_words.specs.declared.view.View.{View}
 use Rattle.ring_words.specs.Places.{processed}
-use Rattle.ring_words.specs.Seats.{person, IsAlone, together, looked, last_of, AreTaken}
+use Rattle.ring_words.specs.Seats.{person, IsAlone, together, looked, last_load, AreTaken}
 use Rattle.ring_words.specs.At.{Opened, At, IsAt, Steps, seat_of}
 use Rattle.ring_words.specs.SeatLaws.{last_stays}
 use Rattle.ring_words.specs.Meeting.{first_alone, second_alone}
@@ -26,37 +26,60 @@ module _ {S L : Type 0} (me me' : Seated S L) (q : Person) where
   still_home is home = ap (λ (z : Seated S L). (person z.0).out) is ∙ home
 
   -- and with the rest of what a seat keeps
-  pub still_sits : {Rest : Type 0} → Became me q me' → me.1 ≡ [] → (role : Role) → q.role ≡ role → Rest → IsAlone me'.0 × ((me'.1 ≡ []) × (((person me'.0).role ≡ role) × Rest))
+  pub still_sits : {Rest : Type 0} → Became me q me' → me.1 ≡ [] → (role : Role) → q.role ≡ role → Rest
+      → IsAlone me'.0 × ((me'.1 ≡ []) × (((person me'.0).role ≡ role) × Rest))
   still_sits is bare role same more = (still_alone is, (still_bare is bare, (still_role is role same, more)))
 
--- a gateway's seat whose one person became q keeps what it keeps: its number, its count, and the processed value that was loaded last
-pub gateway_sits : {S L Numbered : Type 0} (me me' : Seated S L) (q : Person) → Became me q me' → me.1 ≡ [] → (number : ℕ) → q.role ≡ Gateway number → Numbered → (count : ℕ) → count ≡ q.own
-    → (kept : Option ℕ) → kept ≡ last_of processed None q.loads
-    → IsAlone me'.0 × ((me'.1 ≡ []) × (((person me'.0).role ≡ Gateway number) × (Numbered × ((count ≡ (person me'.0).own) × ((kept ≡ last_of processed None (person me'.0).loads) × Unit {0})))))
+-- a gateway's seat whose one person became q keeps what it keeps: its number, its count, and the processed value that
+-- was loaded last
+pub gateway_sits : {S L Numbered : Type 0} (me me' : Seated S L) (q : Person) → Became me q me' → me.1 ≡ []
+    → (number : ℕ) → q.role ≡ Gateway number → Numbered → (count : ℕ) → count ≡ q.own
+    → (kept : Option ℕ) → kept ≡ last_load processed None q.loads
+    → IsAlone me'.0 × ((me'.1 ≡ [])
+    × (((person me'.0).role ≡ Gateway number)
+    × (Numbered × ((count ≡ (person me'.0).own)
+    × ((kept ≡ last_load processed None (person me'.0).loads) × Unit {0})))))
 gateway_sits {S} {L} me me' q is bare number role numbered count own kept last =
-    still_sits me me' q is bare (Gateway number) role (numbered, (own ∙ sym (ap (λ (z : Seated S L). (person z.0).own) is), (last ∙ sym (ap (λ (z : Seated S L). last_of processed None (person z.0).loads) is), tt)))
+    still_sits me me' q is bare (Gateway number) role (
+      numbered,
+      (
+        own ∙ sym (ap (λ (z : Seated S L). (person z.0).own) is),
+        (last ∙ sym (ap (λ (z : Seated S L). last_load processed None (person z.0).loads) is), tt),
+      ),
+    )
 
 -- that value stays where another word is loaded
-pub kept_behind : (p : Person) (j x : ℕ) (kept : Option ℕ) → j ≢ processed → kept ≡ last_of processed None p.loads → kept ≡ last_of processed None (looked p j x).loads
+pub kept_behind : (p : Person) (j x : ℕ) (kept : Option ℕ) → j ≢ processed → kept ≡ last_load processed None p.loads
+    → kept ≡ last_load processed None (looked p j x).loads
 kept_behind p j x kept ne last = last ∙ sym (last_stays processed j None x p.loads ne)
 
 -- the processor's seat keeps the taken values loaded last, where they are those of the person that it has now
-pub still_taken : {S L : Type 0} (me me' : Seated S L) (q : Person) → Became me q me' → (values : List (Option ℕ)) → AreTaken values q.loads → AreTaken values (person me'.0).loads
-still_taken {S} {L} me me' q is values kept = subst (λ (z : Seated S L). AreTaken values (person z.0).loads) (sym is) kept
+pub still_taken : {S L : Type 0} (me me' : Seated S L) (q : Person) → Became me q me' → (values : List (Option ℕ))
+    → AreTaken values q.loads → AreTaken values (person me'.0).loads
+still_taken {S} {L} me me' q is values kept = subst (λ (z : Seated S L). AreTaken values (person z.0).loads) (sym is)
+    kept
 
--- Two seats came together, their persons became p and q, and the seat was split again: the first has p, the second q, each beside what the first had.
-module _ {S L : Type 0} (v w : View L) (came both cut : Seated S L) (p q : Person) (a : came ≡ (together v w, [])) (b : both ≡ (record came.0 { people = p ∷ q ∷ [] }, came.1)) where
+-- Two seats came together, their persons became p and q, and the seat was split again: the first has p, the second q,
+-- each beside what the first had.
+module _ {S L : Type 0} (v w : View L) (came both cut : Seated S L) (p q : Person) (a : came ≡ (together v w, []))
+    (b : both ≡ (record came.0 { people = p ∷ q ∷ [] }, came.1)) where
   pub parted_first : cut ≡ (first_alone both.0, both.1) → Became (v, []) p cut
-  parted_first c = c ∙ ap (λ (z : Seated S L). (first_alone z.0, z.1)) (b ∙ ap (λ (z : Seated S L). (record z.0 { people = p ∷ q ∷ [] }, z.1)) a)
+  parted_first c = c ∙ ap (λ (z : Seated S L). (first_alone z.0, z.1))
+      (b ∙ ap (λ (z : Seated S L). (record z.0 { people = p ∷ q ∷ [] }, z.1)) a)
 
   pub parted_second : cut ≡ (second_alone both.0, []) → Became (v, []) q cut
-  parted_second c = c ∙ ap (λ (z : Seated S L). (second_alone z.0, [])) (b ∙ ap (λ (z : Seated S L). (record z.0 { people = p ∷ q ∷ [] }, z.1)) a)
+  parted_second c = c ∙ ap (λ (z : Seated S L). (second_alone z.0, []))
+      (b ∙ ap (λ (z : Seated S L). (record z.0 { people = p ∷ q ∷ [] }, z.1)) a)
 
 module _ {S L : Type 0} where
   -- what contracts see of a seat whose one person changed
-  pub steps : (t t' : TableId) (v : View L) (carried : List (ℕ × S)) (cut : Seated S L) (q : Person) (s : At L) → seat_of t v ≡ s → t' ≡ t → Became (v, carried) q cut → Steps s q (seat_of t' cut.0)
-  steps t t' v carried cut q s seat_is table is = ap (λ (x : TableId). seat_of x cut.0) table ∙ ap (λ (z : Seated S L). seat_of t z.0) is ∙ ap (λ (b : At L). record b { who = q }) seat_is
+  pub steps : (t t' : TableId) (v : View L) (carried : List (ℕ × S)) (cut : Seated S L) (q : Person) (s : At L)
+      → seat_of t v ≡ s → t' ≡ t → Became (v, carried) q cut → Steps s q (seat_of t' cut.0)
+  steps t t' v carried cut q s seat_is table is = ap (λ (x : TableId). seat_of x cut.0) table
+      ∙ ap (λ (z : Seated S L). seat_of t z.0) is ∙ ap (λ (b : At L). record b { who = q }) seat_is
 
 -- two seats of the same rings become the same by the same person
-pub steps_either : {L : Type 0} (rings : Opened L) (a b new : At L) (q : Person) → IsAt rings a → IsAt rings b → Steps a q new → Steps b q new
-steps_either {L} rings a b new q a_is b_is step = step ∙ ap (λ (s : At L). record s { who = q }) a_is ∙ sym (ap (λ (s : At L). record s { who = q }) b_is)
+pub steps_either : {L : Type 0} (rings : Opened L) (a b new : At L) (q : Person) → IsAt rings a → IsAt rings b
+    → Steps a q new → Steps b q new
+steps_either {L} rings a b new q a_is b_is step = step ∙ ap (λ (s : At L). record s { who = q }) a_is
+    ∙ sym (ap (λ (s : At L). record s { who = q }) b_is)

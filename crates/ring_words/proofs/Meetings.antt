@@ -1,5 +1,7 @@
 -- Two seats that came together load a word: the rule stays, and what their persons learn then.
-use Rattle.std.proofs.Common.{◌≡◌, ◌≢◌, ℕ, zero, suc, ◌+◌, ◌≤◌, Bool, true, false, List, [], ◌∷◌, ◌++◌, ◌⊎◌, inl, inr, ⊎_elim, cond, eqb, leb, length, get_or, set, take, refl, ap, sym, subst, ◌∙◌, arith, le_refl}
+use Rattle.std.proofs.Common.{◌≡◌, ◌≢◌, ℕ, zero, suc, ◌+◌, ◌≤◌, Bool, true, false, List, [], ◌∷◌, ◌++◌, ◌⊎◌, inl, inr}
+use Rattle.std.proofs.Common.{⊎_elim, cond, eqb, leb, length, get_or, set, take, refl, ap, sym, subst, ◌∙◌, arith}
+use Rattle.std.proofs.Common.{le_refl}
 use Rattle.std.proofs.lemmas.Bool.{cond-true, cond-false, eq-eqb, ne_eqb, le-leb, leb-true}
 use mathlib.Core.Option.{none, some, some-injective, some-ne-none}
 use lib.ListN.{get_elem?}
@@ -15,7 +17,7 @@ use Rattle.ring_words.specs.declared.view.Role.{Role}
 use Rattle.ring_words.specs.declared.view.Role.TheVariants.{Journal, Gateway}
 use Rattle.ring_words.specs.declared.view.Person.{Person}
 use Rattle.ring_words.specs.declared.view.View.{View}
-use Rattle.ring_words.specs.Places.{processed, journalled, taken, place_of, number_of}
+use Rattle.ring_words.specs.Places.{processed, journalled, taken, word_of_role, number_of}
 use Rattle.ring_words.specs.Log.{Log, Status, unclaimed, old, claimed, sent, sends_of, sent_at, IsFront}
 use Rattle.ring_words.specs.Terms.{Terms}
 use Rattle.ring_words.specs.Rule.{Depth, Knows, owners, words_of, Lawful}
@@ -35,40 +37,53 @@ use Rattle.ring_words.proofs.Loads.{Goes}
 in_two : (p q o : Person) (ps : List Person) (j : ℕ) → ps ≡ p ∷ q ∷ [] → get_elem? ps j ≡ some o → (p ≡ o) ⊎ (q ≡ o)
 in_two p q o ps zero is at = inl (some-injective p o (subst (λ (l : List Person). get_elem? l zero ≡ some o) is at))
 in_two p q o ps (suc zero) is at = inr (some-injective q o (subst (λ (l : List Person). get_elem? l 1 ≡ some o) is at))
-in_two p q o ps (suc (suc j)) is at = absurd (some-ne-none o (sym (subst (λ (l : List Person). get_elem? l (suc (suc j)) ≡ some o) is at)))
+in_two p q o ps (suc (suc j)) is at =
+    absurd (some-ne-none o (sym (subst (λ (l : List Person). get_elem? l (suc (suc j)) ≡ some o) is at)))
 
 module _ {L : Type 0} (terms : Terms L) where
   -- a load after which the seat's two persons are p' and q'
-  pub looks_two : (s : State Boxed (View L)) (r : Lawful terms s) (k id : ℕ) (me : Seated Boxed L) (p q p' q' : Person) (then : ℕ → Seated Boxed L → Type 0) → get_elem? s.views id ≡ some me.0
-      → me.0.people ≡ p ∷ q ∷ [] → p'.role ≡ p.role → q'.role ≡ q.role → Knows terms (words_of s) r.log p' → Knows terms (words_of s) r.log q'
-      → then (get_or s.words k 0) (record me.0 { people = p' ∷ q' ∷ [] }, me.1) → Goes terms s k id me then (get_or s.words k 0)
-  looks_two s r k id me p q p' q' then at two role_p role_q knows_p knows_q told = let w : View L = record me.0 { people = p' ∷ q' ∷ [] } in (
-    w,
-    keeps,
-    tt,
-    subst (λ (ws : List ℕ). Lawful terms record { words = ws; homes = s.homes; views = set s.views id w }) (sym (set-get_or s.words k 0)) (reseated terms s r (set s.views id w)
-        (λ i j u o there in_it. ⊎_elim
-        (λ (t : (i ≡ id) × (w ≡ u)). let own = r.people id 0 me.0 p at (ap (λ (l : List Person). get_elem? l 0) two) in (
-          ap (λ (x : View L). x.logic) (sym t.1) ∙ own.0,
-          ap (λ (x : View L). x.base) (sym t.1) ∙ own.1,
-          ⊎_elim (λ is. subst (Knows terms (words_of s) r.log) is knows_p) (λ is. subst (Knows terms (words_of s) r.log) is knows_q)
-              (in_two p' q' o u.people j (ap (λ (x : View L). x.people) (sym t.1)) in_it),
-        ))
-        (λ (t : (i ≢ id) × (get_elem? s.views i ≡ some u)). r.people i j u o t.1 in_it)
-        (at_set s.views id i w u there))
-        (λ k. same_owners k s.views id me.0 w at
-        (owners_both k (p' ∷ []) (q' ∷ []) ∙ ap (λ (z : Role). owners k (record p { role = z } ∷ []) + owners k (q' ∷ [])) role_p ∙ ap (λ (z : Role). owners k (p ∷ []) + owners k (record q { role = z } ∷ [])) role_q
-        ∙ sym (owners_both k (p ∷ []) (q ∷ [])) ∙ ap (owners k) (sym two)))),
-    told,
-  )
+  pub looks_two : (s : State Boxed (View L)) (r : Lawful terms s) (k id : ℕ) (me : Seated Boxed L) (p q p' q' : Person)
+      (then : ℕ → Seated Boxed L → Type 0) → get_elem? s.views id ≡ some me.0
+      → me.0.people ≡ p ∷ q ∷ [] → p'.role ≡ p.role → q'.role ≡ q.role → Knows terms (words_of s) r.log p'
+      → Knows terms (words_of s) r.log q'
+      → then (get_or s.words k 0) (record me.0 { people = p' ∷ q' ∷ [] }, me.1)
+      → Goes terms s k id me then (get_or s.words k 0)
+  looks_two s r k id me p q p' q' then at two role_p role_q knows_p knows_q told = let w : View L =
+      record me.0 { people = p' ∷ q' ∷ [] } in (
+        w,
+        keeps,
+        tt,
+        subst (λ (ws : List ℕ). Lawful terms record { words = ws; homes = s.homes; views = set s.views id w })
+            (sym (set-get_or s.words k 0)) (reseated terms s r (set s.views id w)
+            (λ i j u o there in_it. ⊎_elim
+            (λ (t : (i ≡ id) × (w ≡ u)). let own = r.people id 0 me.0 p at (ap (λ (l : List Person). get_elem? l 0) two) in (
+              ap (λ (x : View L). x.logic) (sym t.1) ∙ own.0,
+              ap (λ (x : View L). x.base) (sym t.1) ∙ own.1,
+              ⊎_elim (λ is. subst (Knows terms (words_of s) r.log) is knows_p)
+                  (λ is. subst (Knows terms (words_of s) r.log) is knows_q)
+                  (in_two p' q' o u.people j (ap (λ (x : View L). x.people) (sym t.1)) in_it),
+            ))
+            (λ (t : (i ≢ id) × (get_elem? s.views i ≡ some u)). r.people i j u o t.1 in_it)
+            (at_set s.views id i w u there))
+            (λ k. same_owners k s.views id me.0 w at
+            (owners_both k (p' ∷ []) (q' ∷ [])
+            ∙ ap (λ (z : Role). owners k (record p { role = z } ∷ []) + owners k (q' ∷ [])) role_p
+            ∙ ap (λ (z : Role). owners k (p ∷ []) + owners k (record q { role = z } ∷ [])) role_q
+            ∙ sym (owners_both k (p ∷ []) (q ∷ [])) ∙ ap (owners k) (sym two)))),
+        told,
+      )
 
   -- two gateways have different numbers
-  pub two_numbers : (s : State Boxed (View L)) (r : Lawful terms s) (id : ℕ) (v : View L) (p q : Person) (j k : ℕ) → get_elem? s.views id ≡ some v → v.people ≡ p ∷ q ∷ [] → p.role ≡ Gateway j → q.role ≡ Gateway k → j ≢ k
+  pub two_numbers : (s : State Boxed (View L)) (r : Lawful terms s) (id : ℕ) (v : View L) (p q : Person) (j k : ℕ)
+      → get_elem? s.views id ≡ some v → v.people ≡ p ∷ q ∷ [] → p.role ≡ Gateway j → q.role ≡ Gateway k → j ≢ k
   two_numbers s r id v p q j k at two role_p role_q same =
       let few = one_owner_each terms s r (taken j) in let there = one_of (taken j) s.views id v at in
-      let all : owners (taken j) v.people ≡ owners (taken j) (p ∷ []) + owners (taken j) (q ∷ []) = ap (owners (taken j)) two ∙ owners_both (taken j) (p ∷ []) (q ∷ []) in
-      let one : owners (taken j) (p ∷ []) ≡ 1 = cond-true (eqb (place_of p.role) (taken j)) 1 0 (eq-eqb (place_of p.role) (taken j) (ap place_of role_p)) in
-      let other : owners (taken j) (q ∷ []) ≡ 1 = cond-true (eqb (place_of q.role) (taken j)) 1 0 (eq-eqb (place_of q.role) (taken j) (ap place_of role_q ∙ ap taken (sym same))) in
+      let all : owners (taken j) v.people ≡ owners (taken j) (p ∷ []) + owners (taken j) (q ∷ []) =
+      ap (owners (taken j)) two ∙ owners_both (taken j) (p ∷ []) (q ∷ []) in
+      let one : owners (taken j) (p ∷ []) ≡ 1 = cond-true (eqb (word_of_role p.role) (taken j)) 1 0
+      (eq-eqb (word_of_role p.role) (taken j) (ap word_of_role role_p)) in
+      let other : owners (taken j) (q ∷ []) ≡ 1 = cond-true (eqb (word_of_role q.role) (taken j)) 1 0
+      (eq-eqb (word_of_role q.role) (taken j) (ap word_of_role role_q ∙ ap taken (sym same))) in
       let x : ℕ = owners (taken j) v.people in omega arith
 
 not_leb : (a b : ℕ) → ¬ (a ≤ b) → leb a b ≡ false
@@ -78,18 +93,26 @@ not_leb a b gt = by_case (leb a b) refl where
   by_case true e = absurd (gt (leb-true a b e))
 
 -- a beginning of the log that isn't longer begins another
-begun : (status : ℕ → Status) (h g : List Message) → IsFront status h → IsFront status g → length h ≤ length g → h ≡ take (length h) g
+begun : (status : ℕ → Status) (h g : List Message) → IsFront status h → IsFront status g → length h ≤ length g
+    → h ≡ take (length h) g
 begun status h g front_h front_g short = let more = begins status g h front_g front_h short in
-    sym (take-length h) ∙ sym (take-append-le (length h) h more.0 (le_refl (length h))) ∙ ap (take (length h)) (sym more.1)
+    sym (take-length h) ∙ sym (take-append-le (length h) h more.0 (le_refl (length h)))
+    ∙ ap (take (length h)) (sym more.1)
 
 -- of two beginnings of the log the longer goes on from both
-of_longer : (status : ℕ → Status) (h g : List Message) → IsFront status h → IsFront status g → (h ≡ take (length h) (longer h g)) × (g ≡ take (length g) (longer h g)) × IsFront status (longer h g)
+of_longer : (status : ℕ → Status) (h g : List Message) → IsFront status h → IsFront status g
+    → (h ≡ take (length h) (longer h g)) × (g ≡ take (length g) (longer h g)) × IsFront status (longer h g)
 of_longer status h g front_h front_g = by_length (dec_le (length h) (length g)) where
-  by_length : Dec (length h ≤ length g) → (h ≡ take (length h) (longer h g)) × (g ≡ take (length g) (longer h g)) × IsFront status (longer h g)
-  by_length (yes le) = let is : g ≡ longer h g = sym (cond-true (leb (length h) (length g)) g h (le-leb (length h) (length g) le)) in
-      subst (λ (l : List Message). (h ≡ take (length h) l) × (g ≡ take (length g) l) × IsFront status l) is (begun status h g front_h front_g le, sym (take-length g), front_g)
-  by_length (no gt) = let is : h ≡ longer h g = sym (cond-false (leb (length h) (length g)) g h (not_leb (length h) (length g) gt)) in
-      subst (λ (l : List Message). (h ≡ take (length h) l) × (g ≡ take (length g) l) × IsFront status l) is (sym (take-length h), begun status g h front_g front_h (omega arith), front_h)
+  by_length : Dec (length h ≤ length g) → (h ≡ take (length h) (longer h g)) × (g ≡ take (length g) (longer h g))
+      × IsFront status (longer h g)
+  by_length (yes le) = let is : g
+      ≡ longer h g = sym (cond-true (leb (length h) (length g)) g h (le-leb (length h) (length g) le)) in
+      subst (λ (l : List Message). (h ≡ take (length h) l) × (g ≡ take (length g) l) × IsFront status l) is
+      (begun status h g front_h front_g le, sym (take-length g), front_g)
+  by_length (no gt) = let is : h
+      ≡ longer h g = sym (cond-false (leb (length h) (length g)) g h (not_leb (length h) (length g) gt)) in
+      subst (λ (l : List Message). (h ≡ take (length h) l) × (g ≡ take (length g) l) × IsFront status l) is
+      (sym (take-length h), begun status g h front_g front_h (omega arith), front_h)
 
 -- it is no longer than both may be
 longer_most : (h g : List Message) (x : ℕ) → length h ≤ x → length g ≤ x → length (longer h g) ≤ x
@@ -109,7 +132,8 @@ apart_at j k (sent e) ne = dite (ℕ_discrete e.gateway j)
 
 module _ {L : Type 0} (terms : Terms L) (w : ℕ → ℕ) (log : Log) where
   -- what a person knows after it loaded processed and saw a beginning of the log that it may see
-  knows_met : (p : Person) (x : ℕ) (h : List Message) → writes_rows p.role ≡ 0 → x ≤ w processed → IsFront log.status h → Depth w p.role (length h) → Knows terms w log p → Knows terms w log (met p x h)
+  knows_met : (p : Person) (x : ℕ) (h : List Message) → writes_rows p.role ≡ 0 → x ≤ w processed → IsFront log.status h
+      → Depth w p.role (length h) → Knows terms w log p → Knows terms w log (met p x h)
   knows_met p x h other low front deep r = let k = knows_looked terms w log p processed x (λ _. low) r in record {
     role = k.role;
     front = front;
@@ -125,7 +149,8 @@ module _ {L : Type 0} (terms : Terms L) (w : ℕ → ℕ) (log : Log) where
   }
 
   -- two gateways published nothing at one sequence
-  mine_apart : (p q : Person) (j k : ℕ) → p.role ≡ Gateway j → q.role ≡ Gateway k → j ≢ k → Knows terms w log p → Knows terms w log q → (s : ℕ) → (sent_at s p.mine ≡ []) ⊎ (sent_at s q.mine ≡ [])
+  mine_apart : (p q : Person) (j k : ℕ) → p.role ≡ Gateway j → q.role ≡ Gateway k → j ≢ k → Knows terms w log p
+      → Knows terms w log q → (s : ℕ) → (sent_at s p.mine ≡ []) ⊎ (sent_at s q.mine ≡ [])
   mine_apart p q j k role_p role_q ne knows_p knows_q s = ⊎_elim
       (λ none. inl (knows_p.mine s ∙ ap (λ (z : Role). sends_of (number_of z) (log.status s)) role_p ∙ none))
       (λ none. inr (knows_q.mine s ∙ ap (λ (z : Role). sends_of (number_of z) (log.status s)) role_q ∙ none))
@@ -133,52 +158,81 @@ module _ {L : Type 0} (terms : Terms L) (w : ℕ → ℕ) (log : Log) where
 
 module _ {L : Type 0} (terms : Terms L) where
   -- two gateways whose seats came together load processed: both then know the longer history
-  pub loads_meeting : (slots id : ℕ) (me : Seated Boxed L) (p q : Person) (j k : ℕ) → me.0.people ≡ p ∷ q ∷ [] → p.role ≡ Gateway j → q.role ≡ Gateway k
+  pub loads_meeting : (slots id : ℕ) (me : Seated Boxed L) (p q : Person) (j k : ℕ) → me.0.people ≡ p ∷ q ∷ []
+      → p.role ≡ Gateway j → q.role ≡ Gateway k
       → Allows (Lawful terms) slots id me processed (λ x. x) (sees_meeting (step slots processed 0 0 none) me)
   loads_meeting slots id me p q j k two role_p role_q s r wide at _ =
       let w = words_of s in let x : ℕ = w processed in let status = r.log.status in
-      let own_p = r.people id 0 me.0 p at (ap (λ (l : List Person). get_elem? l 0) two) in let own_q = r.people id 1 me.0 q at (ap (λ (l : List Person). get_elem? l 1) two) in
+      let own_p = r.people id 0 me.0 p at (ap (λ (l : List Person). get_elem? l 0) two) in
+      let own_q = r.people id 1 me.0 q at (ap (λ (l : List Person). get_elem? l 1) two) in
       let knows_p = own_p.2 in let knows_q = own_q.2 in
       let low_p : length p.seen ≤ w journalled = subst (λ (z : Role). Depth w z (length p.seen)) role_p knows_p.depth in
       let low_q : length q.seen ≤ w journalled = subst (λ (z : Role). Depth w z (length q.seen)) role_q knows_q.depth in
-      let h : List Message = longer p.seen q.seen in let is = of_longer status p.seen q.seen knows_p.front knows_q.front in let low = longer_most p.seen q.seen (w journalled) low_p low_q in
+      let h : List Message = longer p.seen q.seen in
+      let is = of_longer status p.seen q.seen knows_p.front knows_q.front in
+      let low = longer_most p.seen q.seen (w journalled) low_p low_q in
       let learned : AreMet (length terms.base) p q = record {
         one = is.0;
         other = is.1;
-        apart = mine_apart terms w r.log p q j k role_p role_q (two_numbers terms s r id me.0 p q j k at two role_p role_q) knows_p knows_q;
+        apart = mine_apart terms w r.log p q j k role_p role_q
+            (two_numbers terms s r id me.0 p q j k at two role_p role_q) knows_p knows_q;
         legal_one = legal_front terms w r.log p h r.logged knows_p is.2;
         legal_other = legal_front terms w r.log q h r.logged knows_q is.2;
       } in
-      looks_two terms s r processed id me p q (met p x h) (met q x h) (sees_meeting (step slots processed 0 0 none) me) at two refl refl
-      (knows_met terms w r.log p x h (ap writes_rows role_p) (le_refl x) is.2 (subst (λ (z : Role). Depth w z (length h)) (sym role_p) low) knows_p)
-      (knows_met terms w r.log q x h (ap writes_rows role_q) (le_refl x) is.2 (subst (λ (z : Role). Depth w z (length h)) (sym role_q) low) knows_q)
+      looks_two terms s r processed id me p q (met p x h) (met q x h) (sees_meeting (step slots processed 0 0 none) me)
+      at two refl refl
+      (knows_met terms w r.log p x h (ap writes_rows role_p) (le_refl x) is.2
+      (subst (λ (z : Role). Depth w z (length h)) (sym role_p) low) knows_p)
+      (knows_met terms w r.log q x h (ap writes_rows role_q) (le_refl x) is.2
+      (subst (λ (z : Role). Depth w z (length h)) (sym role_q) low) knows_q)
       (λ a b _ _ both _ _. (
-      let a_is : p ≡ a = some-injective p a (ap (λ (l : List Person). get_elem? l 0) (sym two ∙ both)) in let b_is : q ≡ b = some-injective q b (ap (λ (l : List Person). get_elem? l 1) (sym two ∙ both)) in
-      let told : (z : Person × Person) → Type 0 = λ (z : Person × Person). (◌≡◌ {A = Seated Boxed L} (record me.0 { people = met p x h ∷ met q x h ∷ [] }, me.1)
-      (record me.0 { people = met z.0 x (longer z.0.seen z.1.seen) ∷ met z.1 x (longer z.0.seen z.1.seen) ∷ [] }, me.1)) × AreMet (length me.0.base) z.0 z.1 in
-      subst told (λ i. (a_is i, b_is i)) (refl, subst (λ (l : List Message). AreMet (length l) p q) (sym own_p.1) learned)))
+      let a_is : p ≡ a = some-injective p a (ap (λ (l : List Person). get_elem? l 0) (sym two ∙ both)) in
+      let b_is : q ≡ b = some-injective q b (ap (λ (l : List Person). get_elem? l 1) (sym two ∙ both)) in
+      let told : (z : Person × Person) → Type 0 = λ (z : Person × Person).
+      (◌≡◌ {A = Seated Boxed L} (record me.0 { people = met p x h ∷ met q x h ∷ [] }, me.1)
+      (record me.0 { people = met z.0 x (longer z.0.seen z.1.seen) ∷ met z.1 x (longer z.0.seen z.1.seen) ∷ [] }, me.1))
+      × AreMet (length me.0.base) z.0 z.1 in
+      subst told (λ i. (a_is i, b_is i))
+      (refl, subst (λ (l : List Message). AreMet (length l) p q) (sym own_p.1) learned)))
 
-  -- a gateway and the journaller whose seats came together load processed: the gateway then knows all that the journaller has released
-  pub loads_journal : (slots id : ℕ) (me : Seated Boxed L) (p q : Person) (j : ℕ) → me.0.people ≡ p ∷ q ∷ [] → p.role ≡ Gateway j → q.role ≡ Journal → q.own ≤ length q.seen
+  -- a gateway and the journaller whose seats came together load processed: the gateway then knows all that the
+  -- journaller has released
+  pub loads_journal : (slots id : ℕ) (me : Seated Boxed L) (p q : Person) (j : ℕ) → me.0.people ≡ p ∷ q ∷ []
+      → p.role ≡ Gateway j → q.role ≡ Journal → q.own ≤ length q.seen
       → Allows (Lawful terms) slots id me processed (λ x. x) (sees_journal (step slots processed 0 0 none) me)
   loads_journal slots id me p q j two role_p role_q within_seen s r wide at _ =
       let w = words_of s in let x : ℕ = w processed in let status = r.log.status in
-      let own_p = r.people id 0 me.0 p at (ap (λ (l : List Person). get_elem? l 0) two) in let own_q = r.people id 1 me.0 q at (ap (λ (l : List Person). get_elem? l 1) two) in
+      let own_p = r.people id 0 me.0 p at (ap (λ (l : List Person). get_elem? l 0) two) in
+      let own_q = r.people id 1 me.0 q at (ap (λ (l : List Person). get_elem? l 1) two) in
       let knows_p = own_p.2 in let knows_q = own_q.2 in
       let low_p : length p.seen ≤ w journalled = subst (λ (z : Role). Depth w z (length p.seen)) role_p knows_p.depth in
-      let own_is : w journalled ≡ q.own = subst (λ (z : Role). w (place_of z) ≡ q.own) role_q knows_q.own in
-      let h : List Message = take q.own q.seen in let long : length h ≡ q.own = length-take-le q.own q.seen within_seen in
+      let own_is : w journalled ≡ q.own = subst (λ (z : Role). w (word_of_role z) ≡ q.own) role_q knows_q.own in
+      let h : List Message = take q.own q.seen in
+      let long : length h ≡ q.own = length-take-le q.own q.seen within_seen in
       let front : IsFront status h = front_taken status q.own q.seen knows_q.front in
-      let learned : MeetsJournal (length terms.base) p q = record { begins = begun status p.seen h knows_p.front front (omega arith); legal = legal_front terms w r.log p h r.logged knows_p front } in
-      looks_two terms s r processed id me p q (met p x h) (met q x q.seen) (sees_journal (step slots processed 0 0 none) me) at two refl refl
-      (knows_met terms w r.log p x h (ap writes_rows role_p) (le_refl x) front (subst (λ (z : Role). Depth w z (length h)) (sym role_p) (let low : length h ≤ w journalled = omega arith in low)) knows_p)
+      let learned : MeetsJournal (length terms.base) p q =
+      record {
+        begins = begun status p.seen h knows_p.front front (omega arith);
+        legal = legal_front terms w r.log p h r.logged knows_p front;
+      } in
+      looks_two terms s r processed id me p q (met p x h) (met q x q.seen)
+      (sees_journal (step slots processed 0 0 none) me) at two refl refl
+      (knows_met terms w r.log p x h (ap writes_rows role_p) (le_refl x) front
+      (subst (λ (z : Role). Depth w z (length h)) (sym role_p)
+      (let low : length h ≤ w journalled = omega arith in low)) knows_p)
       (knows_met terms w r.log q x q.seen (ap writes_rows role_q) (le_refl x) knows_q.front knows_q.depth knows_q)
       (λ a b _ both _ _ _. (
-      let a_is : p ≡ a = some-injective p a (ap (λ (l : List Person). get_elem? l 0) (sym two ∙ both)) in let b_is : q ≡ b = some-injective q b (ap (λ (l : List Person). get_elem? l 1) (sym two ∙ both)) in
-      let told : (z : Person × Person) → Type 0 = λ (z : Person × Person). (◌≡◌ {A = Seated Boxed L} (record me.0 { people = met p x h ∷ met q x q.seen ∷ [] }, me.1)
-      (record me.0 { people = met z.0 x (take z.1.own z.1.seen) ∷ met z.1 x z.1.seen ∷ [] }, me.1)) × MeetsJournal (length me.0.base) z.0 z.1 in
-      subst told (λ i. (a_is i, b_is i)) (refl, subst (λ (l : List Message). MeetsJournal (length l) p q) (sym own_p.1) learned)))
+      let a_is : p ≡ a = some-injective p a (ap (λ (l : List Person). get_elem? l 0) (sym two ∙ both)) in
+      let b_is : q ≡ b = some-injective q b (ap (λ (l : List Person). get_elem? l 1) (sym two ∙ both)) in
+      let told : (z : Person × Person) → Type 0 = λ (z : Person × Person).
+      (◌≡◌ {A = Seated Boxed L} (record me.0 { people = met p x h ∷ met q x q.seen ∷ [] }, me.1)
+      (record me.0 { people = met z.0 x (take z.1.own z.1.seen) ∷ met z.1 x z.1.seen ∷ [] }, me.1))
+      × MeetsJournal (length me.0.base) z.0 z.1 in
+      subst told (λ i. (a_is i, b_is i))
+      (refl, subst (λ (l : List Message). MeetsJournal (length l) p q) (sym own_p.1) learned)))
 
 -- the seat that took in another has both persons
-pub both_people : {L : Type 0} (v w : View L) (both : Seated Boxed L) → v.people ≡ person v ∷ [] → w.people ≡ person w ∷ [] → both ≡ (together v w, []) → both.0.people ≡ person v ∷ person w ∷ []
-both_people v w both one other is = ap (λ (z : Seated Boxed _). z.0.people) is ∙ ap (λ (ps : List Person). ps ++ w.people) one ∙ ap (λ (ps : List Person). person v ∷ ps) other
+pub both_people : {L : Type 0} (v w : View L) (both : Seated Boxed L) → v.people ≡ person v ∷ []
+    → w.people ≡ person w ∷ [] → both ≡ (together v w, []) → both.0.people ≡ person v ∷ person w ∷ []
+both_people v w both one other is = ap (λ (z : Seated Boxed _). z.0.people) is
+    ∙ ap (λ (ps : List Person). ps ++ w.people) one ∙ ap (λ (ps : List Person). person v ∷ ps) other

@@ -1,5 +1,6 @@
 -- A function of numbers changed at one place, and words read before and after one of them is written.
-use Rattle.std.proofs.Common.{◌≡◌, ◌≢◌, ℕ, ◌<◌, List, cond, eqb, length, get_or, set, refl, ap, sym, subst, eq-eqb, ne_eqb, get_or-set_other, get_or-set_same}
+use Rattle.std.proofs.Common.{◌≡◌, ◌≢◌, ℕ, ◌<◌, List, cond, eqb, length, get_or, set, refl, ap, sym, subst, eq-eqb}
+use Rattle.std.proofs.Common.{ne_eqb, get_or-set_other, get_or-set_same}
 use mathlib.Core.Logic.{dite}
 use native.Mathlib.Decide.{ℕ_discrete}
 

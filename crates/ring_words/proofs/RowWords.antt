@@ -28,4 +28,5 @@ output_else ws n m p q i j x low low_j differs = word_else ws (out_row n m q j) 
 pub row_apart : (ws : List ℕ) (n m q j s i x : ℕ) → 0 < n → i < 64
     → get_or (set ws (out_row n m q j) x) (in_row n s i) 0 ≡ get_or ws (in_row n s i) 0
 row_apart ws n m q j s i x some_row low =
-    word_else ws (out_row n m q j) (in_row n s i) x (λ e. no_output n m q j (in_row n s i) (row_before n s i some_row low) (sym e))
+    word_else ws (out_row n m q j) (in_row n s i) x
+    (λ e. no_output n m q j (in_row n s i) (row_before n s i some_row low) (sym e))

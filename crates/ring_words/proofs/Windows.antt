@@ -5,7 +5,10 @@ use Rattle.atomic_table.proofs.Lists.{one_turn}
 use Rattle.ring_words.specs.Places.{in_row, table_words}
 
 pub same_row : (n s t i k : ℕ) → i < 64 → k < 64 → in_row n s i ≡ in_row n t k → (s % n ≡ t % n) × (i ≡ k)
-same_row n s t i k a b e = let x : ℕ = s % n in let y : ℕ = t % n in let e' : 128 + 64 * x + i ≡ 128 + 64 * y + k = e in ((let g : x ≡ y = omega arith in g), (let g : i ≡ k = omega arith in g))
+same_row n s t i k a b e = let x : ℕ = s % n in
+    let y : ℕ = t % n in
+    let e' : 128 + 64 * x + i ≡ 128 + 64 * y + k = e in
+    ((let g : x ≡ y = omega arith in g), (let g : i ≡ k = omega arith in g))
 
 -- two sequences of one window, in one row, are one
 pub one_window : (t a b n : ℕ) → t ≤ a → t ≤ b → a < t + n → b < t + n → a % n ≡ b % n → a ≡ b

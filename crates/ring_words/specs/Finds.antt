@@ -13,7 +13,7 @@ use Rattle.command_words.specs.Packing.{command_words, IsPackable}
 use Rattle.ring_words.specs.Texts.{text_words, IsPackableText}
 use Rattle.ring_words.specs.Seats.{looked, looked_twice, knowing, saw, last_from}
 use Rattle.ring_words.specs.At.{At, Steps}
-use Rattle.ring_words.specs.Steps.{lesser, Reaches, IsLegal}
+use Rattle.ring_words.specs.Steps.{lesser_of, Reaches, IsLegal}
 
 -- word i of the command of the entry at s, which the person knows, is x
 abbrev pub IsCommandWord : (ℕ → Message → Command) → Person → ℕ → ℕ → ℕ → Type 0
@@ -41,7 +41,7 @@ module _ {L : Type 0} where
 
   -- journalled was loaded as x: all entries below it and below the unmarshalled value that was loaded last are known
   abbrev pub FindsJournalled : At L → ℕ → At L → Type 0
-  FindsJournalled old x new = (rest : List Message) × Reaches (lesser (last_from unmarshalled 0 old.who.loads) x) old.who.seen rest
+  FindsJournalled old x new = (rest : List Message) × Reaches (lesser_of (last_from unmarshalled 0 old.who.loads) x) old.who.seen rest
       × Steps old (knowing (looked old.who journalled x) rest) new
 
   -- published was loaded as x, which isn't below the marshaller's word: a history is known that has so many outputs

@@ -51,9 +51,9 @@ sent_at s [] = []
 sent_at s (p ∷ ps) = cond (p.sequence == s) (p.entry ∷ sent_at s ps) (sent_at s ps)
 
 -- how often s stands in the list
-abbrev pub times : ℕ → List ℕ → ℕ
-times s [] = 0
-times s (c ∷ cs) = cond (c == s) (suc (times s cs)) (times s cs)
+abbrev pub times_in : ℕ → List ℕ → ℕ
+times_in s [] = 0
+times_in s (c ∷ cs) = cond (c == s) (suc (times_in s cs)) (times_in s cs)
 
 -- the list without s
 abbrev pub without : ℕ → List ℕ → List ℕ

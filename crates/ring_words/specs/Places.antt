@@ -45,12 +45,12 @@ abbrev pub table_words : ℕ → ℕ → ℕ
 table_words n m = 128 + 64 * n + 128 * m
 
 -- the control word that this role alone stores
-abbrev pub place_of : Role → ℕ
-place_of Process = processed
-place_of Unmarshal = unmarshalled
-place_of Journal = journalled
-place_of Marshal = marshalled
-place_of (Gateway k) = taken k
+abbrev pub word_of_role : Role → ℕ
+word_of_role Process = processed
+word_of_role Unmarshal = unmarshalled
+word_of_role Journal = journalled
+word_of_role Marshal = marshalled
+word_of_role (Gateway k) = taken k
 
 -- a gateway's number; a stage has 0
 abbrev pub number_of : Role → ℕ

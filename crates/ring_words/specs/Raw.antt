@@ -18,6 +18,6 @@ abbrev pub raw_count : Message → ℕ
 raw_count e = suc ((length e.bytes + 7) / 8)
 
 -- these words are the message
-pub record Spells (words : List ℕ) (e : Message) : Type 0 where
+pub record SpellsMessage (words : List ℕ) (e : Message) : Type 0 where
   pub long : length words ≡ raw_count e
   pub each : (i : ℕ) → i < raw_count e → slice_index_or words i 0 ≡ raw_word e i

@@ -12,14 +12,14 @@ use Rattle.ring_words.specs.declared.view.Load.{Load}
 use Rattle.ring_words.specs.declared.view.Part.{Part}
 use Rattle.ring_words.specs.declared.view.Person.{Person}
 use Rattle.ring_words.specs.declared.view.View.{View}
-use Rattle.ring_words.specs.Places.{processed, claim, unmarshalled, journalled, marshalled, taken, published, first_row, in_row, out_row, table_words, place_of, number_of}
-use Rattle.ring_words.specs.declared.report.Report.{Report}
+use Rattle.ring_words.specs.Places.{processed, claim, unmarshalled, journalled, marshalled, taken, published, first_row, in_row, out_row, table_words, word_of_role, number_of}
+use Rattle.ring_words.specs.declared.report.PlacedOutput.{PlacedOutput}
 use Rattle.ring_words.specs.Slots.{Boxed, report_of, OutOf, Filled}
-use Rattle.ring_words.specs.Log.{IsEntry, unclaimed, old, claimed, sent, Log, entry_of, sends_of, claims_of, sent_at, times, IsFront}
+use Rattle.ring_words.specs.Log.{IsEntry, unclaimed, old, claimed, sent, Log, entry_of, sends_of, claims_of, sent_at, times_in, IsFront}
 use Rattle.ring_words.specs.Raw.{raw_word, raw_count}
 use Rattle.command_words.specs.Packing.{IsPackable}
 use Rattle.ring_words.specs.Texts.{text_words, IsPackableText}
-use Rattle.ring_words.specs.Terms.{Terms, commands_of, command_of, outputs_of, text_of}
+use Rattle.ring_words.specs.Terms.{Terms, commands_of, command_by, outputs_by, text_of}
 
 -- the number of one of g gateways
 abbrev pub IsGateway : ℕ → ℕ → Type 0
@@ -46,8 +46,8 @@ abbrev pub Stands : ℕ → (ℕ → ℕ) → Log → ℕ → Part → Type 0
 Stands n w log k t = (i x : ℕ) → get_elem? t.words i ≡ some x → (i < 41) × (log.status t.sequence ≡ claimed k) × (w (in_row n t.sequence (i + 1)) ≡ x)
 
 -- the words of a command that were stored stand in their row
-abbrev pub StandsBehind : ℕ → (ℕ → ℕ) → Part → Type 0
-StandsBehind n w t = (i x : ℕ) → get_elem? t.words i ≡ some x → (i < 16) × (w (in_row n t.sequence (i + 48)) ≡ x)
+abbrev pub CommandStands : ℕ → (ℕ → ℕ) → Part → Type 0
+CommandStands n w t = (i x : ℕ) → get_elem? t.words i ≡ some x → (i < 16) × (w (in_row n t.sequence (i + 48)) ≡ x)
 
 -- the word of an output that was stored stands in the row of its place, in a ring of m rows behind n input rows
 abbrev pub StandsOut : ℕ → ℕ → (ℕ → ℕ) → Part → Type 0
@@ -60,7 +60,7 @@ StandsText n m w t = (i x : ℕ) → get_elem? t.words i ≡ some x → (i < 64)
 -- the row under way, by role; the processor's is that of the next output
 abbrev pub PartOf : ℕ → ℕ → (ℕ → ℕ) → Log → Role → Part → Type 0
 PartOf n m w log Process t = (t.sequence ≡ w published) × StandsOut n m w t
-PartOf n m w log Unmarshal t = StandsBehind n w t
+PartOf n m w log Unmarshal t = CommandStands n w t
 PartOf n m w log Journal t = Unit {0}
 PartOf n m w log Marshal t = StandsText n m w t
 PartOf n m w log (Gateway k) t = Stands n w log k t
@@ -68,7 +68,7 @@ PartOf n m w log (Gateway k) t = Stands n w log k t
 -- how many of these persons store the word at k
 abbrev pub owners : ℕ → List Person → ℕ
 owners k [] = 0
-owners k (p ∷ ps) = cond (place_of p.role == k) (suc (owners k ps)) (owners k ps)
+owners k (p ∷ ps) = cond (word_of_role p.role == k) (suc (owners k ps)) (owners k ps)
 
 -- a person at the start: it knows this history and its own word
 abbrev pub newcomer : Role → List Message → ℕ → Person
@@ -125,14 +125,14 @@ module _ {L : Type 0} where
     pub short : to ≤ length seen
     pub commands : (s : ℕ) (e : Message) → get_elem? seen s ≡ some e → from ≤ s → s < to
         → (i x : ℕ) → get_elem? (commands_of terms s e) i ≡ some x → w (in_row terms.rows s (i + 48)) ≡ x
-    pub packable : (s : ℕ) (e : Message) → get_elem? seen s ≡ some e → from ≤ s → s < to → IsPackable e.gateway (command_of terms s e)
+    pub packable : (s : ℕ) (e : Message) → get_elem? seen s ≡ some e → from ≤ s → s < to → IsPackable e.gateway (command_by terms s e)
 
   -- the texts of the outputs of a history from one place up to another stand whole in their rows, and their words keep them
   pub record WrittenTexts (terms : Terms L) (w : ℕ → ℕ) (seen : List Message) (from to : ℕ) : Type 0 where
-    pub short : from < to → to ≤ length (outputs_of terms seen)
-    pub texts : (q : ℕ) (o : Output) → get_elem? (outputs_of terms seen) q ≡ some o → from ≤ q → q < to
+    pub short : from < to → to ≤ length (outputs_by terms seen)
+    pub texts : (q : ℕ) (o : Output) → get_elem? (outputs_by terms seen) q ≡ some o → from ≤ q → q < to
         → (i x : ℕ) → get_elem? (text_words (text_of terms o q)) i ≡ some x → w (out_row terms.rows terms.output_rows q (i + 64)) ≡ x
-    pub readable : (q : ℕ) (o : Output) → get_elem? (outputs_of terms seen) q ≡ some o → from ≤ q → q < to → IsPackableText (text_of terms o q)
+    pub readable : (q : ℕ) (o : Output) → get_elem? (outputs_by terms seen) q ≡ some o → from ≤ q → q < to → IsPackableText (text_of terms o q)
 
   -- what a person knows: a beginning of the log, no longer than its role may know, its own word, exactly its publications and claims,
   -- what it loaded, its row under way, of unmarshaller and marshaller the commands or texts that they wrote before that row, and whose slot it has out
@@ -140,9 +140,9 @@ module _ {L : Type 0} where
     pub role : IsRole terms.gateways p.role
     pub front : IsFront log.status p.seen
     pub depth : Depth w p.role (length p.seen)
-    pub own : w (place_of p.role) ≡ p.own
+    pub own : w (word_of_role p.role) ≡ p.own
     pub mine : (s : ℕ) → sent_at s p.mine ≡ sends_of (number_of p.role) (log.status s)
-    pub claims : (s : ℕ) → times s p.claims ≡ claims_of (number_of p.role) (log.status s)
+    pub claims : (s : ℕ) → times_in s p.claims ≡ claims_of (number_of p.role) (log.status s)
     pub loads : (i : ℕ) (l : Load) → get_elem? p.loads i ≡ some l → l.place < first_row → l.value ≤ w l.place
     pub part : PartOf terms.rows terms.output_rows w log p.role p.part
     pub written : p.role ≡ Unmarshal → Written terms w p.seen p.own p.part.sequence
@@ -158,7 +158,7 @@ module _ {L : Type 0} where
         → (i : ℕ) → i < raw_count e → w (in_row terms.rows s (i + 1)) ≡ raw_word e i
     pub commands : (s : ℕ) (e : Message) → log.status s ≡ sent e → s < w unmarshalled → w claim ≤ s + terms.rows
         → (i x : ℕ) → get_elem? (commands_of terms s e) i ≡ some x → w (in_row terms.rows s (i + 48)) ≡ x
-    pub packable : (s : ℕ) (e : Message) → log.status s ≡ sent e → s < w unmarshalled → IsPackable e.gateway (command_of terms s e)
+    pub packable : (s : ℕ) (e : Message) → log.status s ≡ sent e → s < w unmarshalled → IsPackable e.gateway (command_by terms s e)
 
   -- The output ring. The outputs that go through it are those of the history that is kept, which is the log's beginning: all of the
   -- entries processed are published, and maybe some of the next entry's. No row is used again before each gateway has taken its output: until
@@ -171,22 +171,22 @@ module _ {L : Type 0} where
     pub marshalled_published : w marshalled ≤ w published
     pub taken_marshalled : (k : ℕ) → IsGateway terms.gateways k → w (taken k) ≤ w marshalled
     pub free : (k : ℕ) → IsGateway terms.gateways k → w published ≤ w (taken k) + terms.output_rows
-    pub least : length (outputs_of terms (take (w processed) log.history)) ≤ w published
-    pub most : w published ≤ length (outputs_of terms (take (suc (w processed)) log.history))
+    pub least : length (outputs_by terms (take (w processed) log.history)) ≤ w published
+    pub most : w published ≤ length (outputs_by terms (take (suc (w processed)) log.history))
     pub addresses : (k q : ℕ) (o : Output) → IsGateway terms.gateways k → w (taken k) ≤ q → q < w published
-        → get_elem? (outputs_of terms log.history) q ≡ some o
+        → get_elem? (outputs_by terms log.history) q ≡ some o
         → w (out_row terms.rows terms.output_rows q 0) ≡ o.to
     pub reports : (k q : ℕ) (o : Output) → IsGateway terms.gateways k → w (taken k) ≤ q → q < w published
-        → get_elem? (outputs_of terms log.history) q ≡ some o
+        → get_elem? (outputs_by terms log.history) q ≡ some o
         → log.slots.reports (q % terms.output_rows) ≡ some (report_of o q)
-    pub filling : (f : Report) → log.slots.filling ≡ Some f → (f.place ≡ w published) × (w published < w marshalled + terms.output_rows)
-    pub reading : (f : Report) → log.slots.reading ≡ Some f
+    pub filling : (f : PlacedOutput) → log.slots.filling ≡ Some f → (f.place ≡ w published) × (w published < w marshalled + terms.output_rows)
+    pub reading : (f : PlacedOutput) → log.slots.reading ≡ Some f
         → (log.slots.reports (f.place % terms.output_rows) ≡ some f) × (w marshalled ≤ f.place) × (f.place < w published)
     pub texts : (k q : ℕ) (o : Output) → IsGateway terms.gateways k → w (taken k) ≤ q → q < w marshalled
-        → get_elem? (outputs_of terms log.history) q ≡ some o
+        → get_elem? (outputs_by terms log.history) q ≡ some o
         → (i x : ℕ) → get_elem? (text_words (text_of terms o q)) i ≡ some x → w (out_row terms.rows terms.output_rows q (i + 64)) ≡ x
     pub readable : (k q : ℕ) (o : Output) → IsGateway terms.gateways k → w (taken k) ≤ q → q < w marshalled
-        → get_elem? (outputs_of terms log.history) q ≡ some o
+        → get_elem? (outputs_by terms log.history) q ≡ some o
         → IsPackableText (text_of terms o q)
 
   -- how many persons of all views store the word at k

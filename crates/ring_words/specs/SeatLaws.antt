@@ -13,17 +13,17 @@ use Rattle.ring_words.specs.declared.view.Load.{Load}
 use Rattle.ring_words.specs.declared.view.Person.{Person}
 use Rattle.ring_words.specs.Places.{claim, processed, taken}
 use Rattle.ring_words.specs.Rule.{IsGateway}
-use Rattle.ring_words.specs.Seats.{load_of, looked, last_from, last_of, AreTaken}
+use Rattle.ring_words.specs.Seats.{load_of, looked, last_from, last_load, AreTaken}
 use Rattle.ring_words.specs.At.{Opened, At, at, seated, IsAt, Steps}
 use Rattle.ring_words.specs.Steps.{ClaimsUpTo, HasRoom, HasOutputRoom, Reaches}
 
 -- the value that was just loaded is the last one of its word
-pub last_now : (k : ℕ) (d : Option ℕ) (x : ℕ) (ls : List Load) → last_of k d (ls ++ load_of k x ∷ []) ≡ Some x
+pub last_now : (k : ℕ) (d : Option ℕ) (x : ℕ) (ls : List Load) → last_load k d (ls ++ load_of k x ∷ []) ≡ Some x
 last_now k d x [] = cond-true (eqb k k) (Some x) d (eq-eqb k k refl)
 last_now k d x (l ∷ ls) = last_now k (cond (eqb l.place k) (Some l.value) d) x ls
 
 -- a load of another word leaves the last one of this word
-pub last_stays : (k j : ℕ) (d : Option ℕ) (x : ℕ) (ls : List Load) → j ≢ k → last_of k d (ls ++ load_of j x ∷ []) ≡ last_of k d ls
+pub last_stays : (k j : ℕ) (d : Option ℕ) (x : ℕ) (ls : List Load) → j ≢ k → last_load k d (ls ++ load_of j x ∷ []) ≡ last_load k d ls
 last_stays k j d x [] ne = cond-false (eqb j k) (Some x) d (ne_eqb j k ne)
 last_stays k j d x (l ∷ ls) ne = last_stays k j (cond (eqb l.place k) (Some l.value) d) x ls ne
 
@@ -32,7 +32,7 @@ abbrev Found : ℕ → ℕ → List Load → Type 0
 Found k x ls = (i : ℕ) × ((l : Load) × (get_elem? ls i ≡ some l) × (l.place ≡ k) × (l.value ≡ x))
 
 -- the last value of a word was found by a load, where it isn't the one that stood for none
-last_found : (k : ℕ) (d : Option ℕ) (x : ℕ) (ls : List Load) → last_of k d ls ≡ Some x → (d ≡ Some x) ⊎ Found k x ls
+last_found : (k : ℕ) (d : Option ℕ) (x : ℕ) (ls : List Load) → last_load k d ls ≡ Some x → (d ≡ Some x) ⊎ Found k x ls
 last_found k d x [] is = inl is
 last_found k d x (l ∷ ls) is = by_last (last_found k (cond (eqb l.place k) (Some l.value) d) x ls is) where
   by_place : Dec (l.place ≡ k) → cond (eqb l.place k) (Some l.value) d ≡ Some x → (d ≡ Some x) ⊎ Found k x (l ∷ ls)
@@ -44,14 +44,14 @@ last_found k d x (l ∷ ls) is = by_last (last_found k (cond (eqb l.place k) (So
   by_last (inr (i, (m, there, place, value))) = inr (suc i, (m, there, place, value))
 
 -- the processed value that was loaded last leaves room
-pub room_last_loaded : (n : ℕ) (p : Person) (x s : ℕ) → last_of processed None p.loads ≡ Some x → s < x + n → HasRoom n p s
+pub room_last_loaded : (n : ℕ) (p : Person) (x s : ℕ) → last_load processed None p.loads ≡ Some x → s < x + n → HasRoom n p s
 room_last_loaded n p x s is room = by_load (last_found processed None x p.loads is) where
   by_load : (None ≡ Some x) ⊎ Found processed x p.loads → HasRoom n p s
   by_load (inl none) = absurd (let none_is = none in cc)
   by_load (inr (i, (l, there, place, value))) = (i, (l, there, place, subst (λ (y : ℕ). s < y + n) (sym value) room))
 
 -- the taken values that were loaded last leave room for an output
-pub output_room_last_loaded : (g m : ℕ) (p : Person) (q : ℕ) → ((k : ℕ) → IsGateway g k → (x : ℕ) × (last_of (taken k) None p.loads ≡ Some x) × (q < x + m)) → HasOutputRoom g m p q
+pub output_room_last_loaded : (g m : ℕ) (p : Person) (q : ℕ) → ((k : ℕ) → IsGateway g k → (x : ℕ) × (last_load (taken k) None p.loads ≡ Some x) × (q < x + m)) → HasOutputRoom g m p q
 output_room_last_loaded g m p q rooms k gateway = let room = rooms k gateway in by_load room.0 room.2 (last_found (taken k) None room.0 p.loads room.1) where
   by_load : (x : ℕ) → q < x + m → (None ≡ Some x) ⊎ Found (taken k) x p.loads → (i : ℕ) × ((l : Load) × (get_elem? p.loads i ≡ some l) × (l.place ≡ taken k) × (q < l.value + m))
   by_load x room (inl none) = absurd (let none_is = none in cc)
@@ -67,7 +67,7 @@ kept_now values ls i j x inside is kept = subst (λ (place : ℕ). AreTaken (set
   length-set values i (Some x) ∙ kept.0,
   λ k few. dite (ℕ_discrete k i)
       (λ here. (let long = kept.0 in ap (λ (j : ℕ). get_or (set values i (Some x)) j None) here ∙ get_or-set_same values i (Some x) None (omega arith)
-      ∙ sym (ap (λ (j : ℕ). last_of (taken (suc j)) None (ls ++ load_of (taken (suc i)) x ∷ [])) here ∙ last_now (taken (suc i)) None x ls)))
+      ∙ sym (ap (λ (j : ℕ). last_load (taken (suc j)) None (ls ++ load_of (taken (suc i)) x ∷ [])) here ∙ last_now (taken (suc i)) None x ls)))
       (λ other. get_or-set_other values i k (Some x) None other ∙ kept.1 k few ∙ sym (last_stays (taken (suc k)) (taken (suc i)) None x ls (λ (e : taken (suc i) ≡ taken (suc k)). other (omega arith)))),
 )
 

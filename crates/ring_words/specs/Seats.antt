@@ -5,7 +5,7 @@ use Rattle.ring_words.specs.declared.view.Role.{Role}
 use Rattle.ring_words.specs.declared.view.Role.TheVariants.{Process, Unmarshal, Journal}
 use Rattle.ring_words.specs.declared.view.Sent.{Sent}
 use Rattle.ring_words.specs.declared.view.Load.{Load}
-use Rattle.ring_words.specs.declared.report.Report.{Report}
+use Rattle.ring_words.specs.declared.report.PlacedOutput.{PlacedOutput}
 use Rattle.ring_words.specs.declared.view.Person.{Person}
 use Rattle.ring_words.specs.declared.view.View.{View}
 use Rattle.ring_words.specs.Places.{taken}
@@ -13,9 +13,9 @@ use Rattle.ring_words.specs.Log.{without}
 use Rattle.ring_words.specs.Rule.{newcomer}
 
 -- the first of these persons; where there is none, a processor that knows nothing
-abbrev pub first_of : List Person → Person
-first_of [] = newcomer Process [] 0
-first_of (p ∷ ps) = p
+abbrev pub first_person : List Person → Person
+first_person [] = newcomer Process [] 0
+first_person (p ∷ ps) = p
 
 abbrev pub load_of : ℕ → ℕ → Load
 load_of k x = record { place = k; value = x }
@@ -61,13 +61,13 @@ last_from k d [] = d
 last_from k d (l ∷ ls) = last_from k (cond (l.place == k) l.value d) ls
 
 -- the same, where there may be none
-abbrev pub last_of : ℕ → Option ℕ → List Load → Option ℕ
-last_of k d [] = d
-last_of k d (l ∷ ls) = last_of k (cond (l.place == k) (Some l.value) d) ls
+abbrev pub last_load : ℕ → Option ℕ → List Load → Option ℕ
+last_load k d [] = d
+last_load k d (l ∷ ls) = last_load k (cond (l.place == k) (Some l.value) d) ls
 
 -- these are the values that the loads found last of the taken words of gateways 1 to 8
 abbrev pub AreTaken : List (Option ℕ) → List Load → Type 0
-AreTaken values ls = (length values ≡ 8) × ((k : ℕ) → k < 8 → slice_index_or values k None ≡ last_of (taken (suc k)) None ls)
+AreTaken values ls = (length values ≡ 8) × ((k : ℕ) → k < 8 → slice_index_or values k None ≡ last_load (taken (suc k)) None ls)
 
 -- as where none was loaded
 abbrev pub no_values : List (Option ℕ)
@@ -78,7 +78,7 @@ abbrev pub IsReader : Role → Type 0
 IsReader r = (r ≡ Unmarshal) ⊎ (r ≡ Journal)
 
 -- it has this report out, or none
-abbrev pub with_out : Person → Option Report → Person
+abbrev pub with_out : Person → Option PlacedOutput → Person
 with_out p out = record p { out = out }
 
 -- it loaded the word at k twice, as x
@@ -91,7 +91,7 @@ moved p x = record p { own = x }
 
 module _ {L : Type 0} where
   abbrev pub person : View L → Person
-  person v = first_of v.people
+  person v = first_person v.people
 
   -- a seat in use has one person
   abbrev pub IsAlone : View L → Type 0
@@ -102,8 +102,8 @@ module _ {L : Type 0} where
   alone v q = record v { people = q ∷ [] }
 
   -- the first person gets a seat of its own, and the others stay
-  abbrev pub others : View L → View L
-  others v = record v { people = drop 1 v.people }
+  abbrev pub others_stay : View L → View L
+  others_stay v = record v { people = drop 1 v.people }
 
   abbrev pub apart : View L → View L
   apart v = alone v (person v)

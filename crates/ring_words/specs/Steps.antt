@@ -8,14 +8,14 @@ use Rattle.venue_model.specs.History.{Message}
 use Rattle.venue_model.specs.Texts.{Text}
 use Rattle.venue_model.specs.declared.commands.Command.{Command}
 use Rattle.venue_model.specs.declared.outputs.Output.{Output}
-use Rattle.ring_words.specs.declared.report.Report.{Report}
+use Rattle.ring_words.specs.declared.report.PlacedOutput.{PlacedOutput}
 use Rattle.ring_words.specs.declared.view.Load.{Load}
 use Rattle.ring_words.specs.declared.view.Part.{Part}
 use Rattle.ring_words.specs.declared.view.Person.{Person}
 use Rattle.ring_words.specs.declared.view.View.{View}
 use Rattle.ring_words.specs.Places.{processed, claim, unmarshalled, journalled, marshalled, taken, published, in_row, out_row, number_of}
-use Rattle.ring_words.specs.Log.{IsEntry, times, sent_at, published_at}
-use Rattle.ring_words.specs.Raw.{raw_word, raw_count, Spells}
+use Rattle.ring_words.specs.Log.{IsEntry, times_in, sent_at, published_at}
+use Rattle.ring_words.specs.Raw.{raw_word, raw_count, SpellsMessage}
 use Rattle.command_words.specs.Packing.{command_words, IsPackable}
 use Rattle.ring_words.specs.Slots.{Boxed, report_of}
 use Rattle.ring_words.specs.Texts.{text_words, IsPackableText}
@@ -43,11 +43,11 @@ abbrev pub IsLegal : ℕ → Person → List Message → Type 0
 IsLegal start p h = (s : ℕ) → s < length h → sent_at s p.mine ≡ published_at start (number_of p.role) h s
 
 -- word i of the row of s goes on with the row under way, or begins it
-abbrev pub GoesOn : Part → ℕ → ℕ → Type 0
-GoesOn t s i = (i ≡ 0) ⊎ ((t.sequence ≡ s) × (i ≤ length t.words))
+abbrev pub GoesOnRow : Part → ℕ → ℕ → Type 0
+GoesOnRow t s i = (i ≡ 0) ⊎ ((t.sequence ≡ s) × (i ≤ length t.words))
 
-abbrev pub lesser : ℕ → ℕ → ℕ
-lesser a b = if nat_le a b then a else b
+abbrev pub lesser_of : ℕ → ℕ → ℕ
+lesser_of a b = if nat_le a b then a else b
 
 -- with these entries more as many as x are known; no more are added than that takes
 abbrev pub Reaches : ℕ → List Message → List Message → Type 0
@@ -121,7 +121,7 @@ module _ {S L : Type 0} where
 
   -- a store of a raw word in a row that the gateway claimed
   abbrev pub stores_raw : ℕ → Step S → Seated S L → ℕ → Seated S L → Type 0
-  stores_raw n st m r m' = (s i : ℕ) → 0 < times s (person m.0).claims → i < 41 → st.word ≡ in_row n s (i + 1)
+  stores_raw n st m r m' = (s i : ℕ) → 0 < times_in s (person m.0).claims → i < 41 → st.word ≡ in_row n s (i + 1)
       → Became m (stored (person m.0) s i r) m'
 
   -- a store of a command word in the row of a sequence that is known and not released
@@ -131,7 +131,7 @@ module _ {S L : Type 0} where
 
   -- a store of availability, when the words stored spell the message
   abbrev pub marks_sent : Step S → Seated S L → ℕ → Seated S L → Type 0
-  marks_sent st m r m' = (s : ℕ) (e : Message) → r ≡ suc s → Spells (person m.0).part.words e → IsEntry e → Became m (marked (person m.0) s e) m'
+  marks_sent st m r m' = (s : ℕ) (e : Message) → r ≡ suc s → SpellsMessage (person m.0).part.words e → IsEntry e → Became m (marked (person m.0) s e) m'
 
   -- a load of the availability word of the next sequence
   abbrev pub sees_mark : Step S → Seated S L → ℕ → Seated S L → Type 0
@@ -152,7 +152,7 @@ module _ {S L : Type 0} where
   -- a load of journalled by the processor: it knows what lies below that and below the unmarshalled value that it loaded last
   abbrev pub sees_journalled : Step S → Seated S L → ℕ → Seated S L → Type 0
   sees_journalled st m r m' = (length (person m.0).seen ≤ r) × (r ≤ 2 ^ 48)
-      × ((rest : List Message) × Reaches (lesser (last_from unmarshalled 0 (person m.0).loads) r) (person m.0).seen rest
+      × ((rest : List Message) × Reaches (lesser_of (last_from unmarshalled 0 (person m.0).loads) r) (person m.0).seen rest
       × Became m (knowing (looked (person m.0) journalled r) rest) m')
 
   -- a load of a command word of an entry that the processor knows and hasn't released
@@ -174,7 +174,7 @@ module _ {S L : Type 0} where
   -- a store of the address of the output at the next place, in its row, whose slot is taken out for its report
   abbrev pub puts_address : ℕ → ℕ → Step S → Seated S L → ℕ → Seated S L → Type 0
   puts_address n rows st m r after = st.word ≡ out_row n rows (person m.0).part.sequence 0
-      → (f : Report) × ((x : S) × (f.place ≡ (person m.0).part.sequence)
+      → (f : PlacedOutput) × ((x : S) × (f.place ≡ (person m.0).part.sequence)
       × (after ≡ (alone m.0 (with_out (wrote (person m.0) (person m.0).part.sequence (r ∷ [])) (Some f)), ((person m.0).part.sequence % rows, x) ∷ m.1)))
 
   -- a store of published, which brings that slot back

@@ -44,16 +44,16 @@ module _ {L : Type 0} where
   }
 
   -- the command of an entry at a sequence
-  abbrev pub command_of : Terms L → ℕ → Message → Command
-  command_of terms s e = terms.reads terms.logic s e
+  abbrev pub command_by : Terms L → ℕ → Message → Command
+  command_by terms s e = terms.reads terms.logic s e
 
   -- its words
   abbrev pub commands_of : Terms L → ℕ → Message → List ℕ
-  commands_of terms s e = command_words e.gateway (command_of terms s e)
+  commands_of terms s e = command_words e.gateway (command_by terms s e)
 
   -- all outputs of a history
-  abbrev pub outputs_of : Terms L → List Message → List Output
-  outputs_of terms h = terms.outputs terms.logic h
+  abbrev pub outputs_by : Terms L → List Message → List Output
+  outputs_by terms h = terms.outputs terms.logic h
 
   -- the text of an output at its place
   abbrev pub text_of : Terms L → Output → ℕ → Text

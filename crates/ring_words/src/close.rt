@@ -39,7 +39,7 @@ impl<L: Logic + Drop, const N: usize, const M: usize, const G: usize> Rings<L, N
     ghost use Rattle.ring_words.specs.declared.view.Role.TheVariants.{Process, Journal};
     ghost use Rattle.ring_words.specs.At.{IsAt};
     ghost use Rattle.ring_words.specs.Crew.{AreGateways, AreSeatsOf};
-    ghost use Rattle.ring_words.specs.Gathered.{Gathers};
+    ghost use Rattle.ring_words.specs.Gathered.{GathersPersons};
     ghost use Rattle.ring_words.specs.Ending.{AreSpent, Ended};
 
     /// The processor's seat takes in those of the other stages.
@@ -79,7 +79,7 @@ impl<L: Logic + Drop, const N: usize, const M: usize, const G: usize> Rings<L, N
         requires some { 0 < length stages.me.0.people }
         requires gateways { AreGateways self.now gateways.items }
         ensures table { result.table_id ≡ self.now.table }
-        ensures all { Gathers gateways.items stages.me.0.people result.me.0 }
+        ensures all { GathersPersons gateways.items stages.me.0.people result.me.0 }
     {
         let mut all = stages;
         while let Some(gateway) = gateways.pop() {

@@ -22,7 +22,7 @@ pub use bytes::word_at;
 pub use close::Summary;
 pub use open::OpenError;
 pub use raw::Raw;
-pub use report::Report;
+pub use report::PlacedOutput;
 pub use rings::{Ring, Rings};
 pub use seats::Seats;
 pub use seats::gateway::GatewaySeat;

@@ -2,7 +2,7 @@
 ghost use Rattle.std.specs.Prelude.{◌≡◌, ◌≢◌, ℕ, suc, ◌+◌, ◌-◌, ◌*◌, ◌^◌, ◌<◌, ◌≤◌, [], ◌∷◌, length, slice_index_or, vec_len, IfOk, IsErrOf, IsTrue, IsFalse, IsOk, ◌&&◌};
 ghost use Rattle.ring_words.specs.Rule.{gateways, newcomer, processor, opening_word, view_of};
 ghost use Rattle.ring_words.specs.declared.view.Role.TheVariants.{Gateway, Marshal};
-ghost use Rattle.ring_words.specs.Seats.{person, others, apart};
+ghost use Rattle.ring_words.specs.Seats.{person, others_stay, apart};
 ghost use Rattle.ring_words.specs.Sizes.{ring_size};
 ghost use Rattle.ring_words.specs.At.{at, seat_of};
 ghost use Rattle.ring_words.specs.Crew.{AreNewGateways, AreNew};
@@ -79,7 +79,7 @@ impl<L: Logic, const N: usize, const M: usize, const G: usize> Rings<L, N, M, G>
         requires table { first.old.table_id ≡ self.now.table }
         requires bare { first.old.me.1 ≡ [] }
         requires some { 0 < length first.old.me.0.people }
-        ensures first { (first.new.table_id ≡ first.old.table_id) × (first.new.me ≡ (others first.old.me.0, [])) }
+        ensures first { (first.new.table_id ≡ first.old.table_id) × (first.new.me ≡ (others_stay first.old.me.0, [])) }
         ensures seat { (result.table_id ≡ first.old.table_id) × (result.me ≡ (apart first.old.me.0, [])) }
     {
         self.table.shared.split_seat::<Apart>(first)
@@ -99,7 +99,7 @@ impl<L: Logic, const N: usize, const M: usize, const G: usize> Rings<L, N, M, G>
         requires head { person first.old.me.0 ≡ processor self.now.base given }
         requires count { count ≡ length self.now.base }
         requires small { count ≤ 2 ^ 48 }
-        ensures first { (first.new.table_id ≡ first.old.table_id) × (first.new.me ≡ (others first.old.me.0, [])) }
+        ensures first { (first.new.table_id ≡ first.old.table_id) × (first.new.me ≡ (others_stay first.old.me.0, [])) }
         ensures seat { result ≡ seat_of first.old.table_id first.old.me.0 }
     {
         ProcessSeat {
@@ -124,7 +124,7 @@ impl<L: Logic, const N: usize, const M: usize, const G: usize> Rings<L, N, M, G>
         requires bare { first.old.me.1 ≡ [] }
         requires some { 0 < length first.old.me.0.people }
         requires head { person first.old.me.0 ≡ newcomer Marshal self.now.base given }
-        ensures first { (first.new.table_id ≡ first.old.table_id) × (first.new.me ≡ (others first.old.me.0, [])) }
+        ensures first { (first.new.table_id ≡ first.old.table_id) × (first.new.me ≡ (others_stay first.old.me.0, [])) }
         ensures seat { result ≡ seat_of first.old.table_id first.old.me.0 }
     {
         MarshalSeat {
@@ -146,7 +146,7 @@ impl<L: Logic, const N: usize, const M: usize, const G: usize> Rings<L, N, M, G>
         requires head { person first.old.me.0 ≡ newcomer R.role self.now.base count }
         requires count { count ≡ length self.now.base }
         requires small { count ≤ 2 ^ 48 }
-        ensures first { (first.new.table_id ≡ first.old.table_id) × (first.new.me ≡ (others first.old.me.0, [])) }
+        ensures first { (first.new.table_id ≡ first.old.table_id) × (first.new.me ≡ (others_stay first.old.me.0, [])) }
         ensures seat { result ≡ seat_of first.old.table_id first.old.me.0 }
     {
         ReaderSeat {

@@ -147,9 +147,9 @@ impl<L: Logic, const N: usize, const M: usize> Play<Slot, View<L>> for SeeText<N
 pub(crate) struct Apart;
 
 impl<L> Split<View<L>> for Apart {
-    ghost use Rattle.ring_words.specs.Seats.{others, apart};
+    ghost use Rattle.ring_words.specs.Seats.{others_stay, apart};
 
-    ghost left = { others };
+    ghost left = { others_stay };
 
     ghost right = { apart };
 }

@@ -7,23 +7,23 @@ use venue_model::{Malformed, Output, RefMsgType, SessionRejectReason};
 
 /// An output, and its place among all outputs.
 #[derive(Clone, Copy)]
-pub struct Report {
+pub struct PlacedOutput {
     pub output: Output,
     pub place: u64,
 }
 
 /// What a slot of the table holds.
-pub(crate) type Slot = Box<Report>;
+pub(crate) type Slot = Box<PlacedOutput>;
 
 /// What a box holds before an output was put into it. Nobody reads it.
-fn blank() -> Report {
+fn blank() -> PlacedOutput {
     let fault = Malformed {
         reason: SessionRejectReason::RequiredTagMissing,
         tag: 0,
         ref_seq: 0,
         ref_type: RefMsgType::NewOrderSingle,
     };
-    Report {
+    PlacedOutput {
         output: Output {
             to: 0,
             cause: 0,

@@ -1,5 +1,5 @@
 //! What those at the table know. No value of these types is ever made: they stand in views, which exist in proofs alone.
-use crate::report::Report;
+use crate::report::PlacedOutput;
 use std::collections::LinkedList;
 use venue_model::Entry;
 
@@ -51,7 +51,7 @@ pub struct Person {
     pub loads: LinkedList<Load>,
     pub part: Part,
     /// The report that the processor puts, or that the marshaller took to copy it: the slot of its row is out.
-    pub out: Option<Report>,
+    pub out: Option<PlacedOutput>,
 }
 
 /// The persons of one seat: one while it is in use, several while seats meet, all at the start, none when it is spent.

@@ -17,9 +17,11 @@ claims_earlier p ls x most i l there = most i l (at_longer p.loads ls i l there)
 -- the claim word was loaded, as s
 module _ {L : Type 0} (n : ℕ) (v a b : At L) (s : ℕ) (first : Steps v (looked v.who claim s) a) where
   -- that leaves the processed value that was loaded last
-  pub same_room : (p : ℕ) (ls : List Load) → SeesRoom n (last_processed a.who.loads) s p ls → SeesRoom n (last_processed v.who.loads) s p ls
+  pub same_room : (p : ℕ) (ls : List Load) → SeesRoom n (last_processed a.who.loads) s p ls
+      → SeesRoom n (last_processed v.who.loads) s p ls
   same_room p ls = subst (λ last. SeesRoom n last s p ls)
-      (ap (λ (z : At L). last_processed z.who.loads) first ∙ last_stays processed claim None s v.who.loads (λ (e : claim ≡ processed). omega arith))
+      (ap (λ (z : At L). last_processed z.who.loads) first
+      ∙ last_stays processed claim None s v.who.loads (λ (e : claim ≡ processed). omega arith))
 
   -- a bound on the claim values loaded is one on s
   pub claim_below : (x : ℕ) → ClaimsUpTo a.who x → s ≤ x
@@ -32,14 +34,17 @@ module _ {L : Type 0} (n : ℕ) (v a b : At L) (s : ℕ) (first : Steps v (looke
   -- or these words were loaded
   module _ (ls : List Load) (more : Steps a (loading a.who ls) b) (w : At L) where
     pub claim_below_then : (x : ℕ) → ClaimsUpTo b.who x → s ≤ x
-    claim_below_then x most = claim_below x (claims_earlier a.who ls x (subst (λ (z : At L). ClaimsUpTo z.who x) more most))
+    claim_below_then x most = claim_below x
+        (claims_earlier a.who ls x (subst (λ (z : At L). ClaimsUpTo z.who x) more most))
 
     -- and then s was claimed
-    pub claimed_then : Steps b (with_claim (looked b.who claim s) s) w → Steps v (with_claim (looked (loading (looked v.who claim s) ls) claim s) s) w
+    pub claimed_then : Steps b (with_claim (looked b.who claim s) s) w
+        → Steps v (with_claim (looked (loading (looked v.who claim s) ls) claim s) s) w
     claimed_then last = last ∙ ap (λ (z : At L). seated z (with_claim (looked z.who claim s) s)) more
         ∙ ap (λ (z : At L). seated z (with_claim (looked (loading z.who ls) claim s) s)) first
 
     -- or wasn't
-    pub looked_then : (t : ℕ) → Steps b (looked b.who claim t) w → Steps v (looked (loading (looked v.who claim s) ls) claim t) w
+    pub looked_then : (t : ℕ) → Steps b (looked b.who claim t) w
+        → Steps v (looked (loading (looked v.who claim s) ls) claim t) w
     looked_then t last = last ∙ ap (λ (z : At L). seated z (looked z.who claim t)) more
         ∙ ap (λ (z : At L). seated z (looked (loading z.who ls) claim t)) first

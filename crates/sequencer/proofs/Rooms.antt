@@ -1,5 +1,6 @@
 -- The look for room: the taken words are loaded one after another, and the least of them is kept.
-use Rattle.std.proofs.Common.{Option, None, Some, ◌≡◌, ℕ, zero, suc, ◌+◌, ◌<◌, ◌≤◌, List, [], ◌∷◌, ◌++◌, length, min, refl, ap, sym, subst, ◌∙◌, arith, append_assoc, length-append}
+use Rattle.std.proofs.Common.{Option, None, Some, ◌≡◌, ℕ, zero, suc, ◌+◌, ◌<◌, ◌≤◌, List, [], ◌∷◌, ◌++◌, length, min}
+use Rattle.std.proofs.Common.{refl, ap, sym, subst, ◌∙◌, arith, append_assoc, length-append}
 use Rattle.venue_model.specs.ListLaws.{stands, at_behind}
 use mathlib.Core.Option.{some, some-injective, some-ne-none}
 use lib.ListN.{get_elem?}
@@ -13,10 +14,12 @@ use Rattle.ring_words.specs.Steps.{HasOutputRoom}
 use Rattle.sequencer.specs.Rooms.{taken_loads, least_from, least, HasLooked, last_taken, LeavesRoom, KeepsRoom}
 
 -- one value more is one load more, of the next gateway's word
-taken_more : (k : ℕ) (xs : List ℕ) (x : ℕ) → taken_loads k (xs ++ x ∷ []) ≡ taken_loads k xs ++ load_of (taken (k + length xs)) x ∷ []
+taken_more : (k : ℕ) (xs : List ℕ) (x : ℕ) → taken_loads k (xs ++ x ∷ [])
+    ≡ taken_loads k xs ++ load_of (taken (k + length xs)) x ∷ []
 taken_more k [] x = let g : k ≡ k + 0 = omega arith in λ i. load_of (taken (g i)) x ∷ []
 taken_more k (y ∷ ys) x = let g : suc k + length ys ≡ k + suc (length ys) = omega arith in
-    ap (λ (ls : List Load). load_of (taken k) y ∷ ls) (taken_more (suc k) ys x ∙ (λ i. taken_loads (suc k) ys ++ load_of (taken (g i)) x ∷ []))
+    ap (λ (ls : List Load). load_of (taken k) y ∷ ls)
+    (taken_more (suc k) ys x ∙ (λ i. taken_loads (suc k) ys ++ load_of (taken (g i)) x ∷ []))
 
 -- the least of a number and these, with one value more
 least_from_more : (a : ℕ) (xs : List ℕ) (x : ℕ) → least_from a (xs ++ x ∷ []) ≡ min (least_from a xs) x
@@ -36,28 +39,46 @@ least_from_low a (y ∷ ys) = let low = least_from_low (min a y) ys in omega ari
 -- nor than any of the values
 least_from_below : (a : ℕ) (xs : List ℕ) (i x : ℕ) → get_elem? xs i ≡ some x → least_from a xs ≤ x
 least_from_below a [] i x at = absurd (some-ne-none x (sym at))
-least_from_below a (y ∷ ys) zero x at = let low = least_from_low (min a y) ys in let same : y ≡ x = some-injective y x at in omega arith
+least_from_below a (y ∷ ys) zero x at = let low = least_from_low (min a y) ys in
+    let same : y ≡ x = some-injective y x at in
+    omega arith
 least_from_below a (y ∷ ys) (suc i) x at = least_from_below (min a y) ys i x at
 
 -- the least is no more than any of the values
 least_below : (xs : List ℕ) (i x : ℕ) → get_elem? xs i ≡ some x → least xs ≤ x
 least_below [] i x at = absurd (some-ne-none x (sym at))
-least_below (y ∷ ys) zero x at = let low = least_from_low y ys in let same : y ≡ x = some-injective y x at in omega arith
+least_below (y ∷ ys) zero x at = let low = least_from_low y ys in
+    let same : y ≡ x = some-injective y x at in
+    omega arith
 least_below (y ∷ ys) (suc i) x at = least_from_below y ys i x at
 
 -- each value was loaded of its gateway's word
-taken_at : (k : ℕ) (xs : List ℕ) (i x : ℕ) → get_elem? xs i ≡ some x → get_elem? (taken_loads k xs) i ≡ some (load_of (taken (k + i)) x)
+taken_at : (k : ℕ) (xs : List ℕ) (i x : ℕ) → get_elem? xs i ≡ some x
+    → get_elem? (taken_loads k xs) i ≡ some (load_of (taken (k + i)) x)
 taken_at k [] i x at = absurd (some-ne-none x (sym at))
-taken_at k (y ∷ ys) zero x at = let place : k ≡ k + 0 = omega arith in let same : y ≡ x = some-injective y x at in λ i. some (load_of (taken (place i)) (same i))
-taken_at k (y ∷ ys) (suc i) x at = let place : suc k + i ≡ k + suc i = omega arith in taken_at (suc k) ys i x at ∙ (λ j. some (load_of (taken (place j)) x))
+taken_at k (y ∷ ys) zero x at = let place : k ≡ k + 0 = omega arith in
+    let same : y ≡ x = some-injective y x at in
+    λ i. some (load_of (taken (place i)) (same i))
+taken_at k (y ∷ ys) (suc i) x at = let place : suc k + i ≡ k + suc i = omega arith in
+    taken_at (suc k) ys i x at ∙ (λ j. some (load_of (taken (place j)) x))
 
 -- where all taken words were loaded, there is room for each place below the least of them and the number of rows
 room_for : (g m : ℕ) (p : Person) (values : List ℕ) (place : ℕ) → length values ≡ g → place < least values + m
     → HasOutputRoom g m (record p { loads = p.loads ++ taken_loads 1 values }) place
 room_for g m p values place count free zero inside = let from : 1 ≤ 0 = inside.0 in absurd (omega arith)
-room_for g m p values place count free (suc i) inside = let to : suc i ≤ g = inside.1 in let at = stands values i (omega arith) in let low = least_below values i at.0 at.1 in
-    let number : 1 + i ≡ suc i = omega arith in
-    (length p.loads + i, (load_of (taken (1 + i)) at.0, at_behind p.loads (taken_loads 1 values) i (length p.loads + i) _ refl (taken_at 1 values i at.0 at.1), ap taken number, omega arith))
+room_for g m p values place count free (suc i) inside = let to : suc i ≤ g = inside.1 in
+    let at = stands values i (omega arith) in
+    let low = least_below values i at.0 at.1 in
+    let number : 1 + i ≡ suc i = omega arith in (
+      length p.loads + i,
+      (
+        load_of (taken (1 + i)) at.0,
+        at_behind p.loads (taken_loads 1 values) i (length p.loads + i)
+            _ refl (taken_at 1 values i at.0 at.1),
+        ap taken number,
+        omega arith,
+      ),
+    )
 
 -- the taken words of all gateways below k were loaded, and `low` is the least of them
 pub record LookedBelow {L : Type 0} (m : ℕ) (v u : At L) (k low : ℕ) : Type 0 where
@@ -71,32 +92,53 @@ pub record LookedBelow {L : Type 0} (m : ℕ) (v u : At L) (k low : ℕ) : Type 
 
 module _ {L : Type 0} (m : ℕ) (v : At L) where
   -- the first gateway's word was loaded
-  pub looks_first : (w : At L) (x : ℕ) → w ≡ seated v (looked v.who (taken 1) x) → x ≤ v.who.part.sequence → v.who.part.sequence ≤ x + m → LookedBelow m v w 2 x
-  looks_first w x view most near = record { values = x ∷ []; count = refl; some_there = omega arith; view = view; low_is = refl; below = most; near = near }
+  pub looks_first : (w : At L) (x : ℕ) → w ≡ seated v (looked v.who (taken 1) x) → x ≤ v.who.part.sequence
+      → v.who.part.sequence ≤ x + m → LookedBelow m v w 2 x
+  looks_first w x view most near = record {
+    values = x ∷ [];
+    count = refl;
+    some_there = omega arith;
+    view = view;
+    low_is = refl;
+    below = most;
+    near = near;
+  }
 
   -- the next one's was loaded
   pub looks_next : (u w : At L) (k low x after : ℕ) → LookedBelow m v u k low → w ≡ seated u (looked u.who (taken k) x)
       → x ≤ u.who.part.sequence → u.who.part.sequence ≤ x + m → after ≡ min low x → LookedBelow m v w (k + 1) after
   looks_next u w k low x after r view most near is =
-      let p = v.who in let place : u.who.part.sequence ≡ p.part.sequence = ap (λ (y : At L). y.who.part.sequence) r.view in
-      let more = least_more r.values x r.some_there in let low_is = r.low_is in let below = r.below in let close = r.near in
+      let p = v.who in
+      let place : u.who.part.sequence ≡ p.part.sequence = ap (λ (y : At L). y.who.part.sequence) r.view in
+      let more = least_more r.values x r.some_there in
+      let low_is = r.low_is in
+      let below = r.below in
+      let close = r.near in
       let long = length-append r.values (x ∷ []) in let count = r.count in record {
         values = r.values ++ x ∷ [];
         count = omega arith;
         some_there = omega arith;
         view = subst (λ (y : At L). w ≡ seated y (looked y.who (taken k) x)) r.view view
-            ∙ ap (λ (l : List Load). seated v (record p { loads = l })) (append_assoc p.loads (taken_loads 1 r.values) (load_of (taken k) x ∷ [])
-            ∙ ap (λ (l : List Load). p.loads ++ l) (sym (taken_more 1 r.values x ∙ (λ i. taken_loads 1 r.values ++ load_of (taken (count i)) x ∷ []))));
+            ∙ ap (λ (l : List Load). seated v (record p { loads = l }))
+            (append_assoc p.loads (taken_loads 1 r.values) (load_of (taken k) x ∷ [])
+            ∙ ap (λ (l : List Load). p.loads ++ l)
+            (sym (taken_more 1 r.values x ∙ (λ i. taken_loads 1 r.values ++ load_of (taken (count i)) x ∷ []))));
         low_is = more ∙ (λ i. min (low_is i) x) ∙ sym is;
         below = omega arith;
         near = omega arith;
       }
 
   -- all were loaded
-  pub has_looked : (u : At L) (k low g answer : ℕ) → LookedBelow m v u k low → k ≡ g + 1 → answer + v.who.part.sequence ≡ low + m → HasLooked g m v.who answer u.who
+  pub has_looked : (u : At L) (k low g answer : ℕ) → LookedBelow m v u k low → k ≡ g + 1
+      → answer + v.who.part.sequence ≡ low + m → HasLooked g m v.who answer u.who
   has_looked u k low g answer r all is =
-      let p = v.who in let at : u.who ≡ record p { loads = p.loads ++ taken_loads 1 r.values } = ap (λ (y : At L). y.who) r.view in
-      let count = r.count in let low_is = r.low_is in let below = r.below in let long : length r.values ≡ g = omega arith in record {
+      let p = v.who in
+      let at : u.who ≡ record p { loads = p.loads ++ taken_loads 1 r.values } = ap (λ (y : At L). y.who) r.view in
+      let count = r.count in
+      let low_is = r.low_is in
+      let below = r.below in
+      let long : length r.values ≡ g = omega arith in
+      record {
         values = r.values;
         count = long;
         loads = at;
@@ -105,7 +147,8 @@ module _ {L : Type 0} (m : ℕ) (v : At L) where
       }
 
   -- so there is room for the places that the answer counts
-  pub has_free : (g answer : ℕ) (q : Person) → HasLooked g m v.who answer q → (i : ℕ) → i < answer → HasOutputRoom g m q (v.who.part.sequence + i)
+  pub has_free : (g answer : ℕ) (q : Person) → HasLooked g m v.who answer q → (i : ℕ) → i < answer
+      → HasOutputRoom g m q (v.who.part.sequence + i)
   has_free g answer q looked i below = let count = looked.count in let room = looked.room in
       subst (λ (p : Person). HasOutputRoom g m p (v.who.part.sequence + i)) (sym looked.loads)
       (room_for g m v.who looked.values (v.who.part.sequence + i) count (omega (arith, room, below)))
@@ -120,6 +163,9 @@ left_by m upto None none = elim none [ ]
 left_by m upto (Some x) room = (x, (refl, room))
 
 -- by the values kept there is room for each output of those that they leave room for
-pub keeps_free : (g m : ℕ) (p : Person) (n i : ℕ) → KeepsRoom g m p n → i < n → HasOutputRoom g m p (p.part.sequence + i)
+pub keeps_free : (g m : ℕ) (p : Person) (n i : ℕ) → KeepsRoom g m p n → i < n
+    → HasOutputRoom g m p (p.part.sequence + i)
 keeps_free g m p n i kept below = output_room_last_loaded g m p (p.part.sequence + i) (λ k gateway.
-    let room = left_by m (p.part.sequence + n) (last_taken k p.loads) (kept k gateway) in let enough = room.1.1 in (room.0, room.1.0, omega arith))
+    let room = left_by m (p.part.sequence + n) (last_taken k p.loads) (kept k gateway) in
+    let enough = room.1.1 in
+    (room.0, room.1.0, omega arith))

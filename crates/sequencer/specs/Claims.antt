@@ -3,7 +3,7 @@ use Rattle.std.specs.Prelude.{⊤, Option, None, Some, ◌≡◌, ◌⊎◌, ℕ
 use Rattle.ring_words.specs.declared.view.Load.{Load}
 use Rattle.ring_words.specs.declared.view.Person.{Person}
 use Rattle.ring_words.specs.Places.{claim, processed}
-use Rattle.ring_words.specs.Seats.{load_of, looked, loading, with_claim, last_of}
+use Rattle.ring_words.specs.Seats.{load_of, looked, loading, with_claim, last_load}
 use Rattle.ring_words.specs.At.{At, Steps}
 use Rattle.sequencer.specs.declared.claim.ClaimRefusal.{ClaimRefusal}
 use Rattle.sequencer.specs.declared.claim.ClaimRefusal.TheVariants.{Full, Contended, Exhausted}
@@ -14,7 +14,7 @@ loaded_both q s p = looked (looked q claim s) processed p
 
 -- the processed value that these loads found last, if any did
 abbrev pub last_processed : List Load → Option ℕ
-last_processed ls = last_of processed None ls
+last_processed ls = last_load processed None ls
 
 -- that value leaves no room for s in n rows, or there is none
 abbrev pub ShowsFull : ℕ → Option ℕ → ℕ → Type 0

@@ -4,7 +4,7 @@ use Rattle.ring_words.specs.declared.view.Load.{Load}
 use Rattle.ring_words.specs.declared.view.Person.{Person}
 use Rattle.ring_words.specs.Places.{taken}
 use Rattle.ring_words.specs.Rule.{IsGateway}
-use Rattle.ring_words.specs.Seats.{load_of, last_of}
+use Rattle.ring_words.specs.Seats.{load_of, last_load}
 
 -- one load of the taken word of each gateway from number k on, with these values
 abbrev pub taken_loads : ℕ → List ℕ → List Load
@@ -32,7 +32,7 @@ pub record HasLooked (g m : ℕ) (p : Person) (answer : ℕ) (q : Person) : Type
 
 -- the value of gateway k's taken word that these loads found last, if any did
 abbrev pub last_taken : ℕ → List Load → Option ℕ
-last_taken k ls = last_of (taken k) None ls
+last_taken k ls = last_load (taken k) None ls
 
 -- by that value a ring of m rows has room for all outputs below the place upto
 abbrev pub LeavesRoom : ℕ → ℕ → Option ℕ → Type 0

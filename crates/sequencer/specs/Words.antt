@@ -9,5 +9,5 @@ first_words e zero = []
 first_words e (suc n) = first_words e n ++ raw_word e n ∷ []
 
 -- all its words
-abbrev pub words_of : Message → List ℕ
-words_of e = first_words e (raw_count e)
+abbrev pub message_words : Message → List ℕ
+message_words e = first_words e (raw_count e)

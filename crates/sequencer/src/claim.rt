@@ -1,7 +1,7 @@
 //! Claims of sequences: the first thing that a gateway does with a message for the venue.
 ghost use Rattle.std.specs.Prelude.{Some, ◌≡◌, ℕ, ◌↔◌, ◌+◌, ◌^◌, ◌<◌, ◌≤◌, List, IfOk, IfErr, IsTrue, IsFalse};
 ghost use Rattle.ring_words.specs.declared.view.Load.{Load};
-ghost use Rattle.ring_words.specs.Log.{times};
+ghost use Rattle.ring_words.specs.Log.{times_in};
 ghost use Rattle.ring_words.specs.Places.{processed};
 ghost use Rattle.ring_words.specs.Seats.{looked, loading};
 ghost use Rattle.ring_words.specs.At.{IsAt, Steps};
@@ -102,7 +102,7 @@ pub fn try_claim<L: Logic, const N: usize, const M: usize, const G: usize>(
 ) -> Result<Claim, ClaimRefusal>
     requires at { IsAt rings.now seat.old }
     ensures claimed { IfOk result (λ claim. Claimed N seat.old claim seat.new) }
-    ensures held { IfOk result (λ claim. 0 < times claim seat.new.who.claims) }
+    ensures held { IfOk result (λ claim. 0 < times_in claim seat.new.who.claims) }
     ensures refused { IfErr result (λ refusal. Refused N seat.old refusal seat.new) }
 {
     let at = rings.load_claim(seat);

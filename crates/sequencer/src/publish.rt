@@ -1,9 +1,9 @@
 //! Publications: a gateway writes its message into the row that it claimed, and makes it available to the stages.
 ghost use Rattle.std.specs.Prelude.{◌≡◌, ◌<◌, ◌≤◌, length};
-ghost use Rattle.ring_words.specs.Log.{times};
+ghost use Rattle.ring_words.specs.Log.{times_in};
 ghost use Rattle.ring_words.specs.Seats.{marked, wrote};
 ghost use Rattle.ring_words.specs.At.{IsAt, Steps, number};
-ghost use Rattle.sequencer.specs.Words.{words_of};
+ghost use Rattle.sequencer.specs.Words.{message_words};
 
 use crate::claim::Claim;
 use ring_words::{GatewaySeat, Raw, Rings, word_at};
@@ -17,10 +17,10 @@ fn store_words<L: Logic, const N: usize, const M: usize, const G: usize>(
     bytes: &[u8],
 )
     requires at { IsAt rings.now seat.old }
-    requires claimed { 0 < times sequence seat.old.who.claims }
+    requires claimed { 0 < times_in sequence seat.old.who.claims }
     requires most { length bytes.now ≤ 320 }
     ensures number { (1 ≤ number seat.old) × (number seat.old ≤ 8) }
-    ensures step { Steps seat.old (wrote seat.old.who sequence (words_of (record { gateway = number seat.old; bytes = bytes.now }))) seat.new }
+    ensures step { Steps seat.old (wrote seat.old.who sequence (message_words (record { gateway = number seat.old; bytes = bytes.now }))) seat.new }
 {
     let head = Raw {
         gateway: seat.number() as u8,
@@ -42,7 +42,7 @@ impl Claim {
         bytes: &[u8],
     ) -> u64
         requires at { IsAt rings.now seat.old }
-        requires claimed { 0 < times self seat.old.who.claims }
+        requires claimed { 0 < times_in self seat.old.who.claims }
         requires bytes { (1 ≤ length bytes.now) × (length bytes.now ≤ 320) }
         ensures sequence { result ≡ self }
         ensures step { Steps seat.old (marked seat.old.who self (record { gateway = number seat.old; bytes = bytes.now })) seat.new }

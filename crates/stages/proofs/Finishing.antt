@@ -1,5 +1,6 @@
 -- Whatever a crash leaves behind a venue's end holds all that its gateways have seen.
-use Rattle.std.proofs.Common.{◌≡◌, ℕ, zero, suc, ◌<◌, ◌≤◌, List, [], ◌∷◌, length, take, refl, ap, sym, subst, ◌∙◌, arith}
+use Rattle.std.proofs.Common.{◌≡◌, ℕ, zero, suc, ◌<◌, ◌≤◌, List, [], ◌∷◌, length, take, refl, ap, sym, subst, ◌∙◌}
+use Rattle.std.proofs.Common.{arith}
 use Rattle.std.proofs.lemmas.List.{length-take}
 use mathlib.Core.Option.{some, some-ne-none, some-injective}
 use lib.ListN.{get_elem?}
@@ -25,7 +26,8 @@ in_front (suc n) [] s e at = at
 in_front (suc n) (m ∷ h) zero e at = at
 in_front (suc n) (m ∷ h) (suc s) e at = in_front n h s e at
 
-to_front : (n : ℕ) (h : History) (s : ℕ) (e : Message) → s < n → get_elem? h s ≡ some e → get_elem? (take n h) s ≡ some e
+to_front : (n : ℕ) (h : History) (s : ℕ) (e : Message) → s < n → get_elem? h s ≡ some e
+    → get_elem? (take n h) s ≡ some e
 to_front zero h s e early at = absurd (omega (arith, early))
 to_front (suc n) [] s e early at = at
 to_front (suc n) (m ∷ h) zero e early at = at
@@ -37,29 +39,36 @@ entry_at [] s inside = absurd (omega (arith, inside))
 entry_at (m ∷ h) zero inside = (m, refl)
 entry_at (m ∷ h) (suc s) inside = entry_at h s (omega (arith, inside))
 
-module _ (seen kept log : History) (own : ℕ) (of_log : IsBeginning seen log) (short : length seen ≤ own) (kept_of_log : IsBeginning kept log) where
+module _ (seen kept log : History) (own : ℕ) (of_log : IsBeginning seen log) (short : length seen ≤ own)
+    (kept_of_log : IsBeginning kept log) where
   -- of two beginnings of one log the front of the longer that is long enough has the other
   holds : (k : ℕ) → own ≤ k → k ≤ length kept → IsBeginning seen (take k kept)
   holds k least most s e at =
       let inside = within seen s e at in
       let there = entry_at kept s (omega (arith, inside, short, least, most)) in
       let same : there.0 ≡ e = some-injective _ _ (sym (kept_of_log s there.0 there.1) ∙ of_log s e at) in
-      to_front k kept s e (omega (arith, inside, short, least)) (subst (λ (m : Message). get_elem? kept s ≡ some m) same there.1)
+      to_front k kept s e (omega (arith, inside, short, least))
+      (subst (λ (m : Message). get_elem? kept s ≡ some m) same there.1)
 
 -- a journal from these entries on has them
-pub survives : (kept log : History) (own : ℕ) → IsBeginning kept log → (file : List ℕ) → IsJournalFrom own kept file → Survives log (take own kept) file
+pub survives : (kept log : History) (own : ℕ) → IsBeginning kept log → (file : List ℕ) → IsJournalFrom own kept file
+    → Survives log (take own kept) file
 survives kept log own of_log file (k, least, most, journal) = record {
   history = take k kept;
   journal = journal;
   begins = λ s e at. of_log s e (in_front k kept s e at);
-  holds = λ s e at. to_front k kept s e (let inside = within (take own kept) s e at in let short = length-take own kept in omega (arith, inside, short, least))
+  holds = λ s e at. to_front k kept s e (let inside = within (take own kept) s e at in
+      let short = length-take own kept in omega (arith, inside, short, least))
       (in_front own kept s e at);
 }
 
 -- the venue is finished: one log tells of these seats
-pub finished : {D : Type 0} (rings : Opened Limits) (crew : OneCrew D) (honest : Type 0) (disk : Told) (s : Summary) (seats : Seats Limits)
-    → seats.unmarshal.who ≡ crew.unmarshaller.who → seats.journal.who ≡ crew.journaller.seat.who → seats.process.who ≡ crew.processor.seat.who
-    → seats.marshal.who ≡ crew.marshaller.who → Ended (outputs_of rings.logic) rings.base seats s → s.commands ≡ seats.process.who.own
+pub finished : {D : Type 0} (rings : Opened Limits) (crew : OneCrew D) (honest : Type 0) (disk : Told) (s : Summary)
+    (seats : Seats Limits)
+    → seats.unmarshal.who ≡ crew.unmarshaller.who → seats.journal.who ≡ crew.journaller.seat.who
+    → seats.process.who ≡ crew.processor.seat.who
+    → seats.marshal.who ≡ crew.marshaller.who → Ended (outputs_of rings.logic) rings.base seats s
+    → s.commands ≡ seats.process.who.own
     → s.outputs ≡ seats.process.who.part.sequence → (honest → KeepsDone disk crew.journaller.seat.who)
     → Finished rings seats.gateways.items crew honest disk s
 finished rings crew honest disk s seats unmarshal journal process marshal ended commands outputs keeps =

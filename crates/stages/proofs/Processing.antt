@@ -1,5 +1,7 @@
--- One command through the processor: it is read at the own word and done in the book, and its outputs are put behind those before.
-use Rattle.std.proofs.Common.{◌≡◌, ℕ, zero, suc, ◌+◌, ◌<◌, ◌≤◌, List, [], ◌∷◌, ◌++◌, length, take, drop, ap, refl, sym, subst, ◌∙◌, length-append, arith, Some}
+-- One command through the processor: it is read at the own word and done in the book, and its outputs are put behind
+-- those before.
+use Rattle.std.proofs.Common.{◌≡◌, ℕ, zero, suc, ◌+◌, ◌<◌, ◌≤◌, List, [], ◌∷◌, ◌++◌, length, take, drop, ap, refl, sym}
+use Rattle.std.proofs.Common.{subst, ◌∙◌, length-append, arith, Some}
 use Rattle.std.proofs.lemmas.List.{length-take-le}
 use mathlib.Core.Option.{some, some-injective, some-ne-none}
 use lib.ListN.{get_elem?}
@@ -26,7 +28,7 @@ use Rattle.book.specs.Histories.{reads_at, request_at, requests_of, state_of, ou
 use Rattle.stages.specs.Processed.{entries_done}
 use Rattle.stages.specs.Processes.{to_put}
 use Rattle.stages.specs.Stations.{AtBook}
-use Rattle.stages.specs.Insides.{Follows}
+use Rattle.stages.specs.Insides.{FollowsRings}
 
 -- HISTORIES
 
@@ -41,7 +43,8 @@ length-first zero l = omega arith
 length-first (suc i) [] = omega arith
 length-first (suc i) (x ∷ xs) = let most = length-first i xs in omega (arith, most)
 
-module _ (limits : Limits) (p : Person) (e : Message) (at : get_elem? p.seen p.own ≡ some e) (known : p.own < length p.seen) where
+module _ (limits : Limits) (p : Person) (e : Message) (at : get_elem? p.seen p.own ≡ some e)
+    (known : p.own < length p.seen) where
   -- what the entry asks
   abbrev ask : Request
   ask = request_at limits p.own e
@@ -53,7 +56,8 @@ module _ (limits : Limits) (p : Person) (e : Message) (at : get_elem? p.seen p.o
   place = length-requests (reads_at limits) 0 (entries_done p) ∙ length-take-le p.own p.seen (omega arith)
 
   one_more : requests_of limits (take (suc p.own) p.seen) ≡ requests_of limits (entries_done p) ++ ask ∷ []
-  one_more = ap (requests_of limits) (take_next p.seen p.own e at) ∙ requests_from-more (reads_at limits) 0 (entries_done p) e
+  one_more = ap (requests_of limits) (take_next p.seen p.own e at)
+      ∙ requests_from-more (reads_at limits) 0 (entries_done p) e
 
   -- the state with one entry more, and the outputs
   next_state : state_of limits (take (suc p.own) p.seen) ≡ next.state
@@ -61,11 +65,14 @@ module _ (limits : Limits) (p : Person) (e : Message) (at : get_elem? p.seen p.o
       ∙ ap (λ (n : ℕ). (step limits.symbols (state_of limits (entries_done p)) n ask).state) place
 
   next_outputs : outputs_of limits (take (suc p.own) p.seen) ≡ outputs_of limits (entries_done p) ++ next.outputs
-  next_outputs = ap (outputs limits.symbols) one_more ∙ outputs-one limits.symbols (requests_of limits (entries_done p)) ask
-      ∙ ap (λ (n : ℕ). outputs_of limits (entries_done p) ++ (step limits.symbols (state_of limits (entries_done p)) n ask).outputs) place
+  next_outputs = ap (outputs limits.symbols) one_more ∙ outputs-one limits.symbols (requests_of limits (entries_done p))
+      ask
+      ∙ ap (λ (n : ℕ). outputs_of limits (entries_done p)
+      ++ (step limits.symbols (state_of limits (entries_done p)) n ask).outputs) place
 
 -- what rests after the first entries was stamped before the next one
-pub behind : (limits : Limits) (k : ℕ) (h : List Message) (s : State) → s ≡ state_of limits (take k h) → Below k s.orders
+pub behind : (limits : Limits) (k : ℕ) (h : List Message) (s : State) → s ≡ state_of limits (take k h)
+    → Below k s.orders
 behind limits k h s is = subst (λ (z : State). Below k z.orders) (sym is)
     (history-behind (reads_at limits) limits.symbols (take k h) k (length-first k h))
 
@@ -96,8 +103,11 @@ module _ (limits : Limits) (v : At Limits) (s gateway : ℕ) (command : Command)
   -- the book may be asked to do it
   pub may_apply : (1 ≤ gateway) × (gateway ≤ 8) × IsCommand command
   may_apply = let stood = stands v.who.seen s known in let read = is stood.0 stood.1 in
-      let from = read.0 in let entry = read.2.message in
-      (omega (arith, from, entry.from), omega (arith, from, entry.to), subst IsCommand (sym read.1) (reads_within stood.0.bytes))
+      let from = read.0 in let entry = read.2.message in (
+        omega (arith, from, entry.from),
+        omega (arith, from, entry.to),
+        subst IsCommand (sym read.1) (reads_within stood.0.bytes),
+      )
 
   pub took : (n : ℕ) (r : At Limits) → s ≡ v.who.own → Loads n limits v r s → Took n limits v r s gateway command
   took n r place loads = let stood = stands v.who.seen s known in let e = stood.0 in let read = is e stood.1 in
@@ -122,7 +132,8 @@ pub record MayTake (p : AtBook) (s : ℕ) : Type 0 where
   pub synced : s < last_from journalled 0 p.seat.who.loads
 
 -- while the command behind those done is under way, its outputs are to be put
-pub left_to_put : (v : At Limits) (book : Book) (applied : ℕ) (left : List Output) → Follows v book applied left → applied ≡ suc v.who.own
+pub left_to_put : (v : At Limits) (book : Book) (applied : ℕ) (left : List Output) → FollowsRings v book applied left
+    → applied ≡ suc v.who.own
     → to_put book.limits v.who ≡ left
 left_to_put v book applied left follows one =
     ap (λ (k : ℕ). drop v.who.part.sequence (outputs_of book.limits (take k v.who.seen))) (sym one) ∙ follows.rest
@@ -132,30 +143,38 @@ abbrev pub HasRead : ℕ → Limits → Person → Person → Type 0
 HasRead n limits v w = (e : Message) × (get_elem? v.seen v.own ≡ some e) × (w ≡ after_reading n limits v e)
 
 -- where no outputs are left of them
-pub at_rest : (v : At Limits) (book : Book) (applied s : ℕ) (left : List Output) → Follows v book applied left → applied ≡ s → left ≡ [] → Follows v book s []
-at_rest v book applied s left follows at none = subst (λ (k : ℕ). Follows v book k []) at (subst (Follows v book applied) none follows)
+pub at_rest : (v : At Limits) (book : Book) (applied s : ℕ) (left : List Output) → FollowsRings v book applied left
+    → applied ≡ s → left ≡ [] → FollowsRings v book s []
+at_rest v book applied s left follows at none = subst (λ (k : ℕ). FollowsRings v book k []) at
+    (subst (FollowsRings v book applied) none follows)
 
 -- of a list that goes on, what is behind it
 drop_front : {A : Type 0} (xs ys : List A) (n : ℕ) → length xs ≡ n → drop n (xs ++ ys) ≡ ys
 drop_front [] ys n is = ap (λ (k : ℕ). drop k ys) (sym is)
 drop_front (x ∷ xs) ys n is = ap (λ (k : ℕ). drop k (x ∷ xs ++ ys)) (sym is) ∙ drop_front xs ys (length xs) refl
 
-module _ (n : ℕ) (v r : At Limits) (s gateway : ℕ) (command : Command) (book : Book) (took : Took n book.limits v r s gateway command)
-    (follows : Follows v book s []) where
+module _ (n : ℕ) (v r : At Limits) (s gateway : ℕ) (command : Command) (book : Book)
+    (took : Took n book.limits v r s gateway command)
+    (follows : FollowsRings v book s []) where
   abbrev this_step : Stepped
   this_step = step book.limits.symbols book.state s (record { gateway = gateway; command = command })
 
-  before : Follows v book v.who.own []
-  before = subst (λ (k : ℕ). Follows v book k []) took.place follows
+  before : FollowsRings v book v.who.own []
+  before = subst (λ (k : ℕ). FollowsRings v book k []) took.place follows
 
   -- the book was asked what the entry asks, in the state of those before it
   asked_so : this_step ≡ next book.limits v.who took.entry took.at took.known
-  asked_so = ap (λ (t : ℕ). step book.limits.symbols book.state t (record { gateway = gateway; command = command })) took.place
-      ∙ ap (λ (k : ℕ). step book.limits.symbols book.state v.who.own (record { gateway = k; command = command })) took.from
-      ∙ ap (λ (d : Command). step book.limits.symbols book.state v.who.own (record { gateway = took.entry.gateway; command = d })) took.command_is
-      ∙ ap (λ (z : State). step book.limits.symbols z v.who.own (request_at book.limits v.who.own took.entry)) before.state
+  asked_so = ap (λ (t : ℕ). step book.limits.symbols book.state t (record { gateway = gateway; command = command }))
+      took.place
+      ∙ ap (λ (k : ℕ). step book.limits.symbols book.state v.who.own (record { gateway = k; command = command }))
+      took.from
+      ∙ ap (λ (d : Command). step book.limits.symbols book.state v.who.own
+      (record { gateway = took.entry.gateway; command = d })) took.command_is
+      ∙ ap (λ (z : State). step book.limits.symbols z v.who.own (request_at book.limits v.who.own took.entry))
+      before.state
 
-  grown : outputs_of book.limits (take (suc v.who.own) v.who.seen) ≡ outputs_of book.limits (entries_done v.who) ++ this_step.outputs
+  grown : outputs_of book.limits (take (suc v.who.own) v.who.seen)
+      ≡ outputs_of book.limits (entries_done v.who) ++ this_step.outputs
   grown = next_outputs book.limits v.who took.entry took.at took.known
       ∙ ap (λ (t : Stepped). outputs_of book.limits (entries_done v.who) ++ t.outputs) (sym asked_so)
 
@@ -164,8 +183,9 @@ module _ (n : ℕ) (v r : At Limits) (s gateway : ℕ) (command : Command) (book
   all_out = let all = before.published in omega (arith, all)
 
   -- whatever else is said of a book, of these limits and in this state it follows
-  same_book : {w : At Limits} {k : ℕ} {left : List Output} (book' : Book) → book'.limits ≡ book.limits → book'.state ≡ this_step.state
-      → Follows w (record book { state = this_step.state }) k left → Follows w book' k left
+  same_book : {w : At Limits} {k : ℕ} {left : List Output} (book' : Book) → book'.limits ≡ book.limits
+      → book'.state ≡ this_step.state
+      → FollowsRings w (record book { state = this_step.state }) k left → FollowsRings w book' k left
   same_book book' limits stepped f = record {
     logic = f.logic ∙ ap Some (sym limits);
     state = rw (limits, stepped) f.state;
@@ -174,15 +194,19 @@ module _ (n : ℕ) (v r : At Limits) (s gateway : ℕ) (command : Command) (book
   }
 
   -- the book follows with one entry more, and its outputs are left
-  pub follows_on : (book' : Book) (left : List Output) (k : ℕ) → k ≡ suc s → book'.limits ≡ book.limits → book'.state ≡ this_step.state
-      → left ≡ this_step.outputs → Follows r book' k left
+  pub follows_on : (book' : Book) (left : List Output) (k : ℕ) → k ≡ suc s → book'.limits ≡ book.limits
+      → book'.state ≡ this_step.state
+      → left ≡ this_step.outputs → FollowsRings r book' k left
   follows_on book' left k k_is limits stepped told =
-      subst (λ (z : At Limits). Follows z book' k left) (sym took.view) (same_book book' limits stepped
-      (subst (λ (i : ℕ). Follows (seated v (after_reading n book.limits v.who took.entry)) (record book { state = this_step.state }) i left)
+      subst (λ (z : At Limits). FollowsRings z book' k left) (sym took.view) (same_book book' limits stepped
+      (subst (λ (i : ℕ). FollowsRings (seated v (after_reading n book.limits v.who took.entry))
+      (record book { state = this_step.state }) i left)
       (sym (k_is ∙ ap suc took.place)) (record {
         logic = follows.logic;
-        state = ap (λ (t : Stepped). t.state) asked_so ∙ sym (next_state book.limits v.who took.entry took.at took.known);
+        state = ap (λ (t : Stepped). t.state) asked_so ∙ sym
+            (next_state book.limits v.who took.entry took.at took.known);
         rest = ap (drop v.who.part.sequence) grown ∙ drop_front _ _ _ all_out ∙ sym told;
         published = ap length grown ∙ length-append (outputs_of book.limits (entries_done v.who)) this_step.outputs
-            ∙ ap (λ (i : ℕ). i + length this_step.outputs) all_out ∙ ap (λ (l : List Output). v.who.part.sequence + length l) (sym told);
+            ∙ ap (λ (i : ℕ). i + length this_step.outputs) all_out
+            ∙ ap (λ (l : List Output). v.who.part.sequence + length l) (sym told);
       })))

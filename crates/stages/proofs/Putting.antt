@@ -1,5 +1,8 @@
--- The outputs of one command on their way into the output ring: what one look for room leaves, and what the put ones leave.
-use Rattle.std.proofs.Common.{◌≡◌, ◌⊎◌, inl, inr, ℕ, zero, suc, ◌+◌, ◌<◌, ◌≤◌, Bool, true, false, cond, List, [], ◌∷◌, ◌++◌, length, get_or, take, drop, min, Some, ap, refl, sym, subst, ◌∙◌, append_assoc, length-drop, arith, add-one, eqb}
+-- The outputs of one command on their way into the output ring: what one look for room leaves, and what the put ones
+-- leave.
+use Rattle.std.proofs.Common.{◌≡◌, ◌⊎◌, inl, inr, ℕ, zero, suc, ◌+◌, ◌<◌, ◌≤◌, Bool, true, false, cond, List, [], ◌∷◌}
+use Rattle.std.proofs.Common.{◌++◌, length, get_or, take, drop, min, Some, ap, refl, sym, subst, ◌∙◌, append_assoc}
+use Rattle.std.proofs.Common.{length-drop, arith, add-one, eqb}
 use Rattle.std.proofs.lemmas.List.{append-nil, drop-drop, drop_all, length-take-le}
 use Rattle.std.specs.Prelude.{MatchBool, ◌-◌, ◌↔◌, if◌then◌else◌, nat_le, nat_eq}
 use Rattle.std.proofs.lemmas.Bool.{eqb-true, eq-eqb, leb-true}
@@ -19,7 +22,7 @@ use Rattle.ring_words.specs.Places.{unmarshalled, journalled, taken, in_row}
 use Rattle.ring_words.specs.Rule.{at_place}
 use Rattle.ring_words.specs.Seats.{load_of, looked, last_from}
 use Rattle.ring_words.specs.At.{Opened, At, IsAt, seated}
-use Rattle.ring_words.specs.Steps.{HasOutputRoom, Shows, lesser}
+use Rattle.ring_words.specs.Steps.{HasOutputRoom, Shows, lesser_of}
 use Rattle.ring_words.specs.SeatLaws.{last_kept, last_loaded}
 use Rattle.barrier.specs.Availability.{Gated}
 use Rattle.barrier.specs.Commands.{command_loads}
@@ -27,22 +30,25 @@ use Rattle.sequencer.specs.Rooms.{taken_loads, SeesRoomFor}
 use Rattle.book.specs.Books.{Book}
 use Rattle.book.specs.Histories.{reads_at, state_of, outputs_of}
 use Rattle.stages.specs.Turns.{after_reading}
-use Rattle.stages.specs.Processes.{to_put, TakesUp, ahead, Puts, PutsAll}
+use Rattle.stages.specs.Processes.{to_put, TakesUp, put_ahead, PutsOutputs, PutsAll}
 use Rattle.stages.specs.Stations.{AtBook}
-use Rattle.stages.specs.Insides.{Follows, IsWorking}
+use Rattle.stages.specs.Insides.{FollowsRings, IsWorking}
 use Rattle.stages.proofs.Processing.{MayTake, Took, at_rest, follows_on, left_to_put}
 
 -- THE VALUE LOADED LAST
 
 -- other words' loads leave it
-pub commands_leave : (n s i d : ℕ) (ws : List ℕ) (ls : List Load) → last_from journalled d (ls ++ command_loads n s i ws) ≡ last_from journalled d ls
+pub commands_leave : (n s i d : ℕ) (ws : List ℕ) (ls : List Load)
+    → last_from journalled d (ls ++ command_loads n s i ws) ≡ last_from journalled d ls
 commands_leave n s i d [] ls = ap (last_from journalled d) (append-nil ls)
 commands_leave n s i d (x ∷ xs) ls =
-    ap (last_from journalled d) (sym (append_assoc ls (load_of (in_row n s (i + 48)) x ∷ []) (command_loads n s (suc i) xs)))
+    ap (last_from journalled d) (sym
+    (append_assoc ls (load_of (in_row n s (i + 48)) x ∷ []) (command_loads n s (suc i) xs)))
     ∙ commands_leave n s (suc i) d xs (ls ++ load_of (in_row n s (i + 48)) x ∷ [])
     ∙ last_kept journalled (in_row n s (i + 48)) d x ls (λ (is : in_row n s (i + 48) ≡ journalled). omega (arith, is))
 
-looks_leave : (k d : ℕ) (xs : List ℕ) (ls : List Load) → last_from journalled d (ls ++ taken_loads k xs) ≡ last_from journalled d ls
+looks_leave : (k d : ℕ) (xs : List ℕ) (ls : List Load) → last_from journalled d (ls ++ taken_loads k xs)
+    ≡ last_from journalled d ls
 looks_leave k d [] ls = ap (last_from journalled d) (append-nil ls)
 looks_leave k d (x ∷ xs) ls =
     ap (last_from journalled d) (sym (append_assoc ls (load_of (taken k) x ∷ []) (taken_loads (suc k) xs)))
@@ -59,7 +65,8 @@ last_stood k d q (l ∷ ls) above = by_rest (last_stood k (cond (eqb l.place k) 
   by_place true is below = inr (0, (l, refl, eqb-true l.place k is, below))
   by_place false is below = inl below
 
-  by_rest : (q < cond (eqb l.place k) l.value d) ⊎ ((i : ℕ) × ((m : Load) × (get_elem? ls i ≡ some m) × (m.place ≡ k) × (q < m.value)))
+  by_rest : (q < cond (eqb l.place k) l.value d)
+      ⊎ ((i : ℕ) × ((m : Load) × (get_elem? ls i ≡ some m) × (m.place ≡ k) × (q < m.value)))
       → (q < d) ⊎ ((i : ℕ) × ((m : Load) × (get_elem? (l ∷ ls) i ≡ some m) × (m.place ≡ k) × (q < m.value)))
   by_rest (inl here) = by_place (eqb l.place k) refl here
   by_rest (inr found) = inr (suc found.0, found.1)
@@ -72,29 +79,34 @@ last_shows k q p above = by_case (last_stood k 0 q p.loads above) where
   by_case (inr found) = found
 
 -- where a command was read that was seen journalled, it still is
-pub read_leaves : (n : ℕ) (limits : Limits) (v r : At Limits) (s gateway : ℕ) (command : Command) → Took n limits v r s gateway command
+pub read_leaves : (n : ℕ) (limits : Limits) (v r : At Limits) (s gateway : ℕ) (command : Command)
+    → Took n limits v r s gateway command
     → s < last_from journalled 0 v.who.loads → r.who.own < last_from journalled 0 r.who.loads
 read_leaves n limits v r s gateway command took above =
     let place = took.place in
     let own : r.who.own ≡ v.who.own = ap (λ (z : At Limits). z.who.own) took.view in
     let last : last_from journalled 0 r.who.loads ≡ last_from journalled 0 v.who.loads =
     ap (λ (z : At Limits). last_from journalled 0 z.who.loads) took.view
-    ∙ commands_leave n v.who.own 0 0 (command_words took.entry.gateway (reads_at limits v.who.own took.entry)) v.who.loads in
+    ∙ commands_leave n v.who.own 0 0 (command_words took.entry.gateway (reads_at limits v.who.own took.entry))
+    v.who.loads in
     omega (arith, above, place, own, last)
 
 -- the processor with that command taken up, done in the book, and its outputs left
 pub works_on : (n : ℕ) (p : AtBook) (r : At Limits) (s gateway : ℕ) (command : Command) → IsWorking p → MayTake p s
     → Took n p.book.limits p.seat r s gateway command → (book : Book) (left : List Output)
-    → book.limits ≡ p.book.limits → book.state ≡ (step p.book.limits.symbols p.book.state s (record { gateway = gateway; command = command })).state
+    → book.limits ≡ p.book.limits → book.state
+    ≡ (step p.book.limits.symbols p.book.state s (record { gateway = gateway; command = command })).state
     → left ≡ (step p.book.limits.symbols p.book.state s (record { gateway = gateway; command = command })).outputs
     → IsWorking (record { seat = r; book = book; applied = s + 1; left = left })
 works_on n p r s gateway command working may took book left limits stepped told =
-    let follows = at_rest p.seat p.book p.applied s p.left working.follows may.all (working.whole (may.all ∙ may.next)) in
+    let follows = at_rest p.seat p.book p.applied s p.left working.follows may.all
+    (working.whole (may.all ∙ may.next)) in
     let place = took.place in let known = took.known in
     let own : r.who.own ≡ p.seat.who.own = ap (λ (z : At Limits). z.who.own) took.view in
     let seen : length r.who.seen ≡ length p.seat.who.seen = ap (λ (z : At Limits). length z.who.seen) took.view in
     record {
-      follows = follows_on n p.seat r s gateway command p.book took follows book left (s + 1) (add-one s) limits stepped told;
+      follows = follows_on n p.seat r s gateway command p.book took follows book left (s + 1) (add-one s) limits stepped
+          told;
       counts = (omega (arith, place, own), omega (arith, place, own), omega (arith, place, known, seen));
       whole = λ is. absurd (omega (arith, is, place, own));
       synced = λ _. read_leaves n p.book.limits p.seat r s gateway command took may.synced;
@@ -103,16 +115,17 @@ works_on n p r s gateway command working may took book left limits stepped told 
 -- OUTPUTS ONE BEHIND THE OTHER
 
 -- all but the row under way is as before, and published is so many above
-ahead_is : (p : Person) (k : ℕ) → (ahead p k ≡ record p { part = (ahead p k).part }) × ((ahead p k).part.sequence ≡ p.part.sequence + k)
+ahead_is : (p : Person) (k : ℕ) → (put_ahead p k ≡ record p { part = (put_ahead p k).part })
+    × ((put_ahead p k).part.sequence ≡ p.part.sequence + k)
 ahead_is p zero = (refl, omega arith)
 ahead_is p (suc k) =
     let rest = ahead_is p k in let count = rest.1 in
-    (ap (λ (q : Person). at_place q (suc (ahead p k).part.sequence)) rest.0, omega (arith, count))
+    (ap (λ (q : Person). at_place q (suc (put_ahead p k).part.sequence)) rest.0, omega (arith, count))
 
-pub ahead_place : (p : Person) (k : ℕ) → (ahead p k).part.sequence ≡ p.part.sequence + k
+pub ahead_place : (p : Person) (k : ℕ) → (put_ahead p k).part.sequence ≡ p.part.sequence + k
 ahead_place p k = (ahead_is p k).1
 
-pub ahead_loads : (p : Person) (k : ℕ) → (ahead p k).loads ≡ p.loads
+pub ahead_loads : (p : Person) (k : ℕ) → (put_ahead p k).loads ≡ p.loads
 ahead_loads p k = ap (λ (q : Person). q.loads) (ahead_is p k).0
 
 -- what is read at a place stands there
@@ -121,15 +134,16 @@ read_stands [] i a is below = absurd (omega (arith, below))
 read_stands (x ∷ xs) zero a is below = ap some (sym is)
 read_stands (x ∷ xs) (suc i) a is below = read_stands xs i a is (omega (arith, below))
 
-module _ (v u : At Limits) (k : ℕ) (is : u ≡ seated v (ahead v.who k)) where
-  person_is : u.who ≡ record v.who { part = (ahead v.who k).part }
+module _ (v u : At Limits) (k : ℕ) (is : u ≡ seated v (put_ahead v.who k)) where
+  person_is : u.who ≡ record v.who { part = (put_ahead v.who k).part }
   person_is = ap (λ (s : At _). s.who) is ∙ (ahead_is v.who k).0
 
   place_is : u.who.part.sequence ≡ v.who.part.sequence + k
   place_is = ap (λ (z : At Limits). z.who.part.sequence) is ∙ ahead_place v.who k
 
   -- there is room for one more
-  pub room_behind : (g m : ℕ) → HasOutputRoom g m v.who (v.who.part.sequence + k) → HasOutputRoom g m u.who u.who.part.sequence
+  pub room_behind : (g m : ℕ) → HasOutputRoom g m v.who (v.who.part.sequence + k)
+      → HasOutputRoom g m u.who u.who.part.sequence
   room_behind g m room = subst (λ (q : Person). HasOutputRoom g m q u.who.part.sequence) (sym person_is)
       (subst (HasOutputRoom g m v.who) (sym place_is) room)
 
@@ -141,12 +155,17 @@ module _ (v u : At Limits) (k : ℕ) (is : u ≡ seated v (ahead v.who k)) where
   pub next_behind : (limits : Limits) (o : Output)
       → get_elem? (outputs_of limits (take (suc v.who.own) v.who.seen)) (v.who.part.sequence + k) ≡ some o
       → get_elem? (outputs_of limits (take (suc u.who.own) u.who.seen)) u.who.part.sequence ≡ some o
-  next_behind limits o at = subst (λ (q : Person). get_elem? (outputs_of limits (take (suc q.own) q.seen)) u.who.part.sequence ≡ some o) (sym person_is)
+  next_behind limits o at = subst
+      (λ (q : Person). get_elem? (outputs_of limits (take (suc q.own) q.seen)) u.who.part.sequence ≡ some o)
+      (sym person_is)
       (subst (λ (s : ℕ). get_elem? (outputs_of limits (take (suc v.who.own) v.who.seen)) s ≡ some o) (sym place_is) at)
 
 -- the logic of a seat's rings is the one that it is known to have
-pub same_logic : (rings : Opened Limits) (v : At Limits) (limits : Limits) → IsAt rings v → v.logic ≡ Some limits → limits ≡ rings.logic
-same_logic rings v limits of_rings by = let same : Some limits ≡ Some rings.logic = sym by ∙ ap (λ (s : At Limits). s.logic) of_rings in cc
+pub same_logic : (rings : Opened Limits) (v : At Limits) (limits : Limits) → IsAt rings v → v.logic ≡ Some limits
+    → limits ≡ rings.logic
+same_logic rings v limits of_rings by = let same : Some limits
+    ≡ Some rings.logic = sym by ∙ ap (λ (s : At Limits). s.logic) of_rings in
+    cc
 
 -- ONE LOOK FOR ROOM
 
@@ -167,24 +186,32 @@ pub record OnlyLooked (p q : Person) : Type 0 where
   pub loads : q ≡ record p { loads = p.loads ++ taken_loads 1 values }
 
 pub only_looked : (g m : ℕ) (p : Person) (n answer : ℕ) (q : Person) → SeesRoomFor g m p n answer q → OnlyLooked p q
-only_looked g m p n answer q (inl kept) = record { values = []; loads = kept.1.1 ∙ (λ i. record p { loads = sym (append-nil p.loads) i }) }
+only_looked g m p n answer q (inl kept) = record {
+  values = [];
+  loads = kept.1.1 ∙ (λ i. record p { loads = sym (append-nil p.loads) i });
+}
 only_looked g m p n answer q (inr (none, looked)) = record { values = looked.values; loads = looked.loads }
 
 -- all outputs were put where the values kept leave room for them; else one look was made
-pub were_put : (g m : ℕ) (p : Person) (left : List Output) (answer most : ℕ) (q w : Person) → SeesRoomFor g m p (length left) answer q → 0 < length left
-    → most ≡ min answer (length left) → w ≡ ahead q most → PutsAll m g p left w × (most < length left → Puts m g p left w)
+pub were_put : (g m : ℕ) (p : Person) (left : List Output) (answer most : ℕ) (q w : Person)
+    → SeesRoomFor g m p (length left) answer q → 0 < length left
+    → most ≡ min answer (length left) → w ≡ put_ahead q most
+    → PutsAll m g p left w × (most < length left → PutsOutputs m g p left w)
 were_put g m p left answer most q w (inl kept) some_left is w_is = let enough = kept.1.0 in
     let all : most ≡ length left = omega (arith, is, enough) in
-    (inl (some_left, (kept.0, w_is ∙ (λ i. ahead (kept.1.1 i) (all i)))), λ few. absurd (omega (arith, few, all)))
+    (inl (some_left, (kept.0, w_is ∙ (λ i. put_ahead (kept.1.1 i) (all i)))), λ few. absurd (omega (arith, few, all)))
 were_put g m p left answer most q w (inr (none, looked)) some_left is w_is =
-    let puts : Puts m g p left w = inr (some_left, (answer, (q, looked, w_is ∙ ap (ahead q) is))) in (inr (inr none, puts), λ few. puts)
+    let puts : PutsOutputs m g p left w = inr (some_left, (answer, (q, looked, w_is ∙ ap (put_ahead q) is))) in
+    (inr (inr none, puts), λ few. puts)
 
 -- so it is by what is answered
 pub put_or_left : (A B : Type 0) (most n : ℕ) → most ≤ n → A × (most < n → B) → MatchBool (nat_eq most n) A B
 put_or_left A B most n few were = by_answer (nat_eq most n) refl where
   by_answer : (b : Bool) → nat_eq most n ≡ b → MatchBool b A B
   by_answer true is = were.0
-  by_answer false is = were.1 (dite (dec_lt most n) (λ less. less) (λ (more : ¬ (most < n)). absurd (let all = eq-eqb most n (omega arith) in let t : true ≡ false = sym all ∙ is in cc)))
+  by_answer false is = were.1 (dite (dec_lt most n) (λ less. less)
+      (λ (more : ¬ (most < n)). absurd (let all = eq-eqb most n (omega arith) in
+      let t : true ≡ false = sym all ∙ is in cc)))
 
 module _ (g m : ℕ) (v u : At Limits) (room : ℕ) (looked : OnlyLooked v.who u.who) (u_is : u ≡ seated v u.who) where
   looked_place : u.who.part.sequence ≡ v.who.part.sequence
@@ -193,11 +220,13 @@ module _ (g m : ℕ) (v u : At Limits) (room : ℕ) (looked : OnlyLooked v.who u
   -- so many outputs have room
   pub room_for_all : ((i : ℕ) → i < room → HasOutputRoom g m u.who (v.who.part.sequence + i)) → (k : ℕ) → k ≤ room
       → (i : ℕ) → i < k → HasOutputRoom g m u.who (u.who.part.sequence + i)
-  room_for_all free k most i below = subst (λ (s : ℕ). HasOutputRoom g m u.who (s + i)) (sym looked_place) (free i (omega (arith, below, most)))
+  room_for_all free k most i below = subst (λ (s : ℕ). HasOutputRoom g m u.who (s + i)) (sym looked_place)
+      (free i (omega (arith, below, most)))
 
   -- the value of journalled that was loaded last is as before
   last_same : last_from journalled 0 u.who.loads ≡ last_from journalled 0 v.who.loads
-  last_same = ap (λ (q : Person). last_from journalled 0 q.loads) looked.loads ∙ looks_leave 1 0 looked.values v.who.loads
+  last_same = ap (λ (q : Person). last_from journalled 0 q.loads) looked.loads
+      ∙ looks_leave 1 0 looked.values v.who.loads
 
   own_same : u.who.own ≡ v.who.own
   own_same = ap (λ (q : Person). q.own) looked.loads
@@ -206,27 +235,36 @@ module _ (g m : ℕ) (v u : At Limits) (room : ℕ) (looked : OnlyLooked v.who u
   still_synced above = let last = last_same in let own = own_same in
       last_shows journalled u.who.own u.who (omega (arith, above, last, own))
 
-  module _ (book : Book) (applied : ℕ) (left : List Output) (follows : Follows v book applied left) (one : applied ≡ suc v.who.own) where
+  module _ (book : Book) (applied : ℕ) (left : List Output) (follows : FollowsRings v book applied left)
+      (one : applied ≡ suc v.who.own) where
     -- what is left are the next outputs
     pub are_next : (most : ℕ) (i : ℕ) (o : Output) → get_elem? (take most left) i ≡ some o
         → get_elem? (outputs_of book.limits (take (suc u.who.own) u.who.seen)) (u.who.part.sequence + i) ≡ some o
     are_next most i o at =
-        subst (λ (q : Person). get_elem? (outputs_of book.limits (take (suc q.own) q.seen)) (q.part.sequence + i) ≡ some o) (sym looked.loads)
-        (subst (λ (k : ℕ). get_elem? (outputs_of book.limits (take k v.who.seen)) (v.who.part.sequence + i) ≡ some o) one
+        subst (λ (q : Person). get_elem? (outputs_of book.limits (take (suc q.own) q.seen)) (q.part.sequence + i)
+        ≡ some o) (sym looked.loads)
+        (subst (λ (k : ℕ). get_elem? (outputs_of book.limits (take k v.who.seen)) (v.who.part.sequence + i) ≡ some o)
+        one
         (sym (at_drop v.who.part.sequence (outputs_of book.limits (take applied v.who.seen)) i)
         ∙ ap (λ (l : List Output). get_elem? l i) follows.rest ∙ at_front most left i o at))
 
     pub has_logic : u.logic ≡ Some book.limits
     has_logic = ap (λ (z : At Limits). z.logic) u_is ∙ follows.logic
 
-    module _ (most : ℕ) (within : most ≤ length left) (w : At Limits) (w_is : w ≡ seated u (ahead u.who most)) where
+    module _ (most : ℕ) (within : most ≤ length left) (w : At Limits) (w_is : w ≡ seated u (put_ahead u.who most)) where
       put_is : w.who ≡ record v.who { loads = w.who.loads; part = w.who.part }
       put_is = let is = ap (λ (s : At _). s.who) w_is ∙ (ahead_is u.who most).0 in
-          is ∙ ap (λ (q : Person). record q { part = (ahead u.who most).part }) looked.loads
-          ∙ (λ i. record v.who { loads = (sym (ap (λ (q : Person). q.loads) (is ∙ ap (λ (q : Person). record q { part = (ahead u.who most).part }) looked.loads))) i; part = (sym (ap (λ (q : Person). q.part) is)) i })
+          is ∙ ap (λ (q : Person). record q { part = (put_ahead u.who most).part }) looked.loads
+          ∙ (λ i. record v.who {
+            loads =
+                (sym (ap (λ (q : Person). q.loads)
+                (is ∙ ap (λ (q : Person). record q { part = (put_ahead u.who most).part }) looked.loads))) i;
+            part = (sym (ap (λ (q : Person). q.part) is)) i;
+          })
 
       place_after : w.who.part.sequence ≡ v.who.part.sequence + most
-      place_after = ap (λ (z : At Limits). z.who.part.sequence) w_is ∙ ahead_place u.who most ∙ ap (λ (s : ℕ). s + most) looked_place
+      place_after = ap (λ (z : At Limits). z.who.part.sequence) w_is ∙ ahead_place u.who most
+          ∙ ap (λ (s : ℕ). s + most) looked_place
 
       own_after : w.who.own ≡ v.who.own
       own_after = ap (λ (q : Person). q.own) put_is
@@ -242,7 +280,7 @@ module _ (g m : ℕ) (v u : At Limits) (room : ℕ) (looked : OnlyLooked v.who u
       outs_after = ap (λ h. outputs_of book.limits (take applied h)) seen_after
 
       -- the book follows, and the others are left
-      pub follows_after : Follows w book applied (drop most left)
+      pub follows_after : FollowsRings w book applied (drop most left)
       follows_after = record {
         logic = ap (λ (z : At Limits). z.logic) w_is ∙ has_logic;
         state = follows.state ∙ ap (λ h. state_of book.limits (take applied h)) (sym seen_after);
@@ -250,7 +288,10 @@ module _ (g m : ℕ) (v u : At Limits) (room : ℕ) (looked : OnlyLooked v.who u
             ∙ ap (drop (v.who.part.sequence + most)) outs_after
             ∙ sym (drop-drop most v.who.part.sequence (outputs_of book.limits (take applied v.who.seen)))
             ∙ ap (drop most) follows.rest;
-        published = let all = follows.published in let long = length-drop most left in let place = place_after in let outs = ap length outs_after in
+        published = let all = follows.published in
+            let long = length-drop most left in
+            let place = place_after in
+            let outs = ap length outs_after in
             omega (arith, all, long, place, outs, within);
       }
 
@@ -260,48 +301,64 @@ module _ (g m : ℕ) (v u : At Limits) (room : ℕ) (looked : OnlyLooked v.who u
       same_after = (own_after, ap length seen_after, last_after)
 
 -- the outputs that are lent to be put
-pub lent : (put most : ℕ) (items now : List Output) → now ≡ items → take (put + most - put) (drop put now) ≡ take most (drop put items)
-lent put most items now is = let g : put + most - put ≡ most = omega arith in ap (λ (k : ℕ). take k (drop put now)) g ∙ ap (λ (l : List Output). take most (drop put l)) is
+pub lent : (put most : ℕ) (items now : List Output) → now ≡ items
+    → take (put + most - put) (drop put now) ≡ take most (drop put items)
+lent put most items now is = let g : put + most - put ≡ most = omega arith in
+    ap (λ (k : ℕ). take k (drop put now)) g ∙ ap (λ (l : List Output). take most (drop put l)) is
 
-pub all_lent : (put most : ℕ) (items now : List Output) → now ≡ items → most ≤ length (drop put items) → length (take (put + most - put) (drop put now)) ≡ most
-all_lent put most items now is within = ap length (lent put most items now is) ∙ length-take-le most (drop put items) within
+pub all_lent : (put most : ℕ) (items now : List Output) → now ≡ items → most ≤ length (drop put items)
+    → length (take (put + most - put) (drop put now)) ≡ most
+all_lent put most items now is within = ap length (lent put most items now is)
+    ∙ length-take-le most (drop put items) within
 
 -- what the processor is when so many were put of those left
 pub record AreGone (m g : ℕ) (p : AtBook) (w : At Limits) (most : ℕ) : Type 0 where
-  pub follows : Follows w p.book p.applied (drop most p.left)
+  pub follows : FollowsRings w p.book p.applied (drop most p.left)
   pub own : w.who.own ≡ p.seat.who.own
   pub seen : length w.who.seen ≡ length p.seat.who.seen
   pub last : last_from journalled 0 w.who.loads ≡ last_from journalled 0 p.seat.who.loads
-  pub puts : PutsAll m g p.seat.who p.left w.who × (most < length p.left → Puts m g p.seat.who p.left w.who)
+  pub puts : PutsAll m g p.seat.who p.left w.who × (most < length p.left → PutsOutputs m g p.seat.who p.left w.who)
 
 -- those left are the outputs from one place on, of which as many as there is room for are lent and put
-pub are_gone : (m g : ℕ) (p : AtBook) (u w : At Limits) (wanted room most put : ℕ) (items now : List Output) → IsWorking p → p.left ≡ drop put items
-    → p.seat.who.own < p.applied → SeesRoomFor g m p.seat.who wanted room u.who → wanted ≡ length p.left → u ≡ seated p.seat u.who → now ≡ items
+pub are_gone : (m g : ℕ) (p : AtBook) (u w : At Limits) (wanted room most put : ℕ) (items now : List Output)
+    → IsWorking p → p.left ≡ drop put items
+    → p.seat.who.own < p.applied → SeesRoomFor g m p.seat.who wanted room u.who → wanted ≡ length p.left
+    → u ≡ seated p.seat u.who → now ≡ items
     → 0 < length p.left → most ≡ min room (length p.left)
-    → w ≡ seated u (ahead u.who (length (take (put + most - put) (drop put now)))) → AreGone m g p w most
-are_gone m g p u w wanted room most put items now working left_is under_way sees wanted_is u_is is some_there least was_put =
+    → w ≡ seated u (put_ahead u.who (length (take (put + most - put) (drop put now)))) → AreGone m g p w most
+are_gone m g p u w wanted room most put items now working left_is under_way sees wanted_is u_is is some_there least
+    was_put =
     let v = p.seat in let looked = only_looked g m v.who wanted room u.who sees in let counts = working.counts in
     let one : p.applied ≡ suc v.who.own = omega (arith, counts, under_way) in
     let within : most ≤ length p.left = omega (arith, least) in
     let long = ap length left_is in
-    let w_is : w ≡ seated u (ahead u.who most) =
-    was_put ∙ ap (λ (k : ℕ). seated u (ahead u.who k)) (all_lent put most items now is (omega (arith, within, long))) in
+    let w_is : w ≡ seated u (put_ahead u.who most) =
+    was_put ∙ ap (λ (k : ℕ). seated u (put_ahead u.who k))
+    (all_lent put most items now is (omega (arith, within, long))) in
     let kept = same_after g m v u room looked u_is p.book p.applied p.left working.follows one most within w w_is in
     record {
       follows = follows_after g m v u room looked u_is p.book p.applied p.left working.follows one most within w w_is;
       own = kept.0;
       seen = kept.1;
       last = kept.2;
-      puts = were_put g m v.who p.left room most u.who w.who (subst (λ (n : ℕ). SeesRoomFor g m v.who n room u.who) wanted_is sees) some_there least (ap (λ (s : At _). s.who) w_is);
+      puts = were_put g m v.who p.left room most u.who w.who
+          (subst (λ (n : ℕ). SeesRoomFor g m v.who n room u.who) wanted_is sees) some_there least
+          (ap (λ (s : At _). s.who) w_is);
     }
 
 -- the processor with the others left
-pub works_behind : (m g : ℕ) (p : AtBook) (w : At Limits) (most : ℕ) (rest : List Output) → IsWorking p → p.seat.who.own < p.applied
-    → drop most p.left ≡ rest → AreGone m g p w most → IsWorking (record { seat = w; book = p.book; applied = p.applied; left = rest })
+pub works_behind : (m g : ℕ) (p : AtBook) (w : At Limits) (most : ℕ) (rest : List Output) → IsWorking p
+    → p.seat.who.own < p.applied
+    → drop most p.left ≡ rest → AreGone m g p w most → IsWorking
+    (record { seat = w; book = p.book; applied = p.applied; left = rest })
 works_behind m g p w most rest working under_way is gone =
-    let counts = working.counts in let above = working.synced under_way in let own = gone.own in let seen = gone.seen in let last = gone.last in
+    let counts = working.counts in
+    let above = working.synced under_way in
+    let own = gone.own in
+    let seen = gone.seen in
+    let last = gone.last in
     record {
-      follows = subst (Follows w p.book p.applied) is gone.follows;
+      follows = subst (FollowsRings w p.book p.applied) is gone.follows;
       counts = (omega (arith, counts, own), omega (arith, counts, own), omega (arith, counts, seen));
       whole = λ all. absurd (omega (arith, all, under_way, own));
       synced = λ _. omega (arith, above, last, own);
@@ -312,7 +369,8 @@ pub none_left : (put most len : ℕ) (items : List Output) → len ≡ length it
     → (nat_eq most (len - put) ≡ true) ↔ (drop (put + most) items ≡ [])
 none_left put most len items long within few = let rest = length-drop (put + most) items in (
   (λ all. let same = eqb-true most (len - put) all in drop_all (put + most) items (omega (arith, same, long, within))),
-  (λ none. let nil : length (drop (put + most) items) ≡ 0 = ap length none in eq-eqb most (len - put) (omega (arith, rest, nil, long, within, few))),
+  (λ none. let nil : length (drop (put + most) items) ≡ 0 = ap length none in
+      eq-eqb most (len - put) (omega (arith, rest, nil, long, within, few))),
 )
 
 -- A POLL
@@ -321,7 +379,7 @@ none_left put most len items long within few = let rest = length-drop (put + mos
 pub gated_own : (v u : Person) → Gated v u → u.own ≡ v.own
 gated_own v u gated = ap (λ (p : Person). p.own) gated.2.1
 
-lesser_low : (a b : ℕ) → lesser a b ≤ b
+lesser_low : (a b : ℕ) → lesser_of a b ≤ b
 lesser_low a b = elim (nat_le a b) as (λ t. nat_le a b ≡ t → (if t then a else b) ≤ b)
     [ true ↦ (λ is. let le = leb-true a b is in omega (arith, le)) | false ↦ (λ is. omega arith) ] refl
 
@@ -329,7 +387,8 @@ pub gated_synced : (v u : Person) (s : ℕ) → Gated v u → s < length u.seen 
 gated_synced v u s gated known =
     let unm = gated.0 in let j = gated.1 in let low = lesser_low unm j in
     let last : last_from journalled 0 u.loads ≡ j =
-    ap (λ (p : Person). last_from journalled 0 p.loads) gated.2.1 ∙ last_loaded journalled 0 j (looked v unmarshalled unm).loads in
+    ap (λ (p : Person). last_from journalled 0 p.loads) gated.2.1
+    ∙ last_loaded journalled 0 j (looked v unmarshalled unm).loads in
     let long = gated.2.2 in
     omega (arith, low, last, long, known)
 
@@ -350,11 +409,18 @@ pub took_one : (n next : ℕ) (p b : AtBook) (u : Person) → p.applied ≡ next
     → (b.applied ≡ suc next) × (b.book.limits ≡ p.book.limits) → IsWorking b → UnderWay n p b
 took_one n next p b u all own gated read applied working =
     let taken : TakesUp n p.book.limits p.applied p.seat.who b.seat.who = inl (all ∙ own, (u, gated, read)) in
-    record { taken = taken; same = applied.1; one = applied.0 ∙ ap suc (own ∙ sym (took_own n p.applied p.book.limits _ _ taken)); working = working }
+    record {
+      taken = taken;
+      same = applied.1;
+      one = applied.0
+          ∙ ap suc (own ∙ sym (took_own n p.applied p.book.limits _ _ taken));
+      working = working;
+    }
 
 pub goes_on : (n : ℕ) (p : AtBook) → IsWorking p → p.seat.who.own < p.applied → UnderWay n p p
 goes_on n p working under_way =
-    let counts = working.counts in record { taken = inr (under_way, refl); same = refl; one = omega (arith, counts, under_way); working = working }
+    let counts = working.counts in
+    record { taken = inr (under_way, refl); same = refl; one = omega (arith, counts, under_way); working = working }
 
 module _ (n m g : ℕ) (limits : Limits) (p b : AtBook) (is : p.book.limits ≡ limits) (begun : UnderWay n p b) where
   -- it was taken up by these limits
@@ -363,18 +429,24 @@ module _ (n m g : ℕ) (limits : Limits) (p b : AtBook) (is : p.book.limits ≡ 
 
   -- then its outputs that aren't published are those left
   are_left : to_put limits b.seat.who ≡ b.left
-  are_left = ap (λ (s : Limits). to_put s b.seat.who) (sym (begun.same ∙ is)) ∙ left_to_put b.seat b.book b.applied b.left begun.working.follows begun.one
+  are_left = ap (λ (s : Limits). to_put s b.seat.who) (sym (begun.same ∙ is))
+      ∙ left_to_put b.seat b.book b.applied b.left begun.working.follows begun.one
 
   -- and they were put, or some of them
-  pub put_all : (w : Person) (t : Bool) → MatchBool t (PutsAll m g b.seat.who b.left w) (Puts m g b.seat.who b.left w) → t ≡ true → PutsAll m g b.seat.who (to_put limits b.seat.who) w
+  pub put_all : (w : Person) (t : Bool) → MatchBool t (PutsAll m g b.seat.who b.left w)
+      (PutsOutputs m g b.seat.who b.left w) → t ≡ true → PutsAll m g b.seat.who (to_put limits b.seat.who) w
   put_all w t puts is = subst (λ (l : List Output). PutsAll m g b.seat.who l w) (sym are_left)
-      (subst (λ (t : Bool). MatchBool t (PutsAll m g b.seat.who b.left w) (Puts m g b.seat.who b.left w)) is puts)
+      (subst (λ (t : Bool). MatchBool t (PutsAll m g b.seat.who b.left w) (PutsOutputs m g b.seat.who b.left w)) is
+      puts)
 
-  pub put_some : (w : Person) (t : Bool) → MatchBool t (PutsAll m g b.seat.who b.left w) (Puts m g b.seat.who b.left w) → t ≡ false → Puts m g b.seat.who (to_put limits b.seat.who) w
-  put_some w t puts is = subst (λ (l : List Output). Puts m g b.seat.who l w) (sym are_left)
-      (subst (λ (t : Bool). MatchBool t (PutsAll m g b.seat.who b.left w) (Puts m g b.seat.who b.left w)) is puts)
+  pub put_some : (w : Person) (t : Bool) → MatchBool t (PutsAll m g b.seat.who b.left w)
+      (PutsOutputs m g b.seat.who b.left w) → t ≡ false → PutsOutputs m g b.seat.who (to_put limits b.seat.who) w
+  put_some w t puts is = subst (λ (l : List Output). PutsOutputs m g b.seat.who l w) (sym are_left)
+      (subst (λ (t : Bool). MatchBool t (PutsAll m g b.seat.who b.left w) (PutsOutputs m g b.seat.who b.left w)) is
+      puts)
 
-  module _ (q : AtBook) (kept : (q.applied ≡ b.applied) × (q.book ≡ b.book)) (own : q.seat.who.own ≡ b.seat.who.own) (working : IsWorking q) where
+  module _ (q : AtBook) (kept : (q.applied ≡ b.applied) × (q.book ≡ b.book)) (own : q.seat.who.own ≡ b.seat.who.own)
+      (working : IsWorking q) where
     pub still_one : q.applied ≡ suc q.seat.who.own
     still_one = kept.0 ∙ begun.one ∙ ap suc (sym own)
 

@@ -22,7 +22,7 @@ pub record IsKeeping {D : Type 0} (honest : Type 0) (disk : Told) (who : Person)
   pub keeps : honest → ∥ KeepsDone disk who ∥₁
 
 -- the book is that of the first entries, so many; of their outputs all but those left are published
-pub record Follows (v : At Limits) (book : Book) (applied : ℕ) (left : List Output) : Type 0 where
+pub record FollowsRings (v : At Limits) (book : Book) (applied : ℕ) (left : List Output) : Type 0 where
   pub logic : v.logic ≡ Some book.limits
   pub state : book.state ≡ state_of book.limits (take applied v.who.seen)
   pub rest : drop v.who.part.sequence (outputs_of book.limits (take applied v.who.seen)) ≡ left
@@ -30,7 +30,7 @@ pub record Follows (v : At Limits) (book : Book) (applied : ℕ) (left : List Ou
 
 -- So it is of the entries that are done, or of one more, which was seen journalled, of which some outputs may be left.
 pub record IsWorking (p : AtBook) : Type 0 where
-  pub follows : Follows p.seat p.book p.applied p.left
+  pub follows : FollowsRings p.seat p.book p.applied p.left
   pub counts : (p.seat.who.own ≤ p.applied) × (p.applied ≤ suc p.seat.who.own) × (p.applied ≤ length p.seat.who.seen)
   pub whole : p.applied ≡ p.seat.who.own → p.left ≡ []
   pub synced : p.seat.who.own < p.applied → p.seat.who.own < last_from journalled 0 p.seat.who.loads

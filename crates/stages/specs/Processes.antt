@@ -9,18 +9,18 @@ use Rattle.ring_words.specs.declared.view.Person.{Person}
 use Rattle.ring_words.specs.Places.{unmarshalled, journalled}
 use Rattle.ring_words.specs.Rule.{at_place}
 use Rattle.ring_words.specs.Seats.{looked}
-use Rattle.ring_words.specs.Steps.{lesser}
+use Rattle.ring_words.specs.Steps.{lesser_of}
 use Rattle.barrier.specs.Availability.{Gated}
 use Rattle.sequencer.specs.Rooms.{HasLooked, KeepsRoom, KeepsNoRoom}
 use Rattle.book.specs.Histories.{outputs_of}
-use Rattle.stages.specs.Turns.{done, after_reading}
+use Rattle.stages.specs.Turns.{one_done, after_reading}
 use Rattle.stages.specs.declared.turn.Turn.{Turn}
 use Rattle.stages.specs.declared.turn.Turn.TheVariants.{Did, Idle, OutFull, JournalFailed}
 
 -- the lesser of unmarshalled and journalled, loaded in this order, was the stage's own word, and it knows nothing beyond that
 abbrev pub NothingHandedOn : Person → Person → Type 0
 NothingHandedOn v w =
-    (length v.seen ≡ v.own) × ((u j : ℕ) × (lesser u j ≡ v.own) × (w ≡ looked (looked v unmarshalled u) journalled j))
+    (length v.seen ≡ v.own) × ((u j : ℕ) × (lesser_of u j ≡ v.own) × (w ≡ looked (looked v unmarshalled u) journalled j))
 
 -- the outputs of the entries that are done and of the next one, but for those that are published
 abbrev pub to_put : Limits → Person → List Output
@@ -34,22 +34,22 @@ TakesUp n limits applied v u =
     ⊎ ((v.own < applied) × (u ≡ v))
 
 -- so many outputs more are published, one after another
-abbrev pub ahead : Person → ℕ → Person
-ahead p zero = p
-ahead p (suc k) = at_place (ahead p k) (suc (ahead p k).part.sequence)
+abbrev pub put_ahead : Person → ℕ → Person
+put_ahead p zero = p
+put_ahead p (suc k) = at_place (put_ahead p k) (suc (put_ahead p k).part.sequence)
 
 -- of these outputs as many were put as one look for room left room for; where there are none, nobody looks
-abbrev pub Puts : ℕ → ℕ → Person → List Output → Person → Type 0
-Puts m g u outputs w =
+abbrev pub PutsOutputs : ℕ → ℕ → Person → List Output → Person → Type 0
+PutsOutputs m g u outputs w =
     ((outputs ≡ []) × (w ≡ u))
-    ⊎ ((0 < length outputs) × ((room : ℕ) × ((q : Person) × HasLooked g m u room q × (w ≡ ahead q (min room (length outputs))))))
+    ⊎ ((0 < length outputs) × ((room : ℕ) × ((q : Person) × HasLooked g m u room q × (w ≡ put_ahead q (min room (length outputs))))))
 
 -- All of these outputs were put: by the taken values that were loaded last there was room for all, and nobody looked; or there wasn't, and one look for
 -- room was made; or there are none
 abbrev pub PutsAll : ℕ → ℕ → Person → List Output → Person → Type 0
 PutsAll m g u outputs w =
-    ((0 < length outputs) × (KeepsRoom g m u (length outputs) × (w ≡ ahead u (length outputs))))
-    ⊎ (((outputs ≡ []) ⊎ KeepsNoRoom g m u (length outputs)) × Puts m g u outputs w)
+    ((0 < length outputs) × (KeepsRoom g m u (length outputs) × (w ≡ put_ahead u (length outputs))))
+    ⊎ (((outputs ≡ []) ⊎ KeepsNoRoom g m u (length outputs)) × PutsOutputs m g u outputs w)
 
 -- how many rows the two rings have, and how many gateways there are
 pub record Sizes : Type 0 where
@@ -73,9 +73,9 @@ working who applied = record { who = who; applied = applied }
 abbrev pub Processes : Sizes → Limits → Turn → Working → Working → Type 0
 Processes s limits (Did k) v w =
     (k ≡ 1) × ((u q : Person) × TakesUp s.rows limits v.applied v.who u × PutsAll s.output_rows s.gateways u (to_put limits u) q × (to_put limits q ≡ [])
-    × (w.who ≡ done q) × (w.applied ≡ w.who.own))
+    × (w.who ≡ one_done q) × (w.applied ≡ w.who.own))
 Processes s limits Idle v w = (v.applied ≡ v.who.own) × NothingHandedOn v.who w.who × (w.applied ≡ v.applied)
 Processes s limits OutFull v w =
-    (u : Person) × TakesUp s.rows limits v.applied v.who u × Puts s.output_rows s.gateways u (to_put limits u) w.who × (to_put limits w.who ≢ [])
+    (u : Person) × TakesUp s.rows limits v.applied v.who u × PutsOutputs s.output_rows s.gateways u (to_put limits u) w.who × (to_put limits w.who ≢ [])
     × (w.applied ≡ suc w.who.own)
 Processes s limits JournalFailed v w = ⊥

@@ -23,8 +23,8 @@ abbrev pub NothingShown : ℕ → Person → Person → Type 0
 NothingShown n v w = (length v.seen ≡ v.own) × ((x : ℕ) × (x ≢ suc v.own) × (w ≡ looked v (in_row n v.own 0) x))
 
 -- the next sequence is done
-abbrev pub done : Person → Person
-done v = moved v (suc v.own)
+abbrev pub one_done : Person → Person
+one_done v = moved v (suc v.own)
 
 -- the message of sequence s was read, and the command that it is read as was stored in its row
 abbrev pub after_writing : ℕ → Limits → Person → ℕ → Message → Person
@@ -70,8 +70,8 @@ abbrev pub HasBlock : ℕ → ℕ → Person → Type 0
 HasBlock n k v = (k ≡ length (next_block n v.own v.seen)) × (1 ≤ k) × (k ≤ 4096)
 
 -- the messages of the next block, which the look for new ones left known, were read, and that was all
-abbrev pub OnlyRead : ℕ → Person → Person → Type 0
-OnlyRead n v w = (u : Person) × Shown n v u × ((k : ℕ) × HasBlock n k u × (w ≡ after_block n u))
+abbrev pub OnlyReadBlock : ℕ → Person → Person → Type 0
+OnlyReadBlock n v w = (u : Person) × Shown n v u × ((k : ℕ) × HasBlock n k u × (w ≡ after_block n u))
 
 -- the next block was read and handed on; or it couldn't be kept, and was only read
 abbrev pub KeepsBlock : ℕ → Turn → Person → Person → Type 0
@@ -86,4 +86,4 @@ abbrev pub Journals : ℕ → Turn → Person → Person → Type 0
 Journals n (Did k) v w = (u : Person) × Shown n v u × (HasBlock n k u × (w ≡ moved (after_block n u) (u.own + k)))
 Journals n Idle v w = NothingShown n v w
 Journals n OutFull v w = ⊥
-Journals n JournalFailed v w = (w ≡ v) ⊎ OnlyRead n v w
+Journals n JournalFailed v w = (w ≡ v) ⊎ OnlyReadBlock n v w

@@ -9,7 +9,7 @@ ghost use Rattle.stages.specs.Kept.{KeepsDone, Fails, IsUntouched, LeavesJournal
 ghost use Rattle.stages.specs.Stations.{disk_of};
 ghost use Rattle.stages.specs.Crews.{AreAt, AreIdle, new_crew, Polls};
 ghost use Rattle.stages.specs.Processes.{sizes};
-ghost use Rattle.stages.specs.Turns.{OnlyRead};
+ghost use Rattle.stages.specs.Turns.{OnlyReadBlock};
 ghost use Rattle.stages.specs.Finishing.{Finished};
 
 use crate::journaller::Journaller;
@@ -123,7 +123,7 @@ impl<D: JournalDisk> Crew<D> {
         ensures failed { Fails D.failed self.old.journaller.journal self.new.journaller.journal result.journaller }
         ensures untouched { IsUntouched self.old.journaller self.new.journaller result.journaller }
         ensures not_kept { self.old.journaller.journal.failed ≡ false → result.journaller ≡ Turn.JournalFailed →
-            OnlyRead N self.old.journaller.seat.who self.new.journaller.seat.who }
+            OnlyReadBlock N self.old.journaller.seat.who self.new.journaller.seat.who }
         ensures any_moment { LeavesJournals D.honest D.tells self.old.journaller self.new.journaller }
         ensures keeps { D.honest (disk_of self.new) → KeepsDone (D.tells (disk_of self.new)) self.new.journaller.seat.who }
     {

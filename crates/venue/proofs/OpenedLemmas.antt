@@ -6,7 +6,7 @@ use Rattle.ring_words.specs.At.{Opened, At, IsAt, Steps, seated}
 use Rattle.ring_words.specs.Crew.{AreNewGateways}
 use Rattle.ring_words.specs.Sizes.{ring_size}
 use Rattle.venue_model.specs.Requests.{Limits}
-use Rattle.venue.specs.VenueRings.{IsFirst}
+use Rattle.venue.specs.VenueRings.{IsFirstSeat}
 
 -- the rings have a right size
 pub right_size : (ring_size 1024 && ring_size 1024) ≡ true
@@ -14,8 +14,9 @@ unfolding ones ones_in
 right_size = refl
 
 -- the last of new seats, of which there is one, is the first
-pub only_seat : (rings : Opened Limits) (all front : List (At Limits)) (s : At Limits) → all ≡ front ++ s ∷ [] → length all ≡ 1
-    → AreNewGateways rings all → IsFirst rings s
+pub only_seat : (rings : Opened Limits) (all front : List (At Limits)) (s : At Limits) → all ≡ front ++ s ∷ []
+    → length all ≡ 1
+    → AreNewGateways rings all → IsFirstSeat rings s
 only_seat rings all [] s is one new = new 0 s (ap (λ (l : List (At Limits)). get_elem? l 0) is)
 only_seat rings all (f ∷ front) s is one new =
     let long = ap length is in let more = length-append front (s ∷ []) in absurd (omega (arith, long, more, one))

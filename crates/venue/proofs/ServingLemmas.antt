@@ -1,5 +1,6 @@
 -- What a crash leaves while the venue serves: turn by turn, a journal that begins with the history at the start.
-use Rattle.std.proofs.Common.{◌≡◌, ◌≢◌, ◌∙◌, ◌⊎◌, inl, inr, Bool, true, false, ℕ, zero, suc, ◌+◌, List, [], ◌∷◌, refl, ap, sym, subst, arith}
+use Rattle.std.proofs.Common.{◌≡◌, ◌≢◌, ◌∙◌, ◌⊎◌, inl, inr, Bool, true, false, ℕ, zero, suc, ◌+◌, List, [], ◌∷◌, refl}
+use Rattle.std.proofs.Common.{ap, sym, subst, arith}
 use mathlib.Core.Option.{some, some-ne-none, some-injective}
 use lib.ListN.{get_elem?}
 use Rattle.venue_model.specs.Counts.{Rose}
@@ -32,30 +33,36 @@ use Rattle.gateway.specs.declared.ending.Turned.TheVariants.{Worked, Quiet, Ende
 use Rattle.venue.specs.Crashes.{Behind}
 use Rattle.venue.specs.Rounds.{Round, Rounds}
 use Rattle.venue.specs.Opened.{IsNewCrew}
-use Rattle.venue.specs.VenueRings.{IsFirst}
+use Rattle.venue.specs.VenueRings.{IsFirstSeat}
 use Rattle.stages.specs.PollLaws.{journaller_grows}
 use Rattle.venue.specs.CrashLaws.{LeftOrBehind, leaves_behind}
 use Rattle.venue.specs.Venues.{Venue, Device, IsJournalBehind}
 
 -- before the first call of the disk
-pub at_start : (old : Told) (base : History) → ((c : List ℕ) → old.left_since old.moment c → old.may_leave c) → LeavesOnly old old (LeftOrBehind old base)
+pub at_start : (old : Told) (base : History) → ((c : List ℕ) → old.left_since old.moment c → old.may_leave c)
+    → LeavesOnly old old (LeftOrBehind old base)
 at_start old base only_now = started old (LeftOrBehind old base) (λ c left. inl (only_now c left))
 
 -- behind one poll more, in which the journaller did this
-pub behind_poll : (old mid new : Told) (base : History) (t : Turn) (v w : Person) → LeavesOnly old mid (LeftOrBehind old base)
-    → Behind base v → Journals 1024 t v w → LeavesOnly mid new (IsJournalFrom v.own w.seen) → LeavesOnly old new (LeftOrBehind old base)
+pub behind_poll : (old mid new : Told) (base : History) (t : Turn) (v w : Person)
+    → LeavesOnly old mid (LeftOrBehind old base)
+    → Behind base v → Journals 1024 t v w → LeavesOnly mid new (IsJournalFrom v.own w.seen)
+    → LeavesOnly old new (LeftOrBehind old base)
 behind_poll old mid new base t v w so_far behind journals poll =
     joined old mid new (LeftOrBehind old base) so_far
-    (weaker mid new (IsJournalBehind base) (LeftOrBehind old base) (leaves_behind base v w mid new behind (journaller_grows 1024 t v w journals) poll) (λ c is. inr is))
+    (weaker mid new (IsJournalBehind base) (LeftOrBehind old base)
+    (leaves_behind base v w mid new behind (journaller_grows 1024 t v w journals) poll) (λ c is. inr is))
 
 -- a session that a turn didn't end lives
-pub lives : (old new : turns.World) (turned : Turned) → turns.Turn old new turned → ((reason : Reason) → turned ≡ Ended reason → ⊥) → new.front.live ≡ true
+pub lives : (old new : turns.World) (turned : Turned) → turns.Turn old new turned
+    → ((reason : Reason) → turned ≡ Ended reason → ⊥) → new.front.live ≡ true
 lives old new Worked turn other = turn.means.1.live
 lives old new Quiet turn other = turn.means.1.live
 lives old new (Ended reason) turn other = absurd (other reason refl)
 
 -- behind a poll in which the journal didn't fail no call of the disk has failed
-pub still_ready : {D : Type 0} (failed : D → ℕ) (old new : OneJournal D) (t : Turn) → t ≢ JournalFailed → Fails failed old new t
+pub still_ready : {D : Type 0} (failed : D → ℕ) (old new : OneJournal D) (t : Turn) → t ≢ JournalFailed
+    → Fails failed old new t
     → (new.failed ≡ false) × (failed new.disk ≡ failed old.disk)
 still_ready failed old new (Did n) other is = is
 still_ready failed old new Idle other is = is
@@ -63,18 +70,21 @@ still_ready failed old new OutFull other is = is
 still_ready failed old new JournalFailed other is = absurd (other refl)
 
 -- a poll in which a journal fails that had not failed yet has raised its disk's count
-pub risen : (failed : Bool) (old mid new : ℕ) → failed ≡ false → mid ≡ old → (failed ≡ true) ⊎ Rose mid new → Rose old new
+pub risen : (failed : Bool) (old mid new : ℕ) → failed ≡ false → mid ≡ old → (failed ≡ true) ⊎ Rose mid new
+    → Rose old new
 risen failed old mid new ready same (inl was) = let no : true ≡ false = sym was ∙ ready in cc
 risen failed old mid new ready same (inr rose) = subst (λ (n : ℕ). Rose n new) same rose
 
 -- one round more
-pub next_round : {D : Type 0} (device : Device D) (n : ℕ) (s t u : Venue D) → Rounds device n s t → Round device t u → Rounds device (n + 1) s u
+pub next_round : {D : Type 0} (device : Device D) (n : ℕ) (s t u : Venue D) → Rounds device n s t → Round device t u
+    → Rounds device (n + 1) s u
 next_round device n s t u so_far round =
     let next : suc n ≡ n + 1 = omega arith in
     subst (λ (k : ℕ). Rounds device k s u) next (t, so_far, round)
 
 -- a session goes on with a wire that tells the same bytes
-pub told_again : (start : Start) (front : Front) (old new : wires.Told) (desk : Ledger) (c : Course) → new.gave ≡ old.gave → new.took ≡ old.took
+pub told_again : (start : Start) (front : Front) (old new : wires.Told) (desk : Ledger) (c : Course)
+    → new.gave ≡ old.gave → new.took ≡ old.took
     → Delivers start front old desk c → Delivers start front new desk c
 told_again start front old new desk c gave took delivers = record {
   stands = delivers.stands;
@@ -87,11 +97,14 @@ told_again start front old new desk c gave took delivers = record {
 }
 
 -- a session that is begun at the seat of gateway 1
-pub began : (rings : Opened Limits) (g h : AtRings) (seat : At Limits) → g ≡ record { front = record (begun (number seat) 0) { live = false }; seat = seat }
-    → h ≡ record g { front = begun (number g.seat) g.front.passed } → IsFirst rings seat → (h.front ≡ begun 1 0) × (h.seat ≡ seat)
+pub began : (rings : Opened Limits) (g h : AtRings) (seat : At Limits)
+    → g ≡ record { front = record (begun (number seat) 0) { live = false }; seat = seat }
+    → h ≡ record g { front = begun (number g.seat) g.front.passed } → IsFirstSeat rings seat
+    → (h.front ≡ begun 1 0) × (h.seat ≡ seat)
 began rings g h seat made new first =
     let one : number seat ≡ 1 = ap number first in (
-      ap (λ (a : AtRings). a.front) new ∙ ap (λ (a : AtRings). begun (number a.seat) a.front.passed) made ∙ ap (λ (n : ℕ). begun n 0) one,
+      ap (λ (a : AtRings). a.front) new ∙ ap (λ (a : AtRings). begun (number a.seat) a.front.passed) made
+          ∙ ap (λ (n : ℕ). begun n 0) one,
       ap (λ (a : AtRings). a.seat) new ∙ ap (λ (a : AtRings). a.seat) made,
     )
 
@@ -99,15 +112,19 @@ began rings g h seat made new first =
 pub told_quiet : {D : Type 0} (s : Venue D) (wire : wires.Told) (quiet : Bool) → wire ≡ record s.wire { quiet = quiet }
     → record s { wire = wire } ≡ record s { wire = record s.wire { quiet = wire.quiet } }
 told_quiet s wire quiet told =
-    ap (λ (w : wires.Told). record s { wire = w }) (told ∙ ap (λ (q : Bool). record s.wire { quiet = q }) (sym (ap (λ (w : wires.Told). w.quiet) told)))
+    ap (λ (w : wires.Told). record s { wire = w })
+    (told ∙ ap (λ (q : Bool). record s.wire { quiet = q }) (sym (ap (λ (w : wires.Told). w.quiet) told)))
 
 -- the one gateway's seat in its list
 module _ {L : Type 0} (rings : Opened L) (seat : At L) where
-  one_gateway : IsAt rings seat → seat.who.role ≡ Gateway 1 → (i : ℕ) (s : At L) → get_elem? (seat ∷ []) i ≡ some s → IsAt rings s × (s.who.role ≡ Gateway (i + 1))
-  one_gateway is role zero s at = subst (λ (t : At L). IsAt rings t × (t.who.role ≡ Gateway 1)) (some-injective seat s at) (is, role)
+  one_gateway : IsAt rings seat → seat.who.role ≡ Gateway 1 → (i : ℕ) (s : At L) → get_elem? (seat ∷ []) i ≡ some s
+      → IsAt rings s × (s.who.role ≡ Gateway (i + 1))
+  one_gateway is role zero s at = subst (λ (t : At L). IsAt rings t × (t.who.role ≡ Gateway 1))
+      (some-injective seat s at) (is, role)
   one_gateway is role (suc i) s at = absurd (some-ne-none s (sym at))
 
-  pub gateways_are : (items : List (At L)) → items ≡ seat ∷ [] → IsAt rings seat → seat.who.role ≡ Gateway 1 → AreGateways rings items
+  pub gateways_are : (items : List (At L)) → items ≡ seat ∷ [] → IsAt rings seat → seat.who.role ≡ Gateway 1
+      → AreGateways rings items
   gateways_are items is at role = subst (AreGateways rings) (sym is) (one_gateway at role)
 
   one_spent : seat.who.claims ≡ [] → (i : ℕ) (s : At L) → get_elem? (seat ∷ []) i ≡ some s → s.who.claims ≡ []

@@ -4,12 +4,12 @@ use mathlib.Core.Option.{some}
 use lib.ListN.{get_elem?}
 use Rattle.venue_model.specs.Requests.{Limits}
 use Rattle.ring_words.specs.At.{Opened, At}
-use Rattle.venue.specs.Trading.{fresh, IsBack}
+use Rattle.venue.specs.Trading.{without_client, IsBack}
 use Rattle.venue.specs.declared.member.Post.{Post}
 
 -- the post of gateway k of these rings as they were opened
 abbrev pub IsPost : Opened Limits → ℕ → Post → Type 0
-IsPost rings k p = (p.number ≡ k) × (p.acceptor ≡ fresh rings k)
+IsPost rings k p = (p.number ≡ k) × (p.acceptor ≡ without_client rings k)
 
 -- such posts, in the order of their gateways' numbers
 abbrev pub ArePosts : Opened Limits → List Post → Type 0

@@ -17,7 +17,7 @@ use Rattle.venue.specs.declared.fault.ServeFault.TheVariants as fault
 
 module _ {D : Type 0} where
   -- the gateway took a turn, and that was all
-  pub record TakesTurn (s t : Venue D) (turned : Turned) : Type 0 where
+  pub record TakesGatewayTurn (s t : Venue D) (turned : Turned) : Type 0 where
     pub turn : Proceeds 1024 s.gateway t.gateway s.wire t.wire turned
     pub uses : Uses 1024 s.gateway.seat t.gateway.seat
     pub others : t ≡ record s { gateway = t.gateway; wire = t.wire }
@@ -38,7 +38,7 @@ module _ {D : Type 0} where
     pub after : Venue D
     pub turned : Turned
     pub polled : Turns
-    pub turns : TakesTurn s between turned
+    pub turns : TakesGatewayTurn s between turned
     pub lives : between.gateway.front.live ≡ true
     pub polls : TakesPolls device between after polled
     pub keeps : polled.journaller ≢ JournalFailed
@@ -57,9 +57,9 @@ module _ {D : Type 0} where
 
   -- How it ends behind n rounds: the turn ended the session, which no poll follows; or 2 ^ 64 - 1 rounds were taken. Or the journal failed in a poll.
   abbrev pub Finale : Device D → ℕ → Venue D → Venue D → Result (Unit {0}) ServeFault → Type 0
-  Finale device n s t (Ok done) = ((reason : Reason) × TakesTurn s t (Ended reason)) ⊎ ((n ≡ 2 ^ 64 - 1) × (t ≡ s))
+  Finale device n s t (Ok done) = ((reason : Reason) × TakesGatewayTurn s t (Ended reason)) ⊎ ((n ≡ 2 ^ 64 - 1) × (t ≡ s))
   Finale device n s t (Err f) =
-      (f ≡ fault.JournalFailed) × (u : Venue D) × (turned : Turned) × (polled : Turns) × TakesTurn s u turned × (u.gateway.front.live ≡ true)
+      (f ≡ fault.JournalFailed) × (u : Venue D) × (turned : Turned) × (polled : Turns) × TakesGatewayTurn s u turned × (u.gateway.front.live ≡ true)
       × TakesPolls device u t polled × (polled.journaller ≡ JournalFailed)
 
   -- the session was served from here to there

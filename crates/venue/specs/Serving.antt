@@ -16,7 +16,7 @@ use Rattle.stages.specs.Stations.{disk_of}
 use Rattle.stages.specs.Finishing.{Finished}
 use Rattle.venue.specs.Opened.{AreBehind, IsNewCrew}
 use Rattle.venue.specs.Rounds.{Served}
-use Rattle.venue.specs.VenueRings.{IsFirst}
+use Rattle.venue.specs.VenueRings.{IsFirstSeat}
 use Rattle.venue.specs.Venues.{Venue, Device, IsJournalBehind}
 use Rattle.venue.specs.declared.fault.ServeFault.{ServeFault}
 
@@ -40,7 +40,7 @@ module _ {D : Type 0} where
   pub record Opens (limits : Limits) (device : Device D) (old : Outside D) (s : Venue D) : Type 0 where
     pub crew : IsNewCrew s.rings s.crew
     pub behind : AreBehind limits s.rings.base s.rings
-    pub seat : IsFirst s.rings s.gateway.seat
+    pub seat : IsFirstSeat s.rings s.gateway.seat
     pub session : s.gateway.front ≡ begun 1 0
     pub wire : s.wire ≡ old.wire
     pub disk_is : IsOpened (device.honest old.disk) (device.honest (disk_of s.crew)) (device.tells old.disk) (device.tells (disk_of s.crew)) s.rings.base

@@ -11,5 +11,5 @@ abbrev pub IsNew : Opened Limits → ℕ → At Limits → Type 0
 IsNew rings k seat = seat ≡ at rings (newcomer (Gateway k) rings.base rings.given)
 
 -- that of gateway 1
-abbrev pub IsFirst : Opened Limits → At Limits → Type 0
-IsFirst rings = IsNew rings 1
+abbrev pub IsFirstSeat : Opened Limits → At Limits → Type 0
+IsFirstSeat rings = IsNew rings 1

@@ -1,7 +1,7 @@
 //! A member of the listening venue: its gateway, with the client that is connected, and the port at which its clients come in.
 ghost use Rattle.std.specs.Prelude.{◌≡◌, true, None};
 ghost use Rattle.ring_words.specs.At.{IsAt};
-ghost use Rattle.venue.specs.Trading.{GoesOn, IsBack, fresh};
+ghost use Rattle.venue.specs.Trading.{TradesOn, IsBack, without_client};
 ghost use Rattle.venue.specs.TradingLaws.{no_turn, more_turns};
 
 use crate::leaving::Leaving;
@@ -45,7 +45,7 @@ fn next_client(alloc: Global, listener: &TcpListener) -> Option<TcpWire> {
 impl<const G: usize> Member<'_, G> {
     /// Lets the gateway take its turn, and says whether something moved.
     fn take_turn(&mut self) -> bool
-        ensures { GoesOn self.old.rings.now self.old.post.acceptor self.new.rings.now self.new.post.acceptor }
+        ensures { TradesOn self.old.rings.now self.old.post.acceptor self.new.rings.now self.new.post.acceptor }
     {
         let (turned, gone) = self.post.acceptor.turn(self.rings);
         self.bid_farewell(gone);
@@ -86,7 +86,7 @@ impl<const G: usize> Member<'_, G> {
 
     /// Lets the next client in, if one may come and waits, and says whether it did.
     fn admit(&mut self) -> bool
-        ensures { GoesOn self.old.rings.now self.old.post.acceptor self.new.rings.now self.new.post.acceptor }
+        ensures { TradesOn self.old.rings.now self.old.post.acceptor self.new.rings.now self.new.post.acceptor }
     {
         if !self.is_open() {
             return false;
@@ -100,7 +100,7 @@ impl<const G: usize> Member<'_, G> {
 }
 
 impl<const G: usize> Worker for Member<'_, G> {
-    ghost goes = { λ x y. GoesOn x.rings.now x.post.acceptor y.rings.now y.post.acceptor };
+    ghost goes = { λ x y. TradesOn x.rings.now x.post.acceptor y.rings.now y.post.acceptor };
 
     ghost stays = { λ x. no_turn x.rings.now x.post.acceptor };
 
@@ -127,7 +127,7 @@ pub fn trade<C: Clock, Q: Gate, const G: usize>(
     post: Post,
     signals: &Signals,
 ) -> GatewaySeat<BookLogic>
-    requires { post.acceptor ≡ fresh rings.now post.number }
+    requires { post.acceptor ≡ without_client rings.now post.number }
     ensures back { IsBack rings.now post.number result }
 {
     let station = Station::Gateway(post.number);

@@ -8,7 +8,7 @@ ghost use Rattle.ring_words.specs.At.{IsAt};
 ghost use Rattle.ring_words.specs.Crew.{AreNewGateways};
 ghost use Rattle.ring_words.specs.declared.view.Role.TheVariants.{Gateway};
 ghost use Rattle.venue.specs.Members.{IsPost, ArePosts, AreBack};
-ghost use Rattle.venue.specs.Trading.{IsBack, fresh};
+ghost use Rattle.venue.specs.Trading.{IsBack, without_client};
 ghost use Rattle.venue.specs.Faults.{had_served};
 ghost use Rattle.venue.specs.Opened.{AreBehind};
 ghost use Rattle.venue.specs.VenueRings.{IsNew};
@@ -181,7 +181,7 @@ pub fn trade_all<R: Threads + Clock + Sync, Q: Gate + Sync, const G: usize>(
             ensures { (AreBack rings.entry.now result.items) × (vec_len result ≡ vec_len posts) × (vec_capacity result ≡ vec_capacity home) }
         { trade_all(rt, gate, rings, alloc, posts, home, signals) },
         move || -> GatewaySeat<BookLogic>
-            requires { IsSync R.row × IsSync Q.row × (post.acceptor ≡ fresh rings.now post.number) }
+            requires { IsSync R.row × IsSync Q.row × (post.acceptor ≡ without_client rings.now post.number) }
             ensures { IsBack rings.entry.now post.number result }
         { trade(rt, gate, rings, alloc, post, signals) },
     );

@@ -13,7 +13,7 @@ ghost use Rattle.venue.specs.Faults.{status_of_end};
 ghost use Rattle.venue.specs.Rounds.{Served, DeliversOn};
 ghost use Rattle.venue.specs.Crashes.{Behind};
 ghost use Rattle.venue.specs.Serving.{LeavesFrom, IsStatus, EndsWith};
-ghost use Rattle.venue.specs.VenueRings.{IsFirst};
+ghost use Rattle.venue.specs.VenueRings.{IsFirstSeat};
 ghost use Rattle.venue.specs.Venues.{venue, device, IsJournalBehind};
 
 use crate::fault::ServeFault;
@@ -70,7 +70,7 @@ fn first_seat(
 ) -> GatewaySeat<BookLogic>
     requires one { vec_len gateways.old ≡ 1 }
     requires new { AreNewGateways rings.now gateways.old.items }
-    ensures seat { IsFirst rings.now result }
+    ensures seat { IsFirstSeat rings.now result }
     ensures left { (gateways.new.items ≡ []) × (1 ≤ vec_capacity gateways.new) }
 {
     match gateways.pop() {

@@ -42,7 +42,8 @@ day = new Day
 abbrev pub cancel : ℕ → Side → ℕ → ℕ → Request
 cancel client side old name = record {
   gateway = client;
-  command = command.Cancel half_past_nine (record { cl_ord_id = name; orig_cl_ord_id = old; symbol = codes "ABC"; side = side });
+  command = command.Cancel half_past_nine
+      (record { cl_ord_id = name; orig_cl_ord_id = old; symbol = codes "ABC"; side = side });
 }
 
 -- a replace: client, side, old name, new name, total, price
@@ -87,8 +88,10 @@ named_id (Some o) = o.id
 -- to, 37, 11, 38, 44, what is left, 14, the notional, then what is special
 abbrev pub shown_report : ℕ → Report → List ℕ
 shown_report client (Exec r) =
-    client ∷ r.order.id ∷ r.order.cl_ord_id ∷ r.order.total ∷ r.order.price ∷ leaves r.order ∷ r.order.cum ∷ r.order.notional ∷ kind r.exec_type
-shown_report client (CancelReject r) = client ∷ named_id r.order ∷ r.cl_ord_id ∷ r.orig_cl_ord_id ∷ cxl_rej r.reason ∷ []
+    client ∷ r.order.id ∷ r.order.cl_ord_id ∷ r.order.total ∷ r.order.price ∷ leaves r.order ∷ r.order.cum
+    ∷ r.order.notional ∷ kind r.exec_type
+shown_report client (CancelReject r) = client ∷ named_id r.order ∷ r.cl_ord_id ∷ r.orig_cl_ord_id ∷ cxl_rej r.reason
+    ∷ []
 shown_report client (SessionReject fault) = client ∷ fault.ref_seq ∷ fault.tag ∷ []
 
 abbrev pub shown : Output → List ℕ

@@ -14,7 +14,8 @@ first_trade : told (day 1 Buy 100 50 1 ∷ day 2 Sell 30 50 1 ∷ []) ≡
     ∷ (2 ∷ 2 ∷ 1 ∷ 30 ∷ 50 ∷ 0 ∷ 30 ∷ 1500 ∷ 70 ∷ 30 ∷ 50 ∷ []) ∷ []
 first_trade = refl
 
-what_rests_after_the_first_trade : resting (day 1 Buy 100 50 1 ∷ day 2 Sell 30 50 1 ∷ []) ≡ (1 ∷ 1 ∷ 50 ∷ 70 ∷ 0 ∷ []) ∷ []
+what_rests_after_the_first_trade : resting (day 1 Buy 100 50 1 ∷ day 2 Sell 30 50 1 ∷ [])
+    ≡ (1 ∷ 1 ∷ 50 ∷ 70 ∷ 0 ∷ []) ∷ []
 what_rests_after_the_first_trade = refl
 
 time_priority : told (day 1 Buy 10 50 1 ∷ day 2 Buy 10 50 1 ∷ day 3 Sell 15 50 1 ∷ []) ≡
@@ -49,7 +50,8 @@ dearer_first : told (day 1 Sell 15 51 1 ∷ day 1 Sell 25 50 2 ∷ new Immediate
     ∷ (2 ∷ 3 ∷ 1 ∷ 30 ∷ 51 ∷ 0 ∷ 30 ∷ 1505 ∷ 70 ∷ 5 ∷ 51 ∷ []) ∷ []
 dearer_first = refl
 
-fill_or_kill : told (day 1 Sell 99 50 1 ∷ new FillOrKill 2 Buy 100 50 1 ∷ day 1 Sell 1 50 2 ∷ new FillOrKill 2 Buy 100 50 2 ∷ []) ≡
+fill_or_kill : told (day 1 Sell 99 50 1 ∷ new FillOrKill 2 Buy 100 50 1 ∷ day 1 Sell 1 50 2
+    ∷ new FillOrKill 2 Buy 100 50 2 ∷ []) ≡
     (1 ∷ 1 ∷ 1 ∷ 99 ∷ 50 ∷ 99 ∷ 0 ∷ 0 ∷ 48 ∷ [])
     ∷ (2 ∷ 2 ∷ 1 ∷ 100 ∷ 50 ∷ 100 ∷ 0 ∷ 0 ∷ 48 ∷ [])
     ∷ (2 ∷ 2 ∷ 1 ∷ 100 ∷ 50 ∷ 100 ∷ 0 ∷ 0 ∷ 52 ∷ [])

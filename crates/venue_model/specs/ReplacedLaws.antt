@@ -16,14 +16,14 @@ module _ (s : State) (c : Cause) (r : OrderCancelReplaceRequest) (o : Order) whe
     outputs = exec c (Replaced r.orig_cl_ord_id) (amended r o) ∷ [];
   }
 
-  abbrev pub again : Stepped
-  again = record {
+  abbrev pub stepped_again : Stepped
+  stepped_again = record {
     state = accepted s c.gateway r.cl_ord_id (matched Day (restamped c (amended r o)) (others s c.gateway r.orig_cl_ord_id));
     outputs = exec c (Replaced r.orig_cl_ord_id) (restamped c (amended r o))
         ∷ match_outputs c Day (restamped c (amended r o)) (others s c.gateway r.orig_cl_ord_id);
   }
 
   -- what holds both ways
-  pub either_way : (P : Stepped → Type 0) → (keeps_place r o ≡ true → P in_place) → P again → P (order_replaced s c r (Some o))
-  either_way P stays comes = elim (keeps_place r o) as (λ t. keeps_place r o ≡ t → P (if t then in_place else again))
+  pub either_way : (P : Stepped → Type 0) → (keeps_place r o ≡ true → P in_place) → P stepped_again → P (order_replaced s c r (Some o))
+  either_way P stays comes = elim (keeps_place r o) as (λ t. keeps_place r o ≡ t → P (if t then in_place else stepped_again))
       [ true ↦ λ keeps. stays keeps | false ↦ λ moves. comes ] refl

@@ -12,8 +12,8 @@ use Rattle.wires.specs.Flushing.{Flushes}
 use Rattle.wires.specs.Gatherings.{HandsOut, Gathers}
 
 -- it tells its counts, and whether it was last told to rest
-abbrev pub told : {W : Type 0} → GatheringWire W → Told
-told w = record {
+abbrev pub told_gathering : {W : Type 0} → GatheringWire W → Told
+told_gathering w = record {
   gave = None;
   took = None;
   failures = w.counts.failures;
@@ -55,7 +55,7 @@ pub record IsFresh {W : Type 0} (w : GatheringWire W) : Type 0 where
   pub ahead : ahead_of w ≡ []
   pub waiting : waiting_of w ≡ []
   pub broken : broken_of w ≡ false
-  pub told : told w ≡ untold
+  pub told : told_gathering w ≡ untold
 
 -- it holds the same, and the wire below is as it was
 pub record HoldsSame {W : Type 0} (old new : GatheringWire W) : Type 0 where
@@ -69,8 +69,8 @@ abbrev pub rested : Holding → Bool → Holding
 rested h quiet = record h { below = record h.below { quiet = quiet } }
 
 -- what a read into the buffer with this answer does, where the wire isn't broken
-abbrev pub Reads : Holding → Holding → List ℕ → TryRead → Type 0
-Reads old new buf answer =
+abbrev pub ReadsGathering : Holding → Holding → List ℕ → TryRead → Type 0
+ReadsGathering old new buf answer =
     HandsOut old.below new.below old.ahead new.ahead buf answer
     × (new ≡ record old { below = new.below; ahead = new.ahead })
 

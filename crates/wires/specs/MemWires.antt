@@ -25,8 +25,8 @@ pub record Memory : Type 0 where
   pub breaks : Bool
 
 -- as it is made: nothing moved yet, its input comes whole and then ends, and all bytes are taken
-abbrev pub fresh : List ℕ → Memory
-fresh input = record {
+abbrev pub new_memory : List ℕ → Memory
+new_memory input = record {
   input = input;
   given = 0;
   taken = [];
@@ -42,8 +42,8 @@ fresh input = record {
 }
 
 -- it tells all that it gave and took
-abbrev pub told : Memory → Told
-told m = record {
+abbrev pub told_memory : Memory → Told
+told_memory m = record {
   gave = Some (take m.given m.input);
   took = Some m.taken;
   failures = m.failures;
@@ -54,21 +54,21 @@ told m = record {
 }
 
 -- what a read into so much space does: it gives the next bytes while there are some, then answers as it was set
-abbrev pub Gives : Memory → Memory → ℕ → TryRead → Type 0
-Gives old new space (read.Got n) =
+abbrev pub GivesBytes : Memory → Memory → ℕ → TryRead → Type 0
+GivesBytes old new space (read.Got n) =
     (n ≡ min (min (length old.input - old.given) old.piece) space) × (new ≡ record old { given = old.given + n })
-Gives old new space read.Nothing =
+GivesBytes old new space read.Nothing =
     (old.given ≡ length old.input) × (old.closes ≡ false) × (new ≡ record old { empty_reads = new.empty_reads })
-Gives old new space read.End = (old.given ≡ length old.input) × (old.closes ≡ true) × (new ≡ record old { ends = new.ends })
-Gives old new space read.Failed = ⊥
+GivesBytes old new space read.End = (old.given ≡ length old.input) × (old.closes ≡ true) × (new ≡ record old { ends = new.ends })
+GivesBytes old new space read.Failed = ⊥
 
 -- what a write does: it takes bytes while there is room, then answers as it was set; with room left only a refusal of
 -- memory fails it
-abbrev pub Takes : Memory → Memory → List ℕ → TryWrite → Type 0
-Takes old new bytes (write.Put n) =
+abbrev pub TakesBytes : Memory → Memory → List ℕ → TryWrite → Type 0
+TakesBytes old new bytes (write.Put n) =
     (n ≡ min (old.room - length old.taken) (length bytes))
     × (new ≡ record old { taken = old.taken ++ take n bytes })
-Takes old new bytes write.Nothing =
+TakesBytes old new bytes write.Nothing =
     (old.room ≤ length old.taken) × (old.breaks ≡ false) × (new ≡ record old { full_writes = new.full_writes })
-Takes old new bytes write.Failed =
+TakesBytes old new bytes write.Failed =
     (old.breaks ≡ false → length old.taken < old.room) × (new ≡ record old { failures = new.failures })

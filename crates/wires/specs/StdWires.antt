@@ -11,8 +11,8 @@ use Rattle.wires.specs.declared.standard.StdWire.{StdWire}
 use Rattle.wires.specs.Wires.{Told}
 
 -- it tells its counts, and whether it was last told to rest
-abbrev pub told : {R W : Type 0} → StdWire R W → Told
-told w = record {
+abbrev pub told_standard : {R W : Type 0} → StdWire R W → Told
+told_standard w = record {
   gave = None;
   took = None;
   failures = w.counts.failures;
@@ -56,11 +56,11 @@ SendsOut old new bytes write.Failed = (n : ℕ) × (n ≤ length bytes) × Appen
 
 -- whether the wire rests before and after a read with this answer: one that doesn't answers Nothing, and no read makes
 -- it rest
-abbrev pub Rests : Bool → Bool → TryRead → Type 0
-Rests old new (read.Got n) = (old ≡ true) × (new ≡ false)
-Rests old new read.Nothing = new ≡ old
-Rests old new read.End = (old ≡ true) × (new ≡ true)
-Rests old new read.Failed = (old ≡ true) × (new ≡ true)
+abbrev pub RestsOnRead : Bool → Bool → TryRead → Type 0
+RestsOnRead old new (read.Got n) = (old ≡ true) × (new ≡ false)
+RestsOnRead old new read.Nothing = new ≡ old
+RestsOnRead old new read.End = (old ≡ true) × (new ≡ true)
+RestsOnRead old new read.Failed = (old ≡ true) × (new ≡ true)
 
 -- whether it rests before and after a write with this answer
 abbrev pub RestsNot : Bool → Bool → TryWrite → Type 0

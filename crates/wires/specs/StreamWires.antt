@@ -12,8 +12,8 @@ use Rattle.wires.specs.Wires.{Told}
 use Rattle.wires.specs.StdWires.{IsPassing}
 
 -- it tells its counts, and whether it was last told to rest
-abbrev pub told : {S : Type 0} → StreamWire S → Told
-told w = record {
+abbrev pub told_stream : {S : Type 0} → StreamWire S → Told
+told_stream w = record {
   gave = None;
   took = None;
   failures = w.counts.failures;

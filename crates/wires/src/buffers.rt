@@ -17,13 +17,13 @@ pub const GATHERED: usize = 65_536;
 
 /// Bytes that were read, and are not yet handed out. Contracts see them in order.
 #[derive(Drop)]
-pub struct Ahead {
+pub struct ReadAhead {
     bytes: Vec<u8>,
     from: usize,
     upto: usize,
 }
 
-impl Model for Ahead {
+impl Model for ReadAhead {
     ghost use Rattle.std.specs.Prelude.{ℕ, List, ◌<◌, ◌≤◌, length, slice_range};
 
     ghost Value = { List ℕ };
@@ -33,12 +33,12 @@ impl Model for Ahead {
     ghost invariant = { λ a. (a.from ≤ a.upto) × (a.upto ≤ length a.bytes.items) × (0 < length a.bytes.items) };
 }
 
-impl Ahead {
+impl ReadAhead {
     /// Nothing is read ahead yet.
-    pub fn new(alloc: Global) -> Result<Ahead, AllocError>
+    pub fn new(alloc: Global) -> Result<ReadAhead, AllocError>
         ensures { IfOk result (λ ahead. ahead ≡ []) }
     {
-        Ok(Ahead {
+        Ok(ReadAhead {
             bytes: vec![in alloc; 0; AHEAD]?,
             from: 0,
             upto: 0,

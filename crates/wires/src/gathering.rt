@@ -2,11 +2,11 @@
 //! in front of a wire that never waits, as that of a client that came over TCP.
 ghost use Rattle.std.specs.Prelude.{◌≡◌, ◌<◌, ◌↔◌, ◌⊎◌, [], true, false, length, IfOk, IfErr, IsTrue};
 ghost use Rattle.wires.specs.Wires.{ReadTells, WriteTells, counts_of};
-ghost use Rattle.wires.specs.GatheringWires.{told, below_of, ahead_of, waiting_of, broken_of, IsFresh, HoldsSame};
-ghost use Rattle.wires.specs.GatheringWires.{holding, rested, Reads, Writes, Sends};
+ghost use Rattle.wires.specs.GatheringWires.{told_gathering, below_of, ahead_of, waiting_of, broken_of, IsFresh, HoldsSame};
+ghost use Rattle.wires.specs.GatheringWires.{holding, rested, ReadsGathering, Writes, Sends};
 ghost use Rattle.wires.specs.declared.buffers.TheConstants.{GATHERED};
 
-use crate::buffers::{Ahead, Waiting};
+use crate::buffers::{ReadAhead, Waiting};
 use crate::counts::Counts;
 use crate::flushed::Flushed;
 use crate::wire::{TryRead, TryWrite, Wire};
@@ -19,7 +19,7 @@ use std::alloc::{AllocFailed, Global};
 #[derive(Drop)]
 pub struct GatheringWire<W> {
     below: W,
-    ahead: Ahead,
+    ahead: ReadAhead,
     waiting: Waiting,
     counts: Counts,
     quiet: bool,
@@ -33,7 +33,7 @@ impl<W: Wire + Drop> GatheringWire<W> {
         ensures below { IfOk result (λ wire. below_of wire ≡ below) }
         ensures err { IfErr result (λ failed. failed.value ≡ below) }
     {
-        let (Ok(ahead), Ok(waiting)) = (Ahead::new(alloc), Waiting::new(alloc)) else {
+        let (Ok(ahead), Ok(waiting)) = (ReadAhead::new(alloc), Waiting::new(alloc)) else {
             return Err(AllocFailed { value: below });
         };
         Ok(GatheringWire {
@@ -55,7 +55,7 @@ impl<W: Wire + Drop> GatheringWire<W> {
 
     /// Sends what waits, as far as the wire below takes it, and says whether nothing waits any more.
     pub fn flush(&mut self) -> bool
-        ensures told { told self.new ≡ told self.old }
+        ensures told { told_gathering self.new ≡ told_gathering self.old }
         ensures sends { broken_of self.old ≡ false → Sends (holding W.tells self.old) (holding W.tells self.new) }
         ensures all { IsTrue result ↔ (waiting_of self.new ≡ []) }
         ensures broken { broken_of self.old ≡ true → self.new ≡ self.old }
@@ -68,13 +68,13 @@ impl<W: Wire + Drop> GatheringWire<W> {
 }
 
 impl<W: Wire + Drop> Wire for GatheringWire<W> {
-    ghost tells = { told };
+    ghost tells = { told_gathering };
 
     fn try_read(&mut self, buf: &mut [u8]) -> TryRead
         requires { 0 < length buf.old }
-        ensures tells { ReadTells (told self.old) (told self.new) buf.new result }
+        ensures tells { ReadTells (told_gathering self.old) (told_gathering self.new) buf.new result }
         ensures reads { broken_of self.old ≡ false →
-            Reads (holding W.tells self.old) (holding W.tells self.new) buf.new result }
+            ReadsGathering (holding W.tells self.old) (holding W.tells self.new) buf.new result }
         ensures held { 0 < length (ahead_of self.old) → below_of self.new ≡ below_of self.old }
         ensures fails { broken_of self.old ≡ true → (result ≡ TryRead.Failed) × HoldsSame self.old self.new }
     {
@@ -89,7 +89,7 @@ impl<W: Wire + Drop> Wire for GatheringWire<W> {
 
     fn try_write(&mut self, bytes: &[u8]) -> TryWrite
         requires { 0 < length bytes.now }
-        ensures tells { WriteTells (told self.old) (told self.new) bytes.now result }
+        ensures tells { WriteTells (told_gathering self.old) (told_gathering self.new) bytes.now result }
         ensures writes { broken_of self.old ≡ false →
             Writes (holding W.tells self.old) (holding W.tells self.new) bytes.now result }
         ensures room { length (waiting_of self.old) < GATHERED → below_of self.new ≡ below_of self.old }
@@ -106,7 +106,7 @@ impl<W: Wire + Drop> Wire for GatheringWire<W> {
     }
 
     fn rest(&mut self, quiet: bool)
-        ensures tells { told self.new ≡ record (told self.old) { quiet = quiet } }
+        ensures tells { told_gathering self.new ≡ record (told_gathering self.old) { quiet = quiet } }
         ensures sends { quiet ≡ true → broken_of self.old ≡ false →
             Sends (rested (holding W.tells self.old) quiet) (holding W.tells self.new) }
         ensures waits { (quiet ≡ false) ⊎ (broken_of self.old ≡ true) →
@@ -120,7 +120,7 @@ impl<W: Wire + Drop> Wire for GatheringWire<W> {
     }
 
     fn counts(&self) -> Counts
-        ensures { result ≡ counts_of (told self.now) }
+        ensures { result ≡ counts_of (told_gathering self.now) }
     {
         self.counts
     }

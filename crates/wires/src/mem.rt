@@ -1,7 +1,7 @@
 //! A wire in memory, for tests: it gives the bytes that it was made with, keeps those that it takes, and tells both.
 ghost use Rattle.std.specs.Prelude.{◌≡◌, ◌<◌, ◌≤◌, [], length, take, true, false, IfOk};
 ghost use Rattle.wires.specs.Wires.{ReadTells, WriteTells};
-ghost use Rattle.wires.specs.MemWires.{fresh, told, Gives, Takes};
+ghost use Rattle.wires.specs.MemWires.{new_memory, told_memory, GivesBytes, TakesBytes};
 ghost use Rattle.wires.specs.Wires.{counts_of};
 
 use crate::counts::Counts;
@@ -51,7 +51,7 @@ impl Model for MemWire {
 impl MemWire {
     /// A wire that is to give these bytes, whole, and then ends; it takes all bytes.
     pub fn new(alloc: Global, input: &[u8]) -> Result<MemWire, AllocError>
-        ensures { IfOk result (λ wire. wire ≡ fresh input.now) }
+        ensures { IfOk result (λ wire. wire ≡ new_memory input.now) }
     {
         Ok(MemWire {
             input: Vec::from_slice(alloc, input)?,
@@ -117,12 +117,12 @@ impl MemWire {
 }
 
 impl Wire for MemWire {
-    ghost tells = { told };
+    ghost tells = { told_memory };
 
     fn try_read(&mut self, buf: &mut [u8]) -> TryRead
         requires { 0 < length buf.old }
-        ensures tells { ReadTells (told self.old) (told self.new) buf.new result }
-        ensures gives { Gives self.old self.new (length buf.new) result }
+        ensures tells { ReadTells (told_memory self.old) (told_memory self.new) buf.new result }
+        ensures gives { GivesBytes self.old self.new (length buf.new) result }
     {
         let rest = &self.input[self.given..];
         let count = rest.len().min(self.piece).min(buf.len());
@@ -141,8 +141,8 @@ impl Wire for MemWire {
 
     fn try_write(&mut self, bytes: &[u8]) -> TryWrite
         requires { 0 < length bytes.now }
-        ensures tells { WriteTells (told self.old) (told self.new) bytes.now result }
-        ensures takes { Takes self.old self.new bytes.now result }
+        ensures tells { WriteTells (told_memory self.old) (told_memory self.new) bytes.now result }
+        ensures takes { TakesBytes self.old self.new bytes.now result }
     {
         let count = self.room.saturating_sub(self.taken.len()).min(bytes.len());
         if count == 0 && !self.breaks {
@@ -163,7 +163,7 @@ impl Wire for MemWire {
     }
 
     fn counts(&self) -> Counts
-        ensures { result ≡ counts_of (told self.now) }
+        ensures { result ≡ counts_of (told_memory self.now) }
     {
         self.counts
     }

@@ -2,7 +2,7 @@
 ghost use Rattle.std.specs.Prelude.{◌≡◌, ◌<◌, ◌↔◌, true, false, length, IsTrue};
 ghost use Rattle.std.specs.IoError.{error_kind};
 ghost use Rattle.wires.specs.Wires.{ReadTells, WriteTells, counts_of};
-ghost use Rattle.wires.specs.StdWires.{told, untold, reader_of, writer_of, rested_of, IsPassing, TakesIn, SendsOut, Rests, RestsNot};
+ghost use Rattle.wires.specs.StdWires.{told_standard, untold, reader_of, writer_of, rested_of, IsPassing, TakesIn, SendsOut, RestsOnRead, RestsNot};
 
 use crate::counts::Counts;
 use crate::wire::{TryRead, TryWrite, Wire};
@@ -28,7 +28,7 @@ impl<R: Read + Drop, W: Write + Drop> StdWire<R, W> {
     pub fn new(reader: R, writer: W) -> StdWire<R, W>
         ensures reader { reader_of result ≡ reader }
         ensures writer { writer_of result ≡ writer }
-        ensures counts { told result ≡ untold }
+        ensures counts { told_standard result ≡ untold }
         ensures rested { rested_of result ≡ true }
     {
         StdWire {
@@ -49,15 +49,15 @@ pub(super) fn is_passing(error: &io::Error) -> bool
 }
 
 impl<R: Read + Drop, W: Write + Drop> Wire for StdWire<R, W> {
-    ghost tells = { told };
+    ghost tells = { told_standard };
 
     fn try_read(&mut self, buf: &mut [u8]) -> TryRead
         requires { 0 < length buf.old }
-        ensures tells { ReadTells (told self.old) (told self.new) buf.new result }
+        ensures tells { ReadTells (told_standard self.old) (told_standard self.new) buf.new result }
         ensures takes_in { TakesIn (R.remaining (reader_of self.old))
             (R.remaining (reader_of self.new)) buf.new result }
         ensures writer { writer_of self.new ≡ writer_of self.old }
-        ensures rests { Rests (rested_of self.old) (rested_of self.new) result }
+        ensures rests { RestsOnRead (rested_of self.old) (rested_of self.new) result }
         ensures unasked { rested_of self.old ≡ false → reader_of self.new ≡ reader_of self.old }
     {
         if !self.rested {
@@ -86,7 +86,7 @@ impl<R: Read + Drop, W: Write + Drop> Wire for StdWire<R, W> {
 
     fn try_write(&mut self, bytes: &[u8]) -> TryWrite
         requires { 0 < length bytes.now }
-        ensures tells { WriteTells (told self.old) (told self.new) bytes.now result }
+        ensures tells { WriteTells (told_standard self.old) (told_standard self.new) bytes.now result }
         ensures sends_out { SendsOut (W.contents (writer_of self.old))
             (W.contents (writer_of self.new)) bytes.now result }
         ensures reader { reader_of self.new ≡ reader_of self.old }
@@ -109,7 +109,7 @@ impl<R: Read + Drop, W: Write + Drop> Wire for StdWire<R, W> {
     }
 
     fn rest(&mut self, quiet: bool)
-        ensures tells { told self.new ≡ record (told self.old) { quiet = quiet } }
+        ensures tells { told_standard self.new ≡ record (told_standard self.old) { quiet = quiet } }
         ensures reader { reader_of self.new ≡ reader_of self.old }
         ensures writer { writer_of self.new ≡ writer_of self.old }
         ensures rested { rested_of self.new ≡ quiet }
@@ -119,7 +119,7 @@ impl<R: Read + Drop, W: Write + Drop> Wire for StdWire<R, W> {
     }
 
     fn counts(&self) -> Counts
-        ensures { result ≡ counts_of (told self.now) }
+        ensures { result ≡ counts_of (told_standard self.now) }
     {
         self.counts
     }

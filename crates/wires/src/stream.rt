@@ -2,7 +2,7 @@
 ghost use Rattle.std.specs.Prelude.{◌≡◌, ◌<◌, length};
 ghost use Rattle.wires.specs.Wires.{ReadTells, WriteTells, counts_of};
 ghost use Rattle.wires.specs.StdWires.{untold, TakesIn, SendsOut};
-ghost use Rattle.wires.specs.StreamWires.{told, stream_of, MeansRead, MeansWrite};
+ghost use Rattle.wires.specs.StreamWires.{told_stream, stream_of, MeansRead, MeansWrite};
 
 use crate::counts::Counts;
 use crate::standard::is_passing;
@@ -23,7 +23,7 @@ impl<S: Read + Write + Drop> StreamWire<S> {
     /// A wire over this stream.
     pub fn new(stream: S) -> StreamWire<S>
         ensures stream { stream_of result ≡ stream }
-        ensures told { told result ≡ untold }
+        ensures told { told_stream result ≡ untold }
     {
         StreamWire {
             stream,
@@ -65,11 +65,11 @@ fn write_answer(written: io::Result<usize>) -> TryWrite
 }
 
 impl<S: Read + Write + Drop> Wire for StreamWire<S> {
-    ghost tells = { told };
+    ghost tells = { told_stream };
 
     fn try_read(&mut self, buf: &mut [u8]) -> TryRead
         requires { 0 < length buf.old }
-        ensures tells { ReadTells (told self.old) (told self.new) buf.new result }
+        ensures tells { ReadTells (told_stream self.old) (told_stream self.new) buf.new result }
         ensures takes_in { TakesIn (S.remaining (stream_of self.old))
             (S.remaining (stream_of self.new)) buf.new result }
     {
@@ -80,7 +80,7 @@ impl<S: Read + Write + Drop> Wire for StreamWire<S> {
 
     fn try_write(&mut self, bytes: &[u8]) -> TryWrite
         requires { 0 < length bytes.now }
-        ensures tells { WriteTells (told self.old) (told self.new) bytes.now result }
+        ensures tells { WriteTells (told_stream self.old) (told_stream self.new) bytes.now result }
         ensures sends_out { SendsOut (S.contents (stream_of self.old))
             (S.contents (stream_of self.new)) bytes.now result }
     {
@@ -90,14 +90,14 @@ impl<S: Read + Write + Drop> Wire for StreamWire<S> {
     }
 
     fn rest(&mut self, quiet: bool)
-        ensures tells { told self.new ≡ record (told self.old) { quiet = quiet } }
+        ensures tells { told_stream self.new ≡ record (told_stream self.old) { quiet = quiet } }
         ensures stream { stream_of self.new ≡ stream_of self.old }
     {
         self.quiet = quiet;
     }
 
     fn counts(&self) -> Counts
-        ensures { result ≡ counts_of (told self.now) }
+        ensures { result ≡ counts_of (told_stream self.now) }
     {
         self.counts
     }

@@ -28,11 +28,11 @@ pub fn apply(
 }
 
 impl Chosen {
-    ghost use Rattle.bench.specs.Chosen.{IsInRange};
+    ghost use Rattle.bench.specs.Chosen.{AreInRange};
 
     /// Whether each client is 1 to 8 and each command is in range, as `run` requires.
     pub fn is_in_range(&self) -> bool
-        ensures { IsTrue result ↔ IsInRange self.now }
+        ensures { IsTrue result ↔ AreInRange self.now }
     {
         self.clients
             .iter()
@@ -50,7 +50,7 @@ impl Chosen {
         upto: u32,
         out: &mut Vec<Output>,
     ) -> Result<u64, Fault>
-        requires in_range { IsInRange self.now }
+        requires in_range { AreInRange self.now }
         requires behind { Below from book.old.state.orders }
         requires order { from ≤ upto }
         requires room { MOST_OUTPUTS ≤ vec_capacity out.old }

@@ -17,7 +17,7 @@ const LOWER: u64 = 1 << 51;
 /// A client's name for one of its orders (ClOrdID), and the place where the order rests. Contracts see an index as a list
 /// of these.
 #[derive(Clone, Copy)]
-pub(crate) struct Entry {
+pub(crate) struct IndexEntry {
     pub(crate) client: u8,
     pub(crate) name: u64,
     pub(crate) place: u32,
@@ -34,10 +34,10 @@ pub(crate) struct Slot {
 
 impl Model for Slot {
     ghost use Rattle.std.specs.Prelude.{Option};
-    ghost use Rattle.book.specs.declared.order_index.slots.Entry.{Entry};
+    ghost use Rattle.book.specs.declared.order_index.slots.IndexEntry.{IndexEntry};
     ghost use Rattle.book.specs.SlotParts.{entry_in, IsKept, name_of, place_in, client_of, some_in, name-back, place-back, client-back, taken-back};
 
-    ghost Value = { Option Entry };
+    ghost Value = { Option IndexEntry };
 
     ghost view = { λ s. entry_in s.is_taken s.client s.name s.place };
 
@@ -63,7 +63,7 @@ pub(crate) const FREE: Slot = Slot {
 
 impl Slot {
     /// The slot where an entry stands.
-    pub(crate) fn of(entry: Entry) -> Slot
+    pub(crate) fn of(entry: IndexEntry) -> Slot
         ensures { result ≡ Some entry }
     {
         Slot {
@@ -75,11 +75,11 @@ impl Slot {
     }
 
     /// What stands there.
-    pub(crate) fn entry(&self) -> Option<Entry>
+    pub(crate) fn entry(&self) -> Option<IndexEntry>
         ensures { result ≡ self.now }
     {
         if self.is_taken {
-            Some(Entry {
+            Some(IndexEntry {
                 client: self.client,
                 name: self.name,
                 place: self.place,

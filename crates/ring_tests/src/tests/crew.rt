@@ -2,7 +2,7 @@
 ghost use Rattle.std.specs.Prelude.{◌≡◌, ◌≤◌, false, [], vec_len, IfOk};
 ghost use Rattle.ring_words.specs.Crew.{AreNew};
 ghost use Rattle.stages.specs.Crews.{AreAt};
-ghost use Rattle.ring_tests.specs.Seats.{AreSpent};
+ghost use Rattle.ring_tests.specs.Seats.{ComeBackSpent};
 
 use super::venue::{TestRings, abc, open};
 use book::{Book, BookLogic};
@@ -29,7 +29,7 @@ pub fn open_venue<const N: usize, const M: usize, const G: usize>(
 ) -> Result<Venue<N, M, G>, Fail>
     requires { (1 ≤ G) × (G ≤ 8) }
     ensures stages { IfOk result (λ r. AreAt r.0 r.1.value) }
-    ensures seats { IfOk result (λ r. AreSpent r.0 r.2.items) }
+    ensures seats { IfOk result (λ r. ComeBackSpent r.0 r.2.items) }
     ensures count { IfOk result (λ r. vec_len r.2 ≡ G) }
 {
     let limits = abc(alloc).ok_or("no memory")?;
@@ -47,10 +47,10 @@ pub fn stages_of<const N: usize, const M: usize, const G: usize>(
 ) -> Result<(Stages, Vec<GatewaySeat<BookLogic>>), Fail>
     requires opened { (rings.now.logic ≡ limits.now) × (rings.now.base ≡ []) × (rings.now.given ≡ 0) }
     requires seats { AreNew G rings.now seats }
-    requires spent { AreSpent rings.now seats.gateways.items }
+    requires spent { ComeBackSpent rings.now seats.gateways.items }
     ensures rings { IfOk result (λ r. AreAt rings.now r.0.value) }
     ensures gateways { IfOk result (λ r. r.1 ≡ seats.gateways) }
-    ensures spent { IfOk result (λ r. AreSpent rings.now r.1.items) }
+    ensures spent { IfOk result (λ r. ComeBackSpent rings.now r.1.items) }
 {
     let journal = empty_journal(alloc)?;
     let book = Book::new(alloc, limits)?;
@@ -78,7 +78,7 @@ pub fn close<const N: usize, const M: usize, const G: usize>(
     gateways: Vec<GatewaySeat<BookLogic>>,
 ) -> Summary
     requires stages { AreAt rings stages.value }
-    requires seats { AreSpent rings gateways.items }
+    requires seats { ComeBackSpent rings gateways.items }
     requires count { vec_len gateways ≡ G }
 {
     let (summary, _) = Box::into_inner(stages).close(rings, gateways);

@@ -1,7 +1,7 @@
 //! A gateway at small rings, with the rings that it calls.
 ghost use Rattle.std.specs.Prelude.{◌≡◌, ◌+◌, ◌≤◌, length, vec_len, IfSome};
 ghost use Rattle.ring_words.specs.At.{IsAt};
-ghost use Rattle.ring_tests.specs.Seats.{IsSpent, AreSpent, StaysSpent};
+ghost use Rattle.ring_tests.specs.Seats.{IsSpent, ComeBackSpent, StaysSpent};
 
 use super::venue::TestRings;
 use book::BookLogic;
@@ -40,8 +40,8 @@ pub fn next_two<'a, const N: usize, const M: usize, const G: usize>(
     rings: &'a TestRings<N, M, G>,
     gateways: &mut Vec<GatewaySeat<BookLogic>>,
 ) -> Option<(Member<'a, N, M, G>, Member<'a, N, M, G>)>
-    requires { AreSpent rings.now gateways.old.items }
-    ensures left { AreSpent rings.now gateways.new.items }
+    requires { ComeBackSpent rings.now gateways.old.items }
+    ensures left { ComeBackSpent rings.now gateways.new.items }
     ensures count { IfSome result (λ both. vec_len gateways.old ≡ vec_len gateways.new + 2) }
     ensures last { IfSome result (λ both. IsSpent rings.now (vec_len gateways.old) both.1.seat) }
     ensures first { IfSome result (λ both. IsSpent rings.now (vec_len gateways.new + 1) both.0.seat) }
@@ -56,8 +56,8 @@ pub fn next_member<'a, const N: usize, const M: usize, const G: usize>(
     rings: &'a TestRings<N, M, G>,
     gateways: &mut Vec<GatewaySeat<BookLogic>>,
 ) -> Option<Member<'a, N, M, G>>
-    requires { AreSpent rings.now gateways.old.items }
-    ensures left { AreSpent rings.now gateways.new.items }
+    requires { ComeBackSpent rings.now gateways.old.items }
+    ensures left { ComeBackSpent rings.now gateways.new.items }
     ensures count { IfSome result (λ member. vec_len gateways.old ≡ vec_len gateways.new + 1) }
     ensures member { IfSome result (λ member. IsSpent rings.now (vec_len gateways.old) member.seat) }
 {

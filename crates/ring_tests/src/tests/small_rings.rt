@@ -3,7 +3,7 @@
 ghost use Rattle.std.specs.Prelude.{◌≡◌, ◌+◌, vec_len, IfSome, OnOk};
 ghost use Rattle.ring_words.specs.At.{IsAt};
 ghost use Rattle.stages.specs.Crews.{AreAt};
-ghost use Rattle.ring_tests.specs.Seats.{IsSpent, AreSpent, StaysSpent};
+ghost use Rattle.ring_tests.specs.Seats.{IsSpent, ComeBackSpent, StaysSpent};
 ghost use Rattle.std.specs.Thread.{IsSync};
 
 use super::crew::{Stages, close, open_venue};
@@ -85,9 +85,9 @@ fn run_all<R: Threads + Clock + Sync>(
 
 /// Puts the next gateway's seat back to those before it.
 fn put_back(rings: &SmallRings, seats: &mut Vec<Seat>, seat: Seat) -> Result<(), Fail>
-    requires others { AreSpent rings.now seats.old.items }
+    requires others { ComeBackSpent rings.now seats.old.items }
     requires seat { IsSpent rings.now (vec_len seats.old + 1) seat }
-    ensures all { OnOk result (AreSpent rings.now seats.new.items) }
+    ensures all { OnOk result (ComeBackSpent rings.now seats.new.items) }
     ensures count { OnOk result (vec_len seats.new ≡ vec_len seats.old + 1) }
 {
     seats.push(seat)?;

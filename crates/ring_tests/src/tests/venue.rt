@@ -1,7 +1,7 @@
 //! Small rings behind an empty history, and the symbols of their venue.
 ghost use Rattle.std.specs.Prelude.{◌≡◌, ◌≤◌, [], IfOk};
 ghost use Rattle.ring_words.specs.Crew.{AreNew};
-ghost use Rattle.ring_tests.specs.Seats.{AreSpent};
+ghost use Rattle.ring_tests.specs.Seats.{ComeBackSpent};
 
 use book::BookLogic;
 use ring_words::{OpenError, Rings, Seats};
@@ -19,7 +19,7 @@ pub fn open<const N: usize, const M: usize, const G: usize>(
     requires { (1 ≤ G) × (G ≤ 8) }
     ensures opened { IfOk result (λ r. (r.0.logic ≡ limits.now) × (r.0.base ≡ []) × (r.0.given ≡ 0)) }
     ensures seats { IfOk result (λ r. AreNew G r.0 r.1) }
-    ensures spent { IfOk result (λ r. AreSpent r.0 r.1.gateways.items) }
+    ensures spent { IfOk result (λ r. ComeBackSpent r.0 r.1.gateways.items) }
 {
     TestRings::open(alloc, BookLogic::of(limits), &Vec::new(alloc), 0)
 }

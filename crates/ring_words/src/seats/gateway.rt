@@ -2,7 +2,7 @@
 ghost use Rattle.std.specs.Prelude.{None, ◌≡◌, ◌≤◌, []};
 ghost use Rattle.ring_words.specs.declared.view.Role.TheVariants.{Gateway};
 ghost use Rattle.ring_words.specs.Places.{processed as processed_word};
-ghost use Rattle.ring_words.specs.Seats.{person, IsAlone, last_of};
+ghost use Rattle.ring_words.specs.Seats.{person, IsAlone, last_load};
 
 use crate::report::Slot;
 use crate::view::View;
@@ -22,7 +22,7 @@ pub struct GatewaySeat<L> {
     ghost role: { (person seat.me.0).role ≡ Gateway number },
     ghost numbered: { (1 ≤ number) × (number ≤ 8) },
     ghost counts: { taken ≡ (person seat.me.0).own },
-    ghost kept: { processed ≡ last_of processed_word None (person seat.me.0).loads },
+    ghost kept: { processed ≡ last_load processed_word None (person seat.me.0).loads },
 }
 
 impl<L> Model for GatewaySeat<L> {
@@ -49,7 +49,7 @@ impl<L> GatewaySeat<L> {
 
     /// The processed value that the gateway loaded last: so many sequences were processed by then, and by now maybe more. None where none was loaded.
     pub fn processed(&self) -> Option<u64>
-        ensures value { result ≡ last_of processed_word None self.now.who.loads }
+        ensures value { result ≡ last_load processed_word None self.now.who.loads }
     {
         self.processed
     }

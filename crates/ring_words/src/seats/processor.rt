@@ -2,7 +2,7 @@
 ghost use Rattle.std.specs.Prelude.{None, ◌≡◌, ◌≤◌, ◌^◌, [], length};
 ghost use Rattle.ring_words.specs.declared.view.Role.TheVariants.{Process};
 ghost use Rattle.ring_words.specs.Places.{unmarshalled, taken as taken_word};
-ghost use Rattle.ring_words.specs.Seats.{person, IsAlone, last_from, last_of, AreTaken, no_values};
+ghost use Rattle.ring_words.specs.Seats.{person, IsAlone, last_from, last_load, AreTaken, no_values};
 
 use crate::report::Slot;
 use crate::view::View;
@@ -75,7 +75,7 @@ impl<L> ProcessSeat<L> {
     /// was loaded.
     pub fn taken(&self, gateway: u64) -> Option<u64>
         requires gateway { (1 ≤ gateway) × (gateway ≤ 8) }
-        ensures value { result ≡ last_of (taken_word gateway) None self.now.who.loads }
+        ensures value { result ≡ last_load (taken_word gateway) None self.now.who.loads }
     {
         self.taken[gateway as usize - 1]
     }

@@ -3,11 +3,11 @@
 ghost use Rattle.std.specs.Prelude.{◌≡◌, ◌≢◌, suc, ◌<◌, ◌≤◌, ◌^◌, ◌+◌, length};
 ghost use Rattle.venue_model.specs.History.{Message};
 ghost use Rattle.ring_words.specs.Places.{claim, processed, marshalled, out_row};
-ghost use Rattle.ring_words.specs.Log.{IsEntry, times};
-ghost use Rattle.ring_words.specs.Raw.{Spells};
+ghost use Rattle.ring_words.specs.Log.{IsEntry, times_in};
+ghost use Rattle.ring_words.specs.Raw.{SpellsMessage};
 ghost use Rattle.ring_words.specs.At.{IsAt, Steps, number};
 ghost use Rattle.ring_words.specs.Seats.{looked, with_claim, stored, marked, moved};
-ghost use Rattle.ring_words.specs.Steps.{ClaimsUpTo, HasRoom, GoesOn, Shows};
+ghost use Rattle.ring_words.specs.Steps.{ClaimsUpTo, HasRoom, GoesOnRow, Shows};
 ghost use Rattle.ring_words.specs.Finds.{IsAddress, IsTextWord, FindsOutput};
 
 use crate::places::{CLAIM, MARSHALLED, PROCESSED, TEXT};
@@ -62,9 +62,9 @@ impl<L: Logic, const N: usize, const M: usize, const G: usize> Rings<L, N, M, G>
     /// those stored so far.
     pub fn store_raw(&self, seat: &mut GatewaySeat<L>, sequence: u64, word: usize, value: u64)
         requires at { IsAt self.now seat.old }
-        requires claimed { 0 < times sequence seat.old.who.claims }
+        requires claimed { 0 < times_in sequence seat.old.who.claims }
         requires word { word < 41 }
-        requires order { GoesOn seat.old.who.part sequence word }
+        requires order { GoesOnRow seat.old.who.part sequence word }
         ensures step { Steps seat.old (stored seat.old.who sequence word value) seat.new }
     {
         let place = self.row_word(sequence, word + 1);
@@ -76,11 +76,11 @@ impl<L: Logic, const N: usize, const M: usize, const G: usize> Rings<L, N, M, G>
     /// Stores the availability word of a sequence that the gateway claimed: what it stored in the row is published.
     pub fn store_availability(&self, seat: &mut GatewaySeat<L>, sequence: u64)
         requires at { IsAt self.now seat.old }
-        requires claimed { 0 < times sequence seat.old.who.claims }
+        requires claimed { 0 < times_in sequence seat.old.who.claims }
         requires small { sequence < 2 ^ 48 }
         requires row { seat.old.who.part.sequence ≡ sequence }
-        requires message { (e : Message) × Spells seat.old.who.part.words e × IsEntry e × (e.gateway ≡ number seat.old) }
-        ensures step { (e : Message) → Spells seat.old.who.part.words e → IsEntry e → Steps seat.old (marked seat.old.who sequence e) seat.new }
+        requires message { (e : Message) × SpellsMessage seat.old.who.part.words e × IsEntry e × (e.gateway ≡ number seat.old) }
+        ensures step { (e : Message) → SpellsMessage seat.old.who.part.words e → IsEntry e → Steps seat.old (marked seat.old.who sequence e) seat.new }
     {
         let place = self.row_word(sequence, 0);
         self.table

@@ -4,7 +4,7 @@ ghost use Rattle.venue_model.specs.declared.outputs.Output.{Output};
 ghost use Rattle.ring_words.specs.Places.{published, out_row};
 ghost use Rattle.ring_words.specs.Seats.{stored, moved};
 ghost use Rattle.ring_words.specs.At.{IsAt, Steps};
-ghost use Rattle.ring_words.specs.Steps.{GoesOn, Shows, WroteText, MayWriteText};
+ghost use Rattle.ring_words.specs.Steps.{GoesOnRow, Shows, WroteText, MayWriteText};
 ghost use Rattle.ring_words.specs.Finds.{FindsPublished, FindsCopy};
 
 use crate::places::{MARSHALLED, PUBLISHED, TEXT};
@@ -50,7 +50,7 @@ impl<L: Logic, const N: usize, const M: usize, const G: usize> Rings<L, N, M, G>
         requires from { seat.old.who.own ≤ place }
         requires to { Shows published seat.old.who place }
         requires word { word < 64 }
-        requires order { GoesOn seat.old.who.part place word }
+        requires order { GoesOnRow seat.old.who.part place word }
         requires row { MayWriteText (L.outputs self.now.logic) (L.text self.now.logic) seat.old.who place }
         ensures step { Steps seat.old (stored seat.old.who place word value) seat.new }
     {

@@ -6,21 +6,21 @@ ghost use Rattle.ring_words.specs.Places.{unmarshalled, journalled, taken, in_ro
 ghost use Rattle.ring_words.specs.Rule.{at_place};
 ghost use Rattle.ring_words.specs.Seats.{looked, moved};
 ghost use Rattle.ring_words.specs.At.{IsAt, Steps};
-ghost use Rattle.ring_words.specs.Steps.{lesser, HasPublished, HasOutputRoom, Shows};
+ghost use Rattle.ring_words.specs.Steps.{lesser_of, HasPublished, HasOutputRoom, Shows};
 ghost use Rattle.ring_words.specs.Finds.{IsCommandWord, FindsJournalled};
 
 use crate::places::{COMMAND, JOURNALLED, PROCESSED, PUBLISHED, UNMARSHALLED};
 use crate::plays::{
     MoveOwn, PublishOutput, PutAddress, SeeCommand, SeeJournalled, SeeTaken, SeeUnmarshalled,
 };
-use crate::report::Report;
+use crate::report::PlacedOutput;
 use crate::rings::Rings;
 use crate::seats::processor::ProcessSeat;
 use venue_model::{Logic, Output};
 
 /// The lesser of two numbers.
 fn lesser(one: u64, other: u64) -> u64
-    ensures { result ≡ lesser one other }
+    ensures { result ≡ lesser_of one other }
 {
     if one <= other { one } else { other }
 }
@@ -101,7 +101,7 @@ impl<L: Logic, const N: usize, const M: usize, const G: usize> Rings<L, N, M, G>
         let word = self.output_word(place, 0);
         Box::replace(
             &mut seat.spare,
-            Report {
+            PlacedOutput {
                 output: *output,
                 place,
             },

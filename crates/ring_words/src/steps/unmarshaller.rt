@@ -3,7 +3,7 @@ ghost use Rattle.std.specs.Prelude.{◌≡◌, suc, ◌<◌, ◌≤◌, length};
 ghost use Rattle.venue_model.specs.History.{Message};
 ghost use Rattle.ring_words.specs.Seats.{stored, moved};
 ghost use Rattle.ring_words.specs.At.{IsAt, Steps};
-ghost use Rattle.ring_words.specs.Steps.{GoesOn, WroteCommand, MayWrite};
+ghost use Rattle.ring_words.specs.Steps.{GoesOnRow, WroteCommand, MayWrite};
 
 use crate::places::{COMMAND, UNMARSHALLED};
 use crate::plays::{MoveOwn, StoreCommand};
@@ -19,7 +19,7 @@ impl<L: Logic, const N: usize, const M: usize, const G: usize> Rings<L, N, M, G>
         requires from { seat.old.who.own ≤ sequence }
         requires to { sequence < length seat.old.who.seen }
         requires word { word < 16 }
-        requires order { GoesOn seat.old.who.part sequence word }
+        requires order { GoesOnRow seat.old.who.part sequence word }
         requires row { MayWrite (L.reads self.now.logic) seat.old.who sequence }
         ensures step { Steps seat.old (stored seat.old.who sequence word value) seat.new }
     {

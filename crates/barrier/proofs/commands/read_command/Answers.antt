@@ -11,11 +11,15 @@ loop-index-init g c = let head = c.load_command-head.ensures in (
   refl,
   head.step,
   λ e at.
-      let is = head.command _ e at refl in (is.1, ap (λ (x : ℕ). x ∷ []) is.0, c.words_of-count.ensures.count e.gateway _ is.1 is.0),
+      let is = head.command _ e at refl in
+      (is.1, ap (λ (x : ℕ). x ∷ []) is.0, c.words_of-count.ensures.count e.gateway _ is.1 is.0),
 )
 
 pub loop-index-preserved : goal.loop-index-preserved
-loop-index-preserved g c = let known = c.loop-index.invariant in let i = c.loop-index.index in let words = c.loop-index.words in let s = c.args.sequence in
+loop-index-preserved g c = let known = c.loop-index.invariant in
+    let i = c.loop-index.index in
+    let words = c.loop-index.words in
+    let s = c.args.sequence in
     let v = c.args.seat.now in let u = c.loop-index.seat in let word = c.load_command.ensures in (
       search rules,
       length-set words i _ ∙ known.1,
@@ -29,6 +33,9 @@ loop-index-preserved g c = let known = c.loop-index.invariant in let i = c.loop-
 
 pub returns-clause-command : goal.returns-clause-command
 returns-clause-command g c = λ e at.
-    let known = c.loop-index.invariant.3 e at in let ws = command_words e.gateway (g.L.Logic.reads c.args.rings.now.logic c.args.sequence e) in
-    let unpacked = c.unpack.ensures e.gateway _ known.0 (agree_whole c.loop-index.words ws c.loop-index.index c.words_of-count.result known.1 c.loop-index-test.false known.2) in
+    let known = c.loop-index.invariant.3 e at in
+    let ws = command_words e.gateway (g.L.Logic.reads c.args.rings.now.logic c.args.sequence e) in
+    let unpacked = c.unpack.ensures e.gateway _ known.0
+    (agree_whole c.loop-index.words ws c.loop-index.index c.words_of-count.result known.1 c.loop-index-test.false
+    known.2) in
     (unpacked.0, unpacked.1, (c.load_command-head.ensures.command _ e at refl).2)

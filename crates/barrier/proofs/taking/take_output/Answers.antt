@@ -13,50 +13,88 @@ use Rattle.barrier.proofs.taking.take_output.Goals as goal
 use Rattle.barrier.proofs.taking.take_output.Goals.{then-load_address-number, else-load_address-number}
 
 pub load_address-requires : goal.load_address-requires
-load_address-requires g c = let v = c.args.seat.now in let u = c.load_marshalled.new.seat in let place : c.taken-place.result ≡ v.who.own = c.taken-place.ensures.value in
+load_address-requires g c = let v = c.args.seat.now in
+    let u = c.load_marshalled.new.seat in
+    let place : c.taken-place.result ≡ v.who.own = c.taken-place.ensures.value in
     let below = c.if-load_marshalled-place.false in let gained = c.load_marshalled.ensures.some (omega arith) in
-    let own = own_kept v u c.load_marshalled.result gained.rest gained.step in
-    (omega arith, (search rules, (omega arith, shown v u c.load_marshalled.result gained.rest gained.step c.taken-place.result below)))
+    let own = own_kept v u c.load_marshalled.result gained.rest gained.step in (
+      omega arith,
+      (
+        search rules,
+        (
+          omega arith,
+          shown v u c.load_marshalled.result gained.rest gained.step
+              c.taken-place.result below,
+        ),
+      ),
+    )
 
 pub read_text-requires : goal.read_text-requires
-read_text-requires g c = let v = c.args.seat.now in let u = c.load_marshalled.new.seat in let place : c.taken-place.result ≡ v.who.own = c.taken-place.ensures.value in
+read_text-requires g c = let v = c.args.seat.now in
+    let u = c.load_marshalled.new.seat in
+    let place : c.taken-place.result ≡ v.who.own = c.taken-place.ensures.value in
     let below = c.if-load_marshalled-place.false in let gained = c.load_marshalled.ensures.some (omega arith) in
-    let own = own_kept v u c.load_marshalled.result gained.rest gained.step in let w = c.load_address.new.seat in let only : OnlyLoads u w = (_, c.load_address.ensures.step) in (
+    let own = own_kept v u c.load_marshalled.result gained.rest gained.step in
+    let w = c.load_address.new.seat in
+    let only : OnlyLoads u w = (_, c.load_address.ensures.step) in (
       omega arith,
       (
         search rules,
         (
           still_own u w only c.taken-place.result (omega arith),
-          still_shows u w only marshalled c.taken-place.result (shown v u c.load_marshalled.result gained.rest gained.step c.taken-place.result below),
+          still_shows u w only marshalled c.taken-place.result
+              (shown v u c.load_marshalled.result gained.rest gained.step c.taken-place.result below),
         ),
       ),
     )
 
 pub store_taken-requires : goal.store_taken-requires
-store_taken-requires g c = let v = c.args.seat.now in let u = c.load_marshalled.new.seat in let place : c.taken-place.result ≡ v.who.own = c.taken-place.ensures.value in
+store_taken-requires g c = let v = c.args.seat.now in
+    let u = c.load_marshalled.new.seat in
+    let place : c.taken-place.result ≡ v.who.own = c.taken-place.ensures.value in
     let below = c.if-load_marshalled-place.false in let gained = c.load_marshalled.ensures.some (omega arith) in
-    let own = own_kept v u c.load_marshalled.result gained.rest gained.step in let w = c.load_address.new.seat in let only : OnlyLoads u w = (_, c.load_address.ensures.step) in
+    let own = own_kept v u c.load_marshalled.result gained.rest gained.step in
+    let w = c.load_address.new.seat in
+    let only : OnlyLoads u w = (_, c.load_address.ensures.step) in
     let z = c.if-load_address-number.seat in
     let both : OnlyLoads u z = elim c.if-load_address-number.branch [
-      | then-load_address-number b ↦ reached u b.read_text.new.seat z (more_loads u w only b.read_text.new.seat b.read_text.ensures.step) b.seat-is
+      | then-load_address-number b ↦ reached u b.read_text.new.seat z
+          (more_loads u w only b.read_text.new.seat b.read_text.ensures.step) b.seat-is
       | else-load_address-number b ↦ reached u w z only b.seat-is
     ] in
     let kept : z.who.own ≡ u.who.own = ap (λ y. y.who.own) both.1 in
-    let small = c.load_marshalled.type_inv in
-    (omega arith, (search rules, (still_shows u z both marshalled z.who.own (shown v u c.load_marshalled.result gained.rest gained.step z.who.own (omega arith)), omega arith)))
+    let small = c.load_marshalled.type_inv in (
+      omega arith,
+      (
+        search rules,
+        (
+          still_shows u z both marshalled z.who.own
+              (shown v u c.load_marshalled.result gained.rest gained.step z.who.own (omega arith)),
+          omega arith,
+        ),
+      ),
+    )
 
 pub returns-clause-taken : goal.returns-clause-taken
-returns-clause-taken g c = λ _. let v = c.args.seat.now in let u = c.load_marshalled.new.seat in let place : c.taken-place.result ≡ v.who.own = c.taken-place.ensures.value in
+returns-clause-taken g c = λ _. let v = c.args.seat.now in
+    let u = c.load_marshalled.new.seat in
+    let place : c.taken-place.result ≡ v.who.own = c.taken-place.ensures.value in
     let below = c.if-load_marshalled-place.false in let gained = c.load_marshalled.ensures.some (omega arith) in
     let w = c.load_address.new.seat in let only : OnlyLoads u w = (_, c.load_address.ensures.step) in
     let z = c.if-load_address-number.seat in
     let both : OnlyLoads u z = elim c.if-load_address-number.branch [
-      | then-load_address-number b ↦ reached u b.read_text.new.seat z (more_loads u w only b.read_text.new.seat b.read_text.ensures.step) b.seat-is
+      | then-load_address-number b ↦ reached u b.read_text.new.seat z
+          (more_loads u w only b.read_text.new.seat b.read_text.ensures.step) b.seat-is
       | else-load_address-number b ↦ reached u w z only b.seat-is
     ] in
-    let number_is : c.number.result ≡ number v = c.number.ensures.value ∙ ap number_of (role_same v u c.load_marshalled.result gained.rest gained.step w only) in
-    let logic = c.args.rings.now.logic in let out = gained.output in let o : Output = out.0 in let t = g.L.Logic.text logic o v.who.own in
-    let at_u = at_kept v u c.load_marshalled.result gained.rest gained.step (g.L.Logic.outputs logic) o c.taken-place.result place out.1 in
+    let number_is : c.number.result ≡ number v = c.number.ensures.value
+    ∙ ap number_of (role_same v u c.load_marshalled.result gained.rest gained.step w only) in
+    let logic = c.args.rings.now.logic in
+    let out = gained.output in
+    let o : Output = out.0 in
+    let t = g.L.Logic.text logic o v.who.own in
+    let at_u = at_kept v u c.load_marshalled.result gained.rest gained.step (g.L.Logic.outputs logic) o
+    c.taken-place.result place out.1 in
     let address : c.load_address.result ≡ o.to = c.load_address.ensures.address o at_u in (
       v.who.seen ++ gained.rest,
       record {
@@ -64,34 +102,44 @@ returns-clause-taken g c = λ _. let v = c.args.seat.now in let u = c.load_marsh
         loads = both.0;
         shown = omega arith;
         begins = begins v.who.seen gained.rest;
-        legal = subst (λ (h : List Message). IsLegal (length h) v.who (v.who.seen ++ gained.rest)) (ap (λ (a : At g.row.L.Denot). a.base) c.requires.at) gained.legal;
+        legal = subst (λ (h : List Message). IsLegal (length h) v.who (v.who.seen ++ gained.rest))
+            (ap (λ (a : At g.row.L.Denot). a.base) c.requires.at) gained.legal;
         few = gained.few;
-        taken = ap (λ (s : At _). s.who) (taken_now v u c.load_marshalled.result gained.rest gained.step z _ both c.store_taken.ensures.step);
+        taken = ap (λ (s : At _). s.who)
+            (taken_now v u c.load_marshalled.result gained.rest gained.step z _ both c.store_taken.ensures.step);
       },
       (
         out.0,
         out.1,
         elim c.if-load_address-number.branch [
-          | then-load_address-number b ↦ (let same : c.load_address.result ≡ c.number.result = b.if-load_address-number.true in
-              let text : Carries b.read_text.result b.read_text.new.buf t = subst (λ (q : ℕ). Carries b.read_text.result b.read_text.new.buf (g.L.Logic.text logic o q)) place
+          | then-load_address-number b ↦
+              (let same : c.load_address.result ≡ c.number.result = b.if-load_address-number.true in
+              let text : Carries b.read_text.result b.read_text.new.buf t =
+              subst (λ (q : ℕ). Carries b.read_text.result b.read_text.new.buf (g.L.Logic.text logic o q)) place
               (b.read_text.ensures.text o (still_at u w only (g.L.Logic.outputs logic) o c.taken-place.result at_u)) in
-              let mine : Says (number v) o t (Mine b.read_text.result) b.read_text.new.buf = (sym address ∙ same ∙ number_is, text) in
+              let mine : Says (number v) o t (Mine b.read_text.result) b.read_text.new.buf =
+              (sym address ∙ same ∙ number_is, text) in
               subst (λ (x : List ℕ). Says (number v) o t c.if-load_address-number.take x) (sym b.buf-is)
               (subst (λ (x : Take). Says (number v) o t x b.read_text.new.buf) (sym b.take-is) mine))
-          | else-load_address-number b ↦ (let differs : c.load_address.result ≢ c.number.result = b.if-load_address-number.false in
-              let passed : Says (number v) o t Passed c.if-load_address-number.buf = λ e. differs (address ∙ e ∙ sym number_is) in
+          | else-load_address-number b ↦
+              (let differs : c.load_address.result ≢ c.number.result = b.if-load_address-number.false in
+              let passed : Says (number v) o t Passed c.if-load_address-number.buf =
+              λ e. differs (address ∙ e ∙ sym number_is) in
               subst (λ (x : Take). Says (number v) o t x c.if-load_address-number.buf) (sym b.take-is) passed)
         ],
       ),
     )
 
 pub returns-clause-step : goal.returns-clause-step
-returns-clause-step g c = let v = c.args.seat.now in let u = c.load_marshalled.new.seat in let place : c.taken-place.result ≡ v.who.own = c.taken-place.ensures.value in
+returns-clause-step g c = let v = c.args.seat.now in
+    let u = c.load_marshalled.new.seat in
+    let place : c.taken-place.result ≡ v.who.own = c.taken-place.ensures.value in
     let below = c.if-load_marshalled-place.false in let gained = c.load_marshalled.ensures.some (omega arith) in
     let w = c.load_address.new.seat in let only : OnlyLoads u w = (_, c.load_address.ensures.step) in
     let z = c.if-load_address-number.seat in
     let both : OnlyLoads u z = elim c.if-load_address-number.branch [
-      | then-load_address-number b ↦ reached u b.read_text.new.seat z (more_loads u w only b.read_text.new.seat b.read_text.ensures.step) b.seat-is
+      | then-load_address-number b ↦ reached u b.read_text.new.seat z
+          (more_loads u w only b.read_text.new.seat b.read_text.ensures.step) b.seat-is
       | else-load_address-number b ↦ reached u w z only b.seat-is
     ] in
     let is = taken_now v u c.load_marshalled.result gained.rest gained.step z _ both c.store_taken.ensures.step in

@@ -10,14 +10,17 @@ use Rattle.book.proofs.matching.enter.Goals as goal
 
 pub push-requires-clause-behind : goal.push-requires-clause-behind
 push-requires-clause-behind c =
-    let stamp : c.args.incoming.now.stamp ≡ c.sweep-left.result.stamp = ap (λ (o : Order). o.stamp) (sym c.sweep-left.ensures.done) in
-    subst (λ s. Below s c.sweep-left.new.orders) stamp (c.sweep-left.ensures.below c.args.incoming.now.stamp c.requires.behind)
+    let stamp : c.args.incoming.now.stamp ≡ c.sweep-left.result.stamp =
+    ap (λ (o : Order). o.stamp) (sym c.sweep-left.ensures.done) in
+    subst (λ s. Below s c.sweep-left.new.orders) stamp
+    (c.sweep-left.ensures.below c.args.incoming.now.stamp c.requires.behind)
 
 pub push-requires-clause-fresh : goal.push-requires-clause-fresh
 push-requires-clause-fresh c =
     let i = c.args.incoming.now in
     let client : c.sweep-left.result.client ≡ i.client = ap (λ (o : Order). o.client) c.sweep-left.ensures.done in
-    let name : c.sweep-left.result.cl_ord_id ≡ i.cl_ord_id = ap (λ (o : Order). o.cl_ord_id) c.sweep-left.ensures.done in
+    let name : c.sweep-left.result.cl_ord_id ≡ i.cl_ord_id =
+    ap (λ (o : Order). o.cl_ord_id) c.sweep-left.ensures.done in
     rw (client, name, c.sweep-left.ensures.orders) (none-rest i i.client i.cl_ord_id c.args.orders.now c.requires.fresh)
 
 pub returns-then-leaves-ne0-clause-standing : goal.returns-then-leaves-ne0-clause-standing
@@ -30,11 +33,13 @@ returns-then-leaves-ne0-clause-standing c =
     let no_longer = c.sweep-left.ensures.no_longer in
     let few : length xs < most_resting = omega (arith, day, no_longer) in
     rw c.push.ensures (standing-push xs left (rests-left left c.sweep-left.ensures.in_range some)
-    (subst (λ s. Below s xs) stamp (c.sweep-left.ensures.below c.args.incoming.now.stamp c.requires.behind)) few c.sweep-left.ensures.standing)
+    (subst (λ s. Below s xs) stamp (c.sweep-left.ensures.below c.args.incoming.now.stamp c.requires.behind)) few
+    c.sweep-left.ensures.standing)
 
 pub returns-then-leaves-ne0-clause-below : goal.returns-then-leaves-ne0-clause-below
 returns-then-leaves-ne0-clause-below c = λ s behind below.
-    let stamp : c.args.incoming.now.stamp ≡ c.sweep-left.result.stamp = ap (λ (o : Order). o.stamp) (sym c.sweep-left.ensures.done) in
+    let stamp : c.args.incoming.now.stamp ≡ c.sweep-left.result.stamp =
+    ap (λ (o : Order). o.stamp) (sym c.sweep-left.ensures.done) in
     rw c.push.ensures (below-push c.sweep-left.new.orders c.sweep-left.result s (subst (λ n. n < s) stamp behind)
     (c.sweep-left.ensures.below s below))
 

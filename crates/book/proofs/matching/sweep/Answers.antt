@@ -15,13 +15,15 @@ next_fill-requires-clause-reads c =
 
 pub told_fill-incoming-requires-clause-rests : goal.told_fill-incoming-requires-clause-rests
 told_fill-incoming-requires-clause-rests c =
-    first-rests c.fills.incoming c.in-Some.order c.fills.orders c.next_fill.new.orders c.in-Some.ensures.next.0 c.fills.invariant.standing
+    first-rests c.fills.incoming c.in-Some.order c.fills.orders c.next_fill.new.orders c.in-Some.ensures.next.0
+    c.fills.invariant.standing
 
 pub fills-smaller : goal.fills-smaller
 fills-smaller c =
     let next = c.in-Some.ensures.next in
     let told = c.told_fill-incoming.ensures in
-    (fill-is c.fills.incoming c.in-Some.order c.fills.orders c.next_fill.new.orders next.0 c.fills.invariant.standing c.args.cause next.1
+    (fill-is c.fills.incoming c.in-Some.order c.fills.orders c.next_fill.new.orders next.0 c.fills.invariant.standing
+    c.args.cause next.1
     c.fills.out.items c.told_fill-incoming.result c.told_fill-incoming.new.out.items told.next told.told).less
 
 pub fills-preserved : goal.fills-preserved
@@ -29,7 +31,8 @@ fills-preserved c =
     let so_far = c.fills.invariant in
     let next = c.in-Some.ensures.next in
     let told = c.told_fill-incoming.ensures in
-    let fill = fill-is c.fills.incoming c.in-Some.order c.fills.orders c.next_fill.new.orders next.0 so_far.standing c.args.cause next.1
+    let fill = fill-is c.fills.incoming c.in-Some.order c.fills.orders c.next_fill.new.orders next.0 so_far.standing
+    c.args.cause next.1
     c.fills.out.items c.told_fill-incoming.result c.told_fill-incoming.new.out.items told.next told.told in
     let most = so_far.most next.1 in
     let read = so_far.read in
@@ -51,7 +54,8 @@ fills-preserved c =
 pub returns-clause-orders : goal.returns-clause-orders
 returns-clause-orders c =
     c.in_default.ensures.next.1
-    ∙ sym (c.fills.invariant.passed.left ∙ rest-over c.fills.incoming c.fills.orders c.in_default.ensures.next.0 c.fills.invariant.standing.each)
+    ∙ sym (c.fills.invariant.passed.left ∙ rest-over c.fills.incoming c.fills.orders c.in_default.ensures.next.0
+    c.fills.invariant.standing.each)
 
 pub returns-clause-done : goal.returns-clause-done
 returns-clause-done c =
@@ -60,7 +64,8 @@ returns-clause-done c =
 pub returns-clause-told : goal.returns-clause-told
 returns-clause-told c =
     sym (c.fills.invariant.passed.said
-    ∙ ap (λ ts. c.fills.out.items ++ ts) (told-over c.fills.incoming c.fills.orders c.args.cause c.in_default.ensures.next.0)
+    ∙ ap (λ ts. c.fills.out.items ++ ts)
+    (told-over c.fills.incoming c.fills.orders c.args.cause c.in_default.ensures.next.0)
     ∙ append-nil c.fills.out.items)
 
 pub returns-clause-below : goal.returns-clause-below

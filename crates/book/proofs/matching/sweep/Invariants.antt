@@ -2,16 +2,17 @@
 use Rattle.std.proofs.Common.{◌≡◌, ℕ, ◌+◌, ◌*◌, ◌<◌, ◌≤◌, length}
 use Rattle.std.specs.Vec.{vec_len, vec_capacity}
 use Rattle.venue_model.specs.Orders.{leaves}
-use Rattle.book.specs.Standing.{InRange, Standing, Below}
+use Rattle.book.specs.Standing.{InRange, IsBookList, Below}
 use Rattle.book.specs.Passes.{matching, Passed}
 use Rattle.book.specs.Reads.{fills}
 use Rattle.book.proofs.matching.sweep.Given as goal
 
 abbrev pub invariant-fills : goal.invariant-fills
 invariant-fills l = record {
-  passed : Passed l.cause (matching l.fn.incoming l.fn.orders l.fn.out.items) (matching l.incoming l.orders l.out.items);
+  passed : Passed l.cause (matching l.fn.incoming l.fn.orders l.fn.out.items)
+      (matching l.incoming l.orders l.out.items);
   in_range : InRange l.incoming;
-  standing : Standing l.orders;
+  standing : IsBookList l.orders;
   below : (sequence : ℕ) → Below sequence l.fn.orders → Below sequence l.orders;
   no_longer : length l.orders ≤ length l.fn.orders;
   same_room : vec_capacity l.out ≡ vec_capacity l.fn.out;

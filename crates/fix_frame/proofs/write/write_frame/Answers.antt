@@ -2,7 +2,7 @@
 use Rattle.std.proofs.Common.{ap, ◌∙◌, subst, length, refl, arith}
 use Rattle.std.proofs.lemmas.List.{length-take}
 use Rattle.fix_frame.specs.Grammar.{frame_of}
-use Rattle.fix_frame.specs.Writing.{Puts}
+use Rattle.fix_frame.specs.Writing.{PutsBytes}
 use Rattle.fix_frame.proofs.FrameLemmas.{length-trailer}
 use Rattle.fix_frame.proofs.WritingLemmas.{body_small, frame_is}
 use Rattle.fix_frame.proofs.write.write_frame.Goals as goal
@@ -56,14 +56,14 @@ put-requires c =
 
 pub returns-clause-written : goal.returns-clause-written
 returns-clause-written c =
-    let closed = subst (λ bytes. Puts c.put-summed.new.out c.put.new.out c.put-summed.result bytes c.put.result)
+    let closed = subst (λ bytes. PutsBytes c.put-summed.new.out c.put.new.out c.put-summed.result bytes c.put.result)
     c.trailer_of-trailer.ensures c.put.ensures in
     frame_is _ _ _ _ _ _ _ _ _ _ _ c.put-begun.ensures c.put_length-counted.ensures c.put-headed.ensures
     c.put-summed.ensures _ _ closed refl
 
 pub returns-clause-frame : goal.returns-clause-frame
 returns-clause-frame c = λ fs s.
-    let closed = subst (λ bytes. Puts c.put-summed.new.out c.put.new.out c.put-summed.result bytes c.put.result)
+    let closed = subst (λ bytes. PutsBytes c.put-summed.new.out c.put.new.out c.put-summed.result bytes c.put.result)
     c.trailer_of-trailer.ensures c.put.ensures in
     let written = frame_is _ _ _ _ _ _ _ _ _ _ _ c.put-begun.ensures c.put_length-counted.ensures c.put-headed.ensures
     c.put-summed.ensures _ _ closed refl in

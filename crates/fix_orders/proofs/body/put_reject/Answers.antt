@@ -4,4 +4,5 @@ use Rattle.fix_orders.proofs.body.put_reject.Goals as goal
 pub returns-clause-puts : goal.returns-clause-puts
 returns-clause-puts c =
     rw (← c.type_code.ensures.value, ← c.reject_code.ensures.value)
-    (c.put_number-at.ensures.puts ⨟ c.put_number-at-2.ensures.puts ⨟ c.put_field-at.ensures.puts ⨟ c.put_field.ensures.puts)
+    (c.put_number-at.ensures.puts ⨟ c.put_number-at-2.ensures.puts ⨟ c.put_field-at.ensures.puts ⨟
+    c.put_field.ensures.puts)

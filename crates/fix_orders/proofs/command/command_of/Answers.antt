@@ -1,10 +1,11 @@
 -- Without a header or with another type nothing is asked; else the fields behind the header decide.
 use Rattle.std.proofs.Common.{◌∙◌, Some, None, sym, ap}
-use Rattle.fix_frame.specs.Borrowed.{body_fields, fields_left}
-use Rattle.fix_orders.specs.Header.{header}
+use Rattle.fix_frame.specs.Borrowed.{frame_fields, fields_left}
+use Rattle.fix_orders.specs.Header.{as_header}
 use Rattle.fix_orders.specs.Reading.{asked}
 use Rattle.fix_orders.proofs.DecodeLemmas.{void_header, void_type, judged_is}
-use Rattle.fix_orders.proofs.WholeLemmas.{HasHeader, has_header, fewer, fault_whole, values_whole, values_right, asked_whole}
+use Rattle.fix_orders.proofs.WholeLemmas.{HasHeader, has_header, fewer, fault_whole, values_whole, values_right}
+use Rattle.fix_orders.proofs.WholeLemmas.{asked_whole}
 use Rattle.fix_orders.proofs.command.command_of.Goals as goal
 
 pub returns-in_default : goal.returns-in_default
@@ -12,45 +13,46 @@ returns-in_default c = void_header _ (rw c.fields.ensures.value at c.in_default.
 
 pub returns-in_default-type_of : goal.returns-in_default-type_of
 returns-in_default-type_of c =
-    void_type _ _ (rw c.fields.ensures.value at c.in-Some.ensures.value) (sym c.type_of.ensures ∙ c.in_default-type_of.is)
+    void_type _ _ (rw c.fields.ensures.value at c.in-Some.ensures.value)
+    (sym c.type_of.ensures ∙ c.in_default-type_of.is)
 
 pub read-found-requires : goal.read-found-requires
 read-found-requires c =
-    fewer (body_fields c.args.frame.now) _ (has_header _ (header c.in-Some.header)
+    fewer (frame_fields c.args.frame.now) _ (has_header _ (as_header c.in-Some.header)
     (rw c.fields.ensures.value at c.in-Some.ensures.value)) c.fields.ensures.few
 
 pub asked-requires : goal.asked-requires
 asked-requires c =
-    let fields = body_fields c.args.frame.now in
+    let fields = frame_fields c.args.frame.now in
     let kind = c.in-Some-type_of.kind in
     let rest = fields_left c.in-Some.header.rest in
-    let whole : HasHeader fields rest = has_header fields (header c.in-Some.header)
+    let whole : HasHeader fields rest = has_header fields (as_header c.in-Some.header)
     (rw c.fields.ensures.value at c.in-Some.ensures.value) in
     values_right kind fields _ (values_whole kind fields rest c.read-found.result whole c.read-found.ensures)
     (sym (fault_whole kind fields rest whole) ∙ sym (c.first_fault.ensures rest c.read-found.ensures) ∙ c.in-None.is)
 
 pub returns-in-None : goal.returns-in-None
 returns-in-None c =
-    let fields = body_fields c.args.frame.now in
+    let fields = frame_fields c.args.frame.now in
     let kind = c.in-Some-type_of.kind in
     let rest = fields_left c.in-Some.header.rest in
     let header_is = rw c.fields.ensures.value at c.in-Some.ensures.value in
-    let whole : HasHeader fields rest = has_header fields (header c.in-Some.header) header_is in
+    let whole : HasHeader fields rest = has_header fields (as_header c.in-Some.header) header_is in
     c.asked.ensures
     ∙ asked_whole kind _ fields _ (values_whole kind fields rest c.read-found.result whole c.read-found.ensures)
     ∙ ap (λ time. asked kind time fields) c.number_of_time-sending_time.ensures.value
-    ∙ judged_is fields (header c.in-Some.header) kind None header_is (sym c.type_of.ensures ∙ c.in-Some-type_of.is)
+    ∙ judged_is fields (as_header c.in-Some.header) kind None header_is (sym c.type_of.ensures ∙ c.in-Some-type_of.is)
     (sym (fault_whole kind fields rest whole) ∙ sym (c.first_fault.ensures rest c.read-found.ensures) ∙ c.in-None.is)
 
 pub returns-in-Some-first_fault : goal.returns-in-Some-first_fault
 returns-in-Some-first_fault c =
-    let fields = body_fields c.args.frame.now in
+    let fields = frame_fields c.args.frame.now in
     let kind = c.in-Some-type_of.kind in
     let rest = fields_left c.in-Some.header.rest in
     let header_is = rw c.fields.ensures.value at c.in-Some.ensures.value in
-    let whole : HasHeader fields rest = has_header fields (header c.in-Some.header) header_is in
+    let whole : HasHeader fields rest = has_header fields (as_header c.in-Some.header) header_is in
     rw c.number_of_time-sending_time.ensures.value
-    (judged_is fields (header c.in-Some.header) kind (Some c.in-Some-first_fault.fault) header_is
+    (judged_is fields (as_header c.in-Some.header) kind (Some c.in-Some-first_fault.fault) header_is
     (sym c.type_of.ensures ∙ c.in-Some-type_of.is)
     (sym (fault_whole kind fields rest whole) ∙ sym (c.first_fault.ensures rest c.read-found.ensures)
     ∙ c.in-Some-first_fault.is))

@@ -1,5 +1,5 @@
 use Rattle.std.proofs.Common.{◌∙◌, sym, refl}
-use Rattle.fix_frame.specs.Borrowed.{body_fields}
+use Rattle.fix_frame.specs.Borrowed.{frame_fields}
 use Rattle.fix_orders.specs.ExactLaws.{reads_frame, reads_none}
 use Rattle.fix_orders.specs.RangeLaws.{reads_within}
 use Rattle.fix_orders.proofs.command.decode.Goals as goal
@@ -7,11 +7,11 @@ use Rattle.fix_orders.proofs.command.decode.Goals as goal
 pub returns-in-Some : goal.returns-in-Some
 returns-in-Some c =
     let bytes = c.args.bytes.now in
-    let read = c.command_of.ensures ∙ sym (reads_frame bytes (body_fields c.in-Some.frame) c.in-Some.ensures) in
+    let read = c.command_of.ensures ∙ sym (reads_frame bytes (frame_fields c.in-Some.frame) c.in-Some.ensures) in
     record {
       value = read;
       frame = λ fields frame. read ∙ reads_frame bytes fields frame;
-      none = λ none. absurd (none (body_fields c.in-Some.frame) c.in-Some.ensures);
+      none = λ none. absurd (none (frame_fields c.in-Some.frame) c.in-Some.ensures);
       range = rw read (reads_within bytes);
     }
 

@@ -13,7 +13,8 @@ overflow_mul-number c =
 
 pub overflow_sub-number : goal.overflow_sub-number
 overflow_sub-number c =
-    let range = digit_range (get_or c.args.digits.now c.loop-byte.byte-index 0) (digit_among c.args.digits.now c.loop-byte.byte-index c.requires.each
+    let range = digit_range (get_or c.args.digits.now c.loop-byte.byte-index 0)
+    (digit_among c.args.digits.now c.loop-byte.byte-index c.requires.each
     c.loop-byte-test.true) in
     omega (arith, range)
 
@@ -24,7 +25,8 @@ overflow_add-number c =
 
 pub loop-byte-preserved : goal.loop-byte-preserved
 loop-byte-preserved c =
-    let is = digit_is (get_or c.args.digits.now c.loop-byte.byte-index 0) (digit_among c.args.digits.now c.loop-byte.byte-index c.requires.each c.loop-byte-test.true) in
+    let is = digit_is (get_or c.args.digits.now c.loop-byte.byte-index 0)
+    (digit_among c.args.digits.now c.loop-byte.byte-index c.requires.each c.loop-byte-test.true) in
     omega (arith, is, c.loop-byte.invariant, value_more _ _ c.loop-byte-test.true)
 
 pub returns : goal.returns

@@ -3,4 +3,5 @@ use Rattle.fix_orders.proofs.put.put_field.Goals as goal
 
 pub returns-clause-puts : goal.returns-clause-puts
 returns-clause-puts c =
-    puts_field c.args.tag c.args.value.now c.put_digits-end.ensures c.put_bytes-end.ensures c.put_bytes-end-2.ensures c.put_bytes.ensures
+    puts_field c.args.tag c.args.value.now c.put_digits-end.ensures c.put_bytes-end.ensures c.put_bytes-end-2.ensures
+    c.put_bytes.ensures

@@ -1,7 +1,7 @@
 use Rattle.std.proofs.Common.{◌∙◌, sym}
-use Rattle.fix_frame.specs.Borrowed.{body_fields}
+use Rattle.fix_frame.specs.Borrowed.{frame_fields}
 use Rattle.fix_orders.specs.Formats.{time_text}
-use Rattle.fix_orders.specs.Header.{header}
+use Rattle.fix_orders.specs.Header.{as_header}
 use Rattle.gateway.proofs.HearingLemmas.{verdict_bad, time_bad, verdict_right, time_right}
 use Rattle.gateway.proofs.hearing.hear.Goals as goal
 
@@ -10,16 +10,17 @@ returns-in_default-clause-verdict c =
     sym (verdict_bad c.args.gateway c.args.accepted _ (rw c.fields.ensures.value at c.in_default.ensures.value))
 
 pub returns-in_default-clause-time : goal.returns-in_default-clause-time
-returns-in_default-clause-time c = sym (time_bad (time_text c.args.last) _ (rw c.fields.ensures.value at c.in_default.ensures.value))
+returns-in_default-clause-time c =
+    sym (time_bad (time_text c.args.last) _ (rw c.fields.ensures.value at c.in_default.ensures.value))
 
 pub returns-clause-verdict : goal.returns-clause-verdict
 returns-clause-verdict c =
     c.judge.ensures.verdict
-    ∙ sym (verdict_right c.args.gateway c.args.accepted (body_fields c.args.frame.now) (header c.in-Some.header)
+    ∙ sym (verdict_right c.args.gateway c.args.accepted (frame_fields c.args.frame.now) (as_header c.in-Some.header)
     (rw c.fields.ensures.value at c.in-Some.ensures.value))
 
 pub returns-clause-time : goal.returns-clause-time
 returns-clause-time c =
     c.number_of_time.ensures.back
-    ∙ sym (time_right (time_text c.args.last) (body_fields c.args.frame.now) (header c.in-Some.header)
+    ∙ sym (time_right (time_text c.args.last) (frame_fields c.args.frame.now) (as_header c.in-Some.header)
     (rw c.fields.ensures.value at c.in-Some.ensures.value))

@@ -5,11 +5,14 @@ use Rattle.gateway.proofs.message.put_header.Goals as goal
 
 pub returns : goal.returns
 returns c =
-    let puts = header_put c.args.fields.now c.put_field.new.buf c.put_field.result c.args.gateway c.args.number c.args.msg_type.now
+    let puts = header_put c.args.fields.now c.put_field.new.buf c.put_field.result c.args.gateway c.args.number
+    c.args.msg_type.now
     c.venue_name.result.now c.as_slice.result.now c.args.moment.now
     c.venue_name.ensures (c.as_slice.ensures.value ∙ c.client_name.ensures)
-    (c.put_field-end.ensures.puts ⨟ c.put_field-end-2.ensures.puts ⨟ c.put_field-end-3.ensures.puts ⨟ c.put_number-end.ensures.puts
+    (c.put_field-end.ensures.puts ⨟ c.put_field-end-2.ensures.puts ⨟ c.put_field-end-3.ensures.puts ⨟
+    c.put_number-end.ensures.puts
     ⨟ c.put_field.ensures.puts) in
-    let few = length_header c.args.gateway c.args.number c.args.msg_type.now c.args.moment.now (omega arith) (omega arith)
+    let few = length_header c.args.gateway c.args.number c.args.msg_type.now c.args.moment.now (omega arith)
+    (omega arith)
     (ap length c.requires.kind.2) c.requires.moment in
     record { puts = puts; most = omega (arith, puts.long, few.1) }

@@ -1,10 +1,11 @@
 -- The first order of the first level of the symbol and side.
-use Rattle.price_levels.specs.Ladders.{all, number}
+use Rattle.price_levels.specs.Ladders.{all, rung_number}
 use Rattle.price_levels.proofs.Bests.{best-is}
 use Rattle.price_levels.proofs.finds.best.Goals as goal
 
 pub returns : goal.returns
 returns c =
     best-is c.args.nodes.now.items (all c.args.ladders.now) c.requires c.args.symbol.now c.args.side
-    (number c.args.ladders.now c.search_side.result) c.search_side.ensures.before c.search_side.ensures.behind c.first_in.result
+    (rung_number c.args.ladders.now c.search_side.result) c.search_side.ensures.before c.search_side.ensures.behind
+    c.first_in.result
     c.first_in.ensures

@@ -1,7 +1,7 @@
 -- The levels of the other side, from the best price on.
 use Rattle.std.proofs.Common.{subst, ◌∙◌, arith}
 use Rattle.venue_model.specs.declared.orders.Side.{Side}
-use Rattle.price_levels.specs.Ladders.{IsHome, all, number}
+use Rattle.price_levels.specs.Ladders.{IsHome, all, rung_number}
 use Rattle.price_levels.proofs.Crossings.{total-is, crossing-fits}
 use Rattle.price_levels.proofs.finds.crossing_total.Goals as goal
 
@@ -9,7 +9,8 @@ pub crossed_left-requires : goal.crossed_left-requires
 crossed_left-requires c =
     let l = c.args.ladders.now in
     let from = c.search_side-from in
-    let is = total-is c.args.symbol.now c.args.side c.opposite.result c.args.price c.args.nodes.now.items (all l) (number l from.result)
+    let is = total-is c.args.symbol.now c.args.side c.opposite.result c.args.price c.args.nodes.now.items (all l)
+    (rung_number l from.result)
     c.requires c.opposite.ensures from.ensures.before from.ensures.behind in
     let fits = crossing-fits c.args.symbol.now c.args.side c.args.price c.args.nodes.now.items (all l) c.requires in
     record {
@@ -22,5 +23,6 @@ pub returns : goal.returns
 returns c =
     let l = c.args.ladders.now in
     let from = c.search_side-from in
-    c.crossed_left.ensures ∙ total-is c.args.symbol.now c.args.side c.opposite.result c.args.price c.args.nodes.now.items (all l)
-    (number l from.result) c.requires c.opposite.ensures from.ensures.before from.ensures.behind
+    c.crossed_left.ensures ∙ total-is c.args.symbol.now c.args.side c.opposite.result c.args.price
+    c.args.nodes.now.items (all l)
+    (rung_number l from.result) c.requires c.opposite.ensures from.ensures.before from.ensures.behind

@@ -11,7 +11,8 @@ use Rattle.price_levels.proofs.finds.holds.Goals as goal
 pub returns-then-at-levels : goal.returns-then-at-levels
 returns-then-at-levels c =
     c.same_key.ensures ∙ ap (λ (l : Level). same_key l.key c.args.key.now) (sym c.index-levels-at.is)
-    ∙ sym (holds-is c.args.levels.now c.args.at c.args.key.now c.index-levels-at.result c.if-at-levels.true c.index-levels-at.is)
+    ∙ sym (holds-is c.args.levels.now c.args.at c.args.key.now c.index-levels-at.result c.if-at-levels.true
+    c.index-levels-at.is)
 
 pub returns-else-at-levels : goal.returns-else-at-levels
 returns-else-at-levels c =

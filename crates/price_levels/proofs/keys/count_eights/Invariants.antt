@@ -7,5 +7,6 @@ abbrev pub invariant-eights : goal.invariant-eights
 invariant-eights l = record {
   at : l.from + 8 * l.eights ≤ count_better l.side l.price l.levels;
   all : l.from + 8 * l.eight ≤ count_better l.side l.price l.levels → l.eights ≡ l.eight;
-  end : count_better l.side l.price l.levels < l.from + 8 * l.eight → count_better l.side l.price l.levels < l.from + 8 * l.eights + 8;
+  end : count_better l.side l.price l.levels < l.from + 8 * l.eight
+      → count_better l.side l.price l.levels < l.from + 8 * l.eights + 8;
 }

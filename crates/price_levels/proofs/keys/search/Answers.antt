@@ -14,7 +14,8 @@ returns-clause-before c =
     let at = c.partition_point.result in
     let bound = c.partition_point.ensures.bound in
     let parts = parted (λ j. key_before j k) (λ a b h g. key-trans a b k h g) levels c.requires in
-    let point = IsPartitionPoint-from_clause (λ (l : Level). key_before l.key k) levels at c.partition_point.ensures.partitioned parts
+    let point = IsPartitionPoint-from_clause (λ (l : Level). key_before l.key k) levels at
+    c.partition_point.ensures.partitioned parts
     (λ a r q h. search rules) in
     all-take (λ (l : Level). key_before l.key k ≡ true) levels at bound (λ n d lt. point.0 n d (omega arith) lt)
 
@@ -24,6 +25,7 @@ returns-clause-behind c =
     let levels = c.args.levels.now in
     let at = c.partition_point.result in
     let parts = parted (λ j. key_before j k) (λ a b h g. key-trans a b k h g) levels c.requires in
-    let point = IsPartitionPoint-from_clause (λ (l : Level). key_before l.key k) levels at c.partition_point.ensures.partitioned parts
+    let point = IsPartitionPoint-from_clause (λ (l : Level). key_before l.key k) levels at
+    c.partition_point.ensures.partitioned parts
     (λ a r q h. search rules) in
     all-drop (λ (l : Level). key_before l.key k ≡ false) levels at (λ n d le lt. point.1 n d le lt)

@@ -5,4 +5,5 @@ use Rattle.price_levels.specs.Ladders.{IsEmpty}
 use Rattle.price_levels.proofs.ladders.empty_ladders.Given as goal
 
 abbrev pub invariant-ladders : goal.invariant-ladders
-invariant-ladders l = (length l.ladders.items ≡ l.counter) × (AllByRecursion (IsEmpty l.room) l.ladders.items × (l.count ≤ vec_capacity l.ladders))
+invariant-ladders l = (length l.ladders.items ≡ l.counter)
+    × (AllByRecursion (IsEmpty l.room) l.ladders.items × (l.count ≤ vec_capacity l.ladders))

@@ -9,7 +9,8 @@ loop-output-preserved g c =
       written = (
         _,
         appends_both _ _ _ so_far.0 _ so_far.1 c.in_ok-write_output.ensures,
-        lines_on c.args.client c.loop-output.place c.loop-output.output-index _ c.args.outputs.now c.output-item.result so_far.0 _
+        lines_on c.args.client c.loop-output.place c.loop-output.output-index _ c.args.outputs.now c.output-item.result
+            so_far.0 _
             c.loop-output-test.true c.output-item.is (omega arith) so_far.2,
       );
     }

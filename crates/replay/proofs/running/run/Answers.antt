@@ -1,11 +1,11 @@
 -- The file that was opened is the one that has the name, and the report only reads it.
 use Rattle.std.proofs.Common.{sym, ◌∙◌}
 use Rattle.disks.specs.Disk.{Told, OnlyRead}
-use Rattle.disks.specs.Places.{Place, IsNamed}
+use Rattle.disks.specs.Places.{Place, IsFileNamed}
 use Rattle.replay.specs.Running.{OnlyReads}
 use Rattle.replay.proofs.running.run.Goals as goal
 
-only_reads : (place : Place) (was is : Type 0) (old new : Told) → was → IsNamed place old → OnlyRead was is old new
+only_reads : (place : Place) (was is : Type 0) (old new : Told) → was → IsFileNamed place old → OnlyRead was is old new
     → OnlyReads place is new
 only_reads place was is old new honest named read = let leaves = read.any_moment.leaves honest in record {
   there = named.names.there;

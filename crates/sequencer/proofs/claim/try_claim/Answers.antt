@@ -1,17 +1,22 @@
 use Rattle.std.proofs.Common.{ℕ, ◌+◌, ◌≤◌, refl, rules, arith}
-use Rattle.sequencer.proofs.ClaimRooms.{same_room, claim_below, both_loaded, claim_below_then, claimed_then, looked_then}
+use Rattle.sequencer.proofs.ClaimRooms.{same_room, claim_below, both_loaded, claim_below_then, claimed_then}
+use Rattle.sequencer.proofs.ClaimRooms.{looked_then}
 use Rattle.sequencer.proofs.claim.try_claim.Goals as goal
 
 pub returns-then-not-sees_room-clause-refused : goal.returns-then-not-sees_room-clause-refused
-returns-then-not-sees_room-clause-refused g c = let at : ℕ = c.load_claim-at.result in let first = c.load_claim-at.ensures.step in
+returns-then-not-sees_room-clause-refused g c = let at : ℕ = c.load_claim-at.result in
+    let first = c.load_claim-at.ensures.step in
     let full = c.if-not-sees_room.ensures.full refl in let p : ℕ = full.0 in
-    let most : at ≤ p + g.row.N = claim_below g.row.N _ _ c.sees_room.new.seat at first (p + g.row.N) full.3 in let least : p + g.row.N ≤ at = full.2 in
+    let most : at ≤ p + g.row.N = claim_below g.row.N _ _ c.sees_room.new.seat at first (p + g.row.N) full.3 in
+    let least : p + g.row.N ≤ at = full.2 in
     (at, p, both_loaded g.row.N _ _ _ at first p full.1, omega arith, search rules)
 
 pub returns-then-found-at-clause-refused : goal.returns-then-found-at-clause-refused
-returns-then-found-at-clause-refused g c = let at : ℕ = c.load_claim-at.result in let first = c.load_claim-at.ensures.step in
+returns-then-found-at-clause-refused g c = let at : ℕ = c.load_claim-at.result in
+    let first = c.load_claim-at.ensures.step in
     let room = c.if-not-sees_room.ensures.room refl in let found : ℕ = c.exchange_claim-found.result in
-    let most : at ≤ found = claim_below_then g.row.N _ _ _ at first room.1.0 room.1.2 c.exchange_claim-found.new.seat found c.exchange_claim-found.ensures.claims in (
+    let most : at ≤ found = claim_below_then g.row.N _ _ _ at first room.1.0 room.1.2 c.exchange_claim-found.new.seat
+    found c.exchange_claim-found.ensures.claims in (
       at,
       room.0,
       found,

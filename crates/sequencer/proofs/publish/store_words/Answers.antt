@@ -6,8 +6,16 @@ use Rattle.sequencer.proofs.publish.store_words.Goals as goal
 
 pub store_raw-requires-in-loop-index : goal.store_raw-requires-in-loop-index
 store_raw-requires-in-loop-index g c = let so_far = c.loop-index.invariant.2 in let before = c.args.seat.now.who in
-    let e : Message = record { gateway = number c.args.seat.now; bytes = c.args.bytes.now } in
-    (omega arith, (search rules, (rw so_far c.requires.claimed, (omega arith, rw so_far (goes_on before c.args.sequence e (c.loop-index.index + 1))))))
+    let e : Message = record { gateway = number c.args.seat.now; bytes = c.args.bytes.now } in (
+      omega arith,
+      (
+        search rules,
+        (
+          rw so_far c.requires.claimed,
+          (omega arith, rw so_far (goes_on before c.args.sequence e (c.loop-index.index + 1))),
+        ),
+      ),
+    )
 
 pub loop-index-preserved : goal.loop-index-preserved
 loop-index-preserved g c = let step = c.store_raw-in-loop-index in
@@ -19,5 +27,6 @@ loop-index-preserved g c = let step = c.store_raw-in-loop-index in
 
 pub returns-clause-step : goal.returns-clause-step
 returns-clause-step g c = let e : Message = record { gateway = number c.args.seat.now; bytes = c.args.bytes.now } in
-    let long : ℕ = length c.args.bytes.now in let count : c.loop-index.index ≡ long / 8 + min 1 (long % 8) = omega arith in
+    let long : ℕ = length c.args.bytes.now in
+    let count : c.loop-index.index ≡ long / 8 + min 1 (long % 8) = omega arith in
     store_last c.args.seat.now _ c.loop-index.seat c.args.sequence e c.loop-index.index c.loop-index.invariant.2 count

@@ -12,7 +12,9 @@ put_output-requires g c = let v = c.args.seat.now in let u = c.loop-output.seat 
           room_behind v u k here g.row.G g.row.M (c.requires.room _ (omega arith)),
           (
             synced_behind v u k here c.requires.synced,
-            next_behind v u k here c.args.rings.now.logic c.output-item.result (next k c.output-item.result (read_stands c.args.outputs.now k _ c.output-item.is c.loop-output-test.true)),
+            next_behind v u k here c.args.rings.now.logic c.output-item.result
+                (next k c.output-item.result
+                (read_stands c.args.outputs.now k _ c.output-item.is c.loop-output-test.true)),
           ),
         ),
       ),

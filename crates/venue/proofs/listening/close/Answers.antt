@@ -3,5 +3,13 @@ use Rattle.std.proofs.Common.{arith}
 use Rattle.venue.proofs.listening.close.Goals as goal
 
 pub close-requires : goal.close-requires
-close-requires g c = let back = c.requires.back in
-    (omega arith, (c.requires.crew, (λ i s there. let is = back i s there in (is.at, is.role), (c.requires.count, λ i s there. (back i s there).spent))))
+close-requires g c = let back = c.requires.back in (
+  omega arith,
+  (
+    c.requires.crew,
+    (
+      λ i s there. let is = back i s there in (is.at, is.role),
+      (c.requires.count, λ i s there. (back i s there).spent),
+    ),
+  ),
+)

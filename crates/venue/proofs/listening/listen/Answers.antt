@@ -12,7 +12,10 @@ use Rattle.venue.proofs.listening.listen.Goals as goal
 pub returns-clause-ends : goal.returns-clause-ends
 returns-clause-ends g c =
     let opened = c.in-Ok.ensures in let served = c.serve_members-crew in let seats = served.result.0.1 in
-    let back = served.ensures.count in let posts = c.in-Ok-open_posts.ensures.count in let all = opened.seats.0 in let ok = seats.ok.0 in
+    let back = served.ensures.count in
+    let posts = c.in-Ok-open_posts.ensures.count in
+    let all = opened.seats.0 in
+    let ok = seats.ok.0 in
     inr (record {
       rings = c.in-Ok.opened.0;
       begun = c.in-Ok.opened.1;
@@ -28,18 +31,22 @@ returns-clause-ends g c =
       back = (served.ensures.back, omega (arith, back, posts, all, ok));
       finished = c.close-disk.ensures.finished;
       disk_is = c.close-disk.ensures.disk;
-      status_is = c.say_end.ensures ∙ ap status_of_end (c.end_of-end.ensures ∙ ap (λ failed. end_of failed served.result.1)
+      status_is = c.say_end.ensures
+          ∙ ap status_of_end (c.end_of-end.ensures ∙ ap (λ failed. end_of failed served.result.1)
           (c.has_failed.ensures ∙ ap (λ (k : OneCrew g.row.D.Denot). k.journaller.journal.failed) c.crew.view_is));
     })
 
 pub returns-clause-any_moment : goal.returns-clause-any_moment
 returns-clause-any_moment g c = λ honest.
     let tells = g.D.JournalDisk.tells in let opened = c.in-Ok.ensures.disk in let rings = c.in-Ok.opened.0 in
-    let begun = c.in-Ok.opened.1 in let ended = c.serve_members-crew.result.0.0 in let journals = c.serve_members-crew.ensures.crew.1 in
+    let begun = c.in-Ok.opened.1 in
+    let ended = c.serve_members-crew.result.0.0 in
+    let journals = c.serve_members-crew.ensures.crew.1 in
     let old = tells (disk_of begun) in let new = tells (disk_of ended) in
     let behind = new_behind rings begun c.in-Ok.ensures.opened.1 in
     subst (λ (d : g.row.D.Denot). LeavesFrom (tells c.args.disk) (tells d)) (sym c.close-disk.ensures.disk)
-    (serve_leaves (tells c.args.disk) old new rings.base (opened.read.any_moment.leaves honest) (opened.read.file honest) (opened.durable honest) (opened.history honest)
+    (serve_leaves (tells c.args.disk) old new rings.base (opened.read.any_moment.leaves honest)
+    (opened.read.file honest) (opened.durable honest) (opened.history honest)
     (weaker old new (IsJournalBehind rings.base) (LeftOrBehind old rings.base)
     (leaves_behind rings.base begun.journaller.seat.who ended.journaller.seat.who old new behind journals.grows
     (journals.any_moment.leaves (opened.read.any_moment.honest.0 honest)))

@@ -6,8 +6,10 @@ use Rattle.venue.proofs.MemberLemmas.{of_last}
 use Rattle.venue.proofs.members.last_seat.Goals as goal
 
 pub returns-clause-left : goal.returns-clause-left
-returns-clause-left g c = λ i x there. c.requires i x (rw c.pop.ensures.items (at_longer c.pop.new.self.items _ i x there))
+returns-clause-left g c = λ i x there. c.requires i x
+    (rw c.pop.ensures.items (at_longer c.pop.new.self.items _ i x there))
 
 pub returns-clause-last : goal.returns-clause-last
 returns-clause-last g c = let ok = c.args.seats.now.ok.0 in
-    of_last (IsNew c.args.rings.now) c.args.seats.now.items c.pop.new.self.items c.in_ok-seat.seat c.in_ok-seat.ensures.items c.requires _ (omega (arith, ok))
+    of_last (IsNew c.args.rings.now) c.args.seats.now.items c.pop.new.self.items c.in_ok-seat.seat
+    c.in_ok-seat.ensures.items c.requires _ (omega (arith, ok))

@@ -6,7 +6,7 @@ use Rattle.venue_model.specs.Requests.{Limits}
 use Rattle.stages.specs.Stations.{disk_of}
 use Rattle.stages.specs.Finishing.{Finished}
 use Rattle.venue.specs.Serving.{LeavesFrom}
-use Rattle.venue.specs.VenueRings.{IsFirst}
+use Rattle.venue.specs.VenueRings.{IsFirstSeat}
 use Rattle.venue.specs.Venues.{Venue}
 use Rattle.venue.specs.CrashLaws.{serve_leaves}
 use Rattle.venue.specs.OpenedLaws.{new_seen}
@@ -20,10 +20,22 @@ pub returns-clause-served : goal.returns-clause-served
 returns-clause-served g c =
     let tells = g.W.Wire.tells in let opened = c.in-Ok.ensures in
     let rings = c.in-Ok.opened.0 in let seat = c.first_seat-seat.result in
-    let start : Venue g.row.D.Denot = record { rings = rings; gateway = c.begin.new.self; crew = c.in-Ok.opened.1; wire = tells c.args.wire.now } in
-    let end : Venue g.row.D.Denot = record { rings = rings; gateway = c.take_turns.new.gateway; crew = c.take_turns.new.crew; wire = tells c.take_turns.new.wire } in
-    let first = began rings c.in-Ok-new.gateway c.begin.new.self seat c.in-Ok-new.ensures.made c.begin.ensures.new c.first_seat-seat.ensures.seat in
-    let course = c.take_turns.ensures.delivers (starts 1024 start.gateway start.wire) nothing_yet (c.begin.ensures.begins 1024 start.wire) in
+    let start : Venue g.row.D.Denot = record {
+      rings = rings;
+      gateway = c.begin.new.self;
+      crew = c.in-Ok.opened.1;
+      wire = tells c.args.wire.now;
+    } in
+    let end : Venue g.row.D.Denot = record {
+      rings = rings;
+      gateway = c.take_turns.new.gateway;
+      crew = c.take_turns.new.crew;
+      wire = tells c.take_turns.new.wire;
+    } in
+    let first = began rings c.in-Ok-new.gateway c.begin.new.self seat c.in-Ok-new.ensures.made c.begin.ensures.new
+    c.first_seat-seat.ensures.seat in
+    let course = c.take_turns.ensures.delivers (starts 1024 start.gateway start.wire) nothing_yet
+    (c.begin.ensures.begins 1024 start.wire) in
     let device = c.finish-disk-2.result.1 in
     inr (
       c.take_turns.result,
@@ -34,7 +46,7 @@ returns-clause-served g c =
         opens = record {
           crew = opened.opened.1;
           behind = opened.opened.0;
-          seat = subst (λ (s : At Limits). IsFirst rings s) (sym first.1) c.first_seat-seat.ensures.seat;
+          seat = subst (λ (s : At Limits). IsFirstSeat rings s) (sym first.1) c.first_seat-seat.ensures.seat;
           session = first.0;
           wire = refl;
           disk_is = opened.disk;
@@ -43,7 +55,8 @@ returns-clause-served g c =
         course = course.0;
         delivers = course.1;
         summary = c.finish-disk-2.result.0;
-        finished = subst (λ (s : At Limits). Finished rings (s ∷ []) end.crew (g.D.JournalDisk.honest device) (g.D.JournalDisk.tells device) c.finish-disk-2.result.0)
+        finished = subst (λ (s : At Limits). Finished rings (s ∷ []) end.crew (g.D.JournalDisk.honest device)
+            (g.D.JournalDisk.tells device) c.finish-disk-2.result.0)
             c.end.ensures.seat c.finish-disk-2.ensures.finished;
         wire = refl;
         disk_is = c.finish-disk-2.ensures.disk;
@@ -54,5 +67,7 @@ pub returns-clause-any_moment : goal.returns-clause-any_moment
 returns-clause-any_moment g c = λ honest.
     let tells = g.D.JournalDisk.tells in let opened = c.in-Ok.ensures.disk in let crew = c.in-Ok.opened.1 in
     subst (λ (d : g.row.D.Denot). LeavesFrom (tells c.args.disk) (tells d)) (sym c.finish-disk-2.ensures.disk)
-    (serve_leaves (tells c.args.disk) (tells (disk_of crew)) (tells (disk_of c.take_turns.new.crew)) c.in-Ok.opened.0.base (opened.read.any_moment.leaves honest)
-    (opened.read.file honest) (opened.durable honest) (opened.history honest) (c.take_turns.ensures.any_moment (opened.read.any_moment.honest.0 honest)))
+    (serve_leaves (tells c.args.disk) (tells (disk_of crew)) (tells (disk_of c.take_turns.new.crew))
+    c.in-Ok.opened.0.base (opened.read.any_moment.leaves honest)
+    (opened.read.file honest) (opened.durable honest) (opened.history honest)
+    (c.take_turns.ensures.any_moment (opened.read.any_moment.honest.0 honest)))

@@ -13,7 +13,8 @@ use Rattle.stages.specs.declared.turn.Turn.TheVariants.{JournalFailed}
 use Rattle.venue.specs.Venues.{Venue, Device}
 use Rattle.venue.specs.CrashLaws.{still_behind}
 use Rattle.venue.proofs.OpenedLemmas.{still_at}
-use Rattle.venue.proofs.ServingLemmas.{told_quiet, at_start, behind_poll, lives, next_round, told_again, still_ready, risen}
+use Rattle.venue.proofs.ServingLemmas.{told_quiet, at_start, behind_poll, lives, next_round, told_again, still_ready}
+use Rattle.venue.proofs.ServingLemmas.{risen}
 use Rattle.venue.proofs.serving.take_turns.Goals as goal
 
 pub loop-round-init : goal.loop-round-init
@@ -39,13 +40,34 @@ loop-round-preserved g c =
     let polled = c.poll-polled.ensures in
     let first = c.args.crew.now in let old = c.loop-round.crew in let new = c.poll-polled.new.self in
     let v = old.journaller.seat.who in let w = new.journaller.seat.who in
-    let keeps : c.poll-polled.result.journaller ≢ JournalFailed = λ is. true≢false (sym (rw is at c.eq.ensures) ∙ c.if-eq.false) in
-    let ready = still_ready g.D.JournalDisk.failed old.journaller.journal new.journaller.journal c.poll-polled.result.journaller keeps polled.failed in
+    let keeps : c.poll-polled.result.journaller ≢ JournalFailed =
+    λ is. true≢false (sym (rw is at c.eq.ensures) ∙ c.if-eq.false) in
+    let ready = still_ready g.D.JournalDisk.failed old.journaller.journal new.journaller.journal
+    c.poll-polled.result.journaller keeps polled.failed in
     let live = lives _ _ c.turn-turned.result turned.turn.turn c.in_default.not-Ended in
-    let device : Device g.row.D.Denot = record { honest = g.D.JournalDisk.honest; tells = tells; failed = g.D.JournalDisk.failed } in
-    let start : Venue g.row.D.Denot = record { rings = rings; gateway = c.args.gateway.now; crew = first; wire = wire c.args.wire.now } in
-    let now : Venue g.row.D.Denot = record { rings = rings; gateway = c.loop-round.gateway; crew = old; wire = wire c.loop-round.wire } in
-    let between : Venue g.row.D.Denot = record { rings = rings; gateway = c.turn-turned.new.self; crew = old; wire = wire c.turn-turned.new.wire } in
+    let device : Device g.row.D.Denot = record {
+      honest = g.D.JournalDisk.honest;
+      tells = tells;
+      failed = g.D.JournalDisk.failed;
+    } in
+    let start : Venue g.row.D.Denot = record {
+      rings = rings;
+      gateway = c.args.gateway.now;
+      crew = first;
+      wire = wire c.args.wire.now;
+    } in
+    let now : Venue g.row.D.Denot = record {
+      rings = rings;
+      gateway = c.loop-round.gateway;
+      crew = old;
+      wire = wire c.loop-round.wire;
+    } in
+    let between : Venue g.row.D.Denot = record {
+      rings = rings;
+      gateway = c.turn-turned.new.self;
+      crew = old;
+      wire = wire c.turn-turned.new.wire;
+    } in
     let after : Venue g.row.D.Denot = record between { crew = new } in
     let then : Venue g.row.D.Denot = record after { wire = wire c.rest.new.self } in
     let grows = journaller_grows 1024 c.poll-polled.result.journaller v w polled.polls.journals in
@@ -56,9 +78,13 @@ loop-round-preserved g c =
       crew = polled.stays;
       ready = ready.0;
       behind = still_behind rings.base v w before.behind grows;
-      honest = (λ h. polled.any_moment.honest.0 (before.honest.0 h), λ h. before.honest.1 (polled.any_moment.honest.1 h));
+      honest = (
+        λ h. polled.any_moment.honest.0 (before.honest.0 h),
+        λ h. before.honest.1 (polled.any_moment.honest.1 h),
+      );
       counts = ready.1 ∙ before.counts;
-      leaves = λ h. behind_poll (tells (disk_of first)) (tells (disk_of old)) (tells (disk_of new)) rings.base c.poll-polled.result.journaller v w (before.leaves h)
+      leaves = λ h. behind_poll (tells (disk_of first)) (tells (disk_of old)) (tells (disk_of new)) rings.base
+          c.poll-polled.result.journaller v w (before.leaves h)
           before.behind polled.polls.journals (polled.any_moment.leaves (before.honest.0 h));
       rounds = next_round device c.loop-round._round start now then before.rounds (record {
         between = between;
@@ -67,17 +93,25 @@ loop-round-preserved g c =
         turns = record { turn = turned.turn; uses = turned.uses; others = refl };
         lives = live;
         after = after;
-        polls = record { polls = polled.polls; fails = polled.failed; leaves = polled.any_moment; keeps = polled.keeps; others = refl };
+        polls = record {
+          polls = polled.polls;
+          fails = polled.failed;
+          leaves = polled.any_moment;
+          keeps = polled.keeps;
+          others = refl;
+        };
         keeps = keeps;
         rests = told_quiet after (wire c.rest.new.self) _ c.rest.ensures;
-        quiet = subst (λ (q : Bool). q ≡ true ↔ ((c.turn-turned.result ≡ Quiet) × AreIdle c.poll-polled.result)) (sym (ap (λ (t : Told). t.quiet) c.rest.ensures)) c.is_quiet.ensures;
+        quiet = subst (λ (q : Bool). q ≡ true ↔ ((c.turn-turned.result ≡ Quiet) × AreIdle c.poll-polled.result))
+            (sym (ap (λ (t : Told). t.quiet) c.rest.ensures)) c.is_quiet.ensures;
       });
       delivers = λ from course so_far.
           let d = before.delivers from course so_far in
           let m = turned.turn.turn.moved in (
             further d.0 m,
             told_again from c.turn-turned.new.self.front (wire c.turn-turned.new.wire) (wire c.rest.new.self)
-                (ledger_of 1024 c.turn-turned.new.self.seat) (further d.0 m) (ap (λ (t : Told). t.gave) c.rest.ensures) (ap (λ (t : Told). t.took) c.rest.ensures) (turned.turn.delivers from d.0 d.1),
+                (ledger_of 1024 c.turn-turned.new.self.seat) (further d.0 m) (ap (λ (t : Told). t.gave) c.rest.ensures)
+                (ap (λ (t : Told). t.took) c.rest.ensures) (turned.turn.delivers from d.0 d.1),
           );
     }
 
@@ -96,7 +130,11 @@ returns-in-Ended g c =
       delivers = λ start course so_far.
           let d = before.delivers start course so_far in
           (further d.0 turned.turn.turn.moved, turned.turn.delivers start d.0 d.1);
-      stays = (still_at c.args.rings.now c.loop-round.gateway.seat c.turn-turned.new.self.seat before.at stays.rings, stays.role ∙ before.role, before.crew);
+      stays = (
+        still_at c.args.rings.now c.loop-round.gateway.seat c.turn-turned.new.self.seat before.at stays.rings,
+        stays.role ∙ before.role,
+        before.crew,
+      );
       failed = tt;
       counts = before.counts;
     }
@@ -109,30 +147,51 @@ returns-then-eq g c =
     let polled = c.poll-polled.ensures in
     let old = c.loop-round.crew in let new = c.poll-polled.new.self in
     let failed : c.poll-polled.result.journaller ≡ JournalFailed = search rules in
-    let cause = subst (λ (t : Turn). Fails g.D.JournalDisk.failed old.journaller.journal new.journaller.journal t) failed polled.failed in
+    let cause = subst (λ (t : Turn). Fails g.D.JournalDisk.failed old.journaller.journal new.journaller.journal t)
+    failed polled.failed in
     record {
-      honest = (λ h. polled.any_moment.honest.0 (before.honest.0 h), λ h. before.honest.1 (polled.any_moment.honest.1 h));
-      any_moment = λ h. behind_poll (tells (disk_of c.args.crew.now)) (tells (disk_of old)) (tells (disk_of new)) rings.base c.poll-polled.result.journaller
-          old.journaller.seat.who new.journaller.seat.who (before.leaves h) before.behind polled.polls.journals (polled.any_moment.leaves (before.honest.0 h));
+      honest = (
+        λ h. polled.any_moment.honest.0 (before.honest.0 h),
+        λ h. before.honest.1 (polled.any_moment.honest.1 h),
+      );
+      any_moment = λ h. behind_poll (tells (disk_of c.args.crew.now)) (tells (disk_of old)) (tells (disk_of new))
+          rings.base c.poll-polled.result.journaller
+          old.journaller.seat.who new.journaller.seat.who (before.leaves h) before.behind polled.polls.journals
+          (polled.any_moment.leaves (before.honest.0 h));
       served = record {
         count = c.loop-round._round;
         last = _;
         rounds = before.rounds;
         finale = (
           refl,
-          record { rings = rings; gateway = c.turn-turned.new.self; crew = old; wire = g.W.Wire.tells c.turn-turned.new.wire },
+          record {
+            rings = rings;
+            gateway = c.turn-turned.new.self;
+            crew = old;
+            wire = g.W.Wire.tells c.turn-turned.new.wire;
+          },
           c.turn-turned.result,
           c.poll-polled.result,
           record { turn = turned.turn; uses = turned.uses; others = refl },
           lives _ _ c.turn-turned.result turned.turn.turn c.in_default.not-Ended,
-          record { polls = polled.polls; fails = polled.failed; leaves = polled.any_moment; keeps = polled.keeps; others = refl },
+          record {
+            polls = polled.polls;
+            fails = polled.failed;
+            leaves = polled.any_moment;
+            keeps = polled.keeps;
+            others = refl;
+          },
           failed,
         );
       };
       delivers = λ start course so_far.
           let d = before.delivers start course so_far in
           (further d.0 turned.turn.turn.moved, turned.turn.delivers start d.0 d.1);
-      stays = (still_at rings c.loop-round.gateway.seat c.turn-turned.new.self.seat before.at stays.rings, stays.role ∙ before.role, polled.stays);
+      stays = (
+        still_at rings c.loop-round.gateway.seat c.turn-turned.new.self.seat before.at stays.rings,
+        stays.role ∙ before.role,
+        polled.stays,
+      );
       failed = risen old.journaller.journal.failed _ _ _ before.ready before.counts cause.1;
       counts = tt;
     }

@@ -10,5 +10,6 @@ returns-clause-left g c = λ i s there. c.requires i s (rw c.pop.ensures.items (
 pub returns-clause-next : goal.returns-clause-next
 returns-clause-next g c =
     let left = c.pop.new.self.items in
-    let new = c.requires (length left) c.in_ok-seat.seat (rw c.in_ok-seat.ensures.items (last_one left c.in_ok-seat.seat)) in
+    let new = c.requires (length left) c.in_ok-seat.seat
+    (rw c.in_ok-seat.ensures.items (last_one left c.in_ok-seat.seat)) in
     new ∙ ap (λ (s : At _). at c.args.rings.now s.who) (sym new)

@@ -9,9 +9,12 @@ pub returns-clause-fresh : goal.returns-clause-fresh
 returns-clause-fresh c =
     subst (λ (b : Book). NoneNamed c.args.client c.args.name b.state.orders) c.self.view_is
     (book-fresh c.self.inside.logic.symbols c.self.inside.greatest c.args.client c.args.name c.self.inside.orders
-    (rw (ap (λ (b : Book). slice_index b.state.greatest (c.args.client - 1)) c.self.view_is) c.requires.later) c.self.invariant.each)
+    (rw (ap (λ (b : Book). slice_index b.state.greatest (c.args.client - 1)) c.self.view_is) c.requires.later)
+    c.self.invariant.each)
 
 pub returns-clause-book : goal.returns-clause-book
 returns-clause-book c =
-    book-accepted c.self.inside.logic.symbols c.self.inside.orders c.self.inside.greatest (c.args.client - 1) c.args.name
-    (rw (ap (λ (b : Book). slice_index b.state.greatest (c.args.client - 1)) c.self.view_is) c.requires.later) c.self.invariant
+    book-accepted c.self.inside.logic.symbols c.self.inside.orders c.self.inside.greatest (c.args.client - 1)
+    c.args.name
+    (rw (ap (λ (b : Book). slice_index b.state.greatest (c.args.client - 1)) c.self.view_is) c.requires.later)
+    c.self.invariant

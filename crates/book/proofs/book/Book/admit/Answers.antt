@@ -10,15 +10,24 @@ pub invariant_of-self : goal.invariant_of-self
 invariant_of-self c =
     let i = c.args.order.now in
     let accepted_is = c.self.view_is ∙ c.accept.ensures.value in
-    let symbols_are : c.self.inside.logic.symbols ≡ c.args.self.now.limits.symbols = ap (λ (b : Book). b.limits.symbols) accepted_is in
-    let orders_are : c.self.inside.orders ≡ c.args.self.now.state.orders = ap (λ (b : Book). b.state.orders) accepted_is in
+    let symbols_are : c.self.inside.logic.symbols ≡ c.args.self.now.limits.symbols =
+    ap (λ (b : Book). b.limits.symbols) accepted_is in
+    let orders_are : c.self.inside.orders ≡ c.args.self.now.state.orders =
+    ap (λ (b : Book). b.state.orders) accepted_is in
     let greatest = ap (λ (b : Book). greatest_of b.state i.client) c.self.view_is ∙ c.accept.ensures.greatest in
-    rw c.enter.ensures.orders (book-entered c.self.inside.logic.symbols c.self.inside.greatest i c.self.inside.orders c.self.invariant
-    (record { from = c.requires.from; to = c.requires.to; name = omega (arith, greatest); symbol = rw symbols_are c.requires.known })
+    rw c.enter.ensures.orders (book-entered c.self.inside.logic.symbols c.self.inside.greatest i c.self.inside.orders
+    c.self.invariant
+    (record {
+      from = c.requires.from;
+      to = c.requires.to;
+      name = omega (arith, greatest);
+      symbol = rw symbols_are c.requires.known;
+    })
     (rw orders_are c.accept.ensures.fresh) c.args.terms (rw (← c.enter.ensures.orders) c.enter.ensures.standing))
 
 pub returns-clause-below : goal.returns-clause-below
 returns-clause-below c =
-    let orders_are : c.self.inside.orders ≡ c.args.self.now.state.orders = ap (λ (b : Book). b.state.orders) (c.self.view_is ∙ c.accept.ensures.value) in
+    let orders_are : c.self.inside.orders ≡ c.args.self.now.state.orders =
+    ap (λ (b : Book). b.state.orders) (c.self.view_is ∙ c.accept.ensures.value) in
     c.enter.ensures.below (c.args.order.now.stamp + 1) (omega arith)
     (rw orders_are (below_more c.args.self.now.state.orders c.args.order.now.stamp c.requires.behind))

@@ -23,7 +23,12 @@ admit-requires-clause-to c =
 
 pub admit-requires-clause-later : goal.admit-requires-clause-later
 admit-requires-clause-later c =
-    rw (c.restamped-order.ensures, c.amended-amended.ensures, c.requires.stands.its_client, c.take_out.ensures.takes.book)
+    rw (
+      c.restamped-order.ensures,
+      c.amended-amended.ensures,
+      c.requires.stands.its_client,
+      c.take_out.ensures.takes.book,
+    )
     c.requires.later
 
 pub admit-requires-clause-known : goal.admit-requires-clause-known
@@ -36,7 +41,8 @@ admit-requires-clause-in_range c =
     let r = c.args.request.now in
     let o = c.args.order.now in
     rw (c.restamped-order.ensures, c.amended-amended.ensures) (restamped-range c.args.cause (amended r o)
-    (amended-range r o c.requires.stands.rests.in_range (fits-more r o c.requires.fits) c.requires.quantity c.requires.price))
+    (amended-range r o c.requires.stands.rests.in_range (fits-more r o c.requires.fits) c.requires.quantity
+    c.requires.price))
 
 pub admit-requires-clause-behind : goal.admit-requires-clause-behind
 admit-requires-clause-behind c =
@@ -61,7 +67,8 @@ returns-else-keeps_place-clause-state c =
     ∙ ap (λ (x : Book). record x { state = accepted x.state i.client i.cl_ord_id (matched Day i x.state.orders) })
     c.take_out.ensures.takes.book
     ∙ ap (λ (o : Order). record b {
-      state = accepted b.state o.client o.cl_ord_id (matched Day o (others b.state c.args.cause.gateway r.orig_cl_ord_id));
+      state = accepted b.state o.client o.cl_ord_id
+          (matched Day o (others b.state c.args.cause.gateway r.orig_cl_ord_id));
     }) i_is
     ∙ ap (λ n. record b {
       state = accepted b.state n r.cl_ord_id (matched Day (restamped c.args.cause (amended r c.args.order.now))
@@ -80,14 +87,17 @@ returns-else-keeps_place-clause-told c =
     let items = c.args.out.now.items in
     let i_is = c.restamped-order.ensures ∙ ap (restamped cause) c.amended-amended.ensures in
     c.admit.ensures.told
-    ∙ ap (λ (x : Book). items ++ exec cause kind i ∷ match_outputs cause Day i x.state.orders) c.take_out.ensures.takes.book
-    ∙ ap (λ o. items ++ exec cause kind o ∷ match_outputs cause Day o (others b.state cause.gateway r.orig_cl_ord_id)) i_is
+    ∙ ap (λ (x : Book). items ++ exec cause kind i ∷ match_outputs cause Day i x.state.orders)
+    c.take_out.ensures.takes.book
+    ∙ ap (λ o. items ++ exec cause kind o ∷ match_outputs cause Day o (others b.state cause.gateway r.orig_cl_ord_id))
+    i_is
     ∙ ap (λ (st : Stepped). items ++ st.outputs)
     (sym (replaced-moved b.state cause r c.args.order.now (sym c.keeps_place.ensures ∙ c.if-keeps_place.false)))
 
 pub returns-else-keeps_place-clause-behind : goal.returns-else-keeps_place-clause-behind
 returns-else-keeps_place-clause-behind c =
-    let stamp : c.restamped-order.result.stamp ≡ c.args.cause.sequence = ap (λ (o : Order). o.stamp) c.restamped-order.ensures in
+    let stamp : c.restamped-order.result.stamp ≡ c.args.cause.sequence =
+    ap (λ (o : Order). o.stamp) c.restamped-order.ensures in
     rw stamp at c.admit.ensures.below
 
 pub returns-else-keeps_place-clause-reads : goal.returns-else-keeps_place-clause-reads
@@ -95,7 +105,8 @@ returns-else-keeps_place-clause-reads c =
     let r = c.args.request.now in
     let i_is = c.restamped-order.ensures ∙ ap (restamped c.args.cause) c.amended-amended.ensures in
     let same = ap (λ o. fills o c.take_out.new.self.state.orders) i_is
-    ∙ ap (λ (x : Book). fills (restamped c.args.cause (amended r c.args.order.now)) x.state.orders) c.take_out.ensures.takes.book in
+    ∙ ap (λ (x : Book). fills (restamped c.args.cause (amended r c.args.order.now)) x.state.orders)
+    c.take_out.ensures.takes.book in
     let least = c.admit.ensures.reads.least in
     let most = c.admit.ensures.reads.most in
     let before = c.requires.reads in

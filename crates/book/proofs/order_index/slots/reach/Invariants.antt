@@ -4,4 +4,5 @@ use Rattle.book.specs.Slots.{at, ends_way, home, slot_from}
 use Rattle.book.proofs.order_index.slots.reach.Given as goal
 
 abbrev pub invariant-loop-steps : goal.invariant-loop-steps
-invariant-loop-steps l = (before : ℕ) → before < l.steps → ends_way l.client l.name (at l.slots (slot_from (home l.client l.name) before)) ≡ false
+invariant-loop-steps l = (before : ℕ) → before < l.steps
+    → ends_way l.client l.name (at l.slots (slot_from (home l.client l.name) before)) ≡ false

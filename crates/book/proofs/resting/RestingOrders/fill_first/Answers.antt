@@ -2,7 +2,8 @@
 use Rattle.std.proofs.Common.{◌∙◌, sym, subst, arith}
 use Rattle.std.specs.Prelude.{MatchOption}
 use Rattle.book.specs.Firsts.{FillsFirst, FillsNone}
-use Rattle.book.proofs.Fillings.{fills-none-of, fills-not, can-reduce, kept-reduced, fills-part, kept-whole, fills-whole}
+use Rattle.book.proofs.Fillings.{fills-none-of, fills-not, can-reduce, kept-reduced, fills-part, kept-whole}
+use Rattle.book.proofs.Fillings.{fills-whole}
 use Rattle.book.proofs.resting.RestingOrders.fill_first.Goals as goal
 
 pub returns-in_err-place-clause-first : goal.returns-in_err-place-clause-first
@@ -10,50 +11,66 @@ returns-in_err-place-clause-first c =
     subst (λ r. MatchOption r (FillsNone c.args.incoming.now c.args.self.now c.args.self.now)
     (FillsFirst c.args.incoming.now c.args.self.now c.args.self.now))
     (sym c.from_residual.ensures)
-    (fills-none-of c.self.inside.levels c.self.inside.index c.self.inside.count c.self.invariant c.args.self.now c.self.view_is
+    (fills-none-of c.self.inside.levels c.self.inside.index c.self.inside.count c.self.invariant c.args.self.now
+    c.self.view_is
     c.args.incoming.now c.opposite.result c.opposite.ensures c.in_err-place.ensures)
 
 pub returns-then-not-crosses-clause-first : goal.returns-then-not-crosses-clause-first
 returns-then-not-crosses-clause-first c =
-    fills-not c.self.inside.levels c.self.inside.index c.self.inside.count c.self.invariant c.args.self.now c.self.view_is
-    c.args.incoming.now c.opposite.result c.opposite.ensures c.in_ok-place.place.number c.in_ok-place.ensures c.get-order.result
+    fills-not c.self.inside.levels c.self.inside.index c.self.inside.count c.self.invariant c.args.self.now
+    c.self.view_is
+    c.args.incoming.now c.opposite.result c.opposite.ensures c.in_ok-place.place.number c.in_ok-place.ensures
+    c.get-order.result
     c.get-order.ensures.order
     (sym c.crosses.ensures ∙ c.if-not-crosses.true)
 
 pub reduce-requires : goal.reduce-requires
 reduce-requires c =
-    can-reduce c.self.inside.levels c.self.inside.index c.self.inside.count c.self.invariant c.args.self.now c.self.view_is
-    c.args.incoming.now c.opposite.result c.opposite.ensures c.in_ok-place.place.number c.in_ok-place.ensures c.get-order.result
+    can-reduce c.self.inside.levels c.self.inside.index c.self.inside.count c.self.invariant c.args.self.now
+    c.self.view_is
+    c.args.incoming.now c.opposite.result c.opposite.ensures c.in_ok-place.place.number c.in_ok-place.ensures
+    c.get-order.result
     c.get-order.ensures.order
     c.leaves-quantity.result (omega (arith, c.if-quantity-leaves.true, c.leaves.ensures))
 
 pub invariant_of-self : goal.invariant_of-self
 invariant_of-self c =
-    kept-reduced c.self.inside.levels c.self.inside.index c.self.inside.count c.self.invariant c.args.self.now c.self.view_is
-    c.args.incoming.now c.opposite.result c.opposite.ensures c.in_ok-place.place.number c.in_ok-place.ensures c.get-order.result
+    kept-reduced c.self.inside.levels c.self.inside.index c.self.inside.count c.self.invariant c.args.self.now
+    c.self.view_is
+    c.args.incoming.now c.opposite.result c.opposite.ensures c.in_ok-place.place.number c.in_ok-place.ensures
+    c.get-order.result
     c.get-order.ensures.order
-    c.leaves-quantity.result (omega (arith, c.if-quantity-leaves.true, c.leaves.ensures)) c.reduce.new.self c.reduce.ensures
+    c.leaves-quantity.result (omega (arith, c.if-quantity-leaves.true, c.leaves.ensures)) c.reduce.new.self
+    c.reduce.ensures
 
 pub returns-then-quantity-leaves-clause-first : goal.returns-then-quantity-leaves-clause-first
 returns-then-quantity-leaves-clause-first c =
-    fills-part c.self.inside.levels c.self.inside.index c.self.inside.count c.self.invariant c.args.self.now c.self.view_is
-    c.args.incoming.now c.opposite.result c.opposite.ensures c.in_ok-place.place.number c.in_ok-place.ensures c.get-order.result
+    fills-part c.self.inside.levels c.self.inside.index c.self.inside.count c.self.invariant c.args.self.now
+    c.self.view_is
+    c.args.incoming.now c.opposite.result c.opposite.ensures c.in_ok-place.place.number c.in_ok-place.ensures
+    c.get-order.result
     c.get-order.ensures.order
     (sym c.crosses.ensures ∙ c.if-not-crosses.false)
-    c.leaves-quantity.result c.leaves-quantity.ensures (omega (arith, c.if-quantity-leaves.true, c.leaves.ensures)) c.reduce.new.self
+    c.leaves-quantity.result c.leaves-quantity.ensures (omega (arith, c.if-quantity-leaves.true, c.leaves.ensures))
+    c.reduce.new.self
     c.reduce.ensures
 
 pub invariant_of-self-2 : goal.invariant_of-self-2
 invariant_of-self-2 c =
-    kept-whole c.self.inside.levels c.self.inside.index c.self.inside.count c.self.invariant c.args.self.now c.self.view_is
-    c.args.incoming.now c.opposite.result c.opposite.ensures c.in_ok-place.place.number c.in_ok-place.ensures c.get-order.result
+    kept-whole c.self.inside.levels c.self.inside.index c.self.inside.count c.self.invariant c.args.self.now
+    c.self.view_is
+    c.args.incoming.now c.opposite.result c.opposite.ensures c.in_ok-place.place.number c.in_ok-place.ensures
+    c.get-order.result
     c.get-order.ensures.order
     c.unlink.new.self c.unlink.ensures.places c.remove.new.self c.remove.ensures.places c.remove.ensures.entries
 
 pub returns-clause-first : goal.returns-clause-first
 returns-clause-first c =
-    fills-whole c.self.inside.levels c.self.inside.index c.self.inside.count c.self.invariant c.args.self.now c.self.view_is
-    c.args.incoming.now c.opposite.result c.opposite.ensures c.in_ok-place.place.number c.in_ok-place.ensures c.get-order.result
+    fills-whole c.self.inside.levels c.self.inside.index c.self.inside.count c.self.invariant c.args.self.now
+    c.self.view_is
+    c.args.incoming.now c.opposite.result c.opposite.ensures c.in_ok-place.place.number c.in_ok-place.ensures
+    c.get-order.result
     c.get-order.ensures.order
     (sym c.crosses.ensures ∙ c.if-not-crosses.false)
-    (omega (arith, c.if-quantity-leaves.false, c.leaves.ensures, c.leaves-quantity.ensures)) c.unlink.new.self c.unlink.ensures.places
+    (omega (arith, c.if-quantity-leaves.false, c.leaves.ensures, c.leaves-quantity.ensures)) c.unlink.new.self
+    c.unlink.ensures.places

@@ -29,7 +29,8 @@ unwrap-requires c =
 pub returns-in-Ok-clause-ok : goal.returns-in-Ok-clause-ok
 returns-in-Ok-clause-ok c =
     let items = rw c.unwrap.ensures at c.extend_from_slice.ensures.items in
-    front_taken c.started-begun.new.bytes.items c.args.more.now c.extend_from_slice.new.self.items c.stride-stage.result.1
+    front_taken c.started-begun.new.bytes.items c.args.more.now c.extend_from_slice.new.self.items
+    c.stride-stage.result.1
     c.stride-stage.ensures.some c.stride-stage.ensures.within items c.in-Ok.next c.args.self.now _
     (sym (c.started-begun.ensures.held ∙ ap (λ (v : Framing). v.held) c.self.view_is))
     (subst (IsLive c.in-Ok.next) c.as_slice-2.ensures.value c.in-Ok.ensures) refl

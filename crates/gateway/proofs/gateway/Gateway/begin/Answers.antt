@@ -9,8 +9,14 @@ use Rattle.gateway.proofs.gateway.Gateway.begin.Goals as goal
 
 pub returns-clause-begins : goal.returns-clause-begins
 returns-clause-begins c n wire =
-    let new = at_rings (record c.self.inside
-    { session = c.begin.new.self; waiting = c.new-self-inside.result; closed = false; deaf = 0; idle = 0; live = true }) in
+    let new = at_rings (record c.self.inside {
+      session = c.begin.new.self;
+      waiting = c.new-self-inside.result;
+      closed = false;
+      deaf = 0;
+      idle = 0;
+      live = true;
+    }) in
     begins new.front wire (ledger_of n new.seat)
     (subst (λ (s : Standing). At s [] [] [] []) (sym c.begin.ensures) (at_beginning c.self.inside.session.gateway))
     c.new-self-inside.ensures

@@ -2,7 +2,7 @@
 use Rattle.std.proofs.Common.{◌≡◌, ◌⊎◌, inl, inr, [], ap, refl, sym, ◌∙◌, subst, true≢false, rules}
 use Rattle.ring_words.specs.At.{At}
 use Rattle.venue_model.specs.Requests.{Limits}
-use Rattle.gateway.specs.declared.gateway.Heard.TheVariants.{Failed, Something}
+use Rattle.gateway.specs.declared.gateway.Found.TheVariants.{Failed, Something}
 use Rattle.gateway.specs.Gateways.{AtRings, at_rings, around}
 use Rattle.gateway.specs.Seats.{ledger_of}
 use Rattle.gateway.specs.Turns.{world}

@@ -1,6 +1,6 @@
 -- A try to publish is one step.
 use Rattle.std.proofs.Common.{◌≡◌, ap, inr, refl, length, arith, ◌∙◌, subst}
-use Rattle.gateway.specs.declared.gateway.Heard.TheVariants.{Something, Nothing}
+use Rattle.gateway.specs.declared.gateway.Found.TheVariants.{Something, Nothing}
 use Rattle.gateway.specs.declared.seat.TryPublish.TheVariants.{Done, Refused, Exhausted}
 use Rattle.gateway.specs.Gateways.{AtRings, at_rings, around}
 use Rattle.gateway.specs.Seats.{ledger_of, MayEnter}

@@ -8,21 +8,27 @@ use Rattle.gateway.proofs.outgoing.Outgoing.put_message.Goals as goal
 
 pub write_frame-len-requires-clause-body : goal.write_frame-len-requires-clause-body
 write_frame-len-requires-clause-body c =
-    spelled c.args.gateway c.args.number c.args.time c.args.msg_type.now c.args.body.now _ (omega arith) (omega arith) c.requires.kind c.requires.fields c.requires.most
-    (at_time c.args.gateway c.args.number c.args.time c.args.msg_type.now c.args.body.now _ c.set.new.self.text (c.set.new.self.same ∙ ap time_text c.set.ensures) c.put_fields-end.ensures.puts)
+    spelled c.args.gateway c.args.number c.args.time c.args.msg_type.now c.args.body.now _ (omega arith) (omega arith)
+    c.requires.kind c.requires.fields c.requires.most
+    (at_time c.args.gateway c.args.number c.args.time c.args.msg_type.now c.args.body.now _ c.set.new.self.text
+    (c.set.new.self.same ∙ ap time_text c.set.ensures) c.put_fields-end.ensures.puts)
 
 pub returns-clause-text : goal.returns-clause-text
 returns-clause-text c = λ said spells.
-    put_behind c.self.inside.len _ c.write_frame-len.result c.self.inside.bytes c.write_frame-len.new.out (omega arith) c.write_frame-len.ensures.within
+    put_behind c.self.inside.len _ c.write_frame-len.result c.self.inside.bytes c.write_frame-len.new.out (omega arith)
+    c.write_frame-len.ensures.within
     ∙ ap (λ l. take c.self.inside.len c.self.inside.bytes ++ l)
     (c.write_frame-len.ensures.written
     ∙ message_is c.args.gateway c.args.number c.args.time c.args.msg_type.now c.args.body.now _ said spells
-    (at_time c.args.gateway c.args.number c.args.time c.args.msg_type.now c.args.body.now _ c.set.new.self.text (c.set.new.self.same ∙ ap time_text c.set.ensures) c.put_fields-end.ensures.puts))
+    (at_time c.args.gateway c.args.number c.args.time c.args.msg_type.now c.args.body.now _ c.set.new.self.text
+    (c.set.new.self.same ∙ ap time_text c.set.ensures) c.put_fields-end.ensures.puts))
     ∙ ap (λ l. l ++ message_text c.args.gateway c.args.number said) c.self.view_is
 
 pub returns-clause-few : goal.returns-clause-few
 returns-clause-few c =
-    few_behind c.self.inside.len _ c.write_frame-len.result c.self.inside.bytes c.write_frame-len.new.out (omega arith) c.write_frame-len.ensures.within
+    few_behind c.self.inside.len _ c.write_frame-len.result c.self.inside.bytes c.write_frame-len.new.out (omega arith)
+    c.write_frame-len.ensures.within
     c.args.self.now c.self.view_is
-    (message_length c.put_fields-end.new.fields c.write_frame-len.new.out c.put_fields-end.result c.write_frame-len.result
+    (message_length c.put_fields-end.new.fields c.write_frame-len.new.out c.put_fields-end.result
+    c.write_frame-len.result
     c.put_fields-end.ensures.few (omega arith) c.write_frame-len.ensures.within c.write_frame-len.ensures.written)

@@ -20,5 +20,6 @@ invariant_of-self c = record {
 
 pub returns : goal.returns
 returns c =
-    is_fresh c.self.inside.gateway _ _ _ _ (ap (λ (f : Framing). f.held) c.reset.ensures) c.release.ensures time_text-zero c.clear.ensures
+    is_fresh c.self.inside.gateway _ _ _ _ (ap (λ (f : Framing). f.held) c.reset.ensures) c.release.ensures
+    time_text-zero c.clear.ensures
     ∙ ap (λ (s : Standing). fresh s.gateway) c.self.view_is

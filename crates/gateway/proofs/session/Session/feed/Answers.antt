@@ -1,6 +1,6 @@
 -- What was fed ends no frame, or one, or goes wrong.
 use Rattle.std.proofs.Common.{◌≡◌, ap, sym, ◌∙◌, subst, length}
-use Rattle.fix_frame.specs.Borrowed.{body_fields}
+use Rattle.fix_frame.specs.Borrowed.{frame_fields}
 use Rattle.fix_frame.specs.Framing.{Framing, fresh}
 use Rattle.fix_frame.specs.Stream.{BeginsNoFrame}
 use Rattle.fix_orders.specs.Formats.{time_text}
@@ -16,11 +16,14 @@ use Rattle.gateway.proofs.session.Session.feed.Goals as goal
 pub returns-in-Err-clause-hears : goal.returns-in-Err-clause-hears
 returns-in-Err-clause-hears c =
     let is_open = ap (λ (s : Standing). s.closing) c.self.view_is ∙ c.requires.open in
-    let faults = fault_now c.self.inside.framer c.args.bytes.now c.in-Err.fault (c.self.invariant.unbroken is_open) c.in-Err.ensures.refused.cause in
+    let faults = fault_now c.self.inside.framer c.args.bytes.now c.in-Err.fault (c.self.invariant.unbroken is_open)
+    c.in-Err.ensures.refused.cause in
     let old = standing c.self.inside in
     subst (λ (s : Standing). Listens s c.say_logout.new.self c.args.bytes.now (length c.args.bytes.now)) c.self.view_is
-    (listens-fault old c.say_logout.new.self c.args.bytes.now c.feed.new.self.held faults.0 c.in-Err.fault c.requires.some faults.1
-    (refused_is old c.say_logout.new.self c.feed.new.self.held (time_text c.self.inside.time) c.text.result.now (Frame c.in-Err.fault)
+    (listens-fault old c.say_logout.new.self c.args.bytes.now c.feed.new.self.held faults.0 c.in-Err.fault
+    c.requires.some faults.1
+    (refused_is old c.say_logout.new.self c.feed.new.self.held (time_text c.self.inside.time) c.text.result.now
+    (Frame c.in-Err.fault)
     c.text.ensures.value c.say_logout.ensures.new))
 
 pub invariant_of-self-in-Some : goal.invariant_of-self-in-Some
@@ -38,17 +41,22 @@ invariant_of-self-in-Some c =
 pub returns-clause-hears : goal.returns-clause-hears
 returns-clause-hears c =
     let is_open = ap (λ (s : Standing). s.closing) c.self.view_is ∙ c.requires.open in
-    let fields = body_fields c.in-Some.frame in
+    let fields = frame_fields c.in-Some.frame in
     subst (λ (s : Standing). Listens s c.answer.new.self c.args.bytes.now c.in-Ok.fed) c.self.view_is
     (listens-frame (standing c.self.inside) c.answer.new.self c.args.bytes.now c.in-Ok.fed fields
-    c.next.follows.lender-at-none.held (time_text c.hear-heard.result.time) c.text-in-Some.result.now c.hear-heard.result.verdict c.hold_as.new.self
+    c.next.follows.lender-at-none.held (time_text c.hear-heard.result.time) c.text-in-Some.result.now
+    c.hear-heard.result.verdict c.hold_as.new.self
     (c.self.invariant.partial is_open) c.in-Ok.ensures.taken.within c.in-Some.ensures.found.body
     (sym c.in-Ok.ensures.taken.held ∙ c.in-Some.ensures.found.spells)
     c.hear-heard.ensures.time c.hear-heard.ensures.verdict c.text-in-Some.ensures.value c.hold_as.ensures
-    (c.answer.ensures.new c.text-in-Some.result.now (is_held c.text-in-Some.result.now c.hear-heard.result.verdict c.self.inside.held c.hold_as.new.self c.hold_as.ensures)))
+    (c.answer.ensures.new c.text-in-Some.result.now
+    (is_held c.text-in-Some.result.now c.hear-heard.result.verdict c.self.inside.held c.hold_as.new.self
+    c.hold_as.ensures)))
 
 pub hold_as-requires-clause-some : goal.hold_as-requires-clause-some
-hold_as-requires-clause-some c = has_some_text (body_fields c.in-Some.frame) c.text-in-Some.result.now c.text-in-Some.ensures.value
+hold_as-requires-clause-some c = has_some_text (frame_fields c.in-Some.frame) c.text-in-Some.result.now
+    c.text-in-Some.ensures.value
 
 pub hold_as-requires-clause-most : goal.hold_as-requires-clause-most
-hold_as-requires-clause-most c = has_short_text (body_fields c.in-Some.frame) c.text-in-Some.result.now c.text-in-Some.ensures.body c.text-in-Some.ensures.value
+hold_as-requires-clause-most c = has_short_text (frame_fields c.in-Some.frame) c.text-in-Some.result.now
+    c.text-in-Some.ensures.body c.text-in-Some.ensures.value

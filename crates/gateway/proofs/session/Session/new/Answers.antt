@@ -17,4 +17,5 @@ invariant_of-result c = record {
 }
 
 pub returns : goal.returns
-returns c = is_fresh c.args.gateway _ _ _ _ (ap (λ (f : Framing). f.held) c.in_ok-new.ensures) c.new-2.ensures time_text-zero c.new-3.ensures
+returns c = is_fresh c.args.gateway _ _ _ _ (ap (λ (f : Framing). f.held) c.in_ok-new.ensures) c.new-2.ensures
+    time_text-zero c.new-3.ensures

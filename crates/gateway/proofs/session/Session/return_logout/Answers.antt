@@ -10,4 +10,5 @@ say-requires-clause-fields c = ([], tt, refl)
 
 pub returns-clause-new : goal.returns-clause-new
 returns-clause-new c =
-    c.say.ensures.new (said_by (Logout (time_text c.args.time) [])) (record { kind = refl; time_is = refl; body_is = refl; fields = tt })
+    c.say.ensures.new (said_by (Logout (time_text c.args.time) []))
+    (record { kind = refl; time_is = refl; body_is = refl; fields = tt })

@@ -7,7 +7,11 @@ use Rattle.gateway.specs.Standing.{said_by}
 use Rattle.gateway.proofs.session.Session.say_heartbeat.Goals as goal
 
 pub say-requires-clause-fields : goal.say-requires-clause-fields
-say-requires-clause-fields c = (field 112 c.args.echo.now ∷ [], (c.requires.echo, tt), sym c.put_field-end.ensures.puts.written)
+say-requires-clause-fields c = (
+  field 112 c.args.echo.now ∷ [],
+  (c.requires.echo, tt),
+  sym c.put_field-end.ensures.puts.written,
+)
 
 pub returns-clause-new : goal.returns-clause-new
 returns-clause-new c =

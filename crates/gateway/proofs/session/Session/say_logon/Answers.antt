@@ -10,4 +10,5 @@ pub say-requires-clause-fields : goal.say-requires-clause-fields
 say-requires-clause-fields c = (logon_fields, logon_each, logon_is)
 
 pub returns-clause-new : goal.returns-clause-new
-returns-clause-new c = c.say.ensures.new (said_by (Logon (time_text c.args.time))) (record { kind = refl; time_is = refl; body_is = logon_is; fields = logon_each })
+returns-clause-new c = c.say.ensures.new (said_by (Logon (time_text c.args.time)))
+    (record { kind = refl; time_is = refl; body_is = logon_is; fields = logon_each })

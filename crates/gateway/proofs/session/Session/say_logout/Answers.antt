@@ -10,8 +10,11 @@ use Rattle.gateway.proofs.MessageLemmas.{text_field, text_fields_is}
 use Rattle.gateway.proofs.session.Session.say_logout.Goals as goal
 
 pub say-requires-clause-fields : goal.say-requires-clause-fields
-say-requires-clause-fields c =
-    (field 58 c.args.text.now ∷ [], (text_field c.args.text.now c.requires.text, tt), sym c.put_field-end.ensures.puts.written)
+say-requires-clause-fields c = (
+  field 58 c.args.text.now ∷ [],
+  (text_field c.args.text.now c.requires.text, tt),
+  sym c.put_field-end.ensures.puts.written,
+)
 
 pub returns-clause-new : goal.returns-clause-new
 returns-clause-new c =

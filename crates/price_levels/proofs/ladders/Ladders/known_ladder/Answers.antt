@@ -12,9 +12,11 @@ returns-in-Buy c =
     let own = c.self.inside in
     let home = c.in_ok-home.home.now in
     let known = home-known own.fences.items own.homes.items c.deref.result.now c.args.at home c.deref.ensures.value
-    (ltb-true c.args.at (length c.deref.result.now) (sym c.in_ok-home.ensures.lookup.0)) c.in_ok-home.ensures.lookup.1 c.self.invariant.known in
+    (ltb-true c.args.at (length c.deref.result.now) (sym c.in_ok-home.ensures.lookup.0)) c.in_ok-home.ensures.lookup.1
+    c.self.invariant.known in
     at-home own.fences.items c.args.self.now.fences home.buys home.symbol c.args.symbol.now Buy c.args.side
-    (ap (λ (l : Laddered). l.fences) c.self.view_is) ((bytes_eq-Decides home.symbol c.args.symbol.now).0 (sym c.is.ensures ∙ c.if-not-is.false))
+    (ap (λ (l : Laddered). l.fences) c.self.view_is)
+    ((bytes_eq-Decides home.symbol c.args.symbol.now).0 (sym c.is.ensures ∙ c.if-not-is.false))
     (sym c.in-Buy.is) known.buys
 
 pub returns-in-Sell : goal.returns-in-Sell
@@ -22,7 +24,9 @@ returns-in-Sell c =
     let own = c.self.inside in
     let home = c.in_ok-home.home.now in
     let known = home-known own.fences.items own.homes.items c.deref.result.now c.args.at home c.deref.ensures.value
-    (ltb-true c.args.at (length c.deref.result.now) (sym c.in_ok-home.ensures.lookup.0)) c.in_ok-home.ensures.lookup.1 c.self.invariant.known in
+    (ltb-true c.args.at (length c.deref.result.now) (sym c.in_ok-home.ensures.lookup.0)) c.in_ok-home.ensures.lookup.1
+    c.self.invariant.known in
     at-home own.fences.items c.args.self.now.fences home.sells home.symbol c.args.symbol.now Sell c.args.side
-    (ap (λ (l : Laddered). l.fences) c.self.view_is) ((bytes_eq-Decides home.symbol c.args.symbol.now).0 (sym c.is.ensures ∙ c.if-not-is.false))
+    (ap (λ (l : Laddered). l.fences) c.self.view_is)
+    ((bytes_eq-Decides home.symbol c.args.symbol.now).0 (sym c.is.ensures ∙ c.if-not-is.false))
     (sym c.in-Sell.is) known.sells

@@ -11,17 +11,22 @@ use Rattle.price_levels.proofs.ladders.Ladders.search_side.Goals as goal
 pub index-requires : goal.index-requires
 index-requires c =
     let own = c.self.inside in
-    let within = there c.args.self.now own.fences.items own.homes.items own.ladders.items own.room c.self.invariant (sym (ap (λ
-    (l : Laddered). l.fences) c.self.view_is)) (sym (ap (λ (l : Laddered). l.ladders) c.self.view_is)) (record { symbol = c.args.symbol.now; side = c.args.side; price = 0 })
+    let within = there c.args.self.now own.fences.items own.homes.items own.ladders.items own.room c.self.invariant
+    (sym (ap (λ
+    (l : Laddered). l.fences) c.self.view_is)) (sym (ap (λ (l : Laddered). l.ladders) c.self.view_is))
+    (record { symbol = c.args.symbol.now; side = c.args.side; price = 0 })
     c.ladder_of-ladder.result c.ladder_of-ladder.ensures in
     omega (arith, within, own.ladders.ok.0)
 
 pub start_of-at-requires : goal.start_of-at-requires
 start_of-at-requires c =
     let own = c.self.inside in
-    subst InOrder (sym c.deref.ensures.value) (its-order c.args.self.now own.fences.items own.homes.items own.ladders.items own.room
-    c.self.invariant (sym (ap (λ (l : Laddered). l.fences) c.self.view_is)) (sym (ap (λ (l : Laddered). l.ladders) c.self.view_is))
-    (record { symbol = c.args.symbol.now; side = c.args.side; price = 0 }) c.ladder_of-ladder.result c.ladder_of-ladder.ensures c.index.result.now c.index.ensures c.requires)
+    subst InOrder (sym c.deref.ensures.value)
+    (its-order c.args.self.now own.fences.items own.homes.items own.ladders.items own.room
+    c.self.invariant (sym (ap (λ (l : Laddered). l.fences) c.self.view_is))
+    (sym (ap (λ (l : Laddered). l.ladders) c.self.view_is))
+    (record { symbol = c.args.symbol.now; side = c.args.side; price = 0 }) c.ladder_of-ladder.result
+    c.ladder_of-ladder.ensures c.index.result.now c.index.ensures c.requires)
 
 pub returns : goal.returns
 returns c =
@@ -37,12 +42,18 @@ returns c =
     let read = c.deref.ensures.value in
     let le = subst (λ (levels : List Level). j ≤ length levels) read c.start_of-at.ensures.within in
     record {
-      rung = is-rung l own.fences.items own.homes.items own.ladders.items own.room c.self.invariant fences is k i belongs one c.index.ensures j le;
-      home = is-home l own.fences.items own.homes.items own.ladders.items own.room c.self.invariant fences is k i belongs one c.index.ensures j le;
-      before = side-before l own.fences.items own.homes.items own.ladders.items own.room c.self.invariant fences is k i belongs one c.index.ensures
-          j le (subst (λ (levels : List Level). AllByRecursion (λ (m : Level). before_side k.symbol k.side m.key ≡ true) (take j levels)) read
+      rung = is-rung l own.fences.items own.homes.items own.ladders.items own.room c.self.invariant fences is k i
+          belongs one c.index.ensures j le;
+      home = is-home l own.fences.items own.homes.items own.ladders.items own.room c.self.invariant fences is k i
+          belongs one c.index.ensures j le;
+      before = side-before l own.fences.items own.homes.items own.ladders.items own.room c.self.invariant fences is k i
+          belongs one c.index.ensures
+          j le (subst (λ (levels : List Level). AllByRecursion (λ (m : Level). before_side k.symbol k.side m.key ≡ true)
+          (take j levels)) read
           c.start_of-at.ensures.before);
-      behind = side-behind l own.fences.items own.homes.items own.ladders.items own.room c.self.invariant fences is k i belongs one c.index.ensures
-          j le (subst (λ (levels : List Level). AllByRecursion (λ (m : Level). before_side k.symbol k.side m.key ≡ false) (drop j levels)) read
+      behind = side-behind l own.fences.items own.homes.items own.ladders.items own.room c.self.invariant fences is k i
+          belongs one c.index.ensures
+          j le (subst (λ (levels : List Level). AllByRecursion
+          (λ (m : Level). before_side k.symbol k.side m.key ≡ false) (drop j levels)) read
           c.start_of-at.ensures.behind);
     }

@@ -21,9 +21,11 @@ invariant_of-self c =
     let key = c.requires.key ∙ key-there l own.ladders.items is c.args.rung one within here c.args.level lt in
     ladders-with l own.ladders.items is c.args.rung one within here (with_item one c.args.rung.at c.args.level)
     own.fences.items own.homes.items own.room c.self.invariant
-    (belong-set l own.ladders.items is c.args.rung one within here own.fences.items own.homes.items own.room c.self.invariant c.args.level old lt
+    (belong-set l own.ladders.items is c.args.rung one within here own.fences.items own.homes.items own.room
+    c.self.invariant c.args.level old lt
     old_is key)
-    (roomy-there l own.ladders.items is c.args.rung one within here own.fences.items own.homes.items own.room c.self.invariant)
+    (roomy-there l own.ladders.items is c.args.rung one within here own.fences.items own.homes.items own.room
+    c.self.invariant)
 
 pub returns-clause-levels : goal.returns-clause-levels
 returns-clause-levels c =
@@ -33,4 +35,5 @@ returns-clause-levels c =
     let here = c.index_mut.ensures.value in
     let long = long-is l c.self.inside.ladders.items is c.args.rung one c.requires.on.ladder here in
     set-is l c.self.inside.ladders.items is c.args.rung one c.requires.on.ladder here
-    (with_item one c.args.rung.at c.args.level) c.args.level (subst (λ n. c.args.rung.at < n) long c.requires.on.on) refl
+    (with_item one c.args.rung.at c.args.level) c.args.level (subst (λ n. c.args.rung.at < n) long c.requires.on.on)
+    refl

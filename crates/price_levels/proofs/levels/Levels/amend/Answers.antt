@@ -13,7 +13,10 @@ invariant_of-self c =
     })) c.change.ensures.places in
     let before = c.self.invariant in
     let levels = c.change.ensures.room in (
-      record { arena = c.change.ensures.free c.self.inside.free.items before.0.arena; ordered = c.change.ensures.levels },
+      record {
+        arena = c.change.ensures.free c.self.inside.free.items before.0.arena;
+        ordered = c.change.ensures.levels;
+      },
       omega (arith, long, before.1),
       omega (arith, long, levels, before.2),
     )

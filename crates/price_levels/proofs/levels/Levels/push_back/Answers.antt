@@ -5,7 +5,8 @@ use Rattle.price_levels.proofs.levels.Levels.push_back.Goals as goal
 
 pub invariant_of-self : goal.invariant_of-self
 invariant_of-self c =
-    let long = as-long c.self.inside.nodes.items c.push.new.nodes.items c.push.result (Some c.args.order) c.push.ensures.places in
+    let long = as-long c.self.inside.nodes.items c.push.new.nodes.items c.push.result (Some c.args.order)
+    c.push.ensures.places in
     let free = c.push.ensures.capacity.0 in
     let levels = c.push.ensures.capacity.1 in
     let before = c.self.invariant in

@@ -5,7 +5,8 @@ use Rattle.price_levels.proofs.levels.Levels.unlink.Goals as goal
 
 pub invariant_of-self : goal.invariant_of-self
 invariant_of-self c =
-    let long = as-long c.self.inside.nodes.items c.take_out.new.nodes.items c.args.place.number None c.take_out.ensures.places in
+    let long = as-long c.self.inside.nodes.items c.take_out.new.nodes.items c.args.place.number None
+    c.take_out.ensures.places in
     let free = c.take_out.ensures.capacity.0 in
     let levels = c.take_out.ensures.capacity.1 in
     let before = c.self.invariant in

@@ -6,5 +6,11 @@ use Rattle.ring_tests.proofs.tests.crew.close.Goals as goal
 pub close-requires : goal.close-requires
 close-requires g c = (
   omega arith,
-  (rw c.into_inner.ensures c.requires.stages, (are_gateways c.args.rings c.args.gateways.items c.requires.seats, (c.requires.count, λ i s there. (c.requires.seats i s there).claims))),
+  (
+    rw c.into_inner.ensures c.requires.stages,
+    (
+      are_gateways c.args.rings c.args.gateways.items c.requires.seats,
+      (c.requires.count, λ i s there. (c.requires.seats i s there).claims),
+    ),
+  ),
 )

@@ -12,7 +12,8 @@ gateway_at-requires g c =
       omega arith,
       (
         opened,
-        new_last rings _ _ _ c.in-Some.ensures.items c.requires.new ∙ (λ i. at rings (newcomer (Gateway (number c.in-Some.second)) (opened.1 i) (opened.2 i))),
+        new_last rings _ _ _ c.in-Some.ensures.items c.requires.new
+            ∙ (λ i. at rings (newcomer (Gateway (number c.in-Some.second)) (opened.1 i) (opened.2 i))),
       ),
     )
 

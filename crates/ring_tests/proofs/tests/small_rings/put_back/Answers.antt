@@ -1,6 +1,6 @@
 -- One seat more stands behind those before it.
 use Rattle.std.proofs.Common.{sym, subst, arith}
-use Rattle.ring_tests.specs.Seats.{IsSpent, AreSpent}
+use Rattle.ring_tests.specs.Seats.{IsSpent, ComeBackSpent}
 use Rattle.ring_tests.proofs.Seats.{one_more}
 use Rattle.ring_tests.proofs.tests.small_rings.put_back.Goals as goal
 
@@ -9,5 +9,5 @@ returns-clause-all c =
     let rings = c.args.rings.now in
     let before = c.args.seats.now in
     let last = subst (λ k. IsSpent rings k c.args.seat) (omega (arith, before.ok.0)) c.requires.seat in
-    subst (λ seats. AreSpent rings seats) (sym c.in_ok-push.ensures.items)
+    subst (λ seats. ComeBackSpent rings seats) (sym c.in_ok-push.ensures.items)
     (one_more (λ k s. IsSpent rings k s) before.items c.args.seat c.requires.others last)

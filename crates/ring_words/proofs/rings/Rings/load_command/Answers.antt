@@ -10,21 +10,31 @@ use Rattle.ring_words.proofs.Loads.{loads_command_in}
 use Rattle.ring_words.proofs.rings.Rings.load_command.Goals as goal
 
 pub load-requires : goal.load-requires
-load-requires g c = let key = c.self.inside.table.shared.key in
-    (search rules, search rules, loads_command_in (terms_of g.L.Logic.reads g.L.Logic.outputs g.L.Logic.text g.L.Logic.nothing g.L.Logic.grows key) g.row.N c.self.inside.rows.0 _ _ _ _ c.seat.inside.alone c.seat.inside.role)
+load-requires g c = let key = c.self.inside.table.shared.key in (
+  search rules,
+  search rules,
+  loads_command_in
+      (terms_of g.L.Logic.reads g.L.Logic.outputs g.L.Logic.text g.L.Logic.nothing g.L.Logic.grows key) g.row.N
+      c.self.inside.rows.0 _ _ _ _ c.seat.inside.alone c.seat.inside.role,
+)
 
 pub invariant_of-seat-inside : goal.invariant_of-seat-inside
-invariant_of-seat-inside g c = let seat = c.seat.inside in let is = c.load.ensures.2.0 in let place = c.row_word-place.ensures.place in
+invariant_of-seat-inside g c = let seat = c.seat.inside in
+    let is = c.load.ensures.2.0 in
+    let place = c.row_word-place.ensures.place in
     still_sits seat.seat.me _ _ is seat.bare _ seat.role (
       search rules,
       (
         seat.gated ∙ sym (ap (λ (z : Seated Boxed g.row.L.Denot). last_from 16 0 (person z.0).loads) is
-            ∙ last_kept 16 c.row_word-place.result 0 c.load.result (person seat.seat.me.0).loads (λ e. no_control g.row.N c.args.sequence (c.args.word + 48) 16 (omega arith) (sym place ∙ e))),
+            ∙ last_kept 16 c.row_word-place.result 0 c.load.result (person seat.seat.me.0).loads
+            (λ e. no_control g.row.N c.args.sequence (c.args.word + 48) 16 (omega arith) (sym place ∙ e))),
         (
           search rules,
           (
-            still_taken seat.seat.me _ _ is seat.taken (kept_else seat.taken (person seat.seat.me.0).loads c.row_word-place.result c.load.result
-                (λ k few e. no_control g.row.N c.args.sequence (c.args.word + 48) (32 + 8 * suc k) (omega arith) (sym place ∙ e)) seat.kept),
+            still_taken seat.seat.me _ _ is seat.taken
+                (kept_else seat.taken (person seat.seat.me.0).loads c.row_word-place.result c.load.result
+                (λ k few e. no_control g.row.N c.args.sequence (c.args.word + 48) (32 + 8 * suc k) (omega arith)
+                (sym place ∙ e)) seat.kept),
             (still_home seat.seat.me _ _ is seat.home, tt),
           ),
         ),

@@ -8,8 +8,13 @@ use Rattle.ring_words.proofs.Becomes.{gateway_sits}
 use Rattle.ring_words.proofs.rings.Rings.load_processed.Goals as goal
 
 pub load-found-requires : goal.load-found-requires
-load-found-requires g c = let key = c.self.inside.table.shared.key in
-    (search rules, search rules, loads_processed_in (terms_of g.L.Logic.reads g.L.Logic.outputs g.L.Logic.text g.L.Logic.nothing g.L.Logic.grows key) _ c.self.inside.rows.0 _ _ _ c.seat.inside.alone)
+load-found-requires g c = let key = c.self.inside.table.shared.key in (
+  search rules,
+  search rules,
+  loads_processed_in
+      (terms_of g.L.Logic.reads g.L.Logic.outputs g.L.Logic.text g.L.Logic.nothing g.L.Logic.grows key) _
+      c.self.inside.rows.0 _ _ _ c.seat.inside.alone,
+)
 
 pub invariant_of-seat-inside : goal.invariant_of-seat-inside
 invariant_of-seat-inside g c = let seat = c.seat.inside in

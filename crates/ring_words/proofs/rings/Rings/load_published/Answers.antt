@@ -4,5 +4,10 @@ use Rattle.ring_words.proofs.Marshalling.{loads_published}
 use Rattle.ring_words.proofs.rings.Rings.load_published.Goals as goal
 
 pub load-requires : goal.load-requires
-load-requires g c = let key = c.self.inside.table.shared.key in
-    (search rules, search rules, loads_published (terms_of g.L.Logic.reads g.L.Logic.outputs g.L.Logic.text g.L.Logic.nothing g.L.Logic.grows key) _ _ _ c.seat.inside.alone c.seat.inside.role)
+load-requires g c = let key = c.self.inside.table.shared.key in (
+  search rules,
+  search rules,
+  loads_published
+      (terms_of g.L.Logic.reads g.L.Logic.outputs g.L.Logic.text g.L.Logic.nothing g.L.Logic.grows key) _ _ _
+      c.seat.inside.alone c.seat.inside.role,
+)

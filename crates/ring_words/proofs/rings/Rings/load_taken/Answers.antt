@@ -12,17 +12,30 @@ pub load-found-requires : goal.load-found-requires
 load-found-requires g c = let key = c.self.inside.table.shared.key in let rows = c.self.inside.rows in (
   search rules,
   search rules,
-  loads_taken_in (terms_of g.L.Logic.reads g.L.Logic.outputs g.L.Logic.text g.L.Logic.nothing g.L.Logic.grows key) g.row.M g.row.G rows.1 rows.2 _ _ c.args.gateway _ _
+  loads_taken_in (terms_of g.L.Logic.reads g.L.Logic.outputs g.L.Logic.text g.L.Logic.nothing g.L.Logic.grows key)
+      g.row.M g.row.G rows.1 rows.2 _ _ c.args.gateway _ _
       c.seat.inside.alone c.seat.inside.role c.requires.gateway c.taken_word-place.ensures.place,
 )
 
 pub invariant_of-seat-inside : goal.invariant_of-seat-inside
-invariant_of-seat-inside g c = let seat = c.seat.inside in let is = c.load-found.ensures.2.0 in let k : ℕ = c.args.gateway in
-    let place : c.taken_word-place.result ≡ 32 + 8 * k = c.taken_word-place.ensures.place in still_sits seat.seat.me _ _ is seat.bare _ seat.role (
+invariant_of-seat-inside g c = let seat = c.seat.inside in
+    let is = c.load-found.ensures.2.0 in
+    let k : ℕ = c.args.gateway in
+    let place : c.taken_word-place.result ≡ 32 + 8 * k = c.taken_word-place.ensures.place in
+    still_sits seat.seat.me _ _ is seat.bare _ seat.role (
       search rules,
       (
         seat.gated ∙ sym (ap (λ (z : Seated Boxed g.row.L.Denot). last_from 16 0 (person z.0).loads) is
-            ∙ last_kept 16 c.taken_word-place.result 0 c.load-found.result (person seat.seat.me.0).loads (λ (e : c.taken_word-place.result ≡ 16). omega arith)),
-        (search rules, (still_taken seat.seat.me _ _ is _ (kept_now seat.taken (person seat.seat.me.0).loads (k - 1) c.taken_word-place.result c.load-found.result (search rules) (let low = c.requires.gateway.0 in omega arith) seat.kept), (still_home seat.seat.me _ _ is seat.home, tt))),
+            ∙ last_kept 16 c.taken_word-place.result 0 c.load-found.result (person seat.seat.me.0).loads
+            (λ (e : c.taken_word-place.result ≡ 16). omega arith)),
+        (
+          search rules,
+          (
+            still_taken seat.seat.me _ _ is _
+                (kept_now seat.taken (person seat.seat.me.0).loads (k - 1) c.taken_word-place.result c.load-found.result
+                (search rules) (let low = c.requires.gateway.0 in omega arith) seat.kept),
+            (still_home seat.seat.me _ _ is seat.home, tt),
+          ),
+        ),
       ),
     )

@@ -4,7 +4,10 @@ use Rattle.ring_words.proofs.Opens.{starts}
 use Rattle.ring_words.proofs.rings.Rings.open.Goals as goal
 
 pub new-requires : goal.new-requires
-new-requires g c = let bound = c.if-not-is_ring_size.ensures.bounds refl in let lo : 2 ≤ g.row.N = bound.0 in let words = c.in-Ok.ensures in let gates = c.requires.gateways in
+new-requires g c = let bound = c.if-not-is_ring_size.ensures.bounds refl in
+    let lo : 2 ≤ g.row.N = bound.0 in
+    let words = c.in-Ok.ensures in
+    let gates = c.requires.gateways in
     let wide : length c.in-Ok.words.items ≡ 128 + 64 * g.row.N + 128 * g.row.M = search rules in
     let count : c.len-count.result ≡ length c.args.base.now.items = search rules in
     rw c.of.ensures (rw c.as_slice.ensures.value (starts
@@ -21,5 +24,7 @@ new-requires g c = let bound = c.if-not-is_ring_size.ensures.bounds refl in let 
       nothing = g.L.Logic.nothing c.args.logic;
       grows = g.L.Logic.grows c.args.logic;
     })
-    c.in-Ok-blank_boxes.boxes.items c.in-Ok.words.items (omega arith) (omega arith) gates.0 gates.1 c.requires.given (search rules) (search rules) wide
-    (λ k within. subst (λ (b : ℕ). get_or c.in-Ok.words.items k 0 ≡ opening_word b c.args.given k) count (words.words k (subst (λ (y : ℕ). k < y) wide within)))))
+    c.in-Ok-blank_boxes.boxes.items c.in-Ok.words.items (omega arith) (omega arith) gates.0 gates.1 c.requires.given
+    (search rules) (search rules) wide
+    (λ k within. subst (λ (b : ℕ). get_or c.in-Ok.words.items k 0 ≡ opening_word b c.args.given k) count
+    (words.words k (subst (λ (y : ℕ). k < y) wide within)))))

@@ -4,5 +4,10 @@ use Rattle.ring_words.proofs.Stores.{stores_journalled}
 use Rattle.ring_words.proofs.rings.Rings.store_journalled.Goals as goal
 
 pub store-requires : goal.store-requires
-store-requires g c = let key = c.self.inside.table.shared.key in
-    (search rules, search rules, stores_journalled (terms_of g.L.Logic.reads g.L.Logic.outputs g.L.Logic.text g.L.Logic.nothing g.L.Logic.grows key) _ _ _ c.args.upto c.seat.inside.alone c.seat.inside.role (search rules) (search rules))
+store-requires g c = let key = c.self.inside.table.shared.key in (
+  search rules,
+  search rules,
+  stores_journalled
+      (terms_of g.L.Logic.reads g.L.Logic.outputs g.L.Logic.text g.L.Logic.nothing g.L.Logic.grows key) _ _ _
+      c.args.upto c.seat.inside.alone c.seat.inside.role (search rules) (search rules),
+)

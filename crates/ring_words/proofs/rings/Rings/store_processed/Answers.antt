@@ -7,6 +7,7 @@ pub store-requires : goal.store-requires
 store-requires g c = let key = c.self.inside.table.shared.key in (
   search rules,
   search rules,
-  stores_processed (terms_of g.L.Logic.reads g.L.Logic.outputs g.L.Logic.text g.L.Logic.nothing g.L.Logic.grows key) _ _ _ c.args.upto c.self.inside.table.shared.key.logic (search rules) c.seat.inside.alone c.seat.inside.role
+  stores_processed (terms_of g.L.Logic.reads g.L.Logic.outputs g.L.Logic.text g.L.Logic.nothing g.L.Logic.grows key) _ _
+      _ c.args.upto c.self.inside.table.shared.key.logic (search rules) c.seat.inside.alone c.seat.inside.role
       (search rules) (search rules) (search rules),
 )

@@ -7,5 +7,6 @@ pub store-requires : goal.store-requires
 store-requires g c = let key = c.self.inside.table.shared.key in let seat = c.seat.inside in (
   search rules,
   search rules,
-  stores_taken_at (terms_of g.L.Logic.reads g.L.Logic.outputs g.L.Logic.text g.L.Logic.nothing g.L.Logic.grows key) _ _ _ _ _ _ c.taken_word-place.ensures.place seat.alone seat.role (search rules) (search rules),
+  stores_taken_at (terms_of g.L.Logic.reads g.L.Logic.outputs g.L.Logic.text g.L.Logic.nothing g.L.Logic.grows key) _ _
+      _ _ _ _ c.taken_word-place.ensures.place seat.alone seat.role (search rules) (search rules),
 )

@@ -10,13 +10,17 @@ pub store-requires : goal.store-requires
 store-requires g c = let key = c.self.inside.table.shared.key in let sizes = c.self.inside.rows in (
   search rules,
   search rules,
-  writes_text_in (terms_of g.L.Logic.reads g.L.Logic.outputs g.L.Logic.text g.L.Logic.nothing g.L.Logic.grows key) g.row.N g.row.M sizes.0 sizes.1 _ _ c.args.place c.args.word c.args.value _ _
+  writes_text_in (terms_of g.L.Logic.reads g.L.Logic.outputs g.L.Logic.text g.L.Logic.nothing g.L.Logic.grows key)
+      g.row.N g.row.M sizes.0 sizes.1 _ _ c.args.place c.args.word c.args.value _ _
       c.seat.inside.alone c.seat.inside.role (search rules) (search rules) c.requires.word (search rules)
-      (subst (λ (z : Opened g.row.L.Denot × At g.row.L.Denot). MayWriteText (g.L.Logic.outputs z.0.logic) (g.L.Logic.text z.0.logic) z.1.who c.args.place)
+      (subst (λ (z : Opened g.row.L.Denot × At g.row.L.Denot). MayWriteText (g.L.Logic.outputs z.0.logic)
+      (g.L.Logic.text z.0.logic) z.1.who c.args.place)
       (λ i. (sym c.self.view_is i, sym c.seat.view_is i)) c.requires.row)
       c.output_word-at.ensures.place,
 )
 
 pub invariant_of-seat-inside : goal.invariant_of-seat-inside
-invariant_of-seat-inside g c = let seat = c.seat.inside in let is = c.store.ensures.2 c.args.place c.args.word (search rules) (search rules) c.requires.word c.output_word-at.ensures.place in
+invariant_of-seat-inside g c = let seat = c.seat.inside in
+    let is = c.store.ensures.2 c.args.place c.args.word (search rules) (search rules) c.requires.word
+    c.output_word-at.ensures.place in
     still_sits seat.seat.me _ _ is seat.bare _ seat.role (search rules, (still_home seat.seat.me _ _ is seat.home, tt))

@@ -20,7 +20,10 @@ returns-clause-finished g c =
       marshal = c.end-2.result;
     } in
     let keeps = subst (λ (k : OneJournal g.row.D.Denot). honest k.disk → KeepsDone (tells k.disk) j.seat.who) given.1
-    (subst (λ (s : At Limits). honest c.end-journal.result.1.disk → KeepsDone (tells c.end-journal.result.1.disk) s.who) given.0 c.end-journal.ensures.keeps) in
+    (subst (λ (s : At Limits). honest c.end-journal.result.1.disk → KeepsDone (tells c.end-journal.result.1.disk) s.who)
+    given.0 c.end-journal.ensures.keeps) in
     rw (← c.self.view_is) (finished c.args.rings _ (honest j.journal.disk) (tells j.journal.disk) c.close.result seats
-    (ap (λ (s : At Limits). s.who) c.end.ensures) (ap (λ (s : At Limits). s.who) given.0) (ap (λ (s : At Limits). s.who) c.end-process.ensures.given.0)
-    (ap (λ (s : At Limits). s.who) c.end-2.ensures) c.close.ensures.log c.close.ensures.commands c.close.ensures.outputs keeps)
+    (ap (λ (s : At Limits). s.who) c.end.ensures) (ap (λ (s : At Limits). s.who) given.0)
+    (ap (λ (s : At Limits). s.who) c.end-process.ensures.given.0)
+    (ap (λ (s : At Limits). s.who) c.end-2.ensures) c.close.ensures.log c.close.ensures.commands c.close.ensures.outputs
+    keeps)

@@ -11,7 +11,8 @@ use Rattle.stages.proofs.processor.Processor.apply.Goals as goal
 pub apply-requires-clause-behind : goal.apply-requires-clause-behind
 apply-requires-clause-behind g c = let p = c.self.inside in
     let all = ap (λ (w : AtBook). w.applied) c.self.view_is ∙ c.requires.all in
-    subst (λ (k : ℕ). Below k p.book.state.orders) all (behind p.book.limits p.applied p.seat.who.seen p.book.state c.self.invariant.0.follows.state)
+    subst (λ (k : ℕ). Below k p.book.state.orders) all
+    (behind p.book.limits p.applied p.seat.who.seen p.book.state c.self.invariant.0.follows.state)
 
 pub apply-requires-clause-gateway : goal.apply-requires-clause-gateway
 apply-requires-clause-gateway g c = let p = c.self.inside in
@@ -28,8 +29,10 @@ pub invariant_of-self : goal.invariant_of-self
 invariant_of-self g c = let p = c.self.inside in let read = c.read_command-gateway.ensures in
     let may = subst (λ (w : AtBook). MayTake w c.args.next) (sym c.self.view_is)
     (record { next = c.requires.next; all = c.requires.all; known = c.requires.known; synced = c.requires.synced }) in
-    let took = took p.book.limits p.seat c.args.next _ _ may.known read.command g.row.N c.read_command-gateway.new.seat may.next read.step in
-    let working = works_on g.row.N _ c.read_command-gateway.new.seat c.args.next _ _ c.self.invariant.0 may took c.apply.new.self c.apply.new.out.items
+    let took = took p.book.limits p.seat c.args.next _ _ may.known read.command g.row.N c.read_command-gateway.new.seat
+    may.next read.step in
+    let working = works_on g.row.N _ c.read_command-gateway.new.seat c.args.next _ _ c.self.invariant.0 may took
+    c.apply.new.self c.apply.new.out.items
     c.apply.ensures.state.limits c.apply.ensures.state.state c.apply.ensures.told in
     let kept = c.apply.ensures.succeeds.1 in let same = c.clear.ensures.capacity in let room = c.self.invariant.2 in
     (working, omega arith, omega (arith, kept, same, room))
@@ -38,8 +41,10 @@ pub returns-clause-working : goal.returns-clause-working
 returns-clause-working g c = let p = c.self.inside in let read = c.read_command-gateway.ensures in
     let may = subst (λ (w : AtBook). MayTake w c.args.next) (sym c.self.view_is)
     (record { next = c.requires.next; all = c.requires.all; known = c.requires.known; synced = c.requires.synced }) in
-    let took = took p.book.limits p.seat c.args.next _ _ may.known read.command g.row.N c.read_command-gateway.new.seat may.next read.step in
-    let working = works_on g.row.N _ c.read_command-gateway.new.seat c.args.next _ _ c.self.invariant.0 may took c.apply.new.self c.apply.new.out.items
+    let took = took p.book.limits p.seat c.args.next _ _ may.known read.command g.row.N c.read_command-gateway.new.seat
+    may.next read.step in
+    let working = works_on g.row.N _ c.read_command-gateway.new.seat c.args.next _ _ c.self.invariant.0 may took
+    c.apply.new.self c.apply.new.out.items
     c.apply.ensures.state.limits c.apply.ensures.state.state c.apply.ensures.told in
     working
 
@@ -47,13 +52,16 @@ pub returns-clause-step : goal.returns-clause-step
 returns-clause-step g c = let p = c.self.inside in let read = c.read_command-gateway.ensures in
     let may = subst (λ (w : AtBook). MayTake w c.args.next) (sym c.self.view_is)
     (record { next = c.requires.next; all = c.requires.all; known = c.requires.known; synced = c.requires.synced }) in
-    let took = took p.book.limits p.seat c.args.next _ _ may.known read.command g.row.N c.read_command-gateway.new.seat may.next read.step in
+    let took = took p.book.limits p.seat c.args.next _ _ may.known read.command g.row.N c.read_command-gateway.new.seat
+    may.next read.step in
     rw (← c.self.view_is) (has_person p.seat _ _ took.view)
 
 pub returns-clause-read : goal.returns-clause-read
 returns-clause-read g c = let p = c.self.inside in let read = c.read_command-gateway.ensures in
     let may = subst (λ (w : AtBook). MayTake w c.args.next) (sym c.self.view_is)
     (record { next = c.requires.next; all = c.requires.all; known = c.requires.known; synced = c.requires.synced }) in
-    let took = took p.book.limits p.seat c.args.next _ _ may.known read.command g.row.N c.read_command-gateway.new.seat may.next read.step in
-    subst (λ (w : AtBook). HasRead g.row.N c.args.rings.now.logic w.seat.who c.read_command-gateway.new.seat.who) c.self.view_is
+    let took = took p.book.limits p.seat c.args.next _ _ may.known read.command g.row.N c.read_command-gateway.new.seat
+    may.next read.step in
+    subst (λ (w : AtBook). HasRead g.row.N c.args.rings.now.logic w.seat.who c.read_command-gateway.new.seat.who)
+    c.self.view_is
     (took.entry, took.at, ap (λ (s : At _). s.who) took.view)

@@ -2,7 +2,7 @@
 use Rattle.std.proofs.Common.{◌≡◌, ◌+◌, ◌≤◌, ◌++◌, length, take, drop, ap, ◌∙◌, arith}
 use Rattle.std.specs.List.{slice_range}
 use Rattle.wires.proofs.BufferLemmas.{given_first, drop-slice_range}
-use Rattle.wires.proofs.buffers.Ahead.give.Goals as goal
+use Rattle.wires.proofs.buffers.ReadAhead.give.Goals as goal
 
 pub returns-clause-gives : goal.returns-clause-gives
 returns-clause-gives c =
