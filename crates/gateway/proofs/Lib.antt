@@ -10,7 +10,8 @@ pub mod FeedLemmas
 pub mod StepLemmas
 pub mod HearLemmas
 pub mod HandLemmas
-pub mod TurnLemmas
+pub mod FlushedTurns
+pub mod HeardTurns
 pub mod NameLemmas
 pub mod FrameBytes
 pub mod HeaderLemmas

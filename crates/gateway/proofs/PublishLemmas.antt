@@ -1,15 +1,15 @@
 -- A try to publish: what it tells the session.
-use Rattle.std.proofs.Common.{◌≡◌, inl, inr, ℕ, List, [], ◌∷◌, ◌++◌, map, refl, ap, ◌∙◌}
+use Rattle.std.proofs.Common.{◌≡◌, inl, inr, ℕ, List, [], ◌∷◌, ◌++◌, refl, ap, ◌∙◌}
 use Rattle.std.proofs.lemmas.List.{append_assoc, map-append}
 use Rattle.venue_model.specs.Requests.{Limits}
-use Rattle.ring_words.specs.At.{At, Steps, seated, number}
+use Rattle.ring_words.specs.At.{At, seated, number}
 use Rattle.ring_words.specs.declared.view.Load.{Load}
 use Rattle.ring_words.specs.declared.view.Sent.{Sent}
 use Rattle.ring_words.specs.Places.{claim, processed}
 use Rattle.ring_words.specs.Seats as seats
 use Rattle.ring_words.specs.Seats.{load_of, looked, with_claim, marked, sent_of}
 use Rattle.gateway.specs.declared.seat.TryPublish.TheVariants.{Done, Refused}
-use Rattle.gateway.specs.Ledgers.{Ledger, ledger_loading, PublishTells}
+use Rattle.gateway.specs.Ledgers.{PublishTells}
 use Rattle.gateway.specs.Seats.{messages_of, ledger_of, from_gateway, Published, Enters}
 
 -- a load, some more, and one behind them

@@ -9,7 +9,8 @@ use Rattle.gateway.specs.Seats.{ledger_of, Uses}
 use Rattle.gateway.specs.Turns.{world, Turn}
 use Rattle.gateway.proofs.DeliversLemmas.{proceeds}
 use Rattle.gateway.proofs.SeatLemmas.{seat_still, unused, used}
-use Rattle.gateway.proofs.TurnLemmas.{turn-failed, turn-stuck, turn-closed, turn-unheard, turn-rested}
+use Rattle.gateway.proofs.FlushedTurns.{turn-failed, turn-stuck, turn-closed}
+use Rattle.gateway.proofs.HeardTurns.{turn-unheard, turn-rested}
 use Rattle.gateway.proofs.gateway.Gateway.turn.Goals as goal
 
 pub returns-in-Failed-clause-turn : goal.returns-in-Failed-clause-turn

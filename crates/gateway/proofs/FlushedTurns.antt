@@ -1,0 +1,276 @@
+-- A turn that hears nothing: the wire fails or is stuck in the flush, or the session closes behind it.
+use Rattle.std.proofs.Common.{◌≡◌, ◌≢◌, ◌⊎◌, inl, inr, ℕ, suc, nat_lt, ◌+◌, ◌≤◌, ◌<◌, Bool, true, false}
+use Rattle.std.proofs.Common.{true≢false, List, [], ◌∷◌, ◌++◌, length, refl, ap, sym, subst, ◌∙◌, arith}
+use Rattle.std.proofs.Common.{append-nil, length-append, Some, None}
+use borrow.Author.Tests.{ltb-true, ltb-false}
+use Rattle.gateway.specs.declared.ending.Reason.{Reason}
+use Rattle.gateway.specs.declared.ending.Reason.TheVariants.{Closed, WireFailed, LoggedOut, Refused, Stalled, Exhausted}
+use Rattle.gateway.specs.declared.ending.Turned.{Turned}
+use Rattle.gateway.specs.declared.ending.Turned.TheVariants.{Worked, Quiet, Ended}
+use Rattle.wires.specs.declared.flushed.Flushed.TheVariants as flushed
+use Rattle.venue_model.specs.Counts.{Rose}
+use Rattle.wires.specs.Wires.{Told, grown}
+use Rattle.gateway.specs.Ledgers.{Ledger}
+use Rattle.wires.specs.Flushing.{Flushes}
+use Rattle.gateway.specs.Standing.{Standing}
+use Rattle.gateway.specs.SessionFields.{ClosesItself}
+use Rattle.gateway.specs.Turns.{World, world, Front, Moved, nothing_moved, Takes, WasExhausted}
+use Rattle.gateway.specs.Turns.{EndedBy, Means, CountsTurns}
+use Rattle.gateway.specs.Turns.{Attends, Turn}
+use Rattle.gateway.specs.TurnParts.{Stuck, StuckSo}
+use Rattle.gateway.proofs.StepLemmas.{flush-step}
+
+-- no outputs are taken
+pub no_takes : (on : Bool) (old new : Front) (desk desk' : Ledger) → desk'.taken ≡ desk.taken → new.passed ≡ old.passed
+    → Takes on old new desk desk' []
+no_takes true old new desk desk' none same = record {
+  these = [];
+  taken = none ∙ sym (append-nil desk.taken);
+  given = refl;
+  passed = omega arith;
+}
+no_takes false old new desk desk' none same = record {
+  these = [];
+  taken = none ∙ sym (append-nil desk.taken);
+  given = refl;
+  passed = omega arith;
+}
+
+-- what was written is nothing only if nothing was written
+pub no_front : (put rest : List ℕ) → put ++ rest ≡ [] → put ≡ []
+no_front [] rest e = refl
+no_front (b ∷ put) rest e = cc
+
+no_end : (put rest : List ℕ) → put ++ rest ≡ [] → rest ≡ []
+no_end [] rest e = e
+no_end (b ∷ put) rest e = cc
+
+-- fewer bytes stand where some were written, and no fewer where none was
+pub wrote_some : (stood put rest : List ℕ) → stood ≡ put ++ rest → nat_lt (length rest) (length stood) ≡ true → put ≢ []
+wrote_some stood put rest split wrote none =
+    let long : length stood ≡ length put + length rest = ap length split ∙ length-append put rest in
+    let empty : length put ≡ 0 = ap length none in
+    let less : length rest < length stood = ltb-true _ _ wrote in
+    omega arith
+
+pub wrote_none : (stood put rest : List ℕ) → stood ≡ put ++ rest → nat_lt (length rest) (length stood) ≡ false → put ≡ []
+wrote_none stood [] rest split wrote = refl
+wrote_none stood (b ∷ put) rest split wrote =
+    let long : length stood ≡ suc (length put) + length rest = ap length split ∙ length-append (b ∷ put) rest in
+    let most : length stood ≤ length rest = ltb-false _ _ wrote in
+    absurd (omega arith)
+
+-- all was written only if nothing is left
+no_rest : (put rest : List ℕ) → put ≡ put ++ rest → rest ≡ []
+no_rest [] rest e = sym e
+no_rest (b ∷ put) rest e = no_rest put rest cc
+
+-- a session that has ended needn't attend to anything
+pub over-attends : (old new : Front) (wire wire' : Told) (desk desk' : Ledger) (m : Moved) → new.live ≡ false
+    → Attends (world old wire desk) (world new wire' desk') m
+over-attends old new wire wire' desk desk' m over = record {
+  writes = λ live. absurd (true≢false (sym live ∙ over));
+  listens = λ live. absurd (true≢false (sym live ∙ over));
+  looks = λ live. absurd (true≢false (sym live ∙ over));
+}
+
+-- where nothing was loaded it wasn't seen that no sequence was left
+unloaded : (desk : Ledger) → WasExhausted desk desk → ⊥
+unloaded desk (ls, is, rest, loads) =
+    let long : length desk.loads ≡ length desk.loads + length (ls ++ rest) = ap length loads
+    ∙ length-append desk.loads (ls ++ rest) in
+    let more : length (ls ++ rest) ≡ suc (length rest) = ap (λ l. length (l ++ rest)) is in
+    absurd (omega (arith, long, more))
+
+-- Bytes went out, or none could; the gateway ends or goes on without hearing.
+module _ (old : Front) (session : Standing) (wire wire' : Told) (desk : Ledger) (put : List ℕ)
+    (split : old.session.outgoing ≡ put ++ session.outgoing)
+    (session_is : session ≡ record old.session { outgoing = session.outgoing })
+    (gave : wire'.gave ≡ wire.gave) (took : wire'.took ≡ grown wire.took put) (ends : wire'.ends ≡ wire.ends) (deaf : ℕ)
+    (live : Bool) where
+  flushed-turn : (answer : Turned) → (wire'.failures ≢ wire.failures → answer ≡ Ended WireFailed) →
+      Attends (world old wire desk) (world (record old { session = session; deaf = deaf; live = live }) wire' desk)
+      (record nothing_moved { put = put }) →
+      Means (world old wire desk) (world (record old { session = session; deaf = deaf; live = live }) wire' desk)
+      (record nothing_moved { put = put }) answer →
+      CountsTurns (world old wire desk) (world (record old { session = session; deaf = deaf; live = live }) wire' desk)
+      (record nothing_moved { put = put }) answer →
+      Turn (world old wire desk) (world (record old { session = session; deaf = deaf; live = live }) wire' desk) answer
+  flushed-turn answer fails attends means counts = record {
+    moved = record nothing_moved { put = put };
+    step = flush-step old.session session old.waiting put wire wire' desk split session_is gave took;
+    takes = no_takes session.logged_on old (record old { session = session; deaf = deaf; live = live }) desk desk refl
+        refl;
+    means = means;
+    counts = counts;
+    attends = attends;
+    closes = inl (refl, ends);
+    fails = fails;
+    lost = λ is_open is. absurd (let stays = ap (λ (s : Standing). s.closing) session_is in cc);
+    exhausts = λ holds none. absurd (unloaded desk none);
+  }
+
+-- a count that didn't rise rose by nothing
+no_more : (desk : Ledger) (A : Type 0) → desk.count < desk.count → A
+no_more desk A more = absurd (omega (arith, more))
+
+-- a session is over: its counts are as they were, or the first began again
+pub over-counts : (old new : Front) (wire wire' : Told) (desk desk' : Ledger) (m : Moved) (answer : Turned)
+    → new.live ≡ false → (new.deaf ≡ 0) ⊎ (new.deaf ≡ old.deaf) →
+    new.idle ≡ old.idle → (answer ≢ Ended WireFailed → old.session.outgoing ≢ [] → m.put ≢ [])
+    → (answer ≢ Ended WireFailed → new.session.closing ≢ None) →
+    CountsTurns (world old wire desk) (world new wire' desk') m answer
+over-counts old new wire wire' desk desk' m answer over deaf idle all closes = record {
+  deaf = elim deaf [ inl zero ↦ inl zero | inr same ↦ inr (inl same) ];
+  idle = inr (inl idle);
+  deaf_rises = λ other stood none. absurd (all other stood none);
+  idle_rises = λ other closed is_open. absurd (closes other is_open);
+  wrote = λ live. absurd (true≢false (sym live ∙ over));
+  wrote_all = λ live. absurd (true≢false (sym live ∙ over));
+  took = λ live. absurd (true≢false (sym live ∙ over));
+}
+
+-- the wire failed in the flush
+pub turn-failed : (old : Front) (session : Standing) (wire wire' : Told) (desk : Ledger) →
+    session ≡ record old.session { outgoing = session.outgoing } →
+    Flushes old.session.outgoing session.outgoing wire wire' flushed.Failed →
+    Turn (world old wire desk) (world (record old { session = session; live = false }) wire' desk) (Ended WireFailed)
+turn-failed old session wire wire' desk session_is (put, split, (rose, tells)) =
+    flushed-turn old session wire wire' desk put split session_is (ap (λ (t : Told). t.gave) tells)
+    (ap (λ (t : Told). t.took) tells) (ap (λ (t : Told). t.ends) tells)
+    old.deaf false (Ended WireFailed) (λ more. refl)
+    (over-attends old (record old { session = session; live = false }) wire wire' desk desk
+    (record nothing_moved { put = put }) refl) (rose, refl)
+    (over-counts old (record old { session = session; live = false }) wire wire' desk desk
+    (record nothing_moved { put = put }) (Ended WireFailed) refl (inr refl) refl
+    (λ other. absurd (other refl)) (λ other. absurd (other refl)))
+
+-- the wire took no more in the flush
+stuck-means : (old new : Front) (wire wire' : Told) (desk : Ledger) (put : List ℕ) (wrote : Bool) (answer : Turned) →
+    old.session.outgoing ≡ put ++ new.session.outgoing → new.session.outgoing ≢ [] → old.live ≡ true →
+    wrote ≡ nat_lt (length new.session.outgoing) (length old.session.outgoing)
+    → Rose wire.full_writes wire'.full_writes →
+    StuckSo old new wrote answer → Means (world old wire desk) (world new wire' desk)
+    (record nothing_moved { put = put }) answer
+stuck-means old new wire wire' desk put wrote Worked split left live wrote_is rose so = (
+  inl (λ same. wrote_some old.session.outgoing put new.session.outgoing split (sym wrote_is ∙ so.1)
+      (ap (λ (m : Moved). m.put) same)),
+  record { live = so.0 ∙ live; unsaid = λ closing. left },
+)
+stuck-means old new wire wire' desk put wrote Quiet split left live wrote_is rose so = (
+  record {
+    still = ap (λ p. record nothing_moved { put = p })
+        (wrote_none old.session.outgoing put new.session.outgoing split (sym wrote_is ∙ so.1));
+    stuck = λ stood. rose;
+    unheard = λ silent. absurd (left (no_end put new.session.outgoing (sym split ∙ silent)));
+    untaken = refl;
+    unhanded = λ silent. absurd (left (no_end put new.session.outgoing (sym split ∙ silent)));
+  },
+  record { live = so.0 ∙ live; unsaid = λ closing. left },
+)
+stuck-means old new wire wire' desk put wrote (Ended reason) split left live wrote_is rose so =
+    let full = so.2 in let more = so.4 in
+    subst (λ (r : Reason). EndedBy (world old wire desk) (world new wire' desk) r × (new.live ≡ false)) (sym so.1)
+    ((so.2, omega (arith, full, more)), so.0)
+
+-- what the stuck part says of the gateway before the flush, and of its end
+stuck-so : (old : Front) (session : Standing) (new : Front) (wrote : Bool) (answer : Turned)
+    → Stuck (record old { session = session }) new wrote answer →
+    StuckSo old (record old { session = session; deaf = new.deaf; live = new.live }) wrote answer
+stuck-so old session new wrote Worked stuck = stuck.so
+stuck-so old session new wrote Quiet stuck = stuck.so
+stuck-so old session new wrote (Ended reason) stuck = stuck.so
+
+-- the counts of a turn that couldn't write all
+stuck-counts : (old new : Front) (wire wire' : Told) (desk : Ledger) (put : List ℕ) (wrote : Bool) (answer : Turned) →
+    old.session.outgoing ≡ put ++ new.session.outgoing → new.session.outgoing ≢ [] → new.idle ≡ old.idle →
+    wrote ≡ nat_lt (length new.session.outgoing) (length old.session.outgoing)
+    → Rose wire.full_writes wire'.full_writes →
+    StuckSo old new wrote answer → CountsTurns (world old wire desk) (world new wire' desk)
+    (record nothing_moved { put = put }) answer
+stuck-counts old new wire wire' desk put wrote Worked split left idle wrote_is rose so = record {
+  deaf = inl so.2;
+  idle = inr (inl idle);
+  deaf_rises = λ other stood none. absurd
+      (wrote_some old.session.outgoing put new.session.outgoing split (sym wrote_is ∙ so.1) none);
+  idle_rises = λ other closed is_open silent. absurd (left (no_end put new.session.outgoing (sym split ∙ silent)));
+  wrote = λ live some. so.2;
+  wrote_all = λ live some all. absurd (left (no_rest put new.session.outgoing (all ∙ split)));
+  took = λ live more. no_more desk _ more;
+}
+stuck-counts old new wire wire' desk put wrote Quiet split left idle wrote_is rose so =
+    let none = wrote_none old.session.outgoing put new.session.outgoing split (sym wrote_is ∙ so.1) in record {
+      deaf = inr (inr (so.2, (λ silent. left (no_end put new.session.outgoing (sym split ∙ silent))), none, rose));
+      idle = inr (inl idle);
+      deaf_rises = λ other stood unput. so.2;
+      idle_rises = λ other closed is_open silent. absurd (left (no_end put new.session.outgoing (sym split ∙ silent)));
+      wrote = λ live some. absurd (some none);
+      wrote_all = λ live some all. absurd (some none);
+      took = λ live more. no_more desk _ more;
+    }
+stuck-counts old new wire wire' desk put wrote (Ended reason) split left idle wrote_is rose so =
+    let none = wrote_none old.session.outgoing put new.session.outgoing split (sym wrote_is ∙ so.3) in record {
+      deaf = inr (inr (so.4, (λ silent. left (no_end put new.session.outgoing (sym split ∙ silent))), none, rose));
+      idle = inr (inl idle);
+      deaf_rises = λ other stood unput. so.4;
+      idle_rises = λ other closed is_open silent. absurd (left (no_end put new.session.outgoing (sym split ∙ silent)));
+      wrote = λ live some. absurd (some none);
+      wrote_all = λ live some all. absurd (some none);
+      took = λ live more. no_more desk _ more;
+    }
+
+pub turn-stuck : (old : Front) (session : Standing) (new : Front) (wire wire' : Told) (desk : Ledger) (wrote : Bool)
+    (answer : Turned) →
+    session ≡ record old.session { outgoing = session.outgoing } → old.live ≡ true →
+    Flushes old.session.outgoing session.outgoing wire wire' flushed.Full →
+    wrote ≡ nat_lt (length session.outgoing) (length old.session.outgoing) →
+    Stuck (record old { session = session }) new wrote answer →
+    Turn (world old wire desk) (world new wire' desk) answer
+turn-stuck old session new wire wire' desk wrote answer session_is live (put, split, (left, rose, tells)) wrote_is
+    stuck =
+    let end = record old { session = session; deaf = new.deaf; live = new.live } in
+    subst (λ (f : Front). Turn (world old wire desk) (world f wire' desk) answer) (sym stuck.others)
+    (flushed-turn old session wire wire' desk put split session_is (ap (λ (t : Told). t.gave) tells)
+    (ap (λ (t : Told). t.took) tells) (ap (λ (t : Told). t.ends) tells)
+    new.deaf new.live answer (λ more. absurd (more (ap (λ (t : Told). t.failures) tells)))
+    (record {
+      writes = λ lives. inr (rose, refl, refl);
+      listens =
+          λ lives all. absurd (left (no_rest put session.outgoing (all ∙ split)));
+      looks = λ lives all. absurd (left (no_rest put session.outgoing (all ∙ split)));
+    })
+    (stuck-means old end wire wire' desk put wrote answer split left live wrote_is rose
+    (stuck-so old session new wrote answer stuck))
+    (stuck-counts old end wire wire' desk put wrote answer split left refl wrote_is rose
+    (stuck-so old session new wrote answer stuck)))
+
+-- the session was closing, and all is written
+closed-by : (old new : World) (reason : Reason) → ClosesItself reason → new.front.session.closing ≡ Some reason
+    → new.front.session.outgoing ≡ [] →
+    EndedBy old new reason
+closed-by old new LoggedOut own closing none = (closing, none)
+closed-by old new Refused own closing none = (closing, none)
+closed-by old new Exhausted own closing none = (closing, none)
+closed-by old new Closed own closing none = absurd own
+closed-by old new WireFailed own closing none = absurd own
+closed-by old new Stalled own closing none = absurd own
+
+pub turn-closed : (old : Front) (session : Standing) (wire wire' : Told) (desk : Ledger) (reason : Reason) →
+    session ≡ record old.session { outgoing = session.outgoing } →
+    Flushes old.session.outgoing session.outgoing wire wire' flushed.All →
+    ClosesItself reason → session.closing ≡ Some reason →
+    Turn (world old wire desk) (world (record old { session = session; deaf = 0; live = false }) wire' desk)
+    (Ended reason)
+turn-closed old session wire wire' desk reason session_is (put, split, (none, tells)) own closing =
+    flushed-turn old session wire wire' desk put split session_is (ap (λ (t : Told). t.gave) tells)
+    (ap (λ (t : Told). t.took) tells) (ap (λ (t : Told). t.ends) tells)
+    0 false (Ended reason) (λ more. absurd (more (ap (λ (t : Told). t.failures) tells)))
+    (over-attends old (record old { session = session; deaf = 0; live = false }) wire wire' desk desk
+    (record nothing_moved { put = put }) refl) (
+      closed-by (world old wire desk) (world (record old { session = session; deaf = 0; live = false }) wire' desk)
+          reason own closing none,
+      refl,
+    )
+    (over-counts old (record old { session = session; deaf = 0; live = false }) wire wire' desk desk
+    (record nothing_moved { put = put }) (Ended reason) refl (inl refl) refl
+    (λ other stood unput. stood (split ∙ ap (λ p. p ++ session.outgoing) unput ∙ none)) (λ other is_open. cc))
