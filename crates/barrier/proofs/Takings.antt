@@ -38,22 +38,22 @@ module _ {L : Type 0} (v u : At L) (r : ℕ) (rest : List Message)
   )
 
   -- the own word is as before
-  pub own_kept : u.who.own ≡ v.who.own
-  own_kept = ap (λ (y : At L). y.who.own) view
+  pub own_kept : u.who.sequence ≡ v.who.sequence
+  own_kept = ap (λ (y : At L). y.who.sequence) view
 
   -- the outputs that are known are those of the longer history
-  pub at_kept : (outputs : List Message → List Output) (o : Output) (q : ℕ) → q ≡ v.who.own
-      → get_elem? (outputs (v.who.seen ++ rest)) v.who.own ≡ some o → get_elem? (outputs u.who.seen) q ≡ some o
+  pub at_kept : (outputs : List Message → List Output) (o : Output) (q : ℕ) → q ≡ v.who.sequence
+      → get_elem? (outputs (v.who.seen ++ rest)) v.who.sequence ≡ some o → get_elem? (outputs u.who.seen) q ≡ some o
   at_kept outputs o q is at = subst (λ (y : At L). get_elem? (outputs y.who.seen) q ≡ some o) (sym view)
       (subst (λ (k : ℕ). get_elem? (outputs (v.who.seen ++ rest)) k ≡ some o) (sym is) at)
 
   -- after the store the output is taken
-  pub taken_now : (w z : At L) (only : OnlyLoads u w) → z ≡ seated w (moved w.who (suc w.who.own))
+  pub taken_now : (w z : At L) (only : OnlyLoads u w) → z ≡ seated w (moved w.who (suc w.who.sequence))
       → z ≡ seated v (after_taking v.who (v.who.seen ++ rest) (load_of marshalled r ∷ only.0))
   taken_now w z only step =
-      subst (λ (y : At L). z ≡ seated y (moved (loading y.who only.0) (suc y.who.own))) view
-      (subst (λ (y : At L). z ≡ seated y (moved y.who (suc y.who.own))) only.1 step)
-      ∙ ap (λ (l : List Load). seated v (record v.who { seen = v.who.seen ++ rest; own = suc v.who.own; loads = l }))
+      subst (λ (y : At L). z ≡ seated y (moved (loading y.who only.0) (suc y.who.sequence))) view
+      (subst (λ (y : At L). z ≡ seated y (moved y.who (suc y.who.sequence))) only.1 step)
+      ∙ ap (λ (l : List Load). seated v (record v.who { seen = v.who.seen ++ rest; sequence = suc v.who.sequence; loads = l }))
       (append_assoc v.who.loads (load_of marshalled r ∷ []) only.0)
 
   -- the role is the same

@@ -48,8 +48,8 @@ module _ {L : Type 0} (v u : At L) (only : OnlyLoads v u) where
   still_shows k q shows = subst (λ (y : At L). Shows k y.who q) (sym only.1) (shows_behind k q v.who only.0 shows)
 
   -- the own word is as before
-  pub still_own : (q : ℕ) → v.who.own ≤ q → u.who.own ≤ q
-  still_own q from = subst (λ (y : At L). y.who.own ≤ q) (sym only.1) from
+  pub still_own : (q : ℕ) → v.who.sequence ≤ q → u.who.sequence ≤ q
+  still_own q from = subst (λ (y : At L). y.who.sequence ≤ q) (sym only.1) from
 
   -- the outputs that are known are as before
   pub still_at : (outputs : List Message → List Output) (o : Output) (q : ℕ) → get_elem? (outputs v.who.seen) q ≡ some o

@@ -22,7 +22,7 @@ length-eights bs zero = refl
 length-eights bs (suc k) = let before = length-eights bs k in simp length-append (omega arith)
 
 -- behind head, time and the first k words of the body comes word k + 2
-pub goes_on : (p : Person) (q : ℕ) (t : Text) (k : ℕ) → GoesOnRow (wrote p q (first_words t k)).part q (k + 2)
+pub goes_on : (p : Person) (q : ℕ) (t : Text) (k : ℕ) → GoesOnRow (wrote p q (first_words t k)).row q (k + 2)
 goes_on p q t k = let long = length-eights t.body k in inr (refl, omega arith)
 
 -- a store of word k of the body behind the words before it

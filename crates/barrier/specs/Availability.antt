@@ -27,8 +27,8 @@ grown_by n v rest = record v { seen = v.seen ++ rest; loads = v.loads ++ fresh_l
 -- or it isn't, and the next availability word was loaded too and didn't show its sequence.
 abbrev pub Shown : ℕ → Person → Person → Type 0
 Shown n v w = (rest : List Message) × AreEntries rest
-    × (((v.own + n ≤ length w.seen) × (w ≡ grown_by n v rest))
-    ⊎ ((length w.seen < v.own + n) × ((x : ℕ) × (x ≢ suc (length w.seen)) × (w ≡ looked (grown_by n v rest) (in_row n (length w.seen) 0) x))))
+    × (((v.sequence + n ≤ length w.seen) × (w ≡ grown_by n v rest))
+    ⊎ ((length w.seen < v.sequence + n) × ((x : ℕ) × (x ≢ suc (length w.seen)) × (w ≡ looked (grown_by n v rest) (in_row n (length w.seen) 0) x))))
 
 -- unmarshalled was loaded, then journalled, and as many entries are known as the lesser of both says
 abbrev pub Gated : Person → Person → Type 0

@@ -17,7 +17,7 @@ use Rattle.barrier.specs.declared.taking.Take.TheVariants.{Mine, Passed, Nothing
 
 -- the gateway knows this history, made these loads, and took one output more or passed it over
 abbrev pub after_taking : Person → List Message → List Load → Person
-after_taking p h ls = record p { seen = h; own = suc p.own; loads = p.loads ++ ls }
+after_taking p h ls = record p { seen = h; sequence = suc p.sequence; loads = p.loads ++ ls }
 
 -- The word loaded first was marshalled, and showed an output at the gateway's count. The history begins with what the gateway had seen, has the
 -- gateway's own messages just where it published them, behind so many entries of the history at the start, and is what it has seen now; and it
@@ -25,7 +25,7 @@ after_taking p h ls = record p { seen = h; own = suc p.own; loads = p.loads ++ l
 pub record TakesNext (start : ℕ) (p : Person) (history : List Message) (q : Person) : Type 0 where
   pub value : ℕ
   pub loads : List Load
-  pub shown : p.own < value
+  pub shown : p.sequence < value
   pub begins : p.seen ≡ take (length p.seen) history
   pub legal : IsLegal start p history
   pub few : length history ≤ 2 ^ 48
@@ -56,5 +56,5 @@ module _ {L : Type 0} where
 
   -- the answer says the output that these have at the gateway's count, by its text
   abbrev pub SaysOutput : List Output → (Output → ℕ → Text) → At L → Take → List ℕ → Type 0
-  SaysOutput outputs text seat answer buf = (o : Output) × (get_elem? outputs seat.who.own ≡ some o)
-      × Says (number seat) o (text o seat.who.own) answer buf
+  SaysOutput outputs text seat answer buf = (o : Output) × (get_elem? outputs seat.who.sequence ≡ some o)
+      × Says (number seat) o (text o seat.who.sequence) answer buf

@@ -18,7 +18,7 @@ pub fn available<L: Logic, R: Reader, const N: usize, const M: usize, const G: u
     ensures some_row { 0 < N }
     ensures shown { Shown N seat.old.who seat.new.who }
 {
-    for _ in seat.known()..seat.own() + rings.rows() {
+    for _ in seat.known()..seat.sequence() + rings.rows() {
         if !rings.load_availability(seat) {
             return seat.known();
         }

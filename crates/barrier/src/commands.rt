@@ -25,7 +25,7 @@ pub fn write_command<L: Logic, const N: usize, const M: usize, const G: usize>(
     command: &Command,
 )
     requires at { IsAt rings.now seat.old }
-    requires from { seat.old.who.own ≤ sequence }
+    requires from { seat.old.who.sequence ≤ sequence }
     requires to { sequence < length seat.old.who.seen }
     requires gateway { gateway < 16 }
     requires numbers { IsCommand command.now }
@@ -48,7 +48,7 @@ pub fn read_command<L: Logic, const N: usize, const M: usize, const G: usize>(
     sequence: u64,
 ) -> (u8, Command)
     requires at { IsAt rings.now seat.old }
-    requires from { seat.old.who.own ≤ sequence }
+    requires from { seat.old.who.sequence ≤ sequence }
     requires to { sequence < length seat.old.who.seen }
     ensures command { (e : Message) → get_elem? seat.old.who.seen sequence ≡ some e
         → (result.0 ≡ e.gateway) × (result.1 ≡ L.reads rings.now.logic sequence e) × IsEntry e }

@@ -29,7 +29,7 @@ pub fn read_output<L: Logic, const N: usize, const M: usize, const G: usize>(
     place: u64,
 ) -> Output
     requires at { IsAt rings.now seat.old }
-    requires from { seat.old.who.own ≤ place }
+    requires from { seat.old.who.sequence ≤ place }
     requires to { Shows published seat.old.who place }
     ensures copied { FindsCopy (L.outputs rings.now.logic seat.old.who.seen) seat.old (out_row N M place 0) place result seat.new }
 {
@@ -47,7 +47,7 @@ pub fn write_text<L: Logic, const N: usize, const M: usize, const G: usize>(
     body: &[u8],
 )
     requires at { IsAt rings.now seat.old }
-    requires from { seat.old.who.own ≤ place }
+    requires from { seat.old.who.sequence ≤ place }
     requires to { Shows published seat.old.who place }
     requires most { length body.now ≤ 320 }
     requires row { MayWriteText (L.outputs rings.now.logic) (L.text rings.now.logic) seat.old.who place }

@@ -17,7 +17,7 @@ fn read_head<L: Logic, R: Reader, const N: usize, const M: usize, const G: usize
     sequence: u64,
 ) -> Raw
     requires at { IsAt rings.now seat.old }
-    requires from { seat.old.who.own ≤ sequence }
+    requires from { seat.old.who.sequence ≤ sequence }
     requires to { sequence < length seat.old.who.seen }
     ensures step { (e : Message) → get_elem? seat.old.who.seen sequence ≡ some e → Steps seat.old (after_loads N seat.old.who sequence e 1) seat.new }
     ensures head { (e : Message) → get_elem? seat.old.who.seen sequence ≡ some e → IsMessageHead e result }
@@ -34,7 +34,7 @@ pub fn read_raw<L: Logic, R: Reader, const N: usize, const M: usize, const G: us
     buf: &mut [u8; LONGEST_MESSAGE],
 ) -> Raw
     requires at { IsAt rings.now seat.old }
-    requires from { seat.old.who.own ≤ sequence }
+    requires from { seat.old.who.sequence ≤ sequence }
     requires to { sequence < length seat.old.who.seen }
     ensures range { (1 ≤ result.gateway) × (result.gateway ≤ 8) × (1 ≤ result.len) × (result.len ≤ 320) }
     ensures entry { (e : Message) → get_elem? seat.old.who.seen sequence ≡ some e → ReadsMessage e result buf.new }

@@ -18,7 +18,7 @@ pub fn release<L: Logic, const N: usize, const M: usize, const G: usize>(
     upto: u64,
 )
     requires at { IsAt rings.now seat.old }
-    requires from { seat.old.who.own ≤ upto }
+    requires from { seat.old.who.sequence ≤ upto }
     requires to { upto ≤ length seat.old.who.seen }
     requires outputs { HasPublished (L.outputs rings.now.logic) seat.old.who upto }
     ensures step { Steps seat.old (moved seat.old.who upto) seat.new }
@@ -34,7 +34,7 @@ pub fn release_written<L: Logic, const N: usize, const M: usize, const G: usize>
     upto: u64,
 )
     requires at { IsAt rings.now seat.old }
-    requires last { upto ≡ suc seat.old.who.part.sequence }
+    requires last { upto ≡ suc seat.old.who.row.sequence }
     requires command { (e : Message) × WroteCommand (L.reads rings.now.logic) seat.old.who e }
     ensures step { Steps seat.old (moved seat.old.who upto) seat.new }
 {
@@ -50,7 +50,7 @@ pub fn release_kept<L: Logic, const N: usize, const M: usize, const G: usize, K:
     kept: &K,
 )
     requires at { IsAt rings.now seat.old }
-    requires from { seat.old.who.own ≤ upto }
+    requires from { seat.old.who.sequence ≤ upto }
     requires to { upto ≤ length seat.old.who.seen }
     requires kept { K.keeps kept.now (take upto seat.old.who.seen) }
     ensures step { Steps seat.old (moved seat.old.who upto) seat.new }
@@ -65,7 +65,7 @@ pub fn release_marshalled<L: Logic, const N: usize, const M: usize, const G: usi
     upto: u64,
 )
     requires at { IsAt rings.now seat.old }
-    requires last { upto ≡ suc seat.old.who.part.sequence }
+    requires last { upto ≡ suc seat.old.who.row.sequence }
     requires text { (o : Output) × WroteText (L.outputs rings.now.logic) (L.text rings.now.logic) seat.old.who o }
     ensures step { Steps seat.old (moved seat.old.who upto) seat.new }
 {

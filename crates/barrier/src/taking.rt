@@ -40,7 +40,7 @@ fn read_head<L: Logic, const N: usize, const M: usize, const G: usize>(
     place: u64,
 ) -> Head
     requires at { IsAt rings.now seat.old }
-    requires from { seat.old.who.own ≤ place }
+    requires from { seat.old.who.sequence ≤ place }
     requires to { Shows marshalled seat.old.who place }
     ensures step { OnlyLoads seat.old seat.new }
     ensures most { result.len ≤ 320 }
@@ -65,7 +65,7 @@ fn read_text<L: Logic, const N: usize, const M: usize, const G: usize>(
     buf: &mut [u8; LONGEST_MESSAGE],
 ) -> Head
     requires at { IsAt rings.now seat.old }
-    requires from { seat.old.who.own ≤ place }
+    requires from { seat.old.who.sequence ≤ place }
     requires to { Shows marshalled seat.old.who place }
     ensures step { OnlyLoads seat.old seat.new }
     ensures text { (o : Output) → get_elem? (L.outputs rings.now.logic seat.old.who.seen) place ≡ some o
@@ -90,7 +90,7 @@ pub fn take_output<L: Logic, const N: usize, const M: usize, const G: usize>(
 ) -> Take
     requires at { IsAt rings.now seat.old }
     ensures step { SamePlace seat.old seat.new }
-    ensures nothing { result ≡ Take.Nothing → seat.new.who ≡ looked seat.old.who marshalled seat.old.who.own }
+    ensures nothing { result ≡ Take.Nothing → seat.new.who ≡ looked seat.old.who marshalled seat.old.who.sequence }
     ensures taken { result ≢ Take.Nothing → (history : List Message) × TakesNext (length rings.now.base) seat.old.who history seat.new.who
         × SaysOutput (L.outputs rings.now.logic history) (L.text rings.now.logic) seat.old result buf.new }
 {

@@ -16,20 +16,20 @@ use Rattle.barrier.specs.Taking.{TakesNext, Says, SaysOutput}
 use Rattle.barrier.specs.declared.taking.Take.{Take}
 use Rattle.barrier.specs.declared.taking.Take.TheVariants.{Mine, Passed, Nothing}
 use Rattle.gateway.specs.Ledgers.{ledger_loading, TakeTells}
-use Rattle.gateway.specs.Seats.{limits_of, given, HasSeen, messages_of, taken_by, ledger_of, TakesOne, Looks}
+use Rattle.gateway.specs.Seats.{limits_of, base_outputs, HasSeen, messages_of, taken_by, ledger_of, TakesOne, Looks}
 use Rattle.gateway.specs.Seats.{StaysSeated, MayEnter, MayLook, Uses}
 use Rattle.gateway.proofs.Carried.{carried}
 use Rattle.gateway.proofs.TakenLemmas.{taken_mine, taken_other, still_within, still_small}
 
 -- a holder who has seen and taken as much, and has no claim left, knows as much
-knows_still : (s : At Limits) (q : Person) → q.own ≡ s.who.own → q.seen ≡ s.who.seen → q.claims ≡ [] → HasSeen s
+knows_still : (s : At Limits) (q : Person) → q.sequence ≡ s.who.sequence → q.seen ≡ s.who.seen → q.claims ≡ [] → HasSeen s
     → HasSeen (seated s q)
 knows_still s q own seen spent knows = record {
   logic = knows.logic;
-  from = subst (λ (n : ℕ). given s ≤ n) (sym own) knows.from;
+  from = subst (λ (n : ℕ). base_outputs s ≤ n) (sym own) knows.from;
   few = subst (λ (n : ℕ). n ≤ 2 ^ 62) (sym own) knows.few;
   to = subst (λ (n : ℕ). n ≤ length (outputs_of (limits_of s) q.seen)) (sym own)
-      (subst (λ (h : List Message). s.who.own ≤ length (outputs_of (limits_of s) h)) (sym seen) knows.to);
+      (subst (λ (h : List Message). s.who.sequence ≤ length (outputs_of (limits_of s) h)) (sym seen) knows.to);
   spent = spent;
 }
 
@@ -48,7 +48,7 @@ Takes rings s t take body = (history : List Message) × TakesNext (length rings.
 module _ (rings : Opened Limits) (s t : At Limits) (at : IsAt rings s) (step : Steps s t.who t) where
   -- the output and its history
   one : (take : Take) (body : List ℕ) → Takes rings s t take body
-      → (o : Output) × TakesOne s t o × Says (number s) o (text_bytes o s.who.own) take body
+      → (o : Output) × TakesOne s t o × Says (number s) o (text_bytes o s.who.sequence) take body
   one take body (history, takes, says) =
       let said = subst (λ (l : Limits). SaysOutput (outputs_of l history) text_bytes s take body)
       (sym (logic_at rings s at)) says in (
@@ -62,26 +62,26 @@ module _ (rings : Opened Limits) (s t : At Limits) (at : IsAt rings s) (step : S
         said.2,
       )
 
-  pub looks_so : (take : Take) (body : List ℕ) → (take ≡ Nothing → t.who ≡ looked s.who marshalled s.who.own)
+  pub looks_so : (take : Take) (body : List ℕ) → (take ≡ Nothing → t.who ≡ looked s.who marshalled s.who.sequence)
       → (take ≢ Nothing → Takes rings s t take body) → Looks s t body take
   looks_so (Mine head) body nothing taken =
       let o = one (Mine head) body (taken (λ is. cc)) in (
         o.0,
         o.1,
         o.2.0,
-        carried head body o.0 s.who.own (tells-fields (limits_of s) o.1.history s.who.own o.0 o.1.next)
+        carried head body o.0 s.who.sequence (tells-fields (limits_of s) o.1.history s.who.sequence o.0 o.1.next)
             o.2.1,
       )
   looks_so Passed body nothing taken = let o = one Passed body (taken (λ is. cc)) in (o.0, o.1, o.2)
   looks_so Nothing body nothing taken = step ∙ ap (seated s) (nothing refl)
 
 module _ (n : ℕ) (s t : At Limits) (knows : HasSeen s) (o : Output) (one : TakesOne s t o) where
-  small : s.who.own + 1 ≤ 2 ^ 62
+  small : s.who.sequence + 1 ≤ 2 ^ 62
   small = still_small (number s) (limits_of s) s.base one.history s.who t.who o (length s.base) one.takes one.next
 
   taken_keeps : HasSeen t
   taken_keeps =
-      let own : t.who.own ≡ suc s.who.own = ap (λ (p : Person). p.own) one.takes.taken in
+      let own : t.who.sequence ≡ suc s.who.sequence = ap (λ (p : Person). p.sequence) one.takes.taken in
       let from = knows.from in
       subst HasSeen (sym one.others) (record {
         logic = knows.logic;
@@ -93,12 +93,12 @@ module _ (n : ℕ) (s t : At Limits) (knows : HasSeen s) (o : Output) (one : Tak
 
   -- the ledger with one output more, of these texts
   retold : (texts : List Said) → taken_by (number s) (limits_of s) s.base t.who ≡ texts → (ls : List Load)
-      × (ledger_of n t ≡ record (ledger_loading (ledger_of n s) ls) { taken = texts; count = s.who.own + 1 })
+      × (ledger_of n t ≡ record (ledger_loading (ledger_of n s) ls) { taken = texts; count = s.who.sequence + 1 })
   retold texts told =
       let sends : messages_of t.who.mine ≡ messages_of s.who.mine =
       ap (λ (p : Person). messages_of p.mine) one.takes.taken in
-      let own : t.who.own ≡ suc s.who.own = ap (λ (p : Person). p.own) one.takes.taken in
-      let count : t.who.own ≡ s.who.own + 1 = omega (arith, own) in
+      let own : t.who.sequence ≡ suc s.who.sequence = ap (λ (p : Person). p.sequence) one.takes.taken in
+      let count : t.who.sequence ≡ s.who.sequence + 1 = omega (arith, own) in
       let ls : List Load = load_of marshalled one.takes.value ∷ one.takes.loads in
       let loads : t.who.loads ≡ s.who.loads ++ ls = ap (λ (p : Person). p.loads) one.takes.taken in
       let role : number_of t.who.role ≡ number s = ap (λ (p : Person). number_of p.role) one.takes.taken in
@@ -115,7 +115,7 @@ module _ (n : ℕ) (s t : At Limits) (knows : HasSeen s) (o : Output) (one : Tak
       )
 
   taken_more : o.to ≡ number s → taken_by (number s) (limits_of s) s.base t.who
-      ≡ taken_by (number s) (limits_of s) s.base s.who ++ text o s.who.own ∷ []
+      ≡ taken_by (number s) (limits_of s) s.base s.who ++ text o s.who.sequence ∷ []
   taken_more is = taken_mine (number s) (limits_of s) s.base one.history s.who t.who o (length s.base) one.takes
       one.next knows.from knows.to is
 
@@ -134,7 +134,7 @@ module _ (n : ℕ) (s t : At Limits) (knows : HasSeen s) where
       → TakeTells (ledger_of n s) (ledger_of n t) body take
   looks_tells (Mine head) body (o, one, is, carries) =
       let more = retold n s t knows o one _ (taken_more n s t knows o one is) in
-      (text o s.who.own, carries, small n s t knows o one, more.0, more.1)
+      (text o s.who.sequence, carries, small n s t knows o one, more.0, more.1)
   looks_tells Passed body (o, one, other) =
       let more = retold n s t knows o one _ (taken_same n s t knows o one other) in
       (small n s t knows o one, more.0, more.1)
@@ -149,7 +149,7 @@ looks_stays s t Passed body (o, one, other) = record {
   role = ap (λ (p : Person). p.role) one.takes.taken;
 }
 looks_stays s t Nothing body is =
-    let who : t.who ≡ looked s.who marshalled s.who.own = ap (λ (a : At Limits). a.who) is in
+    let who : t.who ≡ looked s.who marshalled s.who.sequence = ap (λ (a : At Limits). a.who) is in
     record { rings = is ∙ ap (seated s) (sym who); role = ap (λ (p : Person). p.role) who }
 
 -- a seat that stays as it is

@@ -38,19 +38,19 @@ texts-one_more k place (x ∷ xs) o =
     ) [ true ↦ ap (λ l. text x place ∷ l) rest | false ↦ rest ]
 
 -- what is taken behind the outputs at the start when the count goes over one output more
-taken-one_more : (k given : ℕ) (all : List Output) (count : ℕ) (o : Output) → get_elem? all count ≡ some o
-    → given ≤ count →
-    texts_to k given (drop given (take (suc count) all)) ≡ texts_to k given (drop given (take count all))
+taken-one_more : (k base_outputs : ℕ) (all : List Output) (count : ℕ) (o : Output) → get_elem? all count ≡ some o
+    → base_outputs ≤ count →
+    texts_to k base_outputs (drop base_outputs (take (suc count) all)) ≡ texts_to k base_outputs (drop base_outputs (take count all))
     ++ one_text k count o
-taken-one_more k given all count o at from =
+taken-one_more k base_outputs all count o at from =
     let there = within all count o at in
     let front = length-take-le count all (omega (arith, there)) in
-    let rest : List Output = drop given (take count all) in
-    let behind = length-drop given (take count all) in
-    let long : given + length rest ≡ count = omega (arith, front, behind) in
-    ap (λ (l : List Output). texts_to k given (drop given l)) (take_next all count o at)
-    ∙ ap (texts_to k given) (drop-append-le given (take count all) (o ∷ []) (omega (arith, front)))
-    ∙ texts-one_more k given rest o ∙ ap (λ (n : ℕ). texts_to k given rest ++ one_text k n o) long
+    let rest : List Output = drop base_outputs (take count all) in
+    let behind = length-drop base_outputs (take count all) in
+    let long : base_outputs + length rest ≡ count = omega (arith, front, behind) in
+    ap (λ (l : List Output). texts_to k base_outputs (drop base_outputs l)) (take_next all count o at)
+    ∙ ap (texts_to k base_outputs) (drop-append-le base_outputs (take count all) (o ∷ []) (omega (arith, front)))
+    ∙ texts-one_more k base_outputs rest o ∙ ap (λ (n : ℕ). texts_to k base_outputs rest ++ one_text k n o) long
 
 -- what an output says that goes to gateway k, and one that goes to another
 is_same : (n k : ℕ) → n ≡ k → (n == k) ≡ true
@@ -69,48 +69,48 @@ others k place o other = ap (λ (b : Bool). if b then text o place ∷ [] else [
 
 module _ (k : ℕ) (limits : Limits) (base history : List Message) (p q : Person) (o : Output) (start : ℕ)
     (takes : TakesNext start p history q)
-    (next : get_elem? (outputs_of limits history) p.own ≡ some o) where
-  abbrev given : ℕ
-  given = length (outputs_of limits base)
+    (next : get_elem? (outputs_of limits history) p.sequence ≡ some o) where
+  abbrev base_outputs : ℕ
+  base_outputs = length (outputs_of limits base)
 
   -- the count stays within the outputs of what the gateway has seen
-  pub still_within : q.own ≤ length (outputs_of limits q.seen)
+  pub still_within : q.sequence ≤ length (outputs_of limits q.seen)
   still_within =
-      let there = within (outputs_of limits history) p.own o next in
-      let own : q.own ≡ suc p.own = ap (λ (w : Person). w.own) takes.taken in
+      let there = within (outputs_of limits history) p.sequence o next in
+      let own : q.sequence ≡ suc p.sequence = ap (λ (w : Person). w.sequence) takes.taken in
       let seen : length (outputs_of limits q.seen) ≡ length (outputs_of limits history)
       = ap (λ (w : Person). length (outputs_of limits w.seen)) takes.taken in
       omega (arith, there, own, seen)
 
   -- and is a small number, since the history is short
-  pub still_small : p.own + 1 ≤ 2 ^ 62
+  pub still_small : p.sequence + 1 ≤ 2 ^ 62
   still_small =
-      let there = within (outputs_of limits history) p.own o next in
+      let there = within (outputs_of limits history) p.sequence o next in
       let few = takes.few in
       let told = few-told-by (reads_at limits) limits.symbols history in
       omega (arith, there, few, told)
 
-  module _ (from : given ≤ p.own) (to : p.own ≤ length (outputs_of limits p.seen)) where
+  module _ (from : base_outputs ≤ p.sequence) (to : p.sequence ≤ length (outputs_of limits p.seen)) where
     -- what was taken before stays as the history grows
-    stays : texts_to k given (drop given (take p.own (outputs_of limits history))) ≡ taken_by k limits base p
+    stays : texts_to k base_outputs (drop base_outputs (take p.sequence (outputs_of limits history))) ≡ taken_by k limits base p
     stays =
         let rest : List Message = drop (length p.seen) history in
         let grown : history ≡ p.seen ++ rest = sym (take-append-drop (length p.seen) history)
         ∙ ap (λ (h : List Message). h ++ rest) (sym takes.begins) in
         let more = grows-by (reads_at limits) limits.symbols p.seen rest in
-        ap (λ (h : List Message). texts_to k given (drop given (take p.own (outputs_of limits h)))) grown
-        ∙ ap (λ (os : List Output). texts_to k given (drop given (take p.own os))) more.1
-        ∙ ap (λ (os : List Output). texts_to k given (drop given os))
-        (take-append-le p.own (outputs_of limits p.seen) more.0 to)
+        ap (λ (h : List Message). texts_to k base_outputs (drop base_outputs (take p.sequence (outputs_of limits h)))) grown
+        ∙ ap (λ (os : List Output). texts_to k base_outputs (drop base_outputs (take p.sequence os))) more.1
+        ∙ ap (λ (os : List Output). texts_to k base_outputs (drop base_outputs os))
+        (take-append-le p.sequence (outputs_of limits p.seen) more.0 to)
 
-    one_more : taken_by k limits base q ≡ taken_by k limits base p ++ one_text k p.own o
-    one_more = ap (taken_by k limits base) takes.taken ∙ taken-one_more k given (outputs_of limits history) p.own o next
+    one_more : taken_by k limits base q ≡ taken_by k limits base p ++ one_text k p.sequence o
+    one_more = ap (taken_by k limits base) takes.taken ∙ taken-one_more k base_outputs (outputs_of limits history) p.sequence o next
         from
-        ∙ ap (λ (ts : List Said). ts ++ one_text k p.own o) stays
+        ∙ ap (λ (ts : List Said). ts ++ one_text k p.sequence o) stays
 
-    pub taken_mine : o.to ≡ k → taken_by k limits base q ≡ taken_by k limits base p ++ text o p.own ∷ []
-    taken_mine is = one_more ∙ ap (λ (ts : List Said). taken_by k limits base p ++ ts) (mine k p.own o is)
+    pub taken_mine : o.to ≡ k → taken_by k limits base q ≡ taken_by k limits base p ++ text o p.sequence ∷ []
+    taken_mine is = one_more ∙ ap (λ (ts : List Said). taken_by k limits base p ++ ts) (mine k p.sequence o is)
 
     pub taken_other : o.to ≢ k → taken_by k limits base q ≡ taken_by k limits base p
-    taken_other other = one_more ∙ ap (λ (ts : List Said). taken_by k limits base p ++ ts) (others k p.own o other)
+    taken_other other = one_more ∙ ap (λ (ts : List Said). taken_by k limits base p ++ ts) (others k p.sequence o other)
         ∙ append-nil (taken_by k limits base p)

@@ -41,7 +41,7 @@ pub record KeepsGateway (g : Inside) : Type 0 where
   pub deaf : g.live ≡ true → g.deaf < 100000
   pub idle : g.live ≡ true → g.idle < 1000
   pub seen : HasSeen g.seat
-  pub mate : GoesWith g.session g.passed g.seat.who.own
+  pub mate : GoesWith g.session g.passed g.seat.who.sequence
   pub number : g.session.gateway ≡ number g.seat
 
 -- a session is begun

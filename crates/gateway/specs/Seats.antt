@@ -34,17 +34,17 @@ abbrev pub limits_of : At Limits → Limits
 limits_of s = known s.logic
 
 -- how many outputs the history has that the rings were opened with
-abbrev pub given : At Limits → ℕ
-given s = length (outputs_of (limits_of s) s.base)
+abbrev pub base_outputs : At Limits → ℕ
+base_outputs s = length (outputs_of (limits_of s) s.base)
 
 -- It knows the rings' logic; it has counted the outputs of the history at the start, and no more than those of what it has seen, which are few; and
 -- it has published at each place that it claimed. So it is with a seat that `Rings::open` made, and with one that was used since: it has taken nothing
 -- that it hasn't seen.
 pub record HasSeen (s : At Limits) : Type 0 where
   pub logic : s.logic ≡ Some (limits_of s)
-  pub from : given s ≤ s.who.own
-  pub to : s.who.own ≤ length (outputs_of (limits_of s) s.who.seen)
-  pub few : s.who.own ≤ 2 ^ 62
+  pub from : base_outputs s ≤ s.who.sequence
+  pub to : s.who.sequence ≤ length (outputs_of (limits_of s) s.who.seen)
+  pub few : s.who.sequence ≤ 2 ^ 62
   pub spent : s.who.claims ≡ []
 
 -- WHAT IT PUBLISHED AND TOOK
@@ -62,7 +62,7 @@ texts_to k place (o ∷ os) = if o.to == k then text o place ∷ texts_to k (pla
 -- commands, behind those at the start and up to its count, of those that go to it. Their places are those among all outputs
 abbrev pub taken_by : ℕ → Limits → History → Person → List Said
 taken_by k limits base p =
-    texts_to k (length (outputs_of limits base)) (drop (length (outputs_of limits base)) (take p.own (outputs_of limits p.seen)))
+    texts_to k (length (outputs_of limits base)) (drop (length (outputs_of limits base)) (take p.sequence (outputs_of limits p.seen)))
 
 -- a gateway as its session sees it, at an input ring of n rows
 abbrev pub ledger_of : ℕ → At Limits → Ledger
@@ -70,7 +70,7 @@ ledger_of n s = record {
   rows = n;
   published = messages_of s.who.mine;
   taken = taken_by (number s) (limits_of s) s.base s.who;
-  count = s.who.own;
+  count = s.who.sequence;
   loads = s.who.loads;
 }
 
@@ -99,15 +99,15 @@ Enters n s t bytes Exhausted = claims.Refused n s refusal.Exhausted t
 pub record TakesOne (s t : At Limits) (output : Output) : Type 0 where
   pub history : History
   pub takes : TakesNext (length s.base) s.who history t.who
-  pub next : get_elem? (outputs_of (limits_of s) history) s.who.own ≡ some output
+  pub next : get_elem? (outputs_of (limits_of s) history) s.who.sequence ≡ some output
   pub others : Steps s t.who t
 
 -- What a look with this answer hands on: an output to this gateway, which is carried; or one to another, which is passed over; or none, since the
 -- marshalled word that was loaded showed none at the gateway's count.
 abbrev pub Looks : At Limits → At Limits → List ℕ → Take → Type 0
-Looks s t body (Mine head) = (o : Output) × TakesOne s t o × (o.to ≡ number s) × CarriesSaid head body (text o s.who.own)
+Looks s t body (Mine head) = (o : Output) × TakesOne s t o × (o.to ≡ number s) × CarriesSaid head body (text o s.who.sequence)
 Looks s t body Passed = (o : Output) × TakesOne s t o × (o.to ≢ number s)
-Looks s t body Nothing = Steps s (looked s.who place.marshalled s.who.own) t
+Looks s t body Nothing = Steps s (looked s.who place.marshalled s.who.sequence) t
 
 -- the seat is still of the same rings, and the same gateway's
 pub record StaysSeated (s t : At Limits) : Type 0 where

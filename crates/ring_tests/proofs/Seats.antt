@@ -41,11 +41,11 @@ met_spent rings k s t r h step spent = record {
 -- the last of new seats is new, and so are those before it
 module _ {L : Type 0} (rings : Opened L) (all front : List (At L)) (s : At L) (is : all ≡ front ++ s ∷ [])
     (new : AreNewGateways rings all) where
-  pub new_last : s ≡ at rings (newcomer (Gateway (number s)) rings.base rings.given)
+  pub new_last : s ≡ at rings (newcomer (Gateway (number s)) rings.base rings.base_outputs)
   new_last =
       let last = new (length front) s
       (subst (λ (l : List (At L)). get_elem? l (length front) ≡ some s) (sym is) (last_one front s)) in
-      subst (λ (k : ℕ). s ≡ at rings (newcomer (Gateway k) rings.base rings.given))
+      subst (λ (k : ℕ). s ≡ at rings (newcomer (Gateway k) rings.base rings.base_outputs))
       (sym (ap (λ (a : At L). number a) last)) last
 
   pub new_front : AreNewGateways rings front

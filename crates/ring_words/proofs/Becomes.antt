@@ -33,17 +33,17 @@ module _ {S L : Type 0} (me me' : Seated S L) (q : Person) where
 -- a gateway's seat whose one person became q keeps what it keeps: its number, its count, and the processed value that
 -- was loaded last
 pub gateway_sits : {S L Numbered : Type 0} (me me' : Seated S L) (q : Person) → Became me q me' → me.1 ≡ []
-    → (number : ℕ) → q.role ≡ Gateway number → Numbered → (count : ℕ) → count ≡ q.own
+    → (number : ℕ) → q.role ≡ Gateway number → Numbered → (count : ℕ) → count ≡ q.sequence
     → (kept : Option ℕ) → kept ≡ last_load processed None q.loads
     → IsAlone me'.0 × ((me'.1 ≡ [])
     × (((person me'.0).role ≡ Gateway number)
-    × (Numbered × ((count ≡ (person me'.0).own)
+    × (Numbered × ((count ≡ (person me'.0).sequence)
     × ((kept ≡ last_load processed None (person me'.0).loads) × Unit {0})))))
 gateway_sits {S} {L} me me' q is bare number role numbered count own kept last =
     still_sits me me' q is bare (Gateway number) role (
       numbered,
       (
-        own ∙ sym (ap (λ (z : Seated S L). (person z.0).own) is),
+        own ∙ sym (ap (λ (z : Seated S L). (person z.0).sequence) is),
         (last ∙ sym (ap (λ (z : Seated S L). last_load processed None (person z.0).loads) is), tt),
       ),
     )

@@ -85,33 +85,33 @@ knows_claimed terms w w' log a k p free risen same outside published_is is claim
       (λ here. absurd (nothing_there (log.status s) e (ap log.status here ∙ free) (r.front s e at)))
       (λ _. r.front s e at);
   depth = depth_risen w w' risen p.role (length p.seen) r.depth;
-  own = is ∙ r.own;
+  sequence = is ∙ r.sequence;
   mine = λ s. by_put log.status a s (claimed k) (λ (x : Status). sent_at s p.mine ≡ sends_of (number_of p.role) x)
       (λ here. r.mine s ∙ ap (sends_of (number_of p.role)) (ap log.status here ∙ free)) (λ _. r.mine s);
   claims = counted;
   loads = λ i l at low. (let x = r.loads i l at low in let y = risen l.place low in omega arith);
-  part = part_stays p.role r.part;
-  written = λ is_unmarshaller. written_on terms w w' p.seen p.own p.own p.part.sequence (le_refl p.own)
+  row = part_stays p.role r.row;
+  written = λ is_unmarshaller. written_on terms w w' p.seen p.sequence p.sequence p.row.sequence (le_refl p.sequence)
       (λ s i x e lo hi at. same s (i + 48)) (r.written is_unmarshaller);
-  written_texts = λ is_marshaller. texts_on terms w w' p.seen p.own p.own p.part.sequence (le_refl p.own)
+  written_texts = λ is_marshaller. texts_on terms w w' p.seen p.sequence p.sequence p.row.sequence (le_refl p.sequence)
       (λ q i lo hi few. outside q (i + 64)) (r.written_texts is_marshaller);
   out = r.out;
 } where
-  part_stays : (role : Role) → PartOf terms.rows terms.output_rows w log role p.part
-      → PartOf terms.rows terms.output_rows w' (record log { status = put log.status a (claimed k) }) role p.part
+  part_stays : (role : Role) → PartOf terms.rows terms.output_rows w log role p.row
+      → PartOf terms.rows terms.output_rows w' (record log { status = put log.status a (claimed k) }) role p.row
   part_stays Process h = (
     h.0 ∙ sym published_is,
     λ i x at. let t = h.1 i x at in
-        (t.0, outside p.part.sequence i ∙ t.1),
+        (t.0, outside p.row.sequence i ∙ t.1),
   )
-  part_stays Unmarshal h = λ i x at. let t = h i x at in (t.0, same p.part.sequence (i + 48) ∙ t.1)
+  part_stays Unmarshal h = λ i x at. let t = h i x at in (t.0, same p.row.sequence (i + 48) ∙ t.1)
   part_stays Journal h = tt
-  part_stays Marshal h = λ i x at. let t = h i x at in (t.0, outside p.part.sequence (i + 64) ∙ t.1)
+  part_stays Marshal h = λ i x at. let t = h i x at in (t.0, outside p.row.sequence (i + 64) ∙ t.1)
   part_stays (Gateway j) h = λ i x at. let t = h i x at in (
     t.0,
-    by_put log.status a p.part.sequence (claimed k) (λ (y : Status). y ≡ claimed j)
+    by_put log.status a p.row.sequence (claimed k) (λ (y : Status). y ≡ claimed j)
         (λ here. absurd (not_claimed j (sym t.1 ∙ ap log.status here ∙ free))) (λ _. t.1),
-    same p.part.sequence (i + 1) ∙ t.2,
+    same p.row.sequence (i + 1) ∙ t.2,
   )
 
 module _ {L : Type 0} (terms : Terms L) where

@@ -27,7 +27,7 @@ use Rattle.ring_words.proofs.Stays.{one_word_more, word_stored}
 module _ {L : Type 0} (terms : Terms L) where
   stored_now : (s : State Boxed (View L)) (r : Lawful terms s) (id a i x : ℕ) (me : Seated Boxed L)
       → get_elem? s.views id ≡ some me.0 → IsAlone me.0 → (person me.0).role ≡ Unmarshal
-      → (person me.0).own ≤ a → a < length (person me.0).seen → i < 16 → GoesOnRow (person me.0).part a i
+      → (person me.0).sequence ≤ a → a < length (person me.0).seen → i < 16 → GoesOnRow (person me.0).row a i
       → MayWrite (terms.reads terms.logic) (person me.0) a
       → Lawful terms record {
         words = set s.words (in_row terms.rows a (i + 48)) x;
@@ -44,7 +44,7 @@ module _ {L : Type 0} (terms : Terms L) where
       let w' : ℕ → ℕ = λ (j : ℕ). get_or (set ws here x) j 0 in
       let low : i + 48 < 64 = omega arith in
       let knows = (mine terms s r id me.0 p at one).2 in
-      let own_is : w unmarshalled ≡ p.own = subst (λ (z : Role). w (word_of_role z) ≡ p.own) role knows.own in
+      let own_is : w unmarshalled ≡ p.sequence = subst (λ (z : Role). w (word_of_role z) ≡ p.sequence) role knows.sequence in
       let inside : here < length ws = subst (λ (y : ℕ). here < y) (sym r.wide)
       (row_inside n m a (i + 48) r.some_row low) in
       let stays : (t j : ℕ) → j < 64 → (t % n ≡ a % n → j ≢ i + 48)
@@ -69,21 +69,21 @@ module _ {L : Type 0} (terms : Terms L) where
             omega arith));
       }
       (all_outputs terms w w' outside)
-      (subst (λ (z : Role). PartOf n m w' r.log z (stored p a i x).part) (sym role)
-      (one_word_more (λ (j y : ℕ). (j < 16) × (w' (in_row n a (j + 48)) ≡ y)) p.part a i x goes_on
-      (λ j y lt on there. (let h = subst (λ (z : Role). PartOf n m w r.log z p.part) role knows.part j y there in (
+      (subst (λ (z : Role). PartOf n m w' r.log z (stored p a i x).row) (sym role)
+      (one_word_more (λ (j y : ℕ). (j < 16) × (w' (in_row n a (j + 48)) ≡ y)) p.row a i x goes_on
+      (λ j y lt on there. (let h = subst (λ (z : Role). PartOf n m w r.log z p.row) role knows.row j y there in (
         h.0,
         stays a (j + 48) (let few = h.0 in omega arith) (λ _. (λ (e : j + 48 ≡ i + 48). omega arith))
             ∙ ap (λ (t : ℕ). w (in_row n t (j + 48))) (sym on) ∙ h.1,
       )))
       (small, word_here ws here x inside)))
-      (λ _. (let below = written_below terms w p (subst (λ (z : Role). PartOf n m w r.log z p.part) role knows.part)
+      (λ _. (let below = written_below terms w p (subst (λ (z : Role). PartOf n m w r.log z p.row) role knows.row)
       (knows.written role) a may (omega arith) in
-      written_on terms w w' p.seen p.own p.own a (le_refl p.own)
+      written_on terms w w' p.seen p.sequence p.sequence a (le_refl p.sequence)
       (λ t j y e lo hi there. (let size = short_words e.gateway (command_by terms t e) in
       let few = within (commands_of terms t e) j y there in
       stays t (j + 48) (omega arith)
-      (λ same. absurd (let one_sequence : t ≡ a = one_window p.own t a n lo from (omega arith) (omega arith) same in
+      (λ same. absurd (let one_sequence : t ≡ a = one_window p.sequence t a n lo from (omega arith) (omega arith) same in
       omega arith))))
       below))
       (λ is. absurd (let z : 16 ≡ 32 = ap word_of_role (sym role ∙ is) in omega arith))
@@ -96,13 +96,13 @@ module _ {L : Type 0} (terms : Terms L) where
 
   -- the unmarshaller stores the next word of the command of a sequence that it knows and hasn't released
   pub writes_command : (slots id a i x : ℕ) (me : Seated Boxed L) → IsAlone me.0 → (person me.0).role ≡ Unmarshal
-      → (person me.0).own ≤ a → a < length (person me.0).seen → i < 16 → GoesOnRow (person me.0).part a i
+      → (person me.0).sequence ≤ a → a < length (person me.0).seen → i < 16 → GoesOnRow (person me.0).row a i
       → MayWrite (terms.reads terms.logic) (person me.0) a
       → Allows (Lawful terms) slots id me (in_row terms.rows a (i + 48)) (λ _. x)
       (λ _. stores_command terms.rows (step slots (in_row terms.rows a (i + 48)) x 0 none) me x)
   writes_command slots id a i x me one role from known small goes_on may s r wide at _ =
       let p = person me.0 in let w = words_of s in let knows = (mine terms s r id me.0 p at one).2 in
-      let own_is : w unmarshalled ≡ p.own = subst (λ (z : Role). w (word_of_role z) ≡ p.own) role knows.own in
+      let own_is : w unmarshalled ≡ p.sequence = subst (λ (z : Role). w (word_of_role z) ≡ p.sequence) role knows.sequence in
       let reach = reaches terms w r.log p.seen r.logged knows.front in
       let order = r.order in
       let first = order.processed_unmarshalled in
@@ -114,15 +114,15 @@ module _ {L : Type 0} (terms : Terms L) where
         λ t j from_t known_t low place_is. (
             let both = same_row terms.rows a t (i + 48) (j + 48) (let g : i + 48 < 64 = omega arith in g)
             (let g : j + 48 < 64 = omega arith in g) place_is in
-            let eq : a ≡ t = one_window p.own a t terms.rows from from_t (omega arith) (omega arith) both.0 in
+            let eq : a ≡ t = one_window p.sequence a t terms.rows from from_t (omega arith) (omega arith) both.0 in
             let same_word : i + 48 ≡ j + 48 = both.1 in let word_is : i ≡ j = omega arith in
             ap (λ (z : ℕ). (alone me.0 (stored p z i x), me.1)) eq
             ∙ ap (λ (z : ℕ). (alone me.0 (stored p t z x), me.1)) word_is),
       )
 
   pub writes_command_in : (n : ℕ) → terms.rows ≡ n → (slots id a i x : ℕ) (me : Seated Boxed L) (place : ℕ)
-      → IsAlone me.0 → (person me.0).role ≡ Unmarshal → (person me.0).own ≤ a → a < length (person me.0).seen → i < 16
-      → GoesOnRow (person me.0).part a i → MayWrite (terms.reads terms.logic) (person me.0) a
+      → IsAlone me.0 → (person me.0).role ≡ Unmarshal → (person me.0).sequence ≤ a → a < length (person me.0).seen → i < 16
+      → GoesOnRow (person me.0).row a i → MayWrite (terms.reads terms.logic) (person me.0) a
       → place ≡ in_row n a (i + 48) → Allows (Lawful terms) slots id me place (λ _. x)
       (λ _. stores_command n (step slots place x 0 none) me x)
   writes_command_in n is slots id a i x me place one role from known small goes_on may place_is =

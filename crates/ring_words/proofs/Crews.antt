@@ -8,9 +8,9 @@ use Rattle.ring_words.specs.Crew.{AreNewGateways}
 
 module _ {L : Type 0} (rings : Opened L) where
   pub new_more : (seats : List (At L)) (s : At L) (k : ℕ) → AreNewGateways rings seats → length seats + 1 ≡ k
-      → s ≡ at rings (newcomer (Gateway k) rings.base rings.given) → AreNewGateways rings (seats ++ s ∷ [])
+      → s ≡ at rings (newcomer (Gateway k) rings.base rings.base_outputs) → AreNewGateways rings (seats ++ s ∷ [])
   new_more seats s k were is new i t there = ⊎_elim (λ was. were i t was)
       (λ (last : (i ≡ length seats) × (s ≡ t)). let at_i : i ≡ length seats = last.0 in
       let same : k ≡ i + 1 = omega arith in
-      subst (λ (j : ℕ). t ≡ at rings (newcomer (Gateway j) rings.base rings.given)) same (sym last.1 ∙ new))
+      subst (λ (j : ℕ). t ≡ at rings (newcomer (Gateway j) rings.base rings.base_outputs)) same (sym last.1 ∙ new))
       (at_end seats s t i there)

@@ -183,8 +183,8 @@ module _ {L : Type 0} (terms : Terms L) (s : State Boxed (View L)) (r : Lawful t
       (knows_of i g there).depth
 
   pub ends : (summary : Summary) → summary.commands ≡ words_of s processed
-      → words_of s journalled ≡ seats.journal.who.own → summary.outputs ≡ words_of s published
-      → seats.journal.who.own ≤ length seats.journal.who.seen → Ended (outputs_by terms) terms.base seats summary
+      → words_of s journalled ≡ seats.journal.who.sequence → summary.outputs ≡ words_of s published
+      → seats.journal.who.sequence ≤ length seats.journal.who.seen → Ended (outputs_by terms) terms.base seats summary
   ends summary commands kept outputs released = record {
     log = whole;
     begins = λ t e there. same t ∙ ap entry_of (r.logged.based t e there);
@@ -204,24 +204,24 @@ module _ {L : Type 0} (terms : Terms L) (s : State Boxed (View L)) (r : Lawful t
     least = subst (λ (n : ℕ). length (outputs_by terms (take n whole)) ≤ summary.outputs) (sym commands)
         (subst (λ (n : ℕ). length (outputs_by terms (take (words_of s processed) whole)) ≤ n) (sym outputs) least);
     most = subst (λ (n : ℕ). n ≤ length
-        (outputs_by terms (take (suc summary.commands) (take seats.journal.who.own whole)))) (sym outputs)
+        (outputs_by terms (take (suc summary.commands) (take seats.journal.who.sequence whole)))) (sym outputs)
         (subst (λ (n : ℕ). words_of s published
-        ≤ length (outputs_by terms (take (suc n) (take seats.journal.who.own whole)))) (sym commands)
+        ≤ length (outputs_by terms (take (suc n) (take seats.journal.who.sequence whole)))) (sym commands)
         (subst (λ (n : ℕ). words_of s published
         ≤ length (outputs_by terms (take (suc (words_of s processed)) (take n whole)))) kept most));
   }
 
-  pub own_is : seats.process.who.role ≡ Process → words_of s processed ≡ seats.process.who.own
-  own_is role = ap (λ (z : Role). words_of s (word_of_role z)) (sym role) ∙ (knows_stage 0 seats.process.who refl).own
+  pub own_is : seats.process.who.role ≡ Process → words_of s processed ≡ seats.process.who.sequence
+  own_is role = ap (λ (z : Role). words_of s (word_of_role z)) (sym role) ∙ (knows_stage 0 seats.process.who refl).sequence
 
-  pub journalled_is : seats.journal.who.role ≡ Journal → words_of s journalled ≡ seats.journal.who.own
+  pub journalled_is : seats.journal.who.role ≡ Journal → words_of s journalled ≡ seats.journal.who.sequence
   journalled_is role = ap (λ (z : Role). words_of s (word_of_role z)) (sym role)
-      ∙ (knows_stage 2 seats.journal.who refl).own
+      ∙ (knows_stage 2 seats.journal.who refl).sequence
 
-  pub published_is : seats.process.who.role ≡ Process → words_of s published ≡ seats.process.who.part.sequence
+  pub published_is : seats.process.who.role ≡ Process → words_of s published ≡ seats.process.who.row.sequence
   published_is role = sym (subst
-      (λ (z : Role). PartOf terms.rows terms.output_rows (words_of s) r.log z seats.process.who.part) role
-      (knows_stage 0 seats.process.who refl).part).0
+      (λ (z : Role). PartOf terms.rows terms.output_rows (words_of s) r.log z seats.process.who.row) role
+      (knows_stage 0 seats.process.who refl).row).0
 
 module _ {L : Type 0} (gs : List (At L)) (stages : List Person) where
   -- those behind the first `left` have been taken in

@@ -32,7 +32,7 @@ module _ {L : Type 0} (terms : Terms L) where
 
   -- no word has two owners
   pub one_owner_each : (s : State Boxed (View L)) → Lawful terms s → (k : ℕ) → all_owners k s.views ≤ 1
-  one_owner_each s r k = subst (λ (x : ℕ). x ≤ 1) (sym (r.once k)) (few_in_crew terms.gateways terms.base terms.given k)
+  one_owner_each s r k = subst (λ (x : ℕ). x ≤ 1) (sym (r.once k)) (few_in_crew terms.gateways terms.base terms.base_outputs k)
 
   -- two seats' persons have different words
   pub apart : (s : State Boxed (View L)) (r : Lawful terms s) (i j a : ℕ) (v u : View L) (p q : Person) → i ≢ j

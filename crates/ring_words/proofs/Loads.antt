@@ -35,13 +35,13 @@ any_depth w role k (inl is) = subst (λ (z : Role). Depth w z k) (sym is) tt
 any_depth w role k (inr is) = subst (λ (z : Role). Depth w z k) (sym is) tt
 
 -- the processor isn't ahead of it
-not_ahead : (w : ℕ → ℕ) (role : Role) (own : ℕ) → w processed ≤ w unmarshalled → w processed ≤ w journalled
-    → IsReader role → w (word_of_role role) ≡ own → w processed ≤ own
-not_ahead w role own u j (inl is) at = let here : w unmarshalled
-    ≡ own = subst (λ (z : Role). w (word_of_role z) ≡ own) is at in
+not_ahead : (w : ℕ → ℕ) (role : Role) (sequence : ℕ) → w processed ≤ w unmarshalled → w processed ≤ w journalled
+    → IsReader role → w (word_of_role role) ≡ sequence → w processed ≤ sequence
+not_ahead w role sequence u j (inl is) at = let here : w unmarshalled
+    ≡ sequence = subst (λ (z : Role). w (word_of_role z) ≡ sequence) is at in
     omega arith
-not_ahead w role own u j (inr is) at = let here : w journalled
-    ≡ own = subst (λ (z : Role). w (word_of_role z) ≡ own) is at in
+not_ahead w role sequence u j (inr is) at = let here : w journalled
+    ≡ sequence = subst (λ (z : Role). w (word_of_role z) ≡ sequence) is at in
     omega arith
 
 -- the value loaded last isn't above the word
@@ -171,8 +171,8 @@ module _ {L : Type 0} (terms : Terms L) where
       let x : ℕ = w k in
       let then = sees_raw terms.rows (step slots k 0 0 none) me in
       let knows = (mine terms s r id me.0 p at one).2 in
-      let behind : w processed ≤ p.own = not_ahead w p.role p.own r.order.processed_unmarshalled
-      r.order.processed_journalled reader knows.own in
+      let behind : w processed ≤ p.sequence = not_ahead w p.role p.sequence r.order.processed_unmarshalled
+      r.order.processed_journalled reader knows.sequence in
       looks s r k id me (looked p k x) then at one refl (knows_looked terms w r.log p k x (λ _. le_refl x) knows) (
         refl,
         λ t i e there held few is. (
@@ -252,7 +252,7 @@ module _ {L : Type 0} (terms : Terms L) where
       let own = mine terms s r id me.0 p at one in
       let knows = own.2 in
       let deep = subst (λ (z : Role). Depth w z (length p.seen)) role knows.depth in
-      let own_is : w processed ≡ p.own = subst (λ (z : Role). w (word_of_role z) ≡ p.own) role knows.own in
+      let own_is : w processed ≡ p.sequence = subst (λ (z : Role). w (word_of_role z) ≡ p.sequence) role knows.sequence in
       looks s r k id me (looked p k x) then at one refl (knows_looked terms w r.log p k x (λ _. le_refl x) knows) (
         refl,
         λ logic t i y e view_is there held word is. (

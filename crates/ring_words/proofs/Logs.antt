@@ -101,10 +101,10 @@ module _ {L : Type 0} (terms : Terms L) (w : ℕ → ℕ) (log : Log) where
     role = r.role;
     front = r.front;
     depth = r.depth;
-    own = r.own;
+    sequence = r.sequence;
     mine = r.mine;
     claims = r.claims;
-    part = r.part;
+    row = r.row;
     written = r.written;
     written_texts = r.written_texts;
     out = r.out;
@@ -119,12 +119,12 @@ module _ {L : Type 0} (terms : Terms L) (w : ℕ → ℕ) (log : Log) where
   knows_saw p e next deeper r = record {
     role = r.role;
     depth = deeper;
-    own = r.own;
+    sequence = r.sequence;
     mine = r.mine;
     claims = r.claims;
-    part = r.part;
-    written = λ is. written_grows terms w p.seen (e ∷ []) p.own p.part.sequence (r.written is);
-    written_texts = λ is. texts_grow terms w p.seen (e ∷ []) p.own p.part.sequence (r.written_texts is);
+    row = r.row;
+    written = λ is. written_grows terms w p.seen (e ∷ []) p.sequence p.row.sequence (r.written is);
+    written_texts = λ is. texts_grow terms w p.seen (e ∷ []) p.sequence p.row.sequence (r.written_texts is);
     out = r.out;
     loads = r.loads;
     front = λ s d at. ⊎_elim (λ was. r.front s d was)
@@ -138,12 +138,12 @@ module _ {L : Type 0} (terms : Terms L) (w : ℕ → ℕ) (log : Log) where
   knows_knowing p rest front deeper r = record {
     role = r.role;
     depth = deeper;
-    own = r.own;
+    sequence = r.sequence;
     mine = r.mine;
     claims = r.claims;
-    part = r.part;
-    written = λ is. written_grows terms w p.seen rest p.own p.part.sequence (r.written is);
-    written_texts = λ is. texts_grow terms w p.seen rest p.own p.part.sequence (r.written_texts is);
+    row = r.row;
+    written = λ is. written_grows terms w p.seen rest p.sequence p.row.sequence (r.written is);
+    written_texts = λ is. texts_grow terms w p.seen rest p.sequence p.row.sequence (r.written_texts is);
     out = r.out;
     loads = r.loads;
     front = front;
@@ -151,21 +151,21 @@ module _ {L : Type 0} (terms : Terms L) (w : ℕ → ℕ) (log : Log) where
 
   -- what a person knows behind a step of its own: no control word fell, and its own word, its row under way and what it
   -- wrote before are as it says
-  pub knows_on : (w' : ℕ → ℕ) (p : Person) (own : ℕ) (t : Part) → ((k : ℕ) → k < first_row → w k ≤ w' k)
-      → w' (word_of_role p.role) ≡ own
+  pub knows_on : (w' : ℕ → ℕ) (p : Person) (sequence : ℕ) (t : Part) → ((k : ℕ) → k < first_row → w k ≤ w' k)
+      → w' (word_of_role p.role) ≡ sequence
       → PartOf terms.rows terms.output_rows w' log p.role t
-      → (p.role ≡ Unmarshal → Written terms w' p.seen own t.sequence)
-      → (p.role ≡ Marshal → WrittenTexts terms w' p.seen own t.sequence)
-      → Knows terms w log p → Knows terms w' log (record p { own = own; part = t })
-  knows_on w' p own t risen is part written texts r = record {
+      → (p.role ≡ Unmarshal → Written terms w' p.seen sequence t.sequence)
+      → (p.role ≡ Marshal → WrittenTexts terms w' p.seen sequence t.sequence)
+      → Knows terms w log p → Knows terms w' log (record p { sequence = sequence; row = t })
+  knows_on w' p sequence t risen is part written texts r = record {
     role = r.role;
     front = r.front;
     depth = depth_risen w w' risen p.role (length p.seen) r.depth;
-    own = is;
+    sequence = is;
     mine = r.mine;
     claims = r.claims;
     loads = λ i l at low. (let a = r.loads i l at low in let b = risen l.place low in omega arith);
-    part = part;
+    row = part;
     written = written;
     written_texts = texts;
     out = r.out;
@@ -173,38 +173,38 @@ module _ {L : Type 0} (terms : Terms L) (w : ℕ → ℕ) (log : Log) where
 
   -- what is known stays where no control word falls, no row word changes, published is as it was, and the own word is
   -- as it says
-  pub knows_risen : (w' : ℕ → ℕ) (p : Person) (own : ℕ) → ((k : ℕ) → k < first_row → w k ≤ w' k)
+  pub knows_risen : (w' : ℕ → ℕ) (p : Person) (sequence : ℕ) → ((k : ℕ) → k < first_row → w k ≤ w' k)
       → ((s i : ℕ) → w' (in_row terms.rows s i) ≡ w (in_row terms.rows s i))
       → ((q i : ℕ) → w' (out_row terms.rows terms.output_rows q i) ≡ w (out_row terms.rows terms.output_rows q i))
       → (p.role ≡ Process → w' published ≡ w published)
-      → w' (word_of_role p.role) ≡ own → Knows terms w log p → Knows terms w' log (moved p own)
-  knows_risen w' p own risen same same_out place_stays is r =
-      knows_on w' p own p.part risen is (part_stays p.role refl r.part) stays texts_stay r where
-        stays : p.role ≡ Unmarshal → Written terms w' p.seen own p.part.sequence
+      → w' (word_of_role p.role) ≡ sequence → Knows terms w log p → Knows terms w' log (moved p sequence)
+  knows_risen w' p sequence risen same same_out place_stays is r =
+      knows_on w' p sequence p.row risen is (part_stays p.role refl r.row) stays texts_stay r where
+        stays : p.role ≡ Unmarshal → Written terms w' p.seen sequence p.row.sequence
         stays role = let up : w 16 ≤ w' 16 = risen 16 (omega arith) in
-            let before : w 16 ≡ p.own = subst (λ (z : Role). w (word_of_role z) ≡ p.own) role r.own in
-            let after : w' 16 ≡ own = subst (λ (z : Role). w' (word_of_role z) ≡ own) role is in
-            written_on terms w w' p.seen p.own own p.part.sequence (omega arith) (λ s i x e lo hi at. same s (i + 48))
+            let before : w 16 ≡ p.sequence = subst (λ (z : Role). w (word_of_role z) ≡ p.sequence) role r.sequence in
+            let after : w' 16 ≡ sequence = subst (λ (z : Role). w' (word_of_role z) ≡ sequence) role is in
+            written_on terms w w' p.seen p.sequence sequence p.row.sequence (omega arith) (λ s i x e lo hi at. same s (i + 48))
             (r.written role)
 
-        texts_stay : p.role ≡ Marshal → WrittenTexts terms w' p.seen own p.part.sequence
+        texts_stay : p.role ≡ Marshal → WrittenTexts terms w' p.seen sequence p.row.sequence
         texts_stay role = let up : w 32 ≤ w' 32 = risen 32 (omega arith) in
-            let before : w 32 ≡ p.own = subst (λ (z : Role). w (word_of_role z) ≡ p.own) role r.own in
-            let after : w' 32 ≡ own = subst (λ (z : Role). w' (word_of_role z) ≡ own) role is in
-            texts_on terms w w' p.seen p.own own p.part.sequence (omega arith) (λ q i lo hi few. same_out q (i + 64))
+            let before : w 32 ≡ p.sequence = subst (λ (z : Role). w (word_of_role z) ≡ p.sequence) role r.sequence in
+            let after : w' 32 ≡ sequence = subst (λ (z : Role). w' (word_of_role z) ≡ sequence) role is in
+            texts_on terms w w' p.seen p.sequence sequence p.row.sequence (omega arith) (λ q i lo hi few. same_out q (i + 64))
             (r.written_texts role)
 
-        part_stays : (role : Role) → p.role ≡ role → PartOf terms.rows terms.output_rows w log role p.part
-            → PartOf terms.rows terms.output_rows w' log role p.part
+        part_stays : (role : Role) → p.role ≡ role → PartOf terms.rows terms.output_rows w log role p.row
+            → PartOf terms.rows terms.output_rows w' log role p.row
         part_stays Process e h = (
           h.0 ∙ sym (place_stays e),
           λ i x at. let t = h.1 i x at in
-              (t.0, same_out p.part.sequence i ∙ t.1),
+              (t.0, same_out p.row.sequence i ∙ t.1),
         )
-        part_stays Unmarshal e h = λ i x at. let t = h i x at in (t.0, same p.part.sequence (i + 48) ∙ t.1)
+        part_stays Unmarshal e h = λ i x at. let t = h i x at in (t.0, same p.row.sequence (i + 48) ∙ t.1)
         part_stays Journal e h = tt
-        part_stays Marshal e h = λ i x at. let t = h i x at in (t.0, same_out p.part.sequence (i + 64) ∙ t.1)
-        part_stays (Gateway k) e h = λ i x at. let t = h i x at in (t.0, t.1, same p.part.sequence (i + 1) ∙ t.2)
+        part_stays Marshal e h = λ i x at. let t = h i x at in (t.0, same_out p.row.sequence (i + 64) ∙ t.1)
+        part_stays (Gateway k) e h = λ i x at. let t = h i x at in (t.0, t.1, same p.row.sequence (i + 1) ∙ t.2)
 
   -- no one knows of the history that is kept but by what it knows of the log
   pub still_knows : (h : List Message) (p : Person) → Knows terms w log p → Knows terms w (record log { history = h }) p
@@ -212,17 +212,17 @@ module _ {L : Type 0} (terms : Terms L) (w : ℕ → ℕ) (log : Log) where
     role = r.role;
     front = r.front;
     depth = r.depth;
-    own = r.own;
+    sequence = r.sequence;
     mine = r.mine;
     claims = r.claims;
     loads = r.loads;
-    part = part_stays p.role r.part;
+    row = part_stays p.role r.row;
     written = r.written;
     written_texts = r.written_texts;
     out = r.out;
   } where
-    part_stays : (role : Role) → PartOf terms.rows terms.output_rows w log role p.part
-        → PartOf terms.rows terms.output_rows w (record log { history = h }) role p.part
+    part_stays : (role : Role) → PartOf terms.rows terms.output_rows w log role p.row
+        → PartOf terms.rows terms.output_rows w (record log { history = h }) role p.row
     part_stays Process t = t
     part_stays Unmarshal t = t
     part_stays Journal t = tt
@@ -236,17 +236,17 @@ module _ {L : Type 0} (terms : Terms L) (w : ℕ → ℕ) (log : Log) where
     role = r.role;
     front = r.front;
     depth = r.depth;
-    own = r.own;
+    sequence = r.sequence;
     mine = r.mine;
     claims = r.claims;
     loads = r.loads;
-    part = part_stays p.role r.part;
+    row = part_stays p.role r.row;
     written = r.written;
     written_texts = r.written_texts;
     out = is;
   } where
-    part_stays : (role : Role) → PartOf terms.rows terms.output_rows w log role p.part
-        → PartOf terms.rows terms.output_rows w (record log { slots = slots }) role p.part
+    part_stays : (role : Role) → PartOf terms.rows terms.output_rows w log role p.row
+        → PartOf terms.rows terms.output_rows w (record log { slots = slots }) role p.row
     part_stays Process t = t
     part_stays Unmarshal t = t
     part_stays Journal t = tt

@@ -78,7 +78,7 @@ times_left s t (c ∷ l) ne = dite (ℕ_discrete c s)
 module _ {L : Type 0} (terms : Terms L) where
   marked_now : (s : State Boxed (View L)) (r : Lawful terms s) (id k a : ℕ) (e : Message) (me : Seated Boxed L)
       → get_elem? s.views id ≡ some me.0 → IsAlone me.0 → (person me.0).role ≡ Gateway k
-      → r.log.status a ≡ claimed k → (person me.0).part.sequence ≡ a → SpellsMessage (person me.0).part.words e
+      → r.log.status a ≡ claimed k → (person me.0).row.sequence ≡ a → SpellsMessage (person me.0).row.words e
       → IsEntry e → e.gateway ≡ k
       → Lawful terms record {
         words = set s.words (in_row terms.rows a 0) (suc a);
@@ -127,10 +127,10 @@ module _ {L : Type 0} (terms : Terms L) where
       (λ here_is. sent_not_claimed d k (sym there ∙ ap status here_is ∙ is)) ∙ there in
       let num : number_of p.role ≡ k = ap number_of role in
       let word_is : (j : ℕ) → j < raw_count e → w (in_row terms.rows a (j + 1)) ≡ raw_word e j = λ j few. (
-      let there = stands p.part.words j (subst (λ (y : ℕ). j < y) (sym spelled.long) few) in
-      let h = subst (λ (z : Role). PartOf terms.rows terms.output_rows w r.log z p.part) role knows.part j there.0
+      let there = stands p.row.words j (subst (λ (y : ℕ). j < y) (sym spelled.long) few) in
+      let h = subst (λ (z : Role). PartOf terms.rows terms.output_rows w r.log z p.row) role knows.row j there.0
       there.1 in
-      ap (λ (t : ℕ). w (in_row terms.rows t (j + 1))) (sym on_row) ∙ h.2 ∙ read_at p.part.words j there.0 there.1
+      ap (λ (t : ℕ). w (in_row terms.rows t (j + 1))) (sym on_row) ∙ h.2 ∙ read_at p.row.words j there.0 there.1
       ∙ spelled.each j few) in
       after terms s r ws' id me.0 p (marked p a e) at one refl (length-set ws here (suc a)) log'
       (ordered_stays terms w w' r.log (λ c low. control c (omega arith)) order)
@@ -208,7 +208,7 @@ module _ {L : Type 0} (terms : Terms L) where
         front = λ t d there. entries t d (knows.front t d there);
         depth = depth_risen w w' (λ c low. subst (λ (y : ℕ). w c ≤ y) (sym (control c low)) (le_refl (w c))) p.role
             (length p.seen) knows.depth;
-        own = control (word_of_role p.role) (place_low terms.gateways p.role r.few knows.role) ∙ knows.own;
+        sequence = control (word_of_role p.role) (place_low terms.gateways p.role r.few knows.role) ∙ knows.sequence;
         mine = λ t. sent_at_end t p.mine (sent_of a e) ∙ by_put status a t (sent e)
             (λ (x : Status). sent_at t p.mine ++ cond (eqb a t) (e ∷ []) [] ≡ sends_of (number_of p.role) x)
             (λ here_is. ap (λ (l : List Message). l ++ cond (eqb a t) (e ∷ []) [])
@@ -224,7 +224,7 @@ module _ {L : Type 0} (terms : Terms L) where
             (λ here_is. ap (λ (z : ℕ). times_in z (without a p.claims)) here_is ∙ times_spent a p.claims)
             (λ ne. times_left a t p.claims ne ∙ knows.claims t);
         loads = λ j l there low. subst (λ (y : ℕ). l.value ≤ y) (sym (control l.place low)) (knows.loads j l there low);
-        part = subst (λ (z : Role). PartOf terms.rows terms.output_rows w' log' z record { sequence = a; words = [] })
+        row = subst (λ (z : Role). PartOf terms.rows terms.output_rows w' log' z record { sequence = a; words = [] })
             (sym role) (λ j y there. absurd (some-ne-none y (sym there)));
         written = λ is_unmarshaller. absurd (let z : 0 ≡ 1 = ap writes_rows (sym role ∙ is_unmarshaller) in
             omega arith);
@@ -259,7 +259,7 @@ module _ {L : Type 0} (terms : Terms L) where
 
   -- a gateway publishes what it stored in a row that it claimed
   pub marks_row : (slots id k a : ℕ) (e : Message) (me : Seated Boxed L) → IsAlone me.0 → (person me.0).role ≡ Gateway k
-      → 0 < times_in a (person me.0).claims → (person me.0).part.sequence ≡ a → SpellsMessage (person me.0).part.words e
+      → 0 < times_in a (person me.0).claims → (person me.0).row.sequence ≡ a → SpellsMessage (person me.0).row.words e
       → IsEntry e → e.gateway ≡ k
       → Allows (Lawful terms) slots id me (in_row terms.rows a 0) (λ _. suc a)
       (λ _. marks_sent (step slots (in_row terms.rows a 0) (suc a) 0 none) me (suc a))
@@ -275,13 +275,13 @@ module _ {L : Type 0} (terms : Terms L) where
         λ t d next spelled' valid'. (let same : a ≡ t = omega arith in
             ap (λ (z : ℕ). (alone me.0 (marked p z e), me.1)) same
             ∙ ap (λ (z : Message). (alone me.0 (marked p t z), me.1))
-            (spelled_once p.part.words e d valid valid' spelled spelled')),
+            (spelled_once p.row.words e d valid valid' spelled spelled')),
       )
 
   pub marks_row_in : (n : ℕ) → terms.rows ≡ n → (slots id k a x : ℕ) (e : Message) (me : Seated Boxed L) (place : ℕ)
       → IsAlone me.0 → (person me.0).role ≡ Gateway k → 0 < times_in a (person me.0).claims
-      → (person me.0).part.sequence ≡ a
-      → SpellsMessage (person me.0).part.words e → IsEntry e → e.gateway ≡ k → place ≡ in_row n a 0 → x ≡ suc a
+      → (person me.0).row.sequence ≡ a
+      → SpellsMessage (person me.0).row.words e → IsEntry e → e.gateway ≡ k → place ≡ in_row n a 0 → x ≡ suc a
       → Allows (Lawful terms) slots id me place (λ _. x) (λ _. marks_sent (step slots place x 0 none) me x)
   marks_row_in n is slots id k a x e me place one role some_claim on_row spelled valid own_gateway place_is next =
       subst (λ (y : ℕ × ℕ). Allows (Lawful terms) slots id me y.0 (λ _. y.1)

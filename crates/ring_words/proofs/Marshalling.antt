@@ -53,7 +53,7 @@ module _ {L : Type 0} (terms : Terms L) where
       let w = words_of s in
       let x : ℕ = w published in
       let own = mine terms s r id me.0 p at one in let knows = own.2 in let out = r.outgoing in
-      let own_is : w marshalled ≡ p.own = subst (λ (z : Role). w (word_of_role z) ≡ p.own) role knows.own in
+      let own_is : w marshalled ≡ p.sequence = subst (λ (z : Role). w (word_of_role z) ≡ p.sequence) role knows.sequence in
       let ahead = out.marshalled_published in
       let deep : length p.seen ≤ w journalled = subst (λ (z : Role). Depth w z (length p.seen)) role knows.depth in
       let more = rest_of terms w r.log p.seen out knows.front deep in let rest : List Message = more.0 in
@@ -65,7 +65,7 @@ module _ {L : Type 0} (terms : Terms L) where
       (subst (λ (z : Role). Depth w z (length (p.seen ++ rest))) (sym role)
       (let g : length (p.seen ++ rest) ≤ w journalled = omega arith in g))
       (knows_looked terms w r.log p published x (λ _. le_refl x) knows)) (
-        (let g : p.own ≤ x = omega arith in g),
+        (let g : p.sequence ≤ x = omega arith in g),
         (
           rest,
           refl,
@@ -78,13 +78,13 @@ module _ {L : Type 0} (terms : Terms L) where
   -- what the marshaller finds at the address of an output that is published and not released
   address_is : (s : State Boxed (View L)) (r : Lawful terms s) (id q : ℕ) (me : Seated Boxed L) (logic : L) (o : Output)
       → get_elem? s.views id ≡ some me.0 → IsAlone me.0 → (person me.0).role ≡ Marshal
-      → me.0.logic ≡ Some logic → get_elem? (terms.outputs logic (person me.0).seen) q ≡ some o → (person me.0).own ≤ q
+      → me.0.logic ≡ Some logic → get_elem? (terms.outputs logic (person me.0).seen) q ≡ some o → (person me.0).sequence ≤ q
       → Shows published (person me.0) q
       → (get_elem? (outputs_by terms r.log.history) q ≡ some o)
       × (words_of s (out_row terms.rows terms.output_rows q 0) ≡ o.to)
   address_is s r id q me logic o at one role view_is there from to = let p = person me.0 in let w = words_of s in
       let own = mine terms s r id me.0 p at one in let knows = own.2 in let out = r.outgoing in
-      let own_is : w marshalled ≡ p.own = subst (λ (z : Role). w (word_of_role z) ≡ p.own) role knows.own in
+      let own_is : w marshalled ≡ p.sequence = subst (λ (z : Role). w (word_of_role z) ≡ p.sequence) role knows.sequence in
       let deep : length p.seen ≤ w journalled = subst (λ (z : Role). Depth w z (length p.seen)) role knows.depth in
       let first : IsGateway terms.gateways 1 = ((omega arith), r.some_gateway) in
       let behind : w (taken 1) ≤ w marshalled = out.taken_marshalled 1 first in
@@ -136,7 +136,7 @@ module _ {L : Type 0} (terms : Terms L) where
   -- the marshaller loads the address of an output that is published and not released, and takes the slot of its row
   -- out: that has its report
   pub loads_taking : (slots id q : ℕ) (me : Seated Boxed L) → IsAlone me.0 → (person me.0).role ≡ Marshal
-      → (person me.0).out ≡ None → (person me.0).own ≤ q → Shows published (person me.0) q
+      → (person me.0).out ≡ None → (person me.0).sequence ≤ q → Shows published (person me.0) q
       → Loads slots id me (out_row terms.rows terms.output_rows q 0)
       (takes_report (readable terms.rows terms.output_rows published) terms.outputs
       (step slots (out_row terms.rows terms.output_rows q 0) 0 0 none) me)
@@ -147,7 +147,7 @@ module _ {L : Type 0} (terms : Terms L) where
       let k : ℕ = out_row terms.rows m q 0 in
       let reports = r.log.slots.reports in
       let knows = (mine terms s r id me.0 p at one).2 in let out = r.outgoing in
-      let own_is : w marshalled ≡ p.own = subst (λ (z : Role). w (word_of_role z) ≡ p.own) role knows.own in
+      let own_is : w marshalled ≡ p.sequence = subst (λ (z : Role). w (word_of_role z) ≡ p.sequence) role knows.sequence in
       let above : q < w published = still_above terms w r.log p published q knows (omega arith) to in
       let first : IsGateway terms.gateways 1 = ((omega arith), r.some_gateway) in
       let behind : w (taken 1) ≤ w marshalled = out.taken_marshalled 1 first in
@@ -175,7 +175,7 @@ module _ {L : Type 0} (terms : Terms L) where
       (λ t from_t to_t word_is. (
       let both = same_out_row terms.rows m q t 0 0 (omega arith) (omega arith) word_is in
       let above_t : t < w published = still_above terms w r.log p published t knows (omega arith) to_t in
-      let t_is : q ≡ t = one_window p.own q t m from from_t (omega arith) (omega arith) both.0 in (
+      let t_is : q ≡ t = one_window p.sequence q t m from from_t (omega arith) (omega arith) both.0 in (
         b,
         place_is ∙ t_is,
         ap (λ (z : ℕ). (alone me.0 (with_out (looked p k (w k)) (Some b.value)), (z % m, b) ∷ me.1)) t_is,
@@ -213,7 +213,7 @@ module _ {L : Type 0} (terms : Terms L) where
   pub loads_taking_in : (n m : ℕ) → terms.rows ≡ n → terms.output_rows ≡ m
       → (slots id q : ℕ) (me : Seated Boxed L) (place : ℕ) → IsAlone me.0 → (person me.0).role ≡ Marshal
       → (person me.0).out ≡ None
-      → (person me.0).own ≤ q → Shows published (person me.0) q → place ≡ out_row n m q 0
+      → (person me.0).sequence ≤ q → Shows published (person me.0) q → place ≡ out_row n m q 0
       → Loads slots id me place (takes_report (readable n m published) terms.outputs (step slots place 0 0 none) me)
   loads_taking_in n m rows output_rows slots id q me place one role none_out from to place_is =
       subst (λ (y : ℕ). Loads slots id me y
@@ -255,7 +255,7 @@ module _ {L : Type 0} (terms : Terms L) where
 
   -- the marshaller moves its word behind the row under way, whose text it wrote whole
   pub stores_marshalled : (slots id : ℕ) (me : Seated Boxed L) (x : ℕ) (o : Output) → IsAlone me.0
-      → (person me.0).role ≡ Marshal → (person me.0).out ≡ None → x ≡ suc (person me.0).part.sequence
+      → (person me.0).role ≡ Marshal → (person me.0).out ≡ None → x ≡ suc (person me.0).row.sequence
       → WroteText (terms.outputs terms.logic) (terms.text terms.logic) (person me.0) o
       → Allows (Lawful terms) slots id me marshalled (λ _. x) (λ _. moves_own (step slots marshalled x 0 none) me x)
   stores_marshalled slots id me x o one role none_out next wrote s r wide at _ =
@@ -264,12 +264,12 @@ module _ {L : Type 0} (terms : Terms L) where
       let w = words_of s in
       let w' : ℕ → ℕ = λ (j : ℕ). get_or (set ws 32 x) j 0 in
       let own = mine terms s r id me.0 p at one in let knows = own.2 in let out = r.outgoing in let row = wrote.row in
-      let own_is : w 32 ≡ p.own = subst (λ (z : Role). w (word_of_role z) ≡ p.own) role knows.own in
+      let own_is : w 32 ≡ p.sequence = subst (λ (z : Role). w (word_of_role z) ≡ p.sequence) role knows.sequence in
       let deep : length p.seen ≤ w journalled = subst (λ (z : Role). Depth w z (length p.seen)) role knows.depth in
-      let shown : p.part.sequence < w 104 = still_above terms w r.log p published p.part.sequence knows (omega arith)
+      let shown : p.row.sequence < w 104 = still_above terms w r.log p published p.row.sequence knows (omega arith)
       wrote.shown in
-      let part = subst (λ (z : Role). PartOf terms.rows terms.output_rows w r.log z p.part) role knows.part in
-      let all : WrittenTexts terms w p.seen p.own x = texts_below terms w p part (knows.written_texts role) x
+      let part = subst (λ (z : Role). PartOf terms.rows terms.output_rows w r.log z p.row) role knows.row in
+      let all : WrittenTexts terms w p.seen p.sequence x = texts_below terms w p part (knows.written_texts role) x
       (inr (inr (next, (o, wrote)))) in
       let longer : x ≤ length (outputs_by terms p.seen) = all.short (omega arith) in
       let inside : 32 < length ws = (let v = r.wide in omega arith) in
@@ -359,7 +359,7 @@ pub copied : {L : Type 0} (n m q slots : ℕ) (outputs : L → List Message → 
     → me' ≡ (alone me.0 (with_out (looked (person me.0) k x) (Some b.value)), (q % m, b) ∷ [])
     → gives_report (readable n m published) outputs (step slots k 0 0 none) me' y me''
     → (person me.0).out ≡ None → me.0.logic ≡ Some logic → get_elem? (outputs logic (person me.0).seen) q ≡ some o
-    → (person me.0).own ≤ q → Shows published (person me.0) q → k ≡ out_row n m q 0 → x ≡ o.to
+    → (person me.0).sequence ≤ q → Shows published (person me.0) q → k ≡ out_row n m q 0 → x ≡ o.to
     → me'' ≡ (alone me.0 (looked_twice (person me.0) (out_row n m q 0) o.to), [])
 copied {L} n m q slots outputs me me' me'' k x y b logic o me_is given home view_is there from to k_is x_is =
     let p = person me.0 in let first : Person = with_out (looked p k x) (Some b.value) in

@@ -138,11 +138,11 @@ module _ {L : Type 0} (terms : Terms L) (w : ℕ → ℕ) (log : Log) where
     role = k.role;
     front = front;
     depth = deep;
-    own = k.own;
+    sequence = k.sequence;
     mine = k.mine;
     claims = k.claims;
     loads = k.loads;
-    part = k.part;
+    row = k.row;
     written = λ is. absurd (let z : 0 ≡ 1 = sym other ∙ ap writes_rows is in omega arith);
     written_texts = λ is. absurd (let z : 0 ≡ 1 = sym other ∙ ap writes_rows is in omega arith);
     out = k.out;
@@ -198,7 +198,7 @@ module _ {L : Type 0} (terms : Terms L) where
   -- a gateway and the journaller whose seats came together load processed: the gateway then knows all that the
   -- journaller has released
   pub loads_journal : (slots id : ℕ) (me : Seated Boxed L) (p q : Person) (j : ℕ) → me.0.people ≡ p ∷ q ∷ []
-      → p.role ≡ Gateway j → q.role ≡ Journal → q.own ≤ length q.seen
+      → p.role ≡ Gateway j → q.role ≡ Journal → q.sequence ≤ length q.seen
       → Allows (Lawful terms) slots id me processed (λ x. x) (sees_journal (step slots processed 0 0 none) me)
   loads_journal slots id me p q j two role_p role_q within_seen s r wide at _ =
       let w = words_of s in let x : ℕ = w processed in let status = r.log.status in
@@ -206,10 +206,10 @@ module _ {L : Type 0} (terms : Terms L) where
       let own_q = r.people id 1 me.0 q at (ap (λ (l : List Person). get_elem? l 1) two) in
       let knows_p = own_p.2 in let knows_q = own_q.2 in
       let low_p : length p.seen ≤ w journalled = subst (λ (z : Role). Depth w z (length p.seen)) role_p knows_p.depth in
-      let own_is : w journalled ≡ q.own = subst (λ (z : Role). w (word_of_role z) ≡ q.own) role_q knows_q.own in
-      let h : List Message = take q.own q.seen in
-      let long : length h ≡ q.own = length-take-le q.own q.seen within_seen in
-      let front : IsFront status h = front_taken status q.own q.seen knows_q.front in
+      let own_is : w journalled ≡ q.sequence = subst (λ (z : Role). w (word_of_role z) ≡ q.sequence) role_q knows_q.sequence in
+      let h : List Message = take q.sequence q.seen in
+      let long : length h ≡ q.sequence = length-take-le q.sequence q.seen within_seen in
+      let front : IsFront status h = front_taken status q.sequence q.seen knows_q.front in
       let learned : MeetsJournal (length terms.base) p q =
       record {
         begins = begun status p.seen h knows_p.front front (omega arith);
@@ -226,7 +226,7 @@ module _ {L : Type 0} (terms : Terms L) where
       let b_is : q ≡ b = some-injective q b (ap (λ (l : List Person). get_elem? l 1) (sym two ∙ both)) in
       let told : (z : Person × Person) → Type 0 = λ (z : Person × Person).
       (◌≡◌ {A = Seated Boxed L} (record me.0 { people = met p x h ∷ met q x q.seen ∷ [] }, me.1)
-      (record me.0 { people = met z.0 x (take z.1.own z.1.seen) ∷ met z.1 x z.1.seen ∷ [] }, me.1))
+      (record me.0 { people = met z.0 x (take z.1.sequence z.1.seen) ∷ met z.1 x z.1.seen ∷ [] }, me.1))
       × MeetsJournal (length me.0.base) z.0 z.1 in
       subst told (λ i. (a_is i, b_is i))
       (refl, subst (λ (l : List Message). MeetsJournal (length l) p q) (sym own_p.1) learned)))

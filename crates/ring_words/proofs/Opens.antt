@@ -63,9 +63,9 @@ no_claims : (k : ℕ) (o : Option Message) → 0 ≡ claims_of k (as_status o)
 no_claims k none = refl
 no_claims k (some e) = refl
 
-row_empty : (start given i : ℕ) → 128 ≤ i → opening_word start given i ≡ 0
-row_empty start given i le = cond-false (ltb i 32) start (cond (ltb i 112) given 0) (high i 32 (omega arith))
-    ∙ cond-false (ltb i 112) given 0 (high i 112 (omega arith)) where
+row_empty : (start base_outputs i : ℕ) → 128 ≤ i → opening_word start base_outputs i ≡ 0
+row_empty start base_outputs i le = cond-false (ltb i 32) start (cond (ltb i 112) base_outputs 0) (high i 32 (omega arith))
+    ∙ cond-false (ltb i 112) base_outputs 0 (high i 112 (omega arith)) where
       from : (b : Bool) (a c : ℕ) → c ≤ a → ltb a c ≡ b → b ≡ false
       from false a c le e = refl
       from true a c le e = let lt = ltb-true a c e in absurd (omega arith)
@@ -73,9 +73,9 @@ row_empty start given i le = cond-false (ltb i 32) start (cond (ltb i 112) given
       high : (a c : ℕ) → c ≤ a → ltb a c ≡ false
       high a c le = from (ltb a c) a c le refl
 
-taken_given : (start given k : ℕ) → 1 ≤ k → k ≤ 8 → opening_word start given (taken k) ≡ given
-taken_given start given k lo hi = cond-false (ltb (taken k) 32) start (cond (ltb (taken k) 112) given 0)
-    (high (taken k) 32 (omega arith)) ∙ cond-true (ltb (taken k) 112) given 0 (lt-ltb (taken k) 112 (omega arith)) where
+taken_given : (start base_outputs k : ℕ) → 1 ≤ k → k ≤ 8 → opening_word start base_outputs (taken k) ≡ base_outputs
+taken_given start base_outputs k lo hi = cond-false (ltb (taken k) 32) start (cond (ltb (taken k) 112) base_outputs 0)
+    (high (taken k) 32 (omega arith)) ∙ cond-true (ltb (taken k) 112) base_outputs 0 (lt-ltb (taken k) 112 (omega arith)) where
       from : (b : Bool) (a c : ℕ) → c ≤ a → ltb a c ≡ b → b ≡ false
       from false a c le e = refl
       from true a c le e = let lt = ltb-true a c e in absurd (omega arith)
@@ -84,16 +84,16 @@ taken_given start given k lo hi = cond-false (ltb (taken k) 32) start (cond (ltb
       high a c le = from (ltb a c) a c le refl
 
 -- whom the gateways of a crew are
-each_of : (k g : ℕ) (base : List Message) (given j : ℕ) (p : Person) → get_elem? (gateways k g base given) j ≡ some p
-    → (i : ℕ) × (k ≤ i) × (i < k + g) × (newcomer (Gateway i) base given ≡ p)
-each_of k zero base given j p at = absurd (some-ne-none p (sym at))
-each_of k (suc g) base given zero p at = (
+each_of : (k g : ℕ) (base : List Message) (base_outputs j : ℕ) (p : Person) → get_elem? (gateways k g base base_outputs) j ≡ some p
+    → (i : ℕ) × (k ≤ i) × (i < k + g) × (newcomer (Gateway i) base base_outputs ≡ p)
+each_of k zero base base_outputs j p at = absurd (some-ne-none p (sym at))
+each_of k (suc g) base base_outputs zero p at = (
   k,
   le_refl k,
   omega arith,
-  some-injective (newcomer (Gateway k) base given) p at,
+  some-injective (newcomer (Gateway k) base base_outputs) p at,
 )
-each_of k (suc g) base given (suc j) p at = let t = each_of (suc k) g base given j p at in
+each_of k (suc g) base base_outputs (suc j) p at = let t = each_of (suc k) g base base_outputs j p at in
     (t.0, (let a : suc k ≤ t.0 = t.1 in omega arith), (let a : t.0 < suc k + g = t.2 in omega arith), t.3)
 
 module _ {L : Type 0} where
@@ -104,24 +104,24 @@ module _ {L : Type 0} where
 module _ {L : Type 0} (terms : Terms L) (boxes : List Boxed) where
   -- what someone who knows the history at the start knows, and nothing more: its row under way, at this place, has no
   -- word
-  new_knows : (w : ℕ → ℕ) (role : Role) (own place : ℕ) → IsRole terms.gateways role → w (word_of_role role) ≡ own
+  new_knows : (w : ℕ → ℕ) (role : Role) (sequence place : ℕ) → IsRole terms.gateways role → w (word_of_role role) ≡ sequence
       → length terms.base ≤ w unmarshalled → length terms.base ≤ w journalled
       → (role ≡ Process → place ≡ w published) → (word_of_role role ≢ processed → place ≡ 0)
-      → Knows terms w (start_log terms.base boxes) (at_place (newcomer role terms.base own) place)
-  new_knows w role own place there is u j at_published at_none = record {
+      → Knows terms w (start_log terms.base boxes) (at_place (newcomer role terms.base sequence) place)
+  new_knows w role sequence place there is u j at_published at_none = record {
     role = there;
     front = λ s e at. ap (λ (o : Option Message). entry_of (as_status o)) at;
     depth = deep role;
-    own = is;
+    sequence = is;
     mine = λ s. no_sends (number_of role) (get_elem? terms.base s);
     claims = λ s. no_claims (number_of role) (get_elem? terms.base s);
     loads = λ i l at. absurd (some-ne-none l (sym at));
-    part = nothing_stored role refl;
+    row = nothing_stored role refl;
     out = nothing_out role;
     written = λ e. (let none = at_none (λ z. (let y : 16 ≡ 0 = sym (ap word_of_role e) ∙ z in omega arith)) in
-        none_written terms w terms.base own place (omega arith) (omega arith));
+        none_written terms w terms.base sequence place (omega arith) (omega arith));
     written_texts = λ e. (let none = at_none (λ z. (let y : 32 ≡ 0 = sym (ap word_of_role e) ∙ z in omega arith)) in
-        no_texts terms w terms.base own place (omega arith));
+        no_texts terms w terms.base sequence place (omega arith));
   } where
     deep : (role : Role) → Depth w role (length terms.base)
     deep Process = (u, j)
@@ -147,9 +147,9 @@ module _ {L : Type 0} (terms : Terms L) (boxes : List Boxed) where
 
   -- what a person of the first crew knows
   of_crew : (w : ℕ → ℕ) → terms.gateways ≤ 8 → w processed ≡ length terms.base → w unmarshalled ≡ length terms.base
-      → w journalled ≡ length terms.base → w marshalled ≡ terms.given → w published ≡ terms.given
-      → ((k : ℕ) → 1 ≤ k → k ≤ 8 → w (taken k) ≡ terms.given)
-      → (j : ℕ) (p : Person) → get_elem? (crew terms.gateways terms.base terms.given) j ≡ some p
+      → w journalled ≡ length terms.base → w marshalled ≡ terms.base_outputs → w published ≡ terms.base_outputs
+      → ((k : ℕ) → 1 ≤ k → k ≤ 8 → w (taken k) ≡ terms.base_outputs)
+      → (j : ℕ) (p : Person) → get_elem? (crew terms.gateways terms.base terms.base_outputs) j ≡ some p
       → Knows terms w (start_log terms.base boxes) p
   of_crew w few_gates first second third fourth last each j p at = by_place j at where
     n : ℕ
@@ -161,11 +161,11 @@ module _ {L : Type 0} (terms : Terms L) (boxes : List Boxed) where
     v : length terms.base ≤ w journalled
     v = omega arith
 
-    by_place : (j : ℕ) → get_elem? (crew terms.gateways terms.base terms.given) j ≡ some p
+    by_place : (j : ℕ) → get_elem? (crew terms.gateways terms.base terms.base_outputs) j ≡ some p
         → Knows terms w (start_log terms.base boxes) p
     by_place zero at = subst (Knows terms w (start_log terms.base boxes))
-        (some-injective (processor terms.base terms.given) p at)
-        (new_knows w Process n terms.given tt first u v (λ _. sym last) (λ ne. absurd (ne refl)))
+        (some-injective (processor terms.base terms.base_outputs) p at)
+        (new_knows w Process n terms.base_outputs tt first u v (λ _. sym last) (λ ne. absurd (ne refl)))
     by_place (suc zero) at = subst (Knows terms w (start_log terms.base boxes))
         (some-injective (newcomer Unmarshal terms.base n) p at)
         (new_knows w Unmarshal n 0 tt second u v (λ e. absurd (let z : 16 ≡ 0 = ap word_of_role e in omega arith))
@@ -175,23 +175,23 @@ module _ {L : Type 0} (terms : Terms L) (boxes : List Boxed) where
         (new_knows w Journal n 0 tt third u v (λ e. absurd (let z : 24 ≡ 0 = ap word_of_role e in omega arith))
         (λ _. refl))
     by_place (suc (suc (suc zero))) at = subst (Knows terms w (start_log terms.base boxes))
-        (some-injective (newcomer Marshal terms.base terms.given) p at)
-        (new_knows w Marshal terms.given 0 tt fourth u v
+        (some-injective (newcomer Marshal terms.base terms.base_outputs) p at)
+        (new_knows w Marshal terms.base_outputs 0 tt fourth u v
         (λ e. absurd (let z : 32 ≡ 0 = ap word_of_role e in omega arith)) (λ _. refl))
     by_place (suc (suc (suc (suc j)))) at = let g : ℕ = terms.gateways in
-        let t = each_of 1 g terms.base terms.given j p at in
+        let t = each_of 1 g terms.base terms.base_outputs j p at in
         let k : ℕ = t.0 in
         let lo : 1 ≤ k = t.1 in
         let hi : k < 1 + g = t.2 in
         let few_g : g ≤ 8 = few_gates in let le : k ≤ 8 = omega arith in let inside : k ≤ g = omega arith in
         subst (Knows terms w (start_log terms.base boxes)) t.3
-        (new_knows w (Gateway k) terms.given 0 (lo, inside) (each k lo le) u v
+        (new_knows w (Gateway k) terms.base_outputs 0 (lo, inside) (each k lo le) u v
         (λ e. absurd (let z : 32 + 8 * k ≡ 0 = ap word_of_role e in omega arith)) (λ _. refl))
 
   pub starts : (ws : List ℕ) → 0 < terms.rows → 0 < terms.output_rows → 1 ≤ terms.gateways → terms.gateways ≤ 8
-      → terms.given ≡ length (outputs_by terms terms.base) → length terms.base ≤ 2 ^ 48
+      → terms.base_outputs ≡ length (outputs_by terms terms.base) → length terms.base ≤ 2 ^ 48
       → length boxes ≡ terms.output_rows → length ws ≡ table_words terms.rows terms.output_rows
-      → ((k : ℕ) → k < length ws → get_or ws k 0 ≡ opening_word (length terms.base) terms.given k)
+      → ((k : ℕ) → k < length ws → get_or ws k 0 ≡ opening_word (length terms.base) terms.base_outputs k)
       → Lawful terms (opening ws boxes (first_view terms))
   starts ws pos out_pos some_gates few_gates given_is small count wide is = let b : ℕ = length terms.base in
       let w : ℕ → ℕ = λ (k : ℕ). get_or ws k 0 in
@@ -199,14 +199,14 @@ module _ {L : Type 0} (terms : Terms L) (boxes : List Boxed) where
       let claim_is : w 8 ≡ b = is 8 (omega arith) in
       let unmarshalled_is : w 16 ≡ b = is 16 (omega arith) in
       let journalled_is : w 24 ≡ b = is 24 (omega arith) in
-      let m_is : w 32 ≡ terms.given = is 32 (omega arith) in let p_is : w 104 ≡ terms.given = is 104 (omega arith) in
-      let each : (k : ℕ) → 1 ≤ k → k ≤ 8 → w (taken k) ≡ terms.given =
+      let m_is : w 32 ≡ terms.base_outputs = is 32 (omega arith) in let p_is : w 104 ≡ terms.base_outputs = is 104 (omega arith) in
+      let each : (k : ℕ) → 1 ≤ k → k ≤ 8 → w (taken k) ≡ terms.base_outputs =
       λ k lo hi. is (taken k) (let x : 32 + 8 * k < length ws = omega arith in x)
-      ∙ taken_given b terms.given k lo hi in
+      ∙ taken_given b terms.base_outputs k lo hi in
       let gate : (k : ℕ) → IsGateway terms.gateways k → w (taken k)
-      ≡ terms.given = λ k g. (let lo : 1 ≤ k = g.0 in let hi : k ≤ terms.gateways = g.1 in
+      ≡ terms.base_outputs = λ k g. (let lo : 1 ≤ k = g.0 in let hi : k ≤ terms.gateways = g.1 in
       each k lo (omega arith)) in
-      let none_left : (k q : ℕ) → IsGateway terms.gateways k → w (taken k) ≤ q → q < terms.given
+      let none_left : (k q : ℕ) → IsGateway terms.gateways k → w (taken k) ≤ q → q < terms.base_outputs
       → ⊥ = λ k q g from to. (let e = gate k g in omega arith) in
       record {
         log = start_log terms.base boxes;
@@ -242,7 +242,7 @@ module _ {L : Type 0} (terms : Terms L) (boxes : List Boxed) where
           marks = λ s x e. (let k : ℕ = in_row terms.rows s 0 in
               let zero_there : w k ≡ 0 = is k
               (subst (λ (y : ℕ). k < y) (sym wide) (row_inside terms.rows terms.output_rows s 0 pos (omega arith)))
-              ∙ row_empty b terms.given k (omega arith) in absurd (omega arith));
+              ∙ row_empty b terms.base_outputs k (omega arith) in absurd (omega arith));
           shown = λ s e at. absurd (not_old (get_elem? terms.base s) e at);
           raw = λ s e at. absurd (not_old (get_elem? terms.base s) e at);
           commands = λ s e at. absurd (not_old (get_elem? terms.base s) e at);
@@ -276,12 +276,12 @@ module _ {L : Type 0} (terms : Terms L) (boxes : List Boxed) where
         };
         people = λ id j v p there in_it. (let first : View L = first_view terms in
             let is_first : first ≡ v = only_view first id v there in
-            let at : get_elem? (crew terms.gateways terms.base terms.given) j
+            let at : get_elem? (crew terms.gateways terms.base terms.base_outputs) j
             ≡ some p = subst (λ (u : View L). get_elem? u.people j ≡ some p) (sym is_first) in_it in (
               ap (λ (u : View L). u.logic) (sym is_first),
               ap (λ (u : View L). u.base) (sym is_first),
               of_crew w few_gates done_is unmarshalled_is journalled_is m_is p_is each j p at,
             ));
-        once = λ k. (let x : ℕ = owners k (crew terms.gateways terms.base terms.given) in
+        once = λ k. (let x : ℕ = owners k (crew terms.gateways terms.base terms.base_outputs) in
             let g : x + 0 ≡ x = omega arith in g);
       }

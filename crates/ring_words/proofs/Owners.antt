@@ -40,23 +40,23 @@ owners_both k (p ∷ ps) qs = by_case (eqb (word_of_role p.role) k) (owners_both
   by_case false h = h
 
 -- the gateways from number k on: no two of them have one word, and none has a word before that of the first
-few : (k g : ℕ) (base : List Message) (given x : ℕ) → (owners x (gateways k g base given) ≤ 1)
-    × (x < taken k → owners x (gateways k g base given) ≡ 0)
-few k zero base given x = ((omega arith), λ _. refl)
-few k (suc g) base given x = let rest : ℕ = owners x (gateways (suc k) g base given) in
-    let t = few (suc k) g base given x in
+few : (k g : ℕ) (base : List Message) (base_outputs x : ℕ) → (owners x (gateways k g base base_outputs) ≤ 1)
+    × (x < taken k → owners x (gateways k g base base_outputs) ≡ 0)
+few k zero base base_outputs x = ((omega arith), λ _. refl)
+few k (suc g) base base_outputs x = let rest : ℕ = owners x (gateways (suc k) g base base_outputs) in
+    let t = few (suc k) g base base_outputs x in
     by_case (ℕ_discrete (taken k) x) t where
-      by_case : Dec (taken k ≡ x) → (owners x (gateways (suc k) g base given) ≤ 1)
-          × (x < taken (suc k) → owners x (gateways (suc k) g base given) ≡ 0)
-          → (owners x (gateways k (suc g) base given) ≤ 1) × (x < taken k → owners x (gateways k (suc g) base given) ≡ 0)
-      by_case (yes e) t = let rest : ℕ = owners x (gateways (suc k) g base given) in
+      by_case : Dec (taken k ≡ x) → (owners x (gateways (suc k) g base base_outputs) ≤ 1)
+          × (x < taken (suc k) → owners x (gateways (suc k) g base base_outputs) ≡ 0)
+          → (owners x (gateways k (suc g) base base_outputs) ≤ 1) × (x < taken k → owners x (gateways k (suc g) base base_outputs) ≡ 0)
+      by_case (yes e) t = let rest : ℕ = owners x (gateways (suc k) g base base_outputs) in
           let e' : 32 + 8 * k ≡ x = e in
           let none_left : rest ≡ 0 = t.1 (let g : x < 32 + 8 * suc k = omega arith in g) in
-          let is : owners x (gateways k (suc g) base given) ≡ suc rest =
+          let is : owners x (gateways k (suc g) base base_outputs) ≡ suc rest =
           cond-true (eqb (taken k) x) (suc rest) rest (eq-eqb (taken k) x e) in
           ((omega arith), λ lt. absurd (omega arith))
-      by_case (no ne) t = let rest : ℕ = owners x (gateways (suc k) g base given) in
-          let is : owners x (gateways k (suc g) base given) ≡ rest =
+      by_case (no ne) t = let rest : ℕ = owners x (gateways (suc k) g base base_outputs) in
+          let is : owners x (gateways k (suc g) base base_outputs) ≡ rest =
           cond-false (eqb (taken k) x) (suc rest) rest (ne_eqb (taken k) x ne) in (
             (let a : rest ≤ 1 = t.0 in omega arith),
             λ (lt : x < 32 + 8 * k). is
@@ -78,17 +78,17 @@ one_before p ps x b is rest = by_case (ℕ_discrete (word_of_role p.role) x) res
       let few : owners x ps ≤ 1 = rest.0 in ((omega arith), λ lt. all ∙ rest.1 (omega arith))
 
 -- no two persons of the crew have one word
-pub few_in_crew : (g : ℕ) (base : List Message) (given x : ℕ) → owners x (crew g base given) ≤ 1
-few_in_crew g base given x = let n : ℕ = length base in
-    let rest = few 1 g base given x in
-    let marshaller = newcomer Marshal base given ∷ gateways 1 g base given in
+pub few_in_crew : (g : ℕ) (base : List Message) (base_outputs x : ℕ) → owners x (crew g base base_outputs) ≤ 1
+few_in_crew g base base_outputs x = let n : ℕ = length base in
+    let rest = few 1 g base base_outputs x in
+    let marshaller = newcomer Marshal base base_outputs ∷ gateways 1 g base base_outputs in
     let journaller = newcomer Journal base n ∷ marshaller in
     let unmarshaller = newcomer Unmarshal base n ∷ journaller in
-    let fourth = one_before (newcomer Marshal base given) (gateways 1 g base given) x 32 refl
+    let fourth = one_before (newcomer Marshal base base_outputs) (gateways 1 g base base_outputs) x 32 refl
     (rest.0, λ le. rest.1 (omega arith)) in
     let third = one_before (newcomer Journal base n) marshaller x 24 refl (fourth.0, λ le. fourth.1 (omega arith)) in
     let second = one_before (newcomer Unmarshal base n) journaller x 16 refl (third.0, λ le. third.1 (omega arith)) in
-    (one_before (processor base given) unmarshaller x 0 refl (second.0, λ le. second.1 (omega arith))).0
+    (one_before (processor base base_outputs) unmarshaller x 0 refl (second.0, λ le. second.1 (omega arith))).0
 
 module _ {L : Type 0} where
   -- a seat's persons are among all

@@ -76,8 +76,8 @@ module _ {L : Type 0} (terms : Terms L) where
 module _ {L : Type 0} (terms : Terms L) where
   -- the processor moves its word to what it knows at most; all outputs of the entries below it are published
   pub stores_processed : (slots id : ℕ) (me : Seated Boxed L) (x : ℕ) (lg : L) → me.0.logic ≡ Some lg → IsAlone me.0
-      → (person me.0).role ≡ Process → (person me.0).own ≤ x → x ≤ length (person me.0).seen
-      → length (terms.outputs lg (take x (person me.0).seen)) ≤ (person me.0).part.sequence
+      → (person me.0).role ≡ Process → (person me.0).sequence ≤ x → x ≤ length (person me.0).seen
+      → length (terms.outputs lg (take x (person me.0).seen)) ≤ (person me.0).row.sequence
       → Allows (Lawful terms) slots id me processed (λ _. x) (λ _. moves_own (step slots processed x 0 none) me x)
   stores_processed slots id me x lg view_is one role low high all_by s r wide at _ =
       let p = person me.0 in
@@ -87,15 +87,15 @@ module _ {L : Type 0} (terms : Terms L) where
       let h = r.log.history in
       let own = mine terms s r id me.0 p at one in
       let knows = own.2 in
-      let own_is : w 0 ≡ p.own = subst (λ (z : Role). w (word_of_role z) ≡ p.own) role knows.own in
+      let own_is : w 0 ≡ p.sequence = subst (λ (z : Role). w (word_of_role z) ≡ p.sequence) role knows.sequence in
       let deep = subst (λ (z : Role). Depth w z (length p.seen)) role knows.depth in
       let deep_0 : length p.seen ≤ w 16 = deep.0 in
       let deep_1 : length p.seen ≤ w 24 = deep.1 in
-      let part = subst (λ (z : Role). PartOf terms.rows terms.output_rows w r.log z p.part) role knows.part in
-      let place_is : p.part.sequence ≡ w 104 = part.0 in
+      let part = subst (λ (z : Role). PartOf terms.rows terms.output_rows w r.log z p.row) role knows.row in
+      let place_is : p.row.sequence ≡ w 104 = part.0 in
       let logic_is : lg ≡ terms.logic = same_Some lg terms.logic (sym view_is ∙ own.0) in
-      let all : length (outputs_by terms (take x p.seen)) ≤ p.part.sequence =
-      subst (λ (l : L). length (terms.outputs l (take x p.seen)) ≤ p.part.sequence) logic_is all_by in
+      let all : length (outputs_by terms (take x p.seen)) ≤ p.row.sequence =
+      subst (λ (l : L). length (terms.outputs l (take x p.seen)) ≤ p.row.sequence) logic_is all_by in
       let kept_now : length h ≡ w 24 = r.outgoing.kept in
       let longer = begins r.log.status h p.seen r.outgoing.front knows.front (omega arith) in
       let same : take x h ≡ take x p.seen = ap (take x) longer.1 ∙ take-append-le x p.seen longer.0 high in

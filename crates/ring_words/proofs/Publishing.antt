@@ -119,13 +119,13 @@ module _ {L : Type 0} (terms : Terms L) where
   -- report
   pub stores_published : (slots id : ℕ) (me : Seated Boxed L) (x : ℕ) (lg : L) (o : Output) (f : PlacedOutput)
       (b : Boxed) → me.0.logic ≡ Some lg → IsAlone me.0 → (person me.0).role ≡ Process
-      → x ≡ suc (person me.0).part.sequence
-      → HasOutputRoom terms.gateways terms.output_rows (person me.0) (person me.0).part.sequence
-      → get_elem? (terms.outputs lg (take (suc (person me.0).own) (person me.0).seen)) (person me.0).part.sequence
-      ≡ some o → (person me.0).part.words ≡ o.to ∷ []
-      → (person me.0).out ≡ Some f → f.place ≡ (person me.0).part.sequence
-      → me.1 ≡ ((person me.0).part.sequence % terms.output_rows, b) ∷ []
-      → b.value ≡ report_of o (person me.0).part.sequence
+      → x ≡ suc (person me.0).row.sequence
+      → HasOutputRoom terms.gateways terms.output_rows (person me.0) (person me.0).row.sequence
+      → get_elem? (terms.outputs lg (take (suc (person me.0).sequence) (person me.0).seen)) (person me.0).row.sequence
+      ≡ some o → (person me.0).row.words ≡ o.to ∷ []
+      → (person me.0).out ≡ Some f → f.place ≡ (person me.0).row.sequence
+      → me.1 ≡ ((person me.0).row.sequence % terms.output_rows, b) ∷ []
+      → b.value ≡ report_of o (person me.0).row.sequence
       → Allows (Lawful terms) slots id me published (λ _. x) (λ _. publishes (step slots published x 0 none) me x)
   stores_published slots id me x lg o f b view_is one role next room at_by whole out_is place_f carried b_is s r wide at
       _ =
@@ -133,10 +133,10 @@ module _ {L : Type 0} (terms : Terms L) where
       let ws = s.words in let w = words_of s in let ws' = set ws 104 x in let w' : ℕ → ℕ = λ (j : ℕ). get_or ws' j 0 in
       let own = mine terms s r id me.0 p at one in
       let knows = own.2 in
-      let own_is : w 0 ≡ p.own = subst (λ (z : Role). w (word_of_role z) ≡ p.own) role knows.own in
+      let own_is : w 0 ≡ p.sequence = subst (λ (z : Role). w (word_of_role z) ≡ p.sequence) role knows.sequence in
       let deep = subst (λ (z : Role). Depth w z (length p.seen)) role knows.depth in
       let deep_1 : length p.seen ≤ w 24 = deep.1 in
-      let part = at_published terms s r id me at one role in let place_is : p.part.sequence ≡ w 104 = part.0 in
+      let part = at_published terms s r id me at one role in let place_is : p.row.sequence ≡ w 104 = part.0 in
       let logic_is : lg ≡ terms.logic = same_Some lg terms.logic (sym view_is ∙ own.0) in
       let inside : 104 < length ws = (let v = r.wide in omega arith) in
       let here : w' 104 ≡ x = word_here ws 104 x inside in
@@ -149,24 +149,24 @@ module _ {L : Type 0} (terms : Terms L) where
       (let up : w 104 ≤ x = omega arith in up) in
       let kept_now : length h ≡ w 24 = r.outgoing.kept in
       let longer = begins r.log.status h p.seen r.outgoing.front knows.front (omega arith) in
-      let more = take_longer (suc p.own) p.seen longer.0 in
-      let first : get_elem? (outputs_by terms (take (suc p.own) p.seen)) p.part.sequence
-      ≡ some o = subst (λ (l : L). get_elem? (terms.outputs l (take (suc p.own) p.seen)) p.part.sequence ≡ some o)
+      let more = take_longer (suc p.sequence) p.seen longer.0 in
+      let first : get_elem? (outputs_by terms (take (suc p.sequence) p.seen)) p.row.sequence
+      ≡ some o = subst (λ (l : L). get_elem? (terms.outputs l (take (suc p.sequence) p.seen)) p.row.sequence ≡ some o)
       logic_is at_by in
-      let grown : get_elem? (outputs_by terms (take (suc p.own) h)) p.part.sequence
-      ≡ some o = subst (λ (l : List Message). get_elem? (outputs_by terms l) p.part.sequence ≡ some o)
-      (sym (ap (take (suc p.own)) longer.1 ∙ more.1))
-      (output_stays terms (take (suc p.own) p.seen) more.0 p.part.sequence o first) in
+      let grown : get_elem? (outputs_by terms (take (suc p.sequence) h)) p.row.sequence
+      ≡ some o = subst (λ (l : List Message). get_elem? (outputs_by terms l) p.row.sequence ≡ some o)
+      (sym (ap (take (suc p.sequence)) longer.1 ∙ more.1))
+      (output_stays terms (take (suc p.sequence) p.seen) more.0 p.row.sequence o first) in
       let in_history : get_elem? (outputs_by terms (take (suc (w 0)) h)) (w 104)
       ≡ some o = subst (λ (k : ℕ). get_elem? (outputs_by terms (take (suc k) h)) (w 104) ≡ some o) (sym own_is)
-      (subst (λ (q : ℕ). get_elem? (outputs_by terms (take (suc p.own) h)) q ≡ some o) place_is grown) in
+      (subst (λ (q : ℕ). get_elem? (outputs_by terms (take (suc p.sequence) h)) q ≡ some o) place_is grown) in
       let address : w (out_row n m (w 104) 0) ≡ o.to = ap (λ (q : ℕ). w (out_row n m q 0)) (sym place_is)
       ∙ (part.1 0 o.to (ap (λ (l : List ℕ). get_elem? l 0) whole)).1 in
       let filling_is : r.log.slots.filling
       ≡ Some f = sym (subst (λ (z : Role). OutOf r.log.slots z p.out) role knows.out) ∙ out_is in
       let behind = (r.outgoing.filling f filling_is).1 in
       let slots' : Slots = published_slots r.log.slots (w 104 % m) b.value in
-      let row_is : p.part.sequence % m ≡ w 104 % m = ap (λ (q : ℕ). q % m) place_is in
+      let row_is : p.row.sequence % m ≡ w 104 % m = ap (λ (q : ℕ). q % m) place_is in
       let input : (c : ℕ) → c < marshalled → w' c ≡ w c = λ c low. else c (λ (e : c ≡ 104). omega arith) in (
         alone me.0 (with_out (at_place p x) None),
         gives,
@@ -185,25 +185,25 @@ module _ {L : Type 0} (terms : Terms L) where
             (rows_stay terms w w' r.log input r.logged (all_rows terms w w' r.log (λ t i _. same t i)) r.rows))
             (outgoing_published terms w w' r.log o r.few (here ∙ next ∙ ap suc place_is)
             (λ k low. else k (λ (e : k ≡ 104). let lt : k < 104 = low in omega arith)) same_out
-            (λ k g. (let lt = has_room terms s r id me p.part.sequence at one room k g in omega arith)) in_history
+            (λ k g. (let lt = has_room terms s r id me p.row.sequence at one room k g in omega arith)) in_history
             address b.value (b_is ∙ ap (report_of o) place_is) behind r.outgoing)
             (set s.homes (w 104 % m) (some b))
             (filling_given m r.log.slots s.homes r.filled f b (w 104 % m) (ap (λ (q : ℕ). q % m) (place_f ∙ place_is))
             (mod-lt (w 104) r.some_output_row) filling_is)
             (knows_out terms w' r.log slots' (at_place p x) None
             (subst (λ (z : Role). OutOf slots' z None) (sym role) refl)
-            (knows_on terms w r.log w' p p.own (at_place p x).part rises
-            (else (word_of_role p.role) (not_published terms.gateways p.role r.few knows.role) ∙ knows.own)
-            (subst (λ (z : Role). PartOf n m w' r.log z (at_place p x).part) (sym role)
+            (knows_on terms w r.log w' p p.sequence (at_place p x).row rises
+            (else (word_of_role p.role) (not_published terms.gateways p.role r.few knows.role) ∙ knows.sequence)
+            (subst (λ (z : Role). PartOf n m w' r.log z (at_place p x).row) (sym role)
             (sym here, λ i y there. absurd (some-ne-none y (sym there))))
             (λ is. absurd (let z : 0 ≡ 16 = ap word_of_role (sym role ∙ is) in omega arith))
             (λ is. absurd (let z : 0 ≡ 32 = ap word_of_role (sym role ∙ is) in omega arith)) knows))
             (λ d other known. knows_out terms w' r.log slots' d d.out
             (others_out r.log.slots slots' d.role d.out
             (λ is. absurd (other (ap word_of_role is ∙ sym (ap word_of_role role)))) (λ _. refl) known.out)
-            (knows_risen terms w r.log w' d d.own rises same same_out
+            (knows_risen terms w r.log w' d d.sequence rises same same_out
             (λ (is : d.role ≡ Process). absurd (other (ap word_of_role is ∙ sym (ap word_of_role role))))
-            (else (word_of_role d.role) (not_published terms.gateways d.role r.few known.role) ∙ known.own) known))),
+            (else (word_of_role d.role) (not_published terms.gateways d.role r.few known.role) ∙ known.sequence) known))),
         refl,
       )
 
@@ -211,37 +211,37 @@ module _ {L : Type 0} (terms : Terms L) where
   pub stores_published_in : (m g : ℕ) → terms.output_rows ≡ m → terms.gateways ≡ g
       → (slots id : ℕ) (me : Seated Boxed L) (x : ℕ) (lg : L) (o : Output) (f : PlacedOutput) (b : Boxed)
       → me.0.logic ≡ Some lg → IsAlone me.0
-      → (person me.0).role ≡ Process → x ≡ suc (person me.0).part.sequence
-      → HasOutputRoom g m (person me.0) (person me.0).part.sequence
-      → get_elem? (terms.outputs lg (take (suc (person me.0).own) (person me.0).seen)) (person me.0).part.sequence
-      ≡ some o → (person me.0).part.words ≡ o.to ∷ []
-      → (person me.0).out ≡ Some f → f.place ≡ (person me.0).part.sequence
-      → me.1 ≡ ((person me.0).part.sequence % m, b) ∷ [] → b.value ≡ report_of o (person me.0).part.sequence
+      → (person me.0).role ≡ Process → x ≡ suc (person me.0).row.sequence
+      → HasOutputRoom g m (person me.0) (person me.0).row.sequence
+      → get_elem? (terms.outputs lg (take (suc (person me.0).sequence) (person me.0).seen)) (person me.0).row.sequence
+      ≡ some o → (person me.0).row.words ≡ o.to ∷ []
+      → (person me.0).out ≡ Some f → f.place ≡ (person me.0).row.sequence
+      → me.1 ≡ ((person me.0).row.sequence % m, b) ∷ [] → b.value ≡ report_of o (person me.0).row.sequence
       → Allows (Lawful terms) slots id me published (λ _. x) (λ _. publishes (step slots published x 0 none) me x)
   stores_published_in m g is many slots id me x lg o f b view_is one role next room at_by whole out_is place_f carried
       b_is =
       stores_published slots id me x lg o f b view_is one role next
-      (subst (λ (j : ℕ). HasOutputRoom j terms.output_rows (person me.0) (person me.0).part.sequence) (sym many)
-      (subst (λ (j : ℕ). HasOutputRoom g j (person me.0) (person me.0).part.sequence) (sym is) room))
-      at_by whole out_is place_f (carried ∙ ap (λ (j : ℕ). ((person me.0).part.sequence % j, b) ∷ []) (sym is)) b_is
+      (subst (λ (j : ℕ). HasOutputRoom j terms.output_rows (person me.0) (person me.0).row.sequence) (sym many)
+      (subst (λ (j : ℕ). HasOutputRoom g j (person me.0) (person me.0).row.sequence) (sym is) room))
+      at_by whole out_is place_f (carried ∙ ap (λ (j : ℕ). ((person me.0).row.sequence % j, b) ∷ []) (sym is)) b_is
 
   -- the same behind the store of the address and the exchange: the slot of the row is out, with the report
   pub publishes_put : (m g : ℕ) → terms.output_rows ≡ m → terms.gateways ≡ g
       → (slots id : ℕ) (me me' : Seated Boxed L) (x : ℕ) (lg : L) (o : Output) (f : PlacedOutput) (b : Boxed)
       → me.0.logic ≡ Some lg
-      → (person me.0).role ≡ Process → x ≡ suc (person me.0).part.sequence
-      → HasOutputRoom g m (person me.0) (person me.0).part.sequence
-      → get_elem? (terms.outputs lg (take (suc (person me.0).own) (person me.0).seen)) (person me.0).part.sequence
-      ≡ some o → f.place ≡ (person me.0).part.sequence → b.value ≡ report_of o (person me.0).part.sequence
+      → (person me.0).role ≡ Process → x ≡ suc (person me.0).row.sequence
+      → HasOutputRoom g m (person me.0) (person me.0).row.sequence
+      → get_elem? (terms.outputs lg (take (suc (person me.0).sequence) (person me.0).seen)) (person me.0).row.sequence
+      ≡ some o → f.place ≡ (person me.0).row.sequence → b.value ≡ report_of o (person me.0).row.sequence
       → me' ≡ (
-        alone me.0 (with_out (wrote (person me.0) (person me.0).part.sequence (o.to ∷ [])) (Some f)),
-        ((person me.0).part.sequence % m, b) ∷ [],
+        alone me.0 (with_out (wrote (person me.0) (person me.0).row.sequence (o.to ∷ [])) (Some f)),
+        ((person me.0).row.sequence % m, b) ∷ [],
       )
       → Allows (Lawful terms) slots id me' published (λ _. x) (λ _. publishes (step slots published x 0 none) me' x)
   publishes_put m g is many slots id me me' x lg o f b view_is role next room at_by place_f b_is me_is = let p =
       person me.0 in
-      let q : Person = with_out (wrote p p.part.sequence (o.to ∷ [])) (Some f) in
+      let q : Person = with_out (wrote p p.row.sequence (o.to ∷ [])) (Some f) in
       subst (λ (z : Seated Boxed L). Allows (Lawful terms) slots id z published (λ _. x)
       (λ _. publishes (step slots published x 0 none) z x)) (sym me_is)
-      (stores_published_in m g is many slots id (alone me.0 q, (p.part.sequence % m, b) ∷ []) x lg o f b view_is refl
+      (stores_published_in m g is many slots id (alone me.0 q, (p.row.sequence % m, b) ∷ []) x lg o f b view_is refl
       role next room at_by refl refl place_f refl b_is)

@@ -41,10 +41,10 @@ module _ {L : Type 0} (terms : Terms L) where
   -- the processor's place at the output ring is published, and the words stored so far stand in its row
   pub at_published : (s : State Boxed (View L)) (r : Lawful terms s) (id : ℕ) (me : Seated Boxed L)
       → get_elem? s.views id ≡ some me.0 → IsAlone me.0 → (person me.0).role ≡ Process
-      → PartOf terms.rows terms.output_rows (words_of s) r.log Process (person me.0).part
+      → PartOf terms.rows terms.output_rows (words_of s) r.log Process (person me.0).row
   at_published s r id me at one role =
-      subst (λ (z : Role). PartOf terms.rows terms.output_rows (words_of s) r.log z (person me.0).part) role
-      (mine terms s r id me.0 (person me.0) at one).2.part
+      subst (λ (z : Role). PartOf terms.rows terms.output_rows (words_of s) r.log z (person me.0).row) role
+      (mine terms s r id me.0 (person me.0) at one).2.row
 
   -- what the taken values that were loaded leave room for, the taken words do
   pub has_room : (s : State Boxed (View L)) (r : Lawful terms s) (id : ℕ) (me : Seated Boxed L) (q : ℕ)
@@ -74,7 +74,7 @@ module _ {L : Type 0} (terms : Terms L) where
       let w = words_of s in
       let x : ℕ = w (taken k) in
       let knows = (mine terms s r id me.0 p at one).2 in
-      let place_is : p.part.sequence ≡ w published = (at_published s r id me at one role).0 in
+      let place_is : p.row.sequence ≡ w published = (at_published s r id me at one role).0 in
       let low : x ≤ w marshalled = r.outgoing.taken_marshalled k g in
       let high : w marshalled ≤ w published = r.outgoing.marshalled_published in
       let near : w published ≤ x + terms.output_rows = r.outgoing.free k g in
@@ -107,20 +107,20 @@ module _ {L : Type 0} (terms : Terms L) where
   -- whose slot is taken out
   put_now : (s : State Boxed (View L)) (r : Lawful terms s) (id x : ℕ) (me : Seated Boxed L) (f : PlacedOutput)
       → get_elem? s.views id ≡ some me.0 → IsAlone me.0 → (person me.0).role ≡ Process
-      → (person me.0).out ≡ None → f.place ≡ (person me.0).part.sequence
-      → HasOutputRoom terms.gateways terms.output_rows (person me.0) (person me.0).part.sequence
-      → ((b : Boxed) × (get_elem? s.homes ((person me.0).part.sequence % terms.output_rows) ≡ some (some b)))
+      → (person me.0).out ≡ None → f.place ≡ (person me.0).row.sequence
+      → HasOutputRoom terms.gateways terms.output_rows (person me.0) (person me.0).row.sequence
+      → ((b : Boxed) × (get_elem? s.homes ((person me.0).row.sequence % terms.output_rows) ≡ some (some b)))
       × Lawful terms record {
-        words = set s.words (out_row terms.rows terms.output_rows (person me.0).part.sequence 0) x;
-        homes = set s.homes ((person me.0).part.sequence % terms.output_rows) none;
+        words = set s.words (out_row terms.rows terms.output_rows (person me.0).row.sequence 0) x;
+        homes = set s.homes ((person me.0).row.sequence % terms.output_rows) none;
         views = set s.views id (alone me.0
-            (with_out (wrote (person me.0) (person me.0).part.sequence (x ∷ [])) (Some f)));
+            (with_out (wrote (person me.0) (person me.0).row.sequence (x ∷ [])) (Some f)));
       }
   put_now s r id x me f at one role none_out place room =
       let p = person me.0 in
       let n : ℕ = terms.rows in
       let m : ℕ = terms.output_rows in
-      let a : ℕ = p.part.sequence in
+      let a : ℕ = p.row.sequence in
       let ws = s.words in
       let w = words_of s in
       let here : ℕ = out_row n m a 0 in
@@ -183,10 +183,10 @@ module _ {L : Type 0} (terms : Terms L) where
             (set s.homes (a % m) none)
             (filling_taken m r.log.slots s.homes r.filled f (a % m) (ap (λ (z : ℕ). z % m) place) home)
             (knows_out terms w' r.log slots q (Some f) (subst (λ (z : Role). OutOf slots z (Some f)) (sym role) refl)
-            (knows_on terms w r.log w' p p.own q.part
+            (knows_on terms w r.log w' p p.sequence q.row
             (λ c low. subst (λ (y : ℕ). w c ≤ y) (sym (control c low)) (le_refl (w c)))
-            (control (word_of_role p.role) (place_low terms.gateways p.role r.few knows.role) ∙ knows.own)
-            (subst (λ (z : Role). PartOf n m w' r.log z q.part) (sym role) (
+            (control (word_of_role p.role) (place_low terms.gateways p.role r.few knows.role) ∙ knows.sequence)
+            (subst (λ (z : Role). PartOf n m w' r.log z q.row) (sym role) (
               place_is ∙ sym (control published (omega arith)),
               λ j y in_it. first_word (λ (i z : ℕ). (i < 1) × (w' (out_row n m a i) ≡ z)) x j y
                   ((omega arith), word_here ws here x inside) in_it,
@@ -210,12 +210,12 @@ module _ {L : Type 0} (terms : Terms L) where
   -- the processor stores the address of the next output in its row, which every gateway has passed
   pub puts_output : (slots id x : ℕ) (me : Seated Boxed L) (o : Output) → IsAlone me.0 → (person me.0).role ≡ Process
       → (person me.0).out ≡ None
-      → HasOutputRoom terms.gateways terms.output_rows (person me.0) (person me.0).part.sequence
-      → Allows (Lawful terms) slots id me (out_row terms.rows terms.output_rows (person me.0).part.sequence 0) (λ _. x)
+      → HasOutputRoom terms.gateways terms.output_rows (person me.0) (person me.0).row.sequence
+      → Allows (Lawful terms) slots id me (out_row terms.rows terms.output_rows (person me.0).row.sequence 0) (λ _. x)
       (λ _. puts_address terms.rows terms.output_rows
-      (step slots (out_row terms.rows terms.output_rows (person me.0).part.sequence 0) x 0 none) me x)
+      (step slots (out_row terms.rows terms.output_rows (person me.0).row.sequence 0) x 0 none) me x)
   puts_output slots id x me o one role none_out room s r wide at _ = let p = person me.0 in
-      let a : ℕ = p.part.sequence in
+      let a : ℕ = p.row.sequence in
       let f : PlacedOutput = report_of o a in
       let now = put_now s r id x me f at one role none_out refl room in (
         alone me.0 (with_out (wrote p a (x ∷ [])) (Some f)),
@@ -228,11 +228,11 @@ module _ {L : Type 0} (terms : Terms L) where
   -- the same, where the code's numbers of rows, output rows and gateways are the key's
   pub puts_output_in : (n m g : ℕ) → terms.rows ≡ n → terms.output_rows ≡ m → terms.gateways ≡ g
       → (slots id x : ℕ) (me : Seated Boxed L) (o : Output) (place : ℕ) → IsAlone me.0 → (person me.0).role ≡ Process
-      → (person me.0).out ≡ None → HasOutputRoom g m (person me.0) (person me.0).part.sequence
-      → place ≡ out_row n m (person me.0).part.sequence 0
+      → (person me.0).out ≡ None → HasOutputRoom g m (person me.0) (person me.0).row.sequence
+      → place ≡ out_row n m (person me.0).row.sequence 0
       → Allows (Lawful terms) slots id me place (λ _. x) (λ _. puts_address n m (step slots place x 0 none) me x)
   puts_output_in n m g is out_is many slots id x me o place one role none_out room place_is = let a : ℕ =
-      (person me.0).part.sequence in
+      (person me.0).row.sequence in
       subst (λ (y : ℕ). Allows (Lawful terms) slots id me y (λ _. x)
       (λ _. puts_address n m (step slots y x 0 none) me x)) (sym place_is)
       (subst (λ (j : ℕ). Allows (Lawful terms) slots id me (out_row j m a 0) (λ _. x)

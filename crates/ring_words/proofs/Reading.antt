@@ -38,10 +38,10 @@ module _ {L : Type 0} (terms : Terms L) (w : ℕ → ℕ) (log : Log) (p : Perso
 
   -- a gateway's number is one of those that there are, and its taken word is its own
   pub gateway_owns : (k : ℕ) → p.role ≡ Gateway k → Knows terms w log p
-      → IsGateway terms.gateways k × (w (taken k) ≡ p.own)
+      → IsGateway terms.gateways k × (w (taken k) ≡ p.sequence)
   gateway_owns k role knows = (
     subst (IsRole terms.gateways) role knows.role,
-    subst (λ (z : Role). w (word_of_role z) ≡ p.own) role knows.own,
+    subst (λ (z : Role). w (word_of_role z) ≡ p.sequence) role knows.sequence,
   )
 
 module _ {L : Type 0} (terms : Terms L) where
@@ -58,7 +58,7 @@ module _ {L : Type 0} (terms : Terms L) where
       let own = mine terms s r id me.0 p at one in
       let knows = own.2 in
       let owns = gateway_owns terms w r.log p k role knows in
-      let own_is : w (taken k) ≡ p.own = owns.1 in
+      let own_is : w (taken k) ≡ p.sequence = owns.1 in
       looks terms s r place id me (looked p place x)
       (sees_address (readable terms.rows terms.output_rows marshalled) terms.outputs (step slots place 0 0 none) me)
       at one refl (knows_looked terms w r.log p place x (λ _. le_refl x) knows) (
@@ -94,7 +94,7 @@ module _ {L : Type 0} (terms : Terms L) where
       let own = mine terms s r id me.0 p at one in
       let knows = own.2 in
       let owns = gateway_owns terms w r.log p k role knows in
-      let own_is : w (taken k) ≡ p.own = owns.1 in
+      let own_is : w (taken k) ≡ p.sequence = owns.1 in
       looks terms s r place id me (looked p place x)
       (sees_text (readable terms.rows terms.output_rows marshalled) (meaning terms.outputs terms.text)
       (step slots place 0 0 none) me) at one refl (knows_looked terms w r.log p place x (λ _. le_refl x) knows) (

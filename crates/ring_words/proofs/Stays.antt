@@ -178,31 +178,31 @@ others_know terms w w' log log' o few slots_are entries sends claims control sam
   front = λ s e at. entries s e (r.front s e at);
   depth = depth_risen w w' (λ c low. subst (λ (y : ℕ). w c ≤ y) (sym (control c low)) (le_refl (w c))) o.role
       (length o.seen) r.depth;
-  own = control (word_of_role o.role) (place_low terms.gateways o.role few r.role) ∙ r.own;
+  sequence = control (word_of_role o.role) (place_low terms.gateways o.role few r.role) ∙ r.sequence;
   mine = λ s. r.mine s ∙ sends s;
   claims = λ s. r.claims s ∙ claims s;
   loads = λ i l at low. subst (λ (y : ℕ). l.value ≤ y) (sym (control l.place low)) (r.loads i l at low);
-  part = part_stays o.role refl r.part;
-  written = λ is. written_on terms w w' o.seen o.own o.own o.part.sequence (le_refl o.own)
+  row = part_stays o.role refl r.row;
+  written = λ is. written_on terms w w' o.seen o.sequence o.sequence o.row.sequence (le_refl o.sequence)
       (λ s i x e lo hi at. (let size = short_words e.gateway (command_by terms s e) in
       let few = within (commands_of terms s e) i x at in same.commands s i is (omega arith)))
       (r.written is);
-  written_texts = λ is. texts_on terms w w' o.seen o.own o.own o.part.sequence (le_refl o.own)
+  written_texts = λ is. texts_on terms w w' o.seen o.sequence o.sequence o.row.sequence (le_refl o.sequence)
       (λ q i lo hi few. same.texts q i is few) (r.written_texts is);
   out = subst (λ (x : Slots). OutOf x o.role o.out) (sym slots_are) r.out;
 } where
-  part_stays : (role : Role) → o.role ≡ role → PartOf terms.rows terms.output_rows w log role o.part
-      → PartOf terms.rows terms.output_rows w' log' role o.part
+  part_stays : (role : Role) → o.role ≡ role → PartOf terms.rows terms.output_rows w log role o.row
+      → PartOf terms.rows terms.output_rows w' log' role o.row
   part_stays Process is h = (
     h.0 ∙ sym (control published (omega arith)),
     λ i x at. let t = h.1 i x at in
-        (t.0, same.outputs o.part.sequence i is t.0 ∙ t.1),
+        (t.0, same.outputs o.row.sequence i is t.0 ∙ t.1),
   )
-  part_stays Unmarshal is h = λ i x at. let t = h i x at in (t.0, same.commands o.part.sequence i is t.0 ∙ t.1)
+  part_stays Unmarshal is h = λ i x at. let t = h i x at in (t.0, same.commands o.row.sequence i is t.0 ∙ t.1)
   part_stays Journal is h = tt
-  part_stays Marshal is h = λ i x at. let t = h i x at in (t.0, same.texts o.part.sequence i is t.0 ∙ t.1)
+  part_stays Marshal is h = λ i x at. let t = h i x at in (t.0, same.texts o.row.sequence i is t.0 ∙ t.1)
   part_stays (Gateway j) is h = λ i x at. let t = h i x at in
-      let u = same.raw o.part.sequence i j is t.0 t.1 in
+      let u = same.raw o.row.sequence i j is t.0 t.1 in
       (t.0, u.0, u.1 ∙ t.2)
 
 -- what holds of the words of a row so far, and of the next one as word i, holds of all of them
@@ -232,11 +232,11 @@ module _ {L : Type 0} (terms : Terms L) where
       → SameRows terms (words_of s) (λ j. get_or (set s.words here x) j 0) r.log
       → SameOutputs terms (words_of s) (λ j. get_or (set s.words here x) j 0)
       → PartOf terms.rows terms.output_rows (λ j. get_or (set s.words here x) j 0) r.log (person me.0).role
-      (stored (person me.0) a i x).part
+      (stored (person me.0) a i x).row
       → ((person me.0).role ≡ Unmarshal → Written terms (λ j. get_or (set s.words here x) j 0) (person me.0).seen
-      (person me.0).own a)
+      (person me.0).sequence a)
       → ((person me.0).role ≡ Marshal → WrittenTexts terms (λ j. get_or (set s.words here x) j 0) (person me.0).seen
-      (person me.0).own a)
+      (person me.0).sequence a)
       → ((o : Person) → word_of_role o.role ≢ word_of_role (person me.0).role
       → SameParts terms (words_of s) (λ j. get_or (set s.words here x) j 0) r.log r.log o.role)
       → Lawful terms record {
@@ -259,9 +259,9 @@ module _ {L : Type 0} (terms : Terms L) where
       (outgoing_stays terms w w' r.log r.log r.few refl refl r.outgoing.front (control processed (omega arith))
       (control journalled (omega arith)) (λ c _ low. control c low) outputs r.outgoing)
       s.homes r.filled
-      (knows_on terms w r.log w' p p.own (stored p a i x).part
+      (knows_on terms w r.log w' p p.sequence (stored p a i x).row
       (λ c low. subst (λ (y : ℕ). w c ≤ y) (sym (control c low)) (le_refl (w c)))
-      (control (word_of_role p.role) (place_low terms.gateways p.role r.few knows.role) ∙ knows.own) part written texts
+      (control (word_of_role p.role) (place_low terms.gateways p.role r.few knows.role) ∙ knows.sequence) part written texts
       knows)
       (λ o apart known. others_know terms w w' r.log r.log o r.few refl (λ _ _ e. e) (λ _. refl) (λ _. refl) control
       (others o apart) known)

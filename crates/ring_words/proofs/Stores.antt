@@ -43,7 +43,7 @@ module _ {L : Type 0} (terms : Terms L) where
   -- words, what lies below unmarshalled and journalled, and the output ring
   pub own_now : (s : State Boxed (View L)) (r : Lawful terms s) (h : List Message) (id : ℕ) (me : Seated Boxed L)
       (k x : ℕ) → get_elem? s.views id ≡ some me.0 → IsAlone me.0 → word_of_role (person me.0).role ≡ k
-      → k < first_row → k ≢ claim → k ≢ published → (person me.0).own ≤ x
+      → k < first_row → k ≢ claim → k ≢ published → (person me.0).sequence ≤ x
       → Ordered terms (λ j. get_or (set s.words k x) j 0)
       → ((t : ℕ) → t < get_or (set s.words k x) unmarshalled 0 → (e : Message) × (entry_of (r.log.status t) ≡ some e))
       → ((t : ℕ) → t < get_or (set s.words k x) journalled 0 → (e : Message) × (entry_of (r.log.status t) ≡ some e))
@@ -65,7 +65,7 @@ module _ {L : Type 0} (terms : Terms L) where
       let ws' = set ws k x in
       let w' : ℕ → ℕ = λ (j : ℕ). get_or ws' j 0 in
       let knows = (mine terms s r id me.0 p at one).2 in
-      let own_is : w k ≡ p.own = subst (λ (j : ℕ). w j ≡ p.own) place knows.own in
+      let own_is : w k ≡ p.sequence = subst (λ (j : ℕ). w j ≡ p.sequence) place knows.sequence in
       let inside : k < length ws = (let v = r.wide in let lt : k < 128 = low in omega arith) in
       let here : w' k ≡ x = word_here ws k x inside in
       let claim_is : w' claim ≡ w claim = word_else ws k claim x (λ e. no_claim (sym e)) in
@@ -88,13 +88,13 @@ module _ {L : Type 0} (terms : Terms L) where
       (still_knows terms w' r.log h (moved p x)
       (knows_risen terms w r.log w' p x rises same same_out (λ _. published_is) (ap w' place ∙ here) knows))
       (λ o apart_from known. still_knows terms w' r.log h o
-      (knows_risen terms w r.log w' o o.own rises same same_out (λ _. published_is)
-      (word_else ws k (word_of_role o.role) x (λ e. apart_from (e ∙ sym place)) ∙ known.own) known))
+      (knows_risen terms w r.log w' o o.sequence rises same same_out (λ _. published_is)
+      (word_else ws k (word_of_role o.role) x (λ e. apart_from (e ∙ sym place)) ∙ known.sequence) known))
 
   -- the same of an own word of the output ring: its part of the rule alone is left to show
   pub own_output_now : (s : State Boxed (View L)) (r : Lawful terms s) (id : ℕ) (me : Seated Boxed L) (k x : ℕ)
       → get_elem? s.views id ≡ some me.0 → IsAlone me.0 → word_of_role (person me.0).role ≡ k
-      → marshalled ≤ k → k < published → (person me.0).own ≤ x
+      → marshalled ≤ k → k < published → (person me.0).sequence ≤ x
       → Outgoing terms (λ j. get_or (set s.words k x) j 0) r.log
       → Lawful terms record {
         words = set s.words k x;
@@ -116,7 +116,7 @@ module _ {L : Type 0} (terms : Terms L) where
 
   -- the journaller moves its word to what it knows at most
   pub stores_journalled : (slots id : ℕ) (me : Seated Boxed L) (x : ℕ) → IsAlone me.0 → (person me.0).role ≡ Journal
-      → (person me.0).own ≤ x → x ≤ length (person me.0).seen
+      → (person me.0).sequence ≤ x → x ≤ length (person me.0).seen
       → Allows (Lawful terms) slots id me journalled (λ _. x) (λ _. moves_own (step slots journalled x 0 none) me x)
   stores_journalled slots id me x one role low high s r wide at _ =
       let p = person me.0 in
@@ -124,7 +124,7 @@ module _ {L : Type 0} (terms : Terms L) where
       let w = words_of s in
       let w' : ℕ → ℕ = λ (j : ℕ). get_or (set ws 24 x) j 0 in
       let knows = (mine terms s r id me.0 p at one).2 in
-      let own_is : w 24 ≡ p.own = subst (λ (z : Role). w (word_of_role z) ≡ p.own) role knows.own in
+      let own_is : w 24 ≡ p.sequence = subst (λ (z : Role). w (word_of_role z) ≡ p.sequence) role knows.sequence in
       let reach = reaches terms w r.log p.seen r.logged knows.front in
       let inside : 24 < length ws = (let v = r.wide in omega arith) in
       let here : w' 24 ≡ x = word_here ws 24 x inside in
@@ -170,7 +170,7 @@ module _ {L : Type 0} (terms : Terms L) where
 
   -- the unmarshaller moves its word behind the row under way, whose command it wrote whole
   pub stores_unmarshalled : (slots id : ℕ) (me : Seated Boxed L) (x : ℕ) (e : Message) → IsAlone me.0
-      → (person me.0).role ≡ Unmarshal → x ≡ suc (person me.0).part.sequence
+      → (person me.0).role ≡ Unmarshal → x ≡ suc (person me.0).row.sequence
       → WroteCommand (terms.reads terms.logic) (person me.0) e
       → Allows (Lawful terms) slots id me unmarshalled (λ _. x) (λ _. moves_own (step slots unmarshalled x 0 none) me x)
   stores_unmarshalled slots id me x e one role next wrote s r wide at _ =
@@ -179,11 +179,11 @@ module _ {L : Type 0} (terms : Terms L) where
       let w = words_of s in
       let w' : ℕ → ℕ = λ (j : ℕ). get_or (set ws 16 x) j 0 in
       let knows = (mine terms s r id me.0 p at one).2 in
-      let own_is : w 16 ≡ p.own = subst (λ (z : Role). w (word_of_role z) ≡ p.own) role knows.own in
+      let own_is : w 16 ≡ p.sequence = subst (λ (z : Role). w (word_of_role z) ≡ p.sequence) role knows.sequence in
       let reach = reaches terms w r.log p.seen r.logged knows.front in let row = wrote.row in
-      let longer : p.part.sequence < length p.seen = within p.seen p.part.sequence e wrote.entry in
-      let part = subst (λ (z : Role). PartOf terms.rows terms.output_rows w r.log z p.part) role knows.part in
-      let all : Written terms w p.seen p.own x = written_below terms w p part (knows.written role) x
+      let longer : p.row.sequence < length p.seen = within p.seen p.row.sequence e wrote.entry in
+      let part = subst (λ (z : Role). PartOf terms.rows terms.output_rows w r.log z p.row) role knows.row in
+      let all : Written terms w p.seen p.sequence x = written_below terms w p part (knows.written role) x
       (inr (inr (next, (e, wrote)))) (omega arith) in
       let inside : 16 < length ws = (let v = r.wide in omega arith) in
       let here : w' 16 ≡ x = word_here ws 16 x inside in

@@ -121,13 +121,13 @@ module _ {L : Type 0} (terms : Terms L) where
       let own = mine terms s r id me.0 p at one in
       let knows = own.2 in
       let owns = gateway_owns terms w r.log p k role knows in
-      let own_is : w (taken k) ≡ p.own = owns.1 in
+      let own_is : w (taken k) ≡ p.sequence = owns.1 in
       let below : w (taken k) ≤ x = r.outgoing.taken_marshalled k owns.0 in
       let after_load = knows_looked terms w r.log p marshalled x (λ _. le_refl x) knows in
-      dite (ℕ_discrete x p.own)
-      (λ (same : x ≡ p.own). looks terms s r marshalled id me (looked p marshalled x) then at one refl after_load
-      ((omega arith), (λ _. refl), (λ (more : p.own < x). absurd (omega arith))))
-      (λ (ne : x ≢ p.own). let h = r.log.history in let longer = goes_on_kept terms w r.log p k role r.outgoing knows in
+      dite (ℕ_discrete x p.sequence)
+      (λ (same : x ≡ p.sequence). looks terms s r marshalled id me (looked p marshalled x) then at one refl after_load
+      ((omega arith), (λ _. refl), (λ (more : p.sequence < x). absurd (omega arith))))
+      (λ (ne : x ≢ p.sequence). let h = r.log.history in let longer = goes_on_kept terms w r.log p k role r.outgoing knows in
       let rest : List Message = longer.0 in let is : h ≡ p.seen ++ rest = longer.1 in
       let front : IsFront r.log.status (p.seen ++ rest) = subst (IsFront r.log.status) is r.outgoing.front in
       let kept : length (p.seen ++ rest) ≤ w journalled = (let a : length h ≡ w journalled = r.outgoing.kept in
@@ -144,17 +144,17 @@ module _ {L : Type 0} (terms : Terms L) where
               (legal_front terms w r.log p (p.seen ++ rest) r.logged knows front),
           (let claimed = r.order.journalled_claimed in let most = r.order.most in omega arith),
           λ logic view_is. (let logic_is : terms.logic ≡ logic = same_Some terms.logic logic (sym own.0 ∙ view_is) in
-              let found = has_output terms w r.log p.own r.outgoing more in (
+              let found = has_output terms w r.log p.sequence r.outgoing more in (
                 found.0,
-                subst (λ (l : L). get_elem? (terms.outputs l (p.seen ++ rest)) p.own ≡ some found.0) logic_is
-                    (subst (λ (b : List Message). get_elem? (outputs_by terms b) p.own ≡ some found.0) is found.1),
+                subst (λ (l : L). get_elem? (terms.outputs l (p.seen ++ rest)) p.sequence ≡ some found.0) logic_is
+                    (subst (λ (b : List Message). get_elem? (outputs_by terms b) p.sequence ≡ some found.0) is found.1),
               )),
         ),
       ))
 
   -- a gateway moves its taken word behind the next output, which a value of marshalled that it loaded showed
   pub stores_taken : (slots id k : ℕ) (me : Seated Boxed L) (x : ℕ) → IsAlone me.0 → (person me.0).role ≡ Gateway k
-      → x ≡ suc (person me.0).own → Shows marshalled (person me.0) (person me.0).own
+      → x ≡ suc (person me.0).sequence → Shows marshalled (person me.0) (person me.0).sequence
       → Allows (Lawful terms) slots id me (taken k) (λ _. x) (λ _. moves_own (step slots (taken k) x 0 none) me x)
   stores_taken slots id k me x one role next shown s r wide at _ =
       let p = person me.0 in
@@ -164,9 +164,9 @@ module _ {L : Type 0} (terms : Terms L) where
       let w' : ℕ → ℕ = λ (j : ℕ). get_or (set ws here x) j 0 in
       let knows = (mine terms s r id me.0 p at one).2 in
       let owns = gateway_owns terms w r.log p k role knows in
-      let own_is : w here ≡ p.own = owns.1 in
+      let own_is : w here ≡ p.sequence = owns.1 in
       let lo : 1 ≤ k = owns.0.0 in let hi : k ≤ terms.gateways = owns.0.1 in let few = r.few in
-      let below : p.own < w marshalled = still_above terms w r.log p marshalled p.own knows (omega arith) shown in
+      let below : p.sequence < w marshalled = still_above terms w r.log p marshalled p.sequence knows (omega arith) shown in
       let inside : here < length ws = (let v = r.wide in let n : ℕ = terms.rows in let m : ℕ = terms.output_rows in
       omega arith) in
       let stored : w' here ≡ x = word_here ws here x inside in
@@ -181,7 +181,7 @@ module _ {L : Type 0} (terms : Terms L) where
 
   -- the same, at the place that the code found
   pub stores_taken_at : (slots id k : ℕ) (me : Seated Boxed L) (place x : ℕ) → place ≡ taken k → IsAlone me.0
-      → (person me.0).role ≡ Gateway k → x ≡ suc (person me.0).own → Shows marshalled (person me.0) (person me.0).own
+      → (person me.0).role ≡ Gateway k → x ≡ suc (person me.0).sequence → Shows marshalled (person me.0) (person me.0).sequence
       → Allows (Lawful terms) slots id me place (λ _. x) (λ _. moves_own (step slots place x 0 none) me x)
   stores_taken_at slots id k me place x is one role next shown =
       subst (λ (j : ℕ). Allows (Lawful terms) slots id me j (λ _. x) (λ _. moves_own (step slots j x 0 none) me x))

@@ -25,7 +25,7 @@ module _ {L : Type 0} (terms : Terms L) where
   -- the rule holds after a text word is stored in the row of an output that is published and not released
   pub text_stored_now : (s : State Boxed (View L)) (r : Lawful terms s) (id a i x : ℕ) (me : Seated Boxed L)
       → get_elem? s.views id ≡ some me.0 → IsAlone me.0 → (person me.0).role ≡ Marshal
-      → (person me.0).own ≤ a → a < words_of s published → i < 64 → GoesOnRow (person me.0).part a i
+      → (person me.0).sequence ≤ a → a < words_of s published → i < 64 → GoesOnRow (person me.0).row a i
       → MayWriteText (terms.outputs terms.logic) (terms.text terms.logic) (person me.0) a
       → Lawful terms record {
         words = set s.words (out_row terms.rows terms.output_rows a (i + 64)) x;
@@ -42,7 +42,7 @@ module _ {L : Type 0} (terms : Terms L) where
       let w' : ℕ → ℕ = λ (j : ℕ). get_or (set ws here x) j 0 in
       let low : i + 64 < 128 = omega arith in
       let knows = (mine terms s r id me.0 p at one).2 in let out = r.outgoing in
-      let own_is : w marshalled ≡ p.own = subst (λ (z : Role). w (word_of_role z) ≡ p.own) role knows.own in
+      let own_is : w marshalled ≡ p.sequence = subst (λ (z : Role). w (word_of_role z) ≡ p.sequence) role knows.sequence in
       let inside : here < length ws = subst (λ (y : ℕ). here < y) (sym r.wide)
       (out_row_inside n m a (i + 64) r.some_output_row low) in
       let rows : (t j : ℕ) → j < 64 → w' (in_row n t j) ≡ w (in_row n t j) =
@@ -62,24 +62,24 @@ module _ {L : Type 0} (terms : Terms L) where
             (λ same. absurd (let one_place : q ≡ a = one_window (w (taken k)) q a m (omega arith) (omega arith)
             (omega arith) (omega arith) same in omega arith)));
       }
-      (subst (λ (z : Role). PartOf n m w' r.log z (stored p a i x).part) (sym role)
-      (one_word_more (λ (j y : ℕ). (j < 64) × (w' (out_row n m a (j + 64)) ≡ y)) p.part a i x goes_on
-      (λ j y lt on there. (let h = subst (λ (z : Role). PartOf n m w r.log z p.part) role knows.part j y there in (
+      (subst (λ (z : Role). PartOf n m w' r.log z (stored p a i x).row) (sym role)
+      (one_word_more (λ (j y : ℕ). (j < 64) × (w' (out_row n m a (j + 64)) ≡ y)) p.row a i x goes_on
+      (λ j y lt on there. (let h = subst (λ (z : Role). PartOf n m w r.log z p.row) role knows.row j y there in (
         h.0,
         stays a (j + 64) (let few = h.0 in omega arith) (λ _. (λ (e : j + 64 ≡ i + 64). omega arith))
             ∙ ap (λ (t : ℕ). w (out_row n m t (j + 64))) (sym on) ∙ h.1,
       )))
       (small, word_here ws here x inside)))
       (λ is. absurd (let z : 32 ≡ 16 = ap word_of_role (sym role ∙ is) in omega arith))
-      (λ _. (let below = texts_below terms w p (subst (λ (z : Role). PartOf n m w r.log z p.part) role knows.part)
+      (λ _. (let below = texts_below terms w p (subst (λ (z : Role). PartOf n m w r.log z p.row) role knows.row)
       (knows.written_texts role) a may in
-      texts_on terms w w' p.seen p.own p.own a (le_refl p.own)
+      texts_on terms w w' p.seen p.sequence p.sequence a (le_refl p.sequence)
       (λ q j lo hi few. (let ready' : a < w 104 = ready in
       let first : IsGateway terms.gateways 1 = ((omega arith), r.some_gateway) in
       let free : w 104 ≤ w (taken 1) + m = out.free 1 first in
       let behind : w (taken 1) ≤ w 32 = out.taken_marshalled 1 first in
       stays q (j + 64) (omega arith)
-      (λ same. absurd (let one_place : q ≡ a = one_window p.own q a m lo (omega arith) (omega arith) (omega arith)
+      (λ same. absurd (let one_place : q ≡ a = one_window p.sequence q a m lo (omega arith) (omega arith) (omega arith)
       same in omega arith))))
       below))
       (λ o other. record {
@@ -91,7 +91,7 @@ module _ {L : Type 0} (terms : Terms L) where
 
   -- the marshaller stores the next word of the text of an output that is published and not released
   pub writes_text : (slots id a i x : ℕ) (me : Seated Boxed L) → IsAlone me.0 → (person me.0).role ≡ Marshal
-      → (person me.0).own ≤ a → Shows published (person me.0) a → i < 64 → GoesOnRow (person me.0).part a i
+      → (person me.0).sequence ≤ a → Shows published (person me.0) a → i < 64 → GoesOnRow (person me.0).row a i
       → MayWriteText (terms.outputs terms.logic) (terms.text terms.logic) (person me.0) a
       → Allows (Lawful terms) slots id me (out_row terms.rows terms.output_rows a (i + 64)) (λ _. x)
       (λ _. stores_text terms.rows terms.output_rows
@@ -101,7 +101,7 @@ module _ {L : Type 0} (terms : Terms L) where
       let w = words_of s in
       let knows = (mine terms s r id me.0 p at one).2 in
       let out = r.outgoing in
-      let own_is : w marshalled ≡ p.own = subst (λ (z : Role). w (word_of_role z) ≡ p.own) role knows.own in
+      let own_is : w marshalled ≡ p.sequence = subst (λ (z : Role). w (word_of_role z) ≡ p.sequence) role knows.sequence in
       let first : IsGateway terms.gateways 1 = ((omega arith), r.some_gateway) in
       let free = out.free 1 first in
       let behind = out.taken_marshalled 1 first in
@@ -114,7 +114,7 @@ module _ {L : Type 0} (terms : Terms L) where
             let both = same_out_row terms.rows terms.output_rows a q (i + 64) (j + 64)
             (let g : i + 64 < 128 = omega arith in g) (let g : j + 64 < 128 = omega arith in g) place_is in
             let ready_q = still_above terms w r.log p published q knows (omega arith) to_q in
-            let eq : a ≡ q = one_window p.own a q terms.output_rows from from_q (omega arith) (omega arith) both.0 in
+            let eq : a ≡ q = one_window p.sequence a q terms.output_rows from from_q (omega arith) (omega arith) both.0 in
             let same_word : i + 64 ≡ j + 64 = both.1 in let word_is : i ≡ j = omega arith in
             ap (λ (z : ℕ). (alone me.0 (stored p z i x), me.1)) eq
             ∙ ap (λ (z : ℕ). (alone me.0 (stored p q z x), me.1)) word_is),
@@ -123,8 +123,8 @@ module _ {L : Type 0} (terms : Terms L) where
   -- the same, where the code's sizes are the key's
   pub writes_text_in : (n m : ℕ) → terms.rows ≡ n → terms.output_rows ≡ m
       → (slots id a i x : ℕ) (me : Seated Boxed L) (place : ℕ) → IsAlone me.0 → (person me.0).role ≡ Marshal
-      → (person me.0).own ≤ a → Shows published (person me.0) a
-      → i < 64 → GoesOnRow (person me.0).part a i → MayWriteText (terms.outputs terms.logic) (terms.text terms.logic)
+      → (person me.0).sequence ≤ a → Shows published (person me.0) a
+      → i < 64 → GoesOnRow (person me.0).row a i → MayWriteText (terms.outputs terms.logic) (terms.text terms.logic)
       (person me.0) a → place ≡ out_row n m a (i + 64) → Allows (Lawful terms) slots id me place (λ _. x)
       (λ _. stores_text n m (step slots place x 0 none) me x)
   writes_text_in n m rows output_rows slots id a i x me place one role from to small goes_on may place_is =

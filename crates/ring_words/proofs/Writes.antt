@@ -74,7 +74,7 @@ module _ {L : Type 0} (terms : Terms L) (w : ℕ → ℕ) (log : Log) (order : O
 module _ {L : Type 0} (terms : Terms L) where
   stored_now : (s : State Boxed (View L)) (r : Lawful terms s) (id k a i x : ℕ) (me : Seated Boxed L)
       → get_elem? s.views id ≡ some me.0 → IsAlone me.0 → (person me.0).role ≡ Gateway k
-      → r.log.status a ≡ claimed k → i < 41 → GoesOnRow (person me.0).part a i
+      → r.log.status a ≡ claimed k → i < 41 → GoesOnRow (person me.0).row a i
       → Lawful terms record {
         words = set s.words (in_row terms.rows a (i + 1)) x;
         homes = s.homes;
@@ -107,10 +107,10 @@ module _ {L : Type 0} (terms : Terms L) where
             (λ _. (λ (z : j + 48 ≡ i + 1). omega arith));
       }
       (all_outputs terms w w' outside)
-      (subst (λ (z : Role). PartOf n m w' r.log z (stored p a i x).part) (sym role)
-      (one_word_more (λ (j y : ℕ). (j < 41) × (r.log.status a ≡ claimed k) × (w' (in_row n a (j + 1)) ≡ y)) p.part a i x
+      (subst (λ (z : Role). PartOf n m w' r.log z (stored p a i x).row) (sym role)
+      (one_word_more (λ (j y : ℕ). (j < 41) × (r.log.status a ≡ claimed k) × (w' (in_row n a (j + 1)) ≡ y)) p.row a i x
       goes_on
-      (λ j y lt on there. (let h = subst (λ (z : Role). PartOf n m w r.log z p.part) role knows.part j y there in (
+      (λ j y lt on there. (let h = subst (λ (z : Role). PartOf n m w r.log z p.row) role knows.row j y there in (
         h.0,
         is,
         stays a (j + 1) (let few = h.0 in omega arith) (λ _. (λ (e : j + 1 ≡ i + 1). omega arith))
@@ -138,7 +138,7 @@ module _ {L : Type 0} (terms : Terms L) where
 
   -- a gateway stores the next raw word of a row that it claimed
   pub writes_raw : (slots id k a i x : ℕ) (me : Seated Boxed L) → IsAlone me.0 → (person me.0).role ≡ Gateway k
-      → 0 < times_in a (person me.0).claims → i < 41 → GoesOnRow (person me.0).part a i
+      → 0 < times_in a (person me.0).claims → i < 41 → GoesOnRow (person me.0).row a i
       → Allows (Lawful terms) slots id me (in_row terms.rows a (i + 1)) (λ _. x)
       (λ _. stores_raw terms.rows (step slots (in_row terms.rows a (i + 1)) x 0 none) me x)
   writes_raw slots id k a i x me one role mine_is small goes_on s r wide at _ =
@@ -167,7 +167,7 @@ module _ {L : Type 0} (terms : Terms L) where
       )
 
   pub writes_raw_in : (n : ℕ) → terms.rows ≡ n → (slots id k a i x : ℕ) (me : Seated Boxed L) (place : ℕ) → IsAlone me.0
-      → (person me.0).role ≡ Gateway k → 0 < times_in a (person me.0).claims → i < 41 → GoesOnRow (person me.0).part a i
+      → (person me.0).role ≡ Gateway k → 0 < times_in a (person me.0).claims → i < 41 → GoesOnRow (person me.0).row a i
       → place ≡ in_row n a (i + 1) → Allows (Lawful terms) slots id me place (λ _. x)
       (λ _. stores_raw n (step slots place x 0 none) me x)
   writes_raw_in n is slots id k a i x me place one role mine_is small goes_on place_is =

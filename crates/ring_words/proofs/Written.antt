@@ -56,34 +56,34 @@ module _ {L : Type 0} (terms : Terms L) (w : ℕ → ℕ) where
     packable = λ s e there lo hi. absurd (omega arith);
   }
 
-  module _ (p : Person) (part : CommandStands terms.rows w p.part)
-      (before : Written terms w p.seen p.own p.part.sequence) where
+  module _ (p : Person) (part : CommandStands terms.rows w p.row)
+      (before : Written terms w p.seen p.sequence p.row.sequence) where
     -- with the row under way, when its command is written whole
-    with_row : (e : Message) → WroteCommand (terms.reads terms.logic) p e → suc p.part.sequence ≤ length p.seen
-        → Written terms w p.seen p.own (suc p.part.sequence)
+    with_row : (e : Message) → WroteCommand (terms.reads terms.logic) p e → suc p.row.sequence ≤ length p.seen
+        → Written terms w p.seen p.sequence (suc p.row.sequence)
     with_row e wrote known = record {
       short = known;
-      commands = λ s d there lo hi i x at. dite (ℕ_discrete s p.part.sequence)
+      commands = λ s d there lo hi i x at. dite (ℕ_discrete s p.row.sequence)
           (λ here. (let stand = part i x
           (ap (λ (l : List ℕ). get_elem? l i)
-          (wrote.words ∙ ap (commands_of terms p.part.sequence) (same_entry s d here there)
+          (wrote.words ∙ ap (commands_of terms p.row.sequence) (same_entry s d here there)
           ∙ ap (λ (t : ℕ). commands_of terms t d) (sym here)) ∙ at) in
           ap (λ (t : ℕ). w (in_row terms.rows t (i + 48))) here ∙ stand.1))
           (λ other. before.commands s d there lo (omega arith) i x at);
-      packable = λ s d there lo hi. dite (ℕ_discrete s p.part.sequence)
+      packable = λ s d there lo hi. dite (ℕ_discrete s p.row.sequence)
           (λ here. subst (λ (t : ℕ). IsPackable d.gateway (command_by terms t d)) (sym here)
-          (subst (λ (m : Message). IsPackable m.gateway (command_by terms p.part.sequence m))
+          (subst (λ (m : Message). IsPackable m.gateway (command_by terms p.row.sequence m))
           (same_entry s d here there) wrote.packable))
           (λ other. before.packable s d there lo (omega arith));
     } where
-      same_entry : (s : ℕ) (d : Message) → s ≡ p.part.sequence → get_elem? p.seen s ≡ some d → e ≡ d
+      same_entry : (s : ℕ) (d : Message) → s ≡ p.row.sequence → get_elem? p.seen s ≡ some d → e ≡ d
       same_entry s d here there = some-injective e d (sym wrote.entry ∙ ap (get_elem? p.seen) (sym here) ∙ there)
 
     -- all that lie below a row that it may write
     pub written_below : (a : ℕ) → MayWrite (terms.reads terms.logic) p a → a ≤ length p.seen
-        → Written terms w p.seen p.own a
-    written_below a (inl first) known = none_written p.seen p.own a (omega arith) known
-    written_below a (inr (inl on)) known = subst (Written terms w p.seen p.own) (sym on) before
+        → Written terms w p.seen p.sequence a
+    written_below a (inl first) known = none_written p.seen p.sequence a (omega arith) known
+    written_below a (inr (inl on)) known = subst (Written terms w p.seen p.sequence) (sym on) before
     written_below a (inr (inr (next, (e, wrote)))) known =
-        subst (Written terms w p.seen p.own) (sym next)
+        subst (Written terms w p.seen p.sequence) (sym next)
         (with_row e wrote (subst (λ (k : ℕ). k ≤ length p.seen) next known))

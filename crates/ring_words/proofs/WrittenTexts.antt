@@ -57,35 +57,35 @@ module _ {L : Type 0} (terms : Terms L) (w : ℕ → ℕ) where
     readable = λ q o there lo hi. absurd (omega arith);
   }
 
-  module _ (p : Person) (part : StandsText terms.rows terms.output_rows w p.part)
-      (before : WrittenTexts terms w p.seen p.own p.part.sequence) where
+  module _ (p : Person) (part : StandsText terms.rows terms.output_rows w p.row)
+      (before : WrittenTexts terms w p.seen p.sequence p.row.sequence) where
     -- with the row under way, when its text is written whole
     with_text : (o : Output) → WroteText (terms.outputs terms.logic) (terms.text terms.logic) p o
-        → WrittenTexts terms w p.seen p.own (suc p.part.sequence)
+        → WrittenTexts terms w p.seen p.sequence (suc p.row.sequence)
     with_text o wrote = record {
-      short = λ _. (let below = within (outputs_by terms p.seen) p.part.sequence o wrote.output in omega arith);
-      texts = λ q d there lo hi i x at. dite (ℕ_discrete q p.part.sequence)
+      short = λ _. (let below = within (outputs_by terms p.seen) p.row.sequence o wrote.output in omega arith);
+      texts = λ q d there lo hi i x at. dite (ℕ_discrete q p.row.sequence)
           (λ here. (let stand = part i x
           (ap (λ (l : List ℕ). get_elem? l i)
-          (wrote.words ∙ ap (λ (c : Output). text_words (text_of terms c p.part.sequence))
+          (wrote.words ∙ ap (λ (c : Output). text_words (text_of terms c p.row.sequence))
           (same_output q d here there)
           ∙ ap (λ (t : ℕ). text_words (text_of terms d t)) (sym here)) ∙ at) in
           ap (λ (t : ℕ). w (out_row terms.rows terms.output_rows t (i + 64))) here ∙ stand.1))
           (λ other. before.texts q d there lo (omega arith) i x at);
-      readable = λ q d there lo hi. dite (ℕ_discrete q p.part.sequence)
+      readable = λ q d there lo hi. dite (ℕ_discrete q p.row.sequence)
           (λ here. subst (λ (t : ℕ). IsPackableText (text_of terms d t)) (sym here)
-          (subst (λ (c : Output). IsPackableText (text_of terms c p.part.sequence)) (same_output q d here there)
+          (subst (λ (c : Output). IsPackableText (text_of terms c p.row.sequence)) (same_output q d here there)
           wrote.packable))
           (λ other. before.readable q d there lo (omega arith));
     } where
-      same_output : (q : ℕ) (d : Output) → q ≡ p.part.sequence → get_elem? (outputs_by terms p.seen) q ≡ some d → o ≡ d
+      same_output : (q : ℕ) (d : Output) → q ≡ p.row.sequence → get_elem? (outputs_by terms p.seen) q ≡ some d → o ≡ d
       same_output q d here there = some-injective o d
           (sym wrote.output ∙ ap (get_elem? (outputs_by terms p.seen)) (sym here) ∙ there)
 
     -- all that lie below a row that it may write
     pub texts_below : (a : ℕ) → MayWriteText (terms.outputs terms.logic) (terms.text terms.logic) p a
-        → WrittenTexts terms w p.seen p.own a
-    texts_below a (inl first) = no_texts p.seen p.own a (omega arith)
-    texts_below a (inr (inl on)) = subst (WrittenTexts terms w p.seen p.own) (sym on) before
-    texts_below a (inr (inr (next, (o, wrote)))) = subst (WrittenTexts terms w p.seen p.own) (sym next)
+        → WrittenTexts terms w p.seen p.sequence a
+    texts_below a (inl first) = no_texts p.seen p.sequence a (omega arith)
+    texts_below a (inr (inl on)) = subst (WrittenTexts terms w p.seen p.sequence) (sym on) before
+    texts_below a (inr (inr (next, (o, wrote)))) = subst (WrittenTexts terms w p.seen p.sequence) (sym next)
         (with_text o wrote)

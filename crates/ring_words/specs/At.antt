@@ -12,7 +12,7 @@ pub record Opened (L : Type 0) : Type 0 where
   pub table : TableId
   pub logic : L
   pub base : List Message
-  pub given : ℕ
+  pub base_outputs : ℕ
 
 -- a seat: its table, the logic and the history at the start that it knows the table by, and who sits there
 pub record At (L : Type 0) : Type 0 where

@@ -24,7 +24,7 @@ module _ {L : Type 0} where
   -- gateways' seats at the start, in the order of their numbers: each knows the history at the start, has published and claimed nothing, and has
   -- taken the outputs given
   abbrev pub AreNewGateways : Opened L → List (At L) → Type 0
-  AreNewGateways rings seats = (i : ℕ) (s : At L) → get_elem? seats i ≡ some s → s ≡ at rings (newcomer (Gateway (i + 1)) rings.base rings.given)
+  AreNewGateways rings seats = (i : ℕ) (s : At L) → get_elem? seats i ≡ some s → s ≡ at rings (newcomer (Gateway (i + 1)) rings.base rings.base_outputs)
 
   -- all seats at the start: each stage knows the history at the start and has done it, whose outputs are published and their texts written
   pub record AreNew (g : ℕ) (rings : Opened L) (seats : Seats L) : Type 0 where
@@ -32,5 +32,5 @@ module _ {L : Type 0} where
     pub gateways : AreNewGateways rings seats.gateways.items
     pub unmarshal : seats.unmarshal ≡ at rings (newcomer Unmarshal rings.base (length rings.base))
     pub journal : seats.journal ≡ at rings (newcomer Journal rings.base (length rings.base))
-    pub process : seats.process ≡ at rings (processor rings.base rings.given)
-    pub marshal : seats.marshal ≡ at rings (newcomer Marshal rings.base rings.given)
+    pub process : seats.process ≡ at rings (processor rings.base rings.base_outputs)
+    pub marshal : seats.marshal ≡ at rings (newcomer Marshal rings.base rings.base_outputs)

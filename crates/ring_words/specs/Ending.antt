@@ -34,10 +34,10 @@ module _ {L : Type 0} where
     pub mine : (i : ℕ) (g : At L) → get_elem? seats.gateways.items i ≡ some g
         → (s : ℕ) → sent_at s g.who.mine ≡ published_at (length base) (number g) log s
     pub seen : (i : ℕ) (g : At L) → get_elem? seats.gateways.items i ≡ some g
-        → IsBeginning g.who.seen log × (length g.who.seen ≤ seats.journal.who.own)
+        → IsBeginning g.who.seen log × (length g.who.seen ≤ seats.journal.who.sequence)
     pub known : (j : ℕ) (p : Person) → get_elem? (stages_of seats) j ≡ some p → IsBeginning p.seen log
-    pub done : summary.commands ≤ seats.journal.who.own
-    pub journalled : seats.journal.who.own ≤ length log
-    pub released : seats.journal.who.own ≤ length seats.journal.who.seen
+    pub done : summary.commands ≤ seats.journal.who.sequence
+    pub journalled : seats.journal.who.sequence ≤ length log
+    pub released : seats.journal.who.sequence ≤ length seats.journal.who.seen
     pub least : length (outputs_of (take summary.commands log)) ≤ summary.outputs
-    pub most : summary.outputs ≤ length (outputs_of (take (suc summary.commands) (take seats.journal.who.own log)))
+    pub most : summary.outputs ≤ length (outputs_of (take (suc summary.commands) (take seats.journal.who.sequence log)))

@@ -47,7 +47,7 @@ module _ {L : Type 0} where
   -- published was loaded as x, which isn't below the marshaller's word: a history is known that has so many outputs
   abbrev pub FindsPublished : (List Message → List Output) → At L → ℕ → At L → Type 0
   FindsPublished outputs old x new = (rest : List Message) × Steps old (knowing (looked old.who published x) rest) new
-      × (x ≤ length (outputs (old.who.seen ++ rest))) × (old.who.own ≤ x)
+      × (x ≤ length (outputs (old.who.seen ++ rest))) × (old.who.sequence ≤ x)
 
   -- the answer x is the output at q of those that the person knows; the word at k has its address, and was loaded twice, before the output was
   -- copied and after that
@@ -61,4 +61,4 @@ module _ {L : Type 0} where
     pub step : Steps old (knowing (looked old.who marshalled x) rest) new
     pub legal : IsLegal (length old.base) old.who (old.who.seen ++ rest)
     pub few : length (old.who.seen ++ rest) ≤ 2 ^ 48
-    pub output : (o : Output) × (get_elem? (outputs (old.who.seen ++ rest)) old.who.own ≡ some o)
+    pub output : (o : Output) × (get_elem? (outputs (old.who.seen ++ rest)) old.who.sequence ≡ some o)

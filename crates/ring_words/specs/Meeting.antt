@@ -28,8 +28,8 @@ pub record AreMet (start : ℕ) (p q : Person) : Type 0 where
 
 -- what the gateway p knows begins what the journaller q has released, and that is legal for it
 pub record MeetsJournal (start : ℕ) (p q : Person) : Type 0 where
-  pub begins : p.seen ≡ take (length p.seen) (take q.own q.seen)
-  pub legal : IsLegal start p (take q.own q.seen)
+  pub begins : p.seen ≡ take (length p.seen) (take q.sequence q.seen)
+  pub legal : IsLegal start p (take q.sequence q.seen)
 
 module _ {S L : Type 0} where
   -- a load of processed by the seat of two gateways
@@ -39,8 +39,8 @@ module _ {S L : Type 0} where
 
   -- a load of processed by the seat of a gateway and the journaller
   abbrev pub sees_journal : Step S → Seated S L → ℕ → Seated S L → Type 0
-  sees_journal st m r after = (p q : Person) (j : ℕ) → m.0.people ≡ p ∷ q ∷ [] → p.role ≡ Gateway j → q.role ≡ Journal → q.own ≤ length q.seen
-      → (after ≡ (record m.0 { people = met p r (take q.own q.seen) ∷ met q r q.seen ∷ [] }, m.1)) × MeetsJournal (length m.0.base) p q
+  sees_journal st m r after = (p q : Person) (j : ℕ) → m.0.people ≡ p ∷ q ∷ [] → p.role ≡ Gateway j → q.role ≡ Journal → q.sequence ≤ length q.seen
+      → (after ≡ (record m.0 { people = met p r (take q.sequence q.seen) ∷ met q r q.seen ∷ [] }, m.1)) × MeetsJournal (length m.0.base) p q
 
 module _ {L : Type 0} where
   -- no person of this view, which has the logic and the history at the start

@@ -72,30 +72,30 @@ owners k (p ∷ ps) = cond (word_of_role p.role == k) (suc (owners k ps)) (owner
 
 -- a person at the start: it knows this history and its own word
 abbrev pub newcomer : Role → List Message → ℕ → Person
-newcomer r base own = record { role = r; seen = base; own = own; mine = []; claims = []; loads = []; part = record { sequence = 0; words = [] }; out = None }
+newcomer r base sequence = record { role = r; seen = base; sequence = sequence; mine = []; claims = []; loads = []; row = record { sequence = 0; words = [] }; out = None }
 
 -- g gateways from number k on, whose counts of outputs are those given
 abbrev pub gateways : ℕ → ℕ → List Message → ℕ → List Person
-gateways k zero base given = []
-gateways k (suc g) base given = newcomer (Gateway k) base given ∷ gateways (suc k) g base given
+gateways k zero base base_outputs = []
+gateways k (suc g) base base_outputs = newcomer (Gateway k) base base_outputs ∷ gateways (suc k) g base base_outputs
 
 -- no word is stored so far in the row of q
 abbrev pub at_place : Person → ℕ → Person
-at_place p q = record p { part = record { sequence = q; words = [] } }
+at_place p q = record p { row = record { sequence = q; words = [] } }
 
 -- the processor at the start: the next output's place is the number of outputs given
 abbrev pub processor : List Message → ℕ → Person
-processor base given = at_place (newcomer Process base (length base)) given
+processor base base_outputs = at_place (newcomer Process base (length base)) base_outputs
 
 -- all persons at the start: four stages and g gateways
 abbrev pub crew : ℕ → List Message → ℕ → List Person
-crew g base given =
-    processor base given ∷ newcomer Unmarshal base (length base) ∷ newcomer Journal base (length base)
-    ∷ newcomer Marshal base given ∷ gateways 1 g base given
+crew g base base_outputs =
+    processor base base_outputs ∷ newcomer Unmarshal base (length base) ∷ newcomer Journal base (length base)
+    ∷ newcomer Marshal base base_outputs ∷ gateways 1 g base base_outputs
 
 -- the words at the start: what sequences count begins at the length of the history, what outputs count at those given, and all rows are empty
 abbrev pub opening_word : ℕ → ℕ → ℕ → ℕ
-opening_word start given i = if nat_lt i 32 then start else (if nat_lt i 112 then given else 0)
+opening_word start base_outputs i = if nat_lt i 32 then start else (if nat_lt i 112 then base_outputs else 0)
 
 module _ {L : Type 0} where
   -- the order of the control words of the input ring
@@ -140,13 +140,15 @@ module _ {L : Type 0} where
     pub role : IsRole terms.gateways p.role
     pub front : IsFront log.status p.seen
     pub depth : Depth w p.role (length p.seen)
-    pub own : w (word_of_role p.role) ≡ p.own
+    -- how far it is done: what its own word says
+    pub sequence : w (word_of_role p.role) ≡ p.sequence
     pub mine : (s : ℕ) → sent_at s p.mine ≡ sends_of (number_of p.role) (log.status s)
     pub claims : (s : ℕ) → times_in s p.claims ≡ claims_of (number_of p.role) (log.status s)
     pub loads : (i : ℕ) (l : Load) → get_elem? p.loads i ≡ some l → l.place < first_row → l.value ≤ w l.place
-    pub part : PartOf terms.rows terms.output_rows w log p.role p.part
-    pub written : p.role ≡ Unmarshal → Written terms w p.seen p.own p.part.sequence
-    pub written_texts : p.role ≡ Marshal → WrittenTexts terms w p.seen p.own p.part.sequence
+    -- the row that it has under its hands, whose sequence or place is p.row.sequence: what it stored of it stands there
+    pub row : PartOf terms.rows terms.output_rows w log p.role p.row
+    pub written : p.role ≡ Unmarshal → Written terms w p.seen p.sequence p.row.sequence
+    pub written_texts : p.role ≡ Marshal → WrittenTexts terms w p.seen p.sequence p.row.sequence
     pub out : OutOf log.slots p.role p.out
 
   -- the rows: an availability word names a published sequence of its row, and a row that may still be read has its own, its message, and below
@@ -213,7 +215,7 @@ module _ {L : Type 0} where
     pub filled : Filled terms.output_rows log.slots s.homes
     pub people : (id j : ℕ) (v : View L) (p : Person) → get_elem? s.views id ≡ some v → get_elem? v.people j ≡ some p
         → (v.logic ≡ Some terms.logic) × (v.base ≡ terms.base) × Knows terms (words_of s) log p
-    pub once : (k : ℕ) → all_owners k s.views ≡ owners k (crew terms.gateways terms.base terms.given)
+    pub once : (k : ℕ) → all_owners k s.views ≡ owners k (crew terms.gateways terms.base terms.base_outputs)
 
   -- a view of these persons
   abbrev pub view_of : L → List Message → List Person → View L
@@ -221,4 +223,4 @@ module _ {L : Type 0} where
 
   -- the first seat's view
   abbrev pub first_view : Terms L → View L
-  first_view terms = view_of terms.logic terms.base (crew terms.gateways terms.base terms.given)
+  first_view terms = view_of terms.logic terms.base (crew terms.gateways terms.base terms.base_outputs)

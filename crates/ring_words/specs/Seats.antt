@@ -37,15 +37,15 @@ with_claim p s = record p { claims = s ∷ p.claims }
 
 -- it stored x as word i of the row of s: what it stored from there on counts no more
 abbrev pub stored : Person → ℕ → ℕ → ℕ → Person
-stored p s i x = record p { part = record { sequence = s; words = take i p.part.words ++ x ∷ [] } }
+stored p s i x = record p { row = record { sequence = s; words = take i p.row.words ++ x ∷ [] } }
 
 -- the words that it stored so far in the row of s are these
 abbrev pub wrote : Person → ℕ → List ℕ → Person
-wrote p s ws = record p { part = record { sequence = s; words = ws } }
+wrote p s ws = record p { row = record { sequence = s; words = ws } }
 
 -- it published e at s
 abbrev pub marked : Person → ℕ → Message → Person
-marked p s e = record p { mine = p.mine ++ sent_of s e ∷ []; claims = without s p.claims; part = record { sequence = s; words = [] } }
+marked p s e = record p { mine = p.mine ++ sent_of s e ∷ []; claims = without s p.claims; row = record { sequence = s; words = [] } }
 
 -- it knows one entry more
 abbrev pub saw : Person → Message → Person
@@ -87,7 +87,7 @@ looked_twice p k x = looked (looked p k x) k x
 
 -- its own word became x
 abbrev pub moved : Person → ℕ → Person
-moved p x = record p { own = x }
+moved p x = record p { sequence = x }
 
 module _ {L : Type 0} where
   abbrev pub person : View L → Person

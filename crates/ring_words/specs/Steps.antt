@@ -76,30 +76,30 @@ meaning outputs text = record { outputs = outputs; text = text }
 
 -- the unmarshaller wrote the whole command of the row under way, which it hasn't handed on and is that of the entry e, by this reading
 pub record WroteCommand (reads : ℕ → Message → Command) (p : Person) (e : Message) : Type 0 where
-  pub row : p.own ≤ p.part.sequence
-  pub entry : get_elem? p.seen p.part.sequence ≡ some e
-  pub words : p.part.words ≡ command_words e.gateway (reads p.part.sequence e)
-  pub packable : IsPackable e.gateway (reads p.part.sequence e)
+  pub row : p.sequence ≤ p.row.sequence
+  pub entry : get_elem? p.seen p.row.sequence ≡ some e
+  pub words : p.row.words ≡ command_words e.gateway (reads p.row.sequence e)
+  pub packable : IsPackable e.gateway (reads p.row.sequence e)
 
 -- the rows that the unmarshaller may write: the first that it hasn't handed on, the one under way, and when that is written whole the next one
 abbrev pub MayWrite : (ℕ → Message → Command) → Person → ℕ → Type 0
-MayWrite reads p s = (s ≡ p.own) ⊎ ((s ≡ p.part.sequence) ⊎ ((s ≡ suc p.part.sequence) × ((e : Message) × WroteCommand reads p e)))
+MayWrite reads p s = (s ≡ p.sequence) ⊎ ((s ≡ p.row.sequence) ⊎ ((s ≡ suc p.row.sequence) × ((e : Message) × WroteCommand reads p e)))
 
 -- the processor published all outputs of the first entries that it knows, so many
 abbrev pub HasPublished : (List Message → List Output) → Person → ℕ → Type 0
-HasPublished outputs p upto = length (outputs (take upto p.seen)) ≤ p.part.sequence
+HasPublished outputs p upto = length (outputs (take upto p.seen)) ≤ p.row.sequence
 
 -- the marshaller wrote the whole text of the row under way, which it hasn't handed on and is that of the output o; published was shown above it
 pub record WroteText (outputs : List Message → List Output) (text : Output → ℕ → Text) (p : Person) (o : Output) : Type 0 where
-  pub row : p.own ≤ p.part.sequence
-  pub shown : Shows published p p.part.sequence
-  pub output : get_elem? (outputs p.seen) p.part.sequence ≡ some o
-  pub words : p.part.words ≡ text_words (text o p.part.sequence)
-  pub packable : IsPackableText (text o p.part.sequence)
+  pub row : p.sequence ≤ p.row.sequence
+  pub shown : Shows published p p.row.sequence
+  pub output : get_elem? (outputs p.seen) p.row.sequence ≡ some o
+  pub words : p.row.words ≡ text_words (text o p.row.sequence)
+  pub packable : IsPackableText (text o p.row.sequence)
 
 -- the rows that the marshaller may write: the first that it hasn't handed on, the one under way, and when that is written whole the next one
 abbrev pub MayWriteText : (List Message → List Output) → (Output → ℕ → Text) → Person → ℕ → Type 0
-MayWriteText outputs text p q = (q ≡ p.own) ⊎ ((q ≡ p.part.sequence) ⊎ ((q ≡ suc p.part.sequence) × ((o : Output) × WroteText outputs text p o)))
+MayWriteText outputs text p q = (q ≡ p.sequence) ⊎ ((q ≡ p.row.sequence) ⊎ ((q ≡ suc p.row.sequence) × ((o : Output) × WroteText outputs text p o)))
 
 module _ {S L : Type 0} where
   -- the seat is as before, but for its one person, who is now q
@@ -126,12 +126,12 @@ module _ {S L : Type 0} where
 
   -- a store of a command word in the row of a sequence that is known and not released
   abbrev pub stores_command : ℕ → Step S → Seated S L → ℕ → Seated S L → Type 0
-  stores_command n st m r m' = (s i : ℕ) → (person m.0).own ≤ s → s < length (person m.0).seen
+  stores_command n st m r m' = (s i : ℕ) → (person m.0).sequence ≤ s → s < length (person m.0).seen
       → i < 16 → st.word ≡ in_row n s (i + 48) → Became m (stored (person m.0) s i r) m'
 
   -- a store of availability, when the words stored spell the message
   abbrev pub marks_sent : Step S → Seated S L → ℕ → Seated S L → Type 0
-  marks_sent st m r m' = (s : ℕ) (e : Message) → r ≡ suc s → SpellsMessage (person m.0).part.words e → IsEntry e → Became m (marked (person m.0) s e) m'
+  marks_sent st m r m' = (s : ℕ) (e : Message) → r ≡ suc s → SpellsMessage (person m.0).row.words e → IsEntry e → Became m (marked (person m.0) s e) m'
 
   -- a load of the availability word of the next sequence
   abbrev pub sees_mark : Step S → Seated S L → ℕ → Seated S L → Type 0
@@ -142,7 +142,7 @@ module _ {S L : Type 0} where
   -- a load of a raw word of an entry that is known and not released
   abbrev pub sees_raw : ℕ → Step S → Seated S L → ℕ → Seated S L → Type 0
   sees_raw n st m r m' = Became m (looked (person m.0) st.word r) m'
-      × ((s i : ℕ) (e : Message) → get_elem? (person m.0).seen s ≡ some e → (person m.0).own ≤ s
+      × ((s i : ℕ) (e : Message) → get_elem? (person m.0).seen s ≡ some e → (person m.0).sequence ≤ s
       → i < raw_count e → st.word ≡ in_row n s (i + 1) → (r ≡ raw_word e i) × IsEntry e)
 
   -- a load of unmarshalled
@@ -158,7 +158,7 @@ module _ {S L : Type 0} where
   -- a load of a command word of an entry that the processor knows and hasn't released
   abbrev pub sees_command : ℕ → (L → ℕ → Message → Command) → Step S → Seated S L → ℕ → Seated S L → Type 0
   sees_command n reads st m r m' = Became m (looked (person m.0) st.word r) m'
-      × ((logic : L) (s i x : ℕ) (e : Message) → m.0.logic ≡ Some logic → get_elem? (person m.0).seen s ≡ some e → (person m.0).own ≤ s
+      × ((logic : L) (s i x : ℕ) (e : Message) → m.0.logic ≡ Some logic → get_elem? (person m.0).seen s ≡ some e → (person m.0).sequence ≤ s
       → get_elem? (command_words e.gateway (reads logic s e)) i ≡ some x → st.word ≡ in_row n s (i + 48)
       → (r ≡ x) × IsPackable e.gateway (reads logic s e) × IsEntry e)
 
@@ -169,13 +169,13 @@ module _ {S L : Type 0} where
   -- a load of a gateway's taken word by the processor, in a ring of m output rows
   abbrev pub sees_taken : ℕ → Step S → Seated S L → ℕ → Seated S L → Type 0
   sees_taken rows st m r after = Became m (looked (person m.0) st.word r) after
-      × (r ≤ (person m.0).part.sequence) × ((person m.0).part.sequence ≤ r + rows)
+      × (r ≤ (person m.0).row.sequence) × ((person m.0).row.sequence ≤ r + rows)
 
   -- a store of the address of the output at the next place, in its row, whose slot is taken out for its report
   abbrev pub puts_address : ℕ → ℕ → Step S → Seated S L → ℕ → Seated S L → Type 0
-  puts_address n rows st m r after = st.word ≡ out_row n rows (person m.0).part.sequence 0
-      → (f : PlacedOutput) × ((x : S) × (f.place ≡ (person m.0).part.sequence)
-      × (after ≡ (alone m.0 (with_out (wrote (person m.0) (person m.0).part.sequence (r ∷ [])) (Some f)), ((person m.0).part.sequence % rows, x) ∷ m.1)))
+  puts_address n rows st m r after = st.word ≡ out_row n rows (person m.0).row.sequence 0
+      → (f : PlacedOutput) × ((x : S) × (f.place ≡ (person m.0).row.sequence)
+      × (after ≡ (alone m.0 (with_out (wrote (person m.0) (person m.0).row.sequence (r ∷ [])) (Some f)), ((person m.0).row.sequence % rows, x) ∷ m.1)))
 
   -- a store of published, which brings that slot back
   abbrev pub publishes : Step S → Seated S L → ℕ → Seated S L → Type 0
@@ -186,32 +186,32 @@ module _ {S L : Type 0} where
   abbrev pub sees_address : Readable → (L → List Message → List Output) → Step S → Seated S L → ℕ → Seated S L → Type 0
   sees_address ring outputs st m r after = Became m (looked (person m.0) st.word r) after
       × ((logic : L) (q : ℕ) (o : Output) → m.0.logic ≡ Some logic → get_elem? (outputs logic (person m.0).seen) q ≡ some o
-      → (person m.0).own ≤ q → Shows ring.gate (person m.0) q → st.word ≡ out_row ring.rows ring.output_rows q 0 → r ≡ o.to)
+      → (person m.0).sequence ≤ q → Shows ring.gate (person m.0) q → st.word ≡ out_row ring.rows ring.output_rows q 0 → r ≡ o.to)
 
   -- a load of published: the marshaller knows a history that has so many outputs
   abbrev pub sees_published : (L → List Message → List Output) → Step S → Seated S L → ℕ → Seated S L → Type 0
-  sees_published outputs st m r after = ((person m.0).own ≤ r)
+  sees_published outputs st m r after = ((person m.0).sequence ≤ r)
       × ((rest : List Message) × Became m (knowing (looked (person m.0) published r) rest) after
       × ((logic : L) → m.0.logic ≡ Some logic → r ≤ length (outputs logic ((person m.0).seen ++ rest))))
 
   -- a store of a text word in the row of an output that is published and not released
   abbrev pub stores_text : ℕ → ℕ → Step S → Seated S L → ℕ → Seated S L → Type 0
-  stores_text n rows st m r after = (q i : ℕ) → (person m.0).own ≤ q → Shows published (person m.0) q
+  stores_text n rows st m r after = (q i : ℕ) → (person m.0).sequence ≤ q → Shows published (person m.0) q
       → i < 64 → st.word ≡ out_row n rows q (i + 64) → Became m (stored (person m.0) q i r) after
 
   -- a load of marshalled by a gateway: where it shows an output at its place, the gateway knows a history with that output which is legal for it
   abbrev pub sees_marshalled : (L → List Message → List Output) → Step S → Seated S L → ℕ → Seated S L → Type 0
-  sees_marshalled outputs st m r after = ((person m.0).own ≤ r)
-      × (r ≡ (person m.0).own → Became m (looked (person m.0) marshalled r) after)
-      × ((person m.0).own < r → (rest : List Message) × Became m (knowing (looked (person m.0) marshalled r) rest) after
+  sees_marshalled outputs st m r after = ((person m.0).sequence ≤ r)
+      × (r ≡ (person m.0).sequence → Became m (looked (person m.0) marshalled r) after)
+      × ((person m.0).sequence < r → (rest : List Message) × Became m (knowing (looked (person m.0) marshalled r) rest) after
       × IsLegal (length m.0.base) (person m.0) ((person m.0).seen ++ rest) × (length ((person m.0).seen ++ rest) ≤ 2 ^ 48)
-      × ((logic : L) → m.0.logic ≡ Some logic → (o : Output) × (get_elem? (outputs logic ((person m.0).seen ++ rest)) (person m.0).own ≡ some o)))
+      × ((logic : L) → m.0.logic ≡ Some logic → (o : Output) × (get_elem? (outputs logic ((person m.0).seen ++ rest)) (person m.0).sequence ≡ some o)))
 
   -- a load of a text word, where a value of the gate was loaded above its place and it isn't taken: the text is that of the output there
   abbrev pub sees_text : Readable → Meaning L → Step S → Seated S L → ℕ → Seated S L → Type 0
   sees_text ring means st m r after = Became m (looked (person m.0) st.word r) after
       × ((logic : L) (q i x : ℕ) (o : Output) → m.0.logic ≡ Some logic → get_elem? (means.outputs logic (person m.0).seen) q ≡ some o
-      → (person m.0).own ≤ q → Shows ring.gate (person m.0) q
+      → (person m.0).sequence ≤ q → Shows ring.gate (person m.0) q
       → get_elem? (text_words (means.text logic o q)) i ≡ some x → st.word ≡ out_row ring.rows ring.output_rows q (i + 64)
       → (r ≡ x) × IsPackableText (means.text logic o q))
 
@@ -219,7 +219,7 @@ module _ {L : Type 0} where
   -- a load of the address of an output that is published and not released, which takes the slot of its row out: its report is that of the output in
   -- the history that is known
   abbrev pub takes_report : Readable → (L → List Message → List Output) → Step Boxed → Seated Boxed L → ℕ → Seated Boxed L → Type 0
-  takes_report ring outputs st m r after = (q : ℕ) → (person m.0).own ≤ q → Shows ring.gate (person m.0) q → st.word ≡ out_row ring.rows ring.output_rows q 0
+  takes_report ring outputs st m r after = (q : ℕ) → (person m.0).sequence ≤ q → Shows ring.gate (person m.0) q → st.word ≡ out_row ring.rows ring.output_rows q 0
       → (b : Boxed) × (b.value.place ≡ q)
       × (after ≡ (alone m.0 (with_out (looked (person m.0) st.word r) (Some b.value)), (q % ring.output_rows, b) ∷ m.1))
       × ((logic : L) (o : Output) → m.0.logic ≡ Some logic → get_elem? (outputs logic (person m.0).seen) q ≡ some o
@@ -229,4 +229,4 @@ module _ {L : Type 0} where
   abbrev pub gives_report : Readable → (L → List Message → List Output) → Step Boxed → Seated Boxed L → ℕ → Seated Boxed L → Type 0
   gives_report ring outputs st m r after = (after ≡ (alone m.0 (with_out (looked (person m.0) st.word r) None), rest m.1))
       × ((logic : L) (q : ℕ) (o : Output) → m.0.logic ≡ Some logic → get_elem? (outputs logic (person m.0).seen) q ≡ some o
-      → (person m.0).own ≤ q → Shows ring.gate (person m.0) q → st.word ≡ out_row ring.rows ring.output_rows q 0 → r ≡ o.to)
+      → (person m.0).sequence ≤ q → Shows ring.gate (person m.0) q → st.word ≡ out_row ring.rows ring.output_rows q 0 → r ≡ o.to)

@@ -18,7 +18,7 @@ pub record Terms (L : Type 0) : Type 0 where
   pub outputs : L → List Message → List Output
   pub text : L → Output → ℕ → Text
   pub base : List Message
-  pub given : ℕ
+  pub base_outputs : ℕ
   -- without entries there are no outputs; an entry more adds to them, at most 8,194
   pub nothing : outputs logic [] ≡ []
   pub grows : (h : List Message) (e : Message) → (more : List Output) × (outputs logic (h ++ e ∷ []) ≡ outputs logic h ++ more) × (length more ≤ 8194)
@@ -38,7 +38,7 @@ module _ {L : Type 0} where
     outputs = outputs;
     text = text;
     base = k.base.value.items;
-    given = k.given;
+    base_outputs = k.base_outputs;
     nothing = nothing k.logic;
     grows = grows k.logic;
   }

@@ -56,7 +56,7 @@ impl<L: Logic + Drop, const N: usize, const M: usize, const G: usize> Rings<L, N
         requires marshal { IsAt self.now marshal }
         ensures table { (result.table_id ≡ self.now.table) × (result.me.1 ≡ []) }
         ensures roles { (process.who.role ≡ Process) × (journal.who.role ≡ Journal) }
-        ensures released { journal.who.own ≤ length journal.who.seen }
+        ensures released { journal.who.sequence ≤ length journal.who.seen }
         ensures all { result.me.0.people ≡ process.who ∷ unmarshal.who ∷ journal.who ∷ marshal.who ∷ [] }
     {
         let ProcessSeat { seat: mut all, .. } = process;
@@ -94,8 +94,8 @@ impl<L: Logic + Drop, const N: usize, const M: usize, const G: usize> Rings<L, N
     pub fn close(self, seats: Seats<L>) -> Summary
         requires seats { AreSeatsOf G self seats }
         requires spent { AreSpent seats.gateways.items }
-        ensures commands { result.commands ≡ seats.process.who.own }
-        ensures outputs { result.outputs ≡ seats.process.who.part.sequence }
+        ensures commands { result.commands ≡ seats.process.who.sequence }
+        ensures outputs { result.outputs ≡ seats.process.who.row.sequence }
         ensures log { Ended (L.outputs self.logic) self.base seats result }
     {
         let Seats {

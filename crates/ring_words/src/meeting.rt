@@ -51,7 +51,7 @@ impl<L: Logic, const N: usize, const M: usize, const G: usize> Rings<L, N, M, G>
         requires journal { IsAt self.now journal.old }
         ensures met { MeetsJournal (length self.now.base) gateway.old.who journal.old.who }
         ensures steps { let old = journal.old.who in (r : ℕ)
-            × Steps gateway.old (met gateway.old.who r (take old.own old.seen)) gateway.new × Steps journal.old (met old r old.seen) journal.new }
+            × Steps gateway.old (met gateway.old.who r (take old.sequence old.seen)) gateway.new × Steps journal.old (met old r old.seen) journal.new }
     {
         self.bring_together(&mut gateway.seat, &mut journal.seat);
         let found = self

@@ -45,13 +45,13 @@ fn is_ring_size(rows: usize) -> bool
 }
 
 /// The word at this place at the start.
-fn word_at_start(place: usize, start: u64, given: u64) -> u64
-    ensures { result ≡ opening_word start given place }
+fn word_at_start(place: usize, start: u64, base_outputs: u64) -> u64
+    ensures { result ≡ opening_word start base_outputs place }
 {
     if place < MARSHALLED {
         start
     } else if place < OUTPUT_WORDS_END {
-        given
+        base_outputs
     } else {
         0
     }
@@ -61,14 +61,14 @@ fn words_at_start(
     alloc: Global,
     count: usize,
     start: u64,
-    given: u64,
+    base_outputs: u64,
 ) -> Result<Vec<u64>, AllocError>
     ensures count { IfOk result (λ words. vec_len words ≡ count) }
-    ensures words { IfOk result (λ words. (k : ℕ) → k < count → slice_index_or words.items k 0 ≡ opening_word start given k) }
+    ensures words { IfOk result (λ words. (k : ℕ) → k < count → slice_index_or words.items k 0 ≡ opening_word start base_outputs k) }
 {
     let mut words = Vec::with_capacity(alloc, count)?;
     for place in 0..count {
-        words.push(word_at_start(place, start, given))?;
+        words.push(word_at_start(place, start, base_outputs))?;
     }
     Ok(words)
 }
@@ -90,13 +90,13 @@ impl<L: Logic, const N: usize, const M: usize, const G: usize> Rings<L, N, M, G>
         &self,
         first: &mut Seat<Slot, View<L>>,
         count: u64,
-        given: u64,
+        base_outputs: u64,
         spare: Slot,
     ) -> ProcessSeat<L>
         requires table { first.old.table_id ≡ self.now.table }
         requires bare { first.old.me.1 ≡ [] }
         requires some { 0 < length first.old.me.0.people }
-        requires head { person first.old.me.0 ≡ processor self.now.base given }
+        requires head { person first.old.me.0 ≡ processor self.now.base base_outputs }
         requires count { count ≡ length self.now.base }
         requires small { count ≤ 2 ^ 48 }
         ensures first { (first.new.table_id ≡ first.old.table_id) × (first.new.me ≡ (others_stay first.old.me.0, [])) }
@@ -105,9 +105,9 @@ impl<L: Logic, const N: usize, const M: usize, const G: usize> Rings<L, N, M, G>
         ProcessSeat {
             seat: self.split(first),
             known: count,
-            own: count,
+            sequence: count,
             gate: 0,
-            published: given,
+            published: base_outputs,
             taken: no_values(),
             spare,
         }
@@ -117,19 +117,19 @@ impl<L: Logic, const N: usize, const M: usize, const G: usize> Rings<L, N, M, G>
     fn marshal_seat(
         &self,
         first: &mut Seat<Slot, View<L>>,
-        given: u64,
+        base_outputs: u64,
         spare: Slot,
     ) -> MarshalSeat<L>
         requires table { first.old.table_id ≡ self.now.table }
         requires bare { first.old.me.1 ≡ [] }
         requires some { 0 < length first.old.me.0.people }
-        requires head { person first.old.me.0 ≡ newcomer Marshal self.now.base given }
+        requires head { person first.old.me.0 ≡ newcomer Marshal self.now.base base_outputs }
         ensures first { (first.new.table_id ≡ first.old.table_id) × (first.new.me ≡ (others_stay first.old.me.0, [])) }
         ensures seat { result ≡ seat_of first.old.table_id first.old.me.0 }
     {
         MarshalSeat {
             seat: self.split(first),
-            own: given,
+            sequence: base_outputs,
             spare,
         }
     }
@@ -152,7 +152,7 @@ impl<L: Logic, const N: usize, const M: usize, const G: usize> Rings<L, N, M, G>
         ReaderSeat {
             seat: self.split(first),
             known: count,
-            own: count,
+            sequence: count,
             marker: PhantomData,
         }
     }
@@ -163,22 +163,22 @@ impl<L: Logic, const N: usize, const M: usize, const G: usize> Rings<L, N, M, G>
         first: &mut Seat<Slot, View<L>>,
         number: u64,
         left: u64,
-        given: u64,
+        base_outputs: u64,
     ) -> GatewaySeat<L>
         requires table { first.old.table_id ≡ self.now.table }
         requires bare { first.old.me.1 ≡ [] }
-        requires people { first.old.me.0 ≡ view_of self.now.logic self.now.base (gateways number left self.now.base self.now.given) }
+        requires people { first.old.me.0 ≡ view_of self.now.logic self.now.base (gateways number left self.now.base self.now.base_outputs) }
         requires some { 0 < left }
-        requires given { given ≡ self.now.given }
+        requires given { base_outputs ≡ self.now.base_outputs }
         requires number { (1 ≤ number) × (number ≤ 8) }
         ensures first { (first.new.table_id ≡ first.old.table_id) × (first.new.me.1 ≡ []) }
-        ensures people { first.new.me.0 ≡ view_of self.now.logic self.now.base (gateways (number + 1) (left - 1) self.now.base self.now.given) }
-        ensures seat { result ≡ at self.now (newcomer (Gateway number) self.now.base self.now.given) }
+        ensures people { first.new.me.0 ≡ view_of self.now.logic self.now.base (gateways (number + 1) (left - 1) self.now.base self.now.base_outputs) }
+        ensures seat { result ≡ at self.now (newcomer (Gateway number) self.now.base self.now.base_outputs) }
     {
         GatewaySeat {
             seat: self.split(first),
             number,
-            taken: given,
+            taken: base_outputs,
             processed: None,
         }
     }
@@ -188,12 +188,12 @@ impl<L: Logic, const N: usize, const M: usize, const G: usize> Rings<L, N, M, G>
         &self,
         alloc: Global,
         mut first: Seat<Slot, View<L>>,
-        given: u64,
+        base_outputs: u64,
     ) -> Result<Vec<GatewaySeat<L>>, AllocError>
         requires table { first.table_id ≡ self.now.table }
         requires bare { first.me.1 ≡ [] }
-        requires people { first.me.0 ≡ view_of self.now.logic self.now.base (gateways 1 G self.now.base self.now.given) }
-        requires given { given ≡ self.now.given }
+        requires people { first.me.0 ≡ view_of self.now.logic self.now.base (gateways 1 G self.now.base self.now.base_outputs) }
+        requires given { base_outputs ≡ self.now.base_outputs }
         requires few { G ≤ 8 }
         ensures count { IfOk result (λ seats. vec_len seats ≡ G) }
         ensures seats { IfOk result (λ seats. AreNewGateways self.now seats.items) }
@@ -202,7 +202,7 @@ impl<L: Logic, const N: usize, const M: usize, const G: usize> Rings<L, N, M, G>
         let mut number = 1;
         let mut left = G as u64;
         while left > 0 {
-            let seat = self.gateway_seat(&mut first, number, left, given);
+            let seat = self.gateway_seat(&mut first, number, left, base_outputs);
             seats.push(seat)?;
             number += 1;
             left -= 1;
@@ -227,7 +227,7 @@ impl<L: Logic + Drop, const N: usize, const M: usize, const G: usize> Rings<L, N
         ensures sizes { IsOk result → IsTrue (ring_size N && ring_size M) }
         ensures bad { IsErrOf result OpenError.NotPowerOfTwo → IsFalse (ring_size N && ring_size M) }
         ensures memory { IsErrOf result OpenError.Memory → IsTrue (ring_size N && ring_size M) }
-        ensures opened { IfOk result (λ r. (r.0.logic ≡ logic) × (r.0.base ≡ base.now.items) × (r.0.given ≡ given)) }
+        ensures opened { IfOk result (λ r. (r.0.logic ≡ logic) × (r.0.base ≡ base.now.items) × (r.0.base_outputs ≡ given)) }
         ensures seats { IfOk result (λ r. AreNew G r.0 r.1) }
     {
         if !is_ring_size(N) || !is_ring_size(M) {
@@ -244,7 +244,7 @@ impl<L: Logic + Drop, const N: usize, const M: usize, const G: usize> Rings<L, N
             gateways: G,
             logic,
             base: Snapshot::of(base),
-            given,
+            base_outputs: given,
         };
         let Ok(boxes) = blank_boxes(alloc, M) else {
             return Err(OpenError::Memory);

@@ -43,7 +43,7 @@ impl<L: Logic, const N: usize, const M: usize, const G: usize> Model for Rings<L
       table = r.table.shared.table_id;
       logic = r.table.shared.key.logic;
       base = r.table.shared.key.base.value.items;
-      given = r.table.shared.key.given;
+      base_outputs = r.table.shared.key.base_outputs;
     } };
 }
 

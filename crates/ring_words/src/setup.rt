@@ -16,5 +16,5 @@ pub struct Setup<L> {
     /// The history at the start; contracts alone read it.
     pub base: Snapshot<Vec<Entry>>,
     /// How many outputs that history has.
-    pub given: u64,
+    pub base_outputs: u64,
 }

@@ -41,15 +41,17 @@ pub struct Person {
     pub role: Role,
     /// The entries that it knows to be the log's first.
     pub seen: LinkedList<Entry>,
-    /// The value of the control word that it alone stores: of a stage its sequence, of a gateway its count of outputs.
-    pub own: u64,
+    /// The value of the control word that it alone stores: of unmarshaller, journaller and processor the sequence of the next entry, of the marshaller and of a
+    /// gateway the place of the next output. All below it is done.
+    pub sequence: u64,
     /// What it published, in order.
     pub mine: LinkedList<Sent>,
     /// The sequences that it claimed and hasn't published.
     pub claims: LinkedList<u64>,
     /// All its loads, in order.
     pub loads: LinkedList<Load>,
-    pub part: Part,
+    /// The row that it has under its hands. `row.sequence` says which row that is; of unmarshaller and marshaller those from `sequence` up to it stand whole.
+    pub row: Part,
     /// The report that the processor puts, or that the marshaller took to copy it: the slot of its row is out.
     pub out: Option<PlacedOutput>,
 }

@@ -87,13 +87,13 @@ pub record LookedBelow {L : Type 0} (m : ℕ) (v u : At L) (k low : ℕ) : Type 
   pub some_there : 1 ≤ length values
   pub view : u ≡ seated v (record v.who { loads = v.who.loads ++ taken_loads 1 values })
   pub low_is : least values ≡ low
-  pub below : low ≤ v.who.part.sequence
-  pub near : v.who.part.sequence ≤ low + m
+  pub below : low ≤ v.who.row.sequence
+  pub near : v.who.row.sequence ≤ low + m
 
 module _ {L : Type 0} (m : ℕ) (v : At L) where
   -- the first gateway's word was loaded
-  pub looks_first : (w : At L) (x : ℕ) → w ≡ seated v (looked v.who (taken 1) x) → x ≤ v.who.part.sequence
-      → v.who.part.sequence ≤ x + m → LookedBelow m v w 2 x
+  pub looks_first : (w : At L) (x : ℕ) → w ≡ seated v (looked v.who (taken 1) x) → x ≤ v.who.row.sequence
+      → v.who.row.sequence ≤ x + m → LookedBelow m v w 2 x
   looks_first w x view most near = record {
     values = x ∷ [];
     count = refl;
@@ -106,10 +106,10 @@ module _ {L : Type 0} (m : ℕ) (v : At L) where
 
   -- the next one's was loaded
   pub looks_next : (u w : At L) (k low x after : ℕ) → LookedBelow m v u k low → w ≡ seated u (looked u.who (taken k) x)
-      → x ≤ u.who.part.sequence → u.who.part.sequence ≤ x + m → after ≡ min low x → LookedBelow m v w (k + 1) after
+      → x ≤ u.who.row.sequence → u.who.row.sequence ≤ x + m → after ≡ min low x → LookedBelow m v w (k + 1) after
   looks_next u w k low x after r view most near is =
       let p = v.who in
-      let place : u.who.part.sequence ≡ p.part.sequence = ap (λ (y : At L). y.who.part.sequence) r.view in
+      let place : u.who.row.sequence ≡ p.row.sequence = ap (λ (y : At L). y.who.row.sequence) r.view in
       let more = least_more r.values x r.some_there in
       let low_is = r.low_is in
       let below = r.below in
@@ -130,7 +130,7 @@ module _ {L : Type 0} (m : ℕ) (v : At L) where
 
   -- all were loaded
   pub has_looked : (u : At L) (k low g answer : ℕ) → LookedBelow m v u k low → k ≡ g + 1
-      → answer + v.who.part.sequence ≡ low + m → HasLooked g m v.who answer u.who
+      → answer + v.who.row.sequence ≡ low + m → HasLooked g m v.who answer u.who
   has_looked u k low g answer r all is =
       let p = v.who in
       let at : u.who ≡ record p { loads = p.loads ++ taken_loads 1 r.values } = ap (λ (y : At L). y.who) r.view in
@@ -148,14 +148,14 @@ module _ {L : Type 0} (m : ℕ) (v : At L) where
 
   -- so there is room for the places that the answer counts
   pub has_free : (g answer : ℕ) (q : Person) → HasLooked g m v.who answer q → (i : ℕ) → i < answer
-      → HasOutputRoom g m q (v.who.part.sequence + i)
+      → HasOutputRoom g m q (v.who.row.sequence + i)
   has_free g answer q looked i below = let count = looked.count in let room = looked.room in
-      subst (λ (p : Person). HasOutputRoom g m p (v.who.part.sequence + i)) (sym looked.loads)
-      (room_for g m v.who looked.values (v.who.part.sequence + i) count (omega (arith, room, below)))
+      subst (λ (p : Person). HasOutputRoom g m p (v.who.row.sequence + i)) (sym looked.loads)
+      (room_for g m v.who looked.values (v.who.row.sequence + i) count (omega (arith, room, below)))
 
   -- published is as before
-  pub place_kept : (u : At L) (k low : ℕ) → LookedBelow m v u k low → u.who.part.sequence ≡ v.who.part.sequence
-  place_kept u k low r = ap (λ (y : At L). y.who.part.sequence) r.view
+  pub place_kept : (u : At L) (k low : ℕ) → LookedBelow m v u k low → u.who.row.sequence ≡ v.who.row.sequence
+  place_kept u k low r = ap (λ (y : At L). y.who.row.sequence) r.view
 
 -- where a taken value leaves room, it was loaded
 left_by : (m upto : ℕ) (last : Option ℕ) → LeavesRoom m upto last → (x : ℕ) × ((last ≡ Some x) × (upto ≤ x + m))
@@ -164,8 +164,8 @@ left_by m upto (Some x) room = (x, (refl, room))
 
 -- by the values kept there is room for each output of those that they leave room for
 pub keeps_free : (g m : ℕ) (p : Person) (n i : ℕ) → KeepsRoom g m p n → i < n
-    → HasOutputRoom g m p (p.part.sequence + i)
-keeps_free g m p n i kept below = output_room_last_loaded g m p (p.part.sequence + i) (λ k gateway.
-    let room = left_by m (p.part.sequence + n) (last_taken k p.loads) (kept k gateway) in
+    → HasOutputRoom g m p (p.row.sequence + i)
+keeps_free g m p n i kept below = output_room_last_loaded g m p (p.row.sequence + i) (λ k gateway.
+    let room = left_by m (p.row.sequence + n) (last_taken k p.loads) (kept k gateway) in
     let enough = room.1.1 in
     (room.0, room.1.0, omega arith))

@@ -41,7 +41,7 @@ is_entry k bs number long small =
     record { message = record { from = number.0; to = number.1; some = long.0; most = long.1 }; bytes = small }
 
 -- behind the first j words comes word j
-pub goes_on : (p : Person) (s : ℕ) (e : Message) (j : ℕ) → GoesOnRow (wrote p s (first_words e j)).part s j
+pub goes_on : (p : Person) (s : ℕ) (e : Message) (j : ℕ) → GoesOnRow (wrote p s (first_words e j)).row s j
 goes_on p s e j = let long = length-first_words e j in inr (refl, omega arith)
 
 -- a store of word j behind the first j words
@@ -73,11 +73,11 @@ module _ {L : Type 0} (v u w : At L) (s : ℕ) (e : Message) where
       so_far ∙ ap (λ (k : ℕ). seated v (wrote v.who s (first_words e k))) count
 
   -- then the row spells the message
-  pub row_spells : u ≡ seated v (wrote v.who s (message_words e)) → SpellsMessage u.who.part.words e
+  pub row_spells : u ≡ seated v (wrote v.who s (message_words e)) → SpellsMessage u.who.row.words e
   row_spells written = rw written (spelled e)
 
   -- and availability publishes it
   pub marks_message : u ≡ seated v (wrote v.who s (message_words e)) → IsEntry e
-      → ((d : Message) → SpellsMessage u.who.part.words d → IsEntry d → w ≡ seated u (marked u.who s d))
+      → ((d : Message) → SpellsMessage u.who.row.words d → IsEntry d → w ≡ seated u (marked u.who s d))
       → w ≡ seated v (marked v.who s e)
   marks_message written entry step = rw written at (step e (row_spells written) entry)

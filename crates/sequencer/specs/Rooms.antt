@@ -27,8 +27,8 @@ pub record HasLooked (g m : ℕ) (p : Person) (answer : ℕ) (q : Person) : Type
   pub values : List ℕ
   pub count : length values ≡ g
   pub loads : q ≡ record p { loads = p.loads ++ taken_loads 1 values }
-  pub below : least values ≤ p.part.sequence
-  pub room : answer + p.part.sequence ≡ least values + m
+  pub below : least values ≤ p.row.sequence
+  pub room : answer + p.row.sequence ≡ least values + m
 
 -- the value of gateway k's taken word that these loads found last, if any did
 abbrev pub last_taken : ℕ → List Load → Option ℕ
@@ -46,11 +46,11 @@ LeavesNoRoom m upto (Some x) = x + m < upto
 
 -- by the values that were loaded last there is room for n outputs more, behind each of g gateways
 abbrev pub KeepsRoom : ℕ → ℕ → Person → ℕ → Type 0
-KeepsRoom g m p n = (k : ℕ) → IsGateway g k → LeavesRoom m (p.part.sequence + n) (last_taken k p.loads)
+KeepsRoom g m p n = (k : ℕ) → IsGateway g k → LeavesRoom m (p.row.sequence + n) (last_taken k p.loads)
 
 -- or behind one of them there isn't
 abbrev pub KeepsNoRoom : ℕ → ℕ → Person → ℕ → Type 0
-KeepsNoRoom g m p n = (k : ℕ) × (IsGateway g k × LeavesNoRoom m (p.part.sequence + n) (last_taken k p.loads))
+KeepsNoRoom g m p n = (k : ℕ) × (IsGateway g k × LeavesNoRoom m (p.row.sequence + n) (last_taken k p.loads))
 
 -- The answer says how many outputs more there is room for, where n are wanted. By the taken values that were loaded last there is room for all of these, and
 -- then no word is loaded; or there isn't, and then each word was loaded once

@@ -50,7 +50,7 @@ fn look_for_room<L: Logic, const N: usize, const M: usize, const G: usize>(
     requires at { IsAt rings.now seat.old }
     ensures step { SamePlace seat.old seat.new }
     ensures looked { HasLooked G M seat.old.who result seat.new.who }
-    ensures free { (i : ℕ) → i < result → HasOutputRoom G M seat.new.who (seat.old.who.part.sequence + i) }
+    ensures free { (i : ℕ) → i < result → HasOutputRoom G M seat.new.who (seat.old.who.row.sequence + i) }
 {
     let gateways = rings.gateways();
     let mut least = rings.load_taken(seat, 1);
@@ -72,7 +72,7 @@ pub fn room<L: Logic, const N: usize, const M: usize, const G: usize>(
     requires at { IsAt rings.now seat.old }
     ensures step { SamePlace seat.old seat.new }
     ensures looked { SeesRoomFor G M seat.old.who wanted result seat.new.who }
-    ensures free { (i : ℕ) → i < result → HasOutputRoom G M seat.new.who (seat.old.who.part.sequence + i) }
+    ensures free { (i : ℕ) → i < result → HasOutputRoom G M seat.new.who (seat.old.who.row.sequence + i) }
 {
     if keeps_room(seat, rings.gateways(), wanted, rings.output_rows()) {
         return wanted;
@@ -88,10 +88,10 @@ pub fn put_output<L: Logic, const N: usize, const M: usize, const G: usize>(
     output: &Output,
 )
     requires at { IsAt rings.now seat.old }
-    requires room { HasOutputRoom G M seat.old.who seat.old.who.part.sequence }
-    requires synced { Shows journalled seat.old.who seat.old.who.own }
-    requires next { get_elem? (L.outputs rings.now.logic (take (suc seat.old.who.own) seat.old.who.seen)) seat.old.who.part.sequence ≡ some output.now }
-    ensures step { Steps seat.old (at_place seat.old.who (suc seat.old.who.part.sequence)) seat.new }
+    requires room { HasOutputRoom G M seat.old.who seat.old.who.row.sequence }
+    requires synced { Shows journalled seat.old.who seat.old.who.sequence }
+    requires next { get_elem? (L.outputs rings.now.logic (take (suc seat.old.who.sequence) seat.old.who.seen)) seat.old.who.row.sequence ≡ some output.now }
+    ensures step { Steps seat.old (at_place seat.old.who (suc seat.old.who.row.sequence)) seat.new }
 {
     rings.store_output(seat, output);
 }

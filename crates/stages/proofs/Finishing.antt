@@ -39,10 +39,10 @@ entry_at [] s inside = absurd (omega (arith, inside))
 entry_at (m ∷ h) zero inside = (m, refl)
 entry_at (m ∷ h) (suc s) inside = entry_at h s (omega (arith, inside))
 
-module _ (seen kept log : History) (own : ℕ) (of_log : IsBeginning seen log) (short : length seen ≤ own)
+module _ (seen kept log : History) (sequence : ℕ) (of_log : IsBeginning seen log) (short : length seen ≤ sequence)
     (kept_of_log : IsBeginning kept log) where
   -- of two beginnings of one log the front of the longer that is long enough has the other
-  holds : (k : ℕ) → own ≤ k → k ≤ length kept → IsBeginning seen (take k kept)
+  holds : (k : ℕ) → sequence ≤ k → k ≤ length kept → IsBeginning seen (take k kept)
   holds k least most s e at =
       let inside = within seen s e at in
       let there = entry_at kept s (omega (arith, inside, short, least, most)) in
@@ -51,15 +51,15 @@ module _ (seen kept log : History) (own : ℕ) (of_log : IsBeginning seen log) (
       (subst (λ (m : Message). get_elem? kept s ≡ some m) same there.1)
 
 -- a journal from these entries on has them
-pub survives : (kept log : History) (own : ℕ) → IsBeginning kept log → (file : List ℕ) → IsJournalFrom own kept file
-    → Survives log (take own kept) file
-survives kept log own of_log file (k, least, most, journal) = record {
+pub survives : (kept log : History) (sequence : ℕ) → IsBeginning kept log → (file : List ℕ) → IsJournalFrom sequence kept file
+    → Survives log (take sequence kept) file
+survives kept log sequence of_log file (k, least, most, journal) = record {
   history = take k kept;
   journal = journal;
   begins = λ s e at. of_log s e (in_front k kept s e at);
-  holds = λ s e at. to_front k kept s e (let inside = within (take own kept) s e at in
-      let short = length-take own kept in omega (arith, inside, short, least))
-      (in_front own kept s e at);
+  holds = λ s e at. to_front k kept s e (let inside = within (take sequence kept) s e at in
+      let short = length-take sequence kept in omega (arith, inside, short, least))
+      (in_front sequence kept s e at);
 }
 
 -- the venue is finished: one log tells of these seats
@@ -68,23 +68,23 @@ pub finished : {D : Type 0} (rings : Opened Limits) (crew : OneCrew D) (honest :
     → seats.unmarshal.who ≡ crew.unmarshaller.who → seats.journal.who ≡ crew.journaller.seat.who
     → seats.process.who ≡ crew.processor.seat.who
     → seats.marshal.who ≡ crew.marshaller.who → Ended (outputs_of rings.logic) rings.base seats s
-    → s.commands ≡ seats.process.who.own
-    → s.outputs ≡ seats.process.who.part.sequence → (honest → KeepsDone disk crew.journaller.seat.who)
+    → s.commands ≡ seats.process.who.sequence
+    → s.outputs ≡ seats.process.who.row.sequence → (honest → KeepsDone disk crew.journaller.seat.who)
     → Finished rings seats.gateways.items crew honest disk s
 finished rings crew honest disk s seats unmarshal journal process marshal ended commands outputs keeps =
     let v : Person = crew.journaller.seat.who in
     let stages : stages_of seats ≡ people_of crew = λ k. process k ∷ unmarshal k ∷ journal k ∷ marshal k ∷ [] in
     let kept = ended.known 2 v (ap (λ (l : List Person). get_elem? l 2) stages) in
-    let own : seats.journal.who.own ≡ v.own = ap (λ (p : Person). p.own) journal in
-    let known : v.own ≤ length v.seen = subst (λ (p : Person). p.own ≤ length p.seen) journal ended.released in
+    let own : seats.journal.who.sequence ≡ v.sequence = ap (λ (p : Person). p.sequence) journal in
+    let known : v.sequence ≤ length v.seen = subst (λ (p : Person). p.sequence ≤ length p.seen) journal ended.released in
     record {
       seats = seats;
       gateways_are = refl;
       stages = stages;
       ended = ended;
-      commands = commands ∙ ap (λ (p : Person). p.own) process;
-      outputs = outputs ∙ ap (λ (p : Person). p.part.sequence) process;
-      survives = λ h file left. survives v.seen ended.log v.own kept file (keeps h file left);
+      commands = commands ∙ ap (λ (p : Person). p.sequence) process;
+      outputs = outputs ∙ ap (λ (p : Person). p.row.sequence) process;
+      survives = λ h file left. survives v.seen ended.log v.sequence kept file (keeps h file left);
       holds = λ i seat at. let seen = ended.seen i seat at in let most = seen.1 in
-          holds seat.who.seen v.seen ended.log v.own seen.0 (omega (arith, most, own)) kept v.own (omega arith) known;
+          holds seat.who.seen v.seen ended.log v.sequence seen.0 (omega (arith, most, own)) kept v.sequence (omega arith) known;
     }

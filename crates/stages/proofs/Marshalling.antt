@@ -87,7 +87,7 @@ module _ {L : Type 0} (n m : ℕ) (outputs : List Message → List Output) (v a 
         d,
         record {
           row = whole.row;
-          shown = still_shown v.who published (out_row n m s 0) o.to v.who.part.sequence whole.shown;
+          shown = still_shown v.who published (out_row n m s 0) o.to v.who.row.sequence whole.shown;
           output = whole.output;
           words = whole.words;
           packable = whole.packable;
@@ -104,7 +104,7 @@ module _ {L : Type 0} (n m : ℕ) (outputs : List Message → List Output) (v a 
         ∙ ap (λ (t : Text). seated v (wrote (looked_twice v.who (out_row n m s 0) o.to) s (text_words t))) is
 
     -- and stands whole
-    pub is_whole : v.who.own ≤ s → Shows published v.who s → get_elem? (outputs v.who.seen) s ≡ some o
+    pub is_whole : v.who.sequence ≤ s → Shows published v.who s → get_elem? (outputs v.who.seen) s ≡ some o
         → IsPackableText text → WroteText outputs text_bytes b.who o
     is_whole from shown there packable = subst (λ (z : At L). WroteText outputs text_bytes z.who o) (sym is_written)
         (record {
@@ -122,26 +122,26 @@ pub record WroteUpTo {L : Type 0} (n m : ℕ) (outputs : List Message → List O
     Type 0 where
   pub from : next ≤ s
   pub place : u ≡ seated v u.who
-  pub own : u.who.own ≡ v.who.own
+  pub sequence : u.who.sequence ≡ v.who.sequence
   pub seen : u.who.seen ≡ v.who.seen
   pub shown : (q : ℕ) → Shows published v.who q → Shows published u.who q
   pub all : WroteTexts n m (outputs v.who.seen) v.who (s - next) u.who
-  pub last : (s ≡ next) ⊎ ((s ≡ suc u.who.part.sequence) × ((o : Output) × WroteText outputs text_bytes u.who o))
+  pub last : (s ≡ next) ⊎ ((s ≡ suc u.who.row.sequence) × ((o : Output) × WroteText outputs text_bytes u.who o))
 
 module _ {L : Type 0} (n m : ℕ) (outputs : List Message → List Output) (v u : At L) (next s : ℕ)
-    (is_next : next ≡ v.who.own)
+    (is_next : next ≡ v.who.sequence)
     (so_far : WroteUpTo n m outputs v u next s) where
   -- and then one more is written
   pub one_more : (w : At L) (o : Output) → get_elem? (outputs v.who.seen) s ≡ some o → w ≡ seated u w.who
       → w.who ≡ after_text n m u.who s o
       → WroteText outputs text_bytes w.who o → WroteUpTo n m outputs v w next (s + 1)
   one_more w o there place written whole =
-      let from = so_far.from in let here : s ≡ v.who.own + (s - next) = omega arith in
+      let from = so_far.from in let here : s ≡ v.who.sequence + (s - next) = omega arith in
       let longer : suc (s - next) ≡ s + 1 - next = omega arith in
-      let row : w.who.part.sequence ≡ s = ap (λ p. p.part.sequence) written in record {
+      let row : w.who.row.sequence ≡ s = ap (λ p. p.row.sequence) written in record {
         from = omega arith;
         place = place ∙ ap (λ (z : At L). seated z w.who) so_far.place;
-        own = ap (λ p. p.own) written ∙ so_far.own;
+        sequence = ap (λ p. p.sequence) written ∙ so_far.sequence;
         seen = ap (λ p. p.seen) written ∙ so_far.seen;
         shown = λ q there. subst (λ p. Shows published p q) (sym written)
             (still_shown u.who published (out_row n m s 0) o.to q (so_far.shown q there));
@@ -161,10 +161,10 @@ module _ {L : Type 0} (n m : ℕ) (outputs : List Message → List Output) (v u 
 
 module _ (limits : Limits) (v u : At Limits) (next r : ℕ) (rest : List Message)
     (is : u ≡ seated v (knowing (looked v.who published r) rest))
-    (most : r ≤ length (outputs_of limits (v.who.seen ++ rest))) (own_is : next ≡ v.who.own) where
+    (most : r ≤ length (outputs_of limits (v.who.seen ++ rest))) (own_is : next ≡ v.who.sequence) where
   -- the look for outputs leaves the own word
-  pub next_stays : next ≡ u.who.own
-  next_stays = own_is ∙ sym (ap (λ (z : At Limits). z.who.own) is)
+  pub next_stays : next ≡ u.who.sequence
+  next_stays = own_is ∙ sym (ap (λ (z : At Limits). z.who.sequence) is)
 
   -- shows all outputs that are published
   pub shown_below : (q : ℕ) → q < r → Shows published u.who q
@@ -180,7 +180,7 @@ module _ (limits : Limits) (v u : At Limits) (next r : ℕ) (rest : List Message
       → WroteTexts n m (outputs_of limits u.who.seen) u.who (r - next) q → w ≡ moved q r
       → Marshals n m limits (Did (r - next)) v.who w
   marshals_all n m q w below all released =
-      let behind : r ≡ v.who.own + (r - next) = omega (arith, own_is, below) in
+      let behind : r ≡ v.who.sequence + (r - next) = omega (arith, own_is, below) in
       let written = subst (λ (z : At Limits). WroteTexts n m (outputs_of limits z.who.seen) z.who (r - next) q) is
       all in (
         omega (arith, below),
@@ -195,8 +195,8 @@ module _ (limits : Limits) (v u : At Limits) (next r : ℕ) (rest : List Message
       )
 
   -- or there was none
-  pub none_next : (n m : ℕ) → r ≤ next → v.who.own ≤ r → Marshals n m limits Idle v.who u.who
-  none_next n m near far = let same : r ≡ v.who.own = omega (arith, near, far, own_is) in
+  pub none_next : (n m : ℕ) → r ≤ next → v.who.sequence ≤ r → Marshals n m limits Idle v.who u.who
+  none_next n m near far = let same : r ≡ v.who.sequence = omega (arith, near, far, own_is) in
       record {
         rest = rest;
         known = subst (λ (x : ℕ). x ≤ length (outputs_of limits (v.who.seen ++ rest))) same most;

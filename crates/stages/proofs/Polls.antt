@@ -19,7 +19,7 @@ nothing_grown : (n : ℕ) (v : Person) → grown_by n v [] ≡ v
 nothing_grown n v = λ k. record v { seen = append-nil v.seen k; loads = append-nil v.loads k }
 
 -- a look that leaves no entry to do showed nothing
-pub nothing_shown : (n : ℕ) (v w : Person) → 0 < n → v.own ≤ length v.seen → length w.seen ≤ v.own → Shown n v w
+pub nothing_shown : (n : ℕ) (v w : Person) → 0 < n → v.sequence ≤ length v.seen → length w.seen ≤ v.sequence → Shown n v w
     → NothingShown n v w
 nothing_shown n v w some_row known near shown = by_case shown.2 where
   by_case : Stopped n v w shown.0 → NothingShown n v w
@@ -29,7 +29,7 @@ nothing_shown n v w some_row known near shown = by_case shown.2 where
       let long : length w.seen ≡ length v.seen + length rest = ap (λ (p : Person). length p.seen) is
       ∙ length-append v.seen rest in
       let none : rest ≡ [] = none_more rest (omega arith) in
-      let at_own : length w.seen ≡ v.own = omega arith in (
+      let at_own : length w.seen ≡ v.sequence = omega arith in (
         omega arith,
         (
           x,

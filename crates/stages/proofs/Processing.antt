@@ -43,28 +43,28 @@ length-first zero l = omega arith
 length-first (suc i) [] = omega arith
 length-first (suc i) (x ∷ xs) = let most = length-first i xs in omega (arith, most)
 
-module _ (limits : Limits) (p : Person) (e : Message) (at : get_elem? p.seen p.own ≡ some e)
-    (known : p.own < length p.seen) where
+module _ (limits : Limits) (p : Person) (e : Message) (at : get_elem? p.seen p.sequence ≡ some e)
+    (known : p.sequence < length p.seen) where
   -- what the entry asks
   abbrev ask : Request
-  ask = request_at limits p.own e
+  ask = request_at limits p.sequence e
 
   abbrev next : Stepped
-  next = step limits.symbols (state_of limits (entries_done p)) p.own ask
+  next = step limits.symbols (state_of limits (entries_done p)) p.sequence ask
 
-  place : length (requests_of limits (entries_done p)) ≡ p.own
-  place = length-requests (reads_at limits) 0 (entries_done p) ∙ length-take-le p.own p.seen (omega arith)
+  place : length (requests_of limits (entries_done p)) ≡ p.sequence
+  place = length-requests (reads_at limits) 0 (entries_done p) ∙ length-take-le p.sequence p.seen (omega arith)
 
-  one_more : requests_of limits (take (suc p.own) p.seen) ≡ requests_of limits (entries_done p) ++ ask ∷ []
-  one_more = ap (requests_of limits) (take_next p.seen p.own e at)
+  one_more : requests_of limits (take (suc p.sequence) p.seen) ≡ requests_of limits (entries_done p) ++ ask ∷ []
+  one_more = ap (requests_of limits) (take_next p.seen p.sequence e at)
       ∙ requests_from-more (reads_at limits) 0 (entries_done p) e
 
   -- the state with one entry more, and the outputs
-  next_state : state_of limits (take (suc p.own) p.seen) ≡ next.state
+  next_state : state_of limits (take (suc p.sequence) p.seen) ≡ next.state
   next_state = ap (state limits.symbols) one_more ∙ state-more limits.symbols (requests_of limits (entries_done p)) ask
       ∙ ap (λ (n : ℕ). (step limits.symbols (state_of limits (entries_done p)) n ask).state) place
 
-  next_outputs : outputs_of limits (take (suc p.own) p.seen) ≡ outputs_of limits (entries_done p) ++ next.outputs
+  next_outputs : outputs_of limits (take (suc p.sequence) p.seen) ≡ outputs_of limits (entries_done p) ++ next.outputs
   next_outputs = ap (outputs limits.symbols) one_more ∙ outputs-one limits.symbols (requests_of limits (entries_done p))
       ask
       ∙ ap (λ (n : ℕ). outputs_of limits (entries_done p)
@@ -80,12 +80,12 @@ behind limits k h s is = subst (λ (z : State). Below k z.orders) (sym is)
 
 -- it is that of the next entry
 pub record Took (n : ℕ) (limits : Limits) (v r : At Limits) (s gateway : ℕ) (command : Command) : Type 0 where
-  pub place : s ≡ v.who.own
-  pub known : v.who.own < length v.who.seen
+  pub place : s ≡ v.who.sequence
+  pub known : v.who.sequence < length v.who.seen
   pub entry : Message
-  pub at : get_elem? v.who.seen v.who.own ≡ some entry
+  pub at : get_elem? v.who.seen v.who.sequence ≡ some entry
   pub from : gateway ≡ entry.gateway
-  pub command_is : command ≡ reads_at limits v.who.own entry
+  pub command_is : command ≡ reads_at limits v.who.sequence entry
   pub view : r ≡ seated v (after_reading n limits v.who entry)
 
 -- the entry at s is e, of which these are gateway and command
@@ -109,7 +109,7 @@ module _ (limits : Limits) (v : At Limits) (s gateway : ℕ) (command : Command)
         subst IsCommand (sym read.1) (reads_within stood.0.bytes),
       )
 
-  pub took : (n : ℕ) (r : At Limits) → s ≡ v.who.own → Loads n limits v r s → Took n limits v r s gateway command
+  pub took : (n : ℕ) (r : At Limits) → s ≡ v.who.sequence → Loads n limits v r s → Took n limits v r s gateway command
   took n r place loads = let stood = stands v.who.seen s known in let e = stood.0 in let read = is e stood.1 in
       record {
         place = place;
@@ -126,21 +126,21 @@ module _ (limits : Limits) (v : At Limits) (s gateway : ℕ) (command : Command)
 
 -- the command of the sequence s may be taken up
 pub record MayTake (p : AtBook) (s : ℕ) : Type 0 where
-  pub next : s ≡ p.seat.who.own
+  pub next : s ≡ p.seat.who.sequence
   pub all : p.applied ≡ s
   pub known : s < length p.seat.who.seen
   pub synced : s < last_from journalled 0 p.seat.who.loads
 
 -- while the command behind those done is under way, its outputs are to be put
 pub left_to_put : (v : At Limits) (book : Book) (applied : ℕ) (left : List Output) → FollowsRings v book applied left
-    → applied ≡ suc v.who.own
+    → applied ≡ suc v.who.sequence
     → to_put book.limits v.who ≡ left
 left_to_put v book applied left follows one =
-    ap (λ (k : ℕ). drop v.who.part.sequence (outputs_of book.limits (take k v.who.seen))) (sym one) ∙ follows.rest
+    ap (λ (k : ℕ). drop v.who.row.sequence (outputs_of book.limits (take k v.who.seen))) (sym one) ∙ follows.rest
 
 -- the message of the next sequence was read
 abbrev pub HasRead : ℕ → Limits → Person → Person → Type 0
-HasRead n limits v w = (e : Message) × (get_elem? v.seen v.own ≡ some e) × (w ≡ after_reading n limits v e)
+HasRead n limits v w = (e : Message) × (get_elem? v.seen v.sequence ≡ some e) × (w ≡ after_reading n limits v e)
 
 -- where no outputs are left of them
 pub at_rest : (v : At Limits) (book : Book) (applied s : ℕ) (left : List Output) → FollowsRings v book applied left
@@ -159,27 +159,27 @@ module _ (n : ℕ) (v r : At Limits) (s gateway : ℕ) (command : Command) (book
   abbrev this_step : Stepped
   this_step = step book.limits.symbols book.state s (record { gateway = gateway; command = command })
 
-  before : FollowsRings v book v.who.own []
+  before : FollowsRings v book v.who.sequence []
   before = subst (λ (k : ℕ). FollowsRings v book k []) took.place follows
 
   -- the book was asked what the entry asks, in the state of those before it
   asked_so : this_step ≡ next book.limits v.who took.entry took.at took.known
   asked_so = ap (λ (t : ℕ). step book.limits.symbols book.state t (record { gateway = gateway; command = command }))
       took.place
-      ∙ ap (λ (k : ℕ). step book.limits.symbols book.state v.who.own (record { gateway = k; command = command }))
+      ∙ ap (λ (k : ℕ). step book.limits.symbols book.state v.who.sequence (record { gateway = k; command = command }))
       took.from
-      ∙ ap (λ (d : Command). step book.limits.symbols book.state v.who.own
+      ∙ ap (λ (d : Command). step book.limits.symbols book.state v.who.sequence
       (record { gateway = took.entry.gateway; command = d })) took.command_is
-      ∙ ap (λ (z : State). step book.limits.symbols z v.who.own (request_at book.limits v.who.own took.entry))
+      ∙ ap (λ (z : State). step book.limits.symbols z v.who.sequence (request_at book.limits v.who.sequence took.entry))
       before.state
 
-  grown : outputs_of book.limits (take (suc v.who.own) v.who.seen)
+  grown : outputs_of book.limits (take (suc v.who.sequence) v.who.seen)
       ≡ outputs_of book.limits (entries_done v.who) ++ this_step.outputs
   grown = next_outputs book.limits v.who took.entry took.at took.known
       ∙ ap (λ (t : Stepped). outputs_of book.limits (entries_done v.who) ++ t.outputs) (sym asked_so)
 
   -- all before were published
-  all_out : length (outputs_of book.limits (entries_done v.who)) ≡ v.who.part.sequence
+  all_out : length (outputs_of book.limits (entries_done v.who)) ≡ v.who.row.sequence
   all_out = let all = before.published in omega (arith, all)
 
   -- whatever else is said of a book, of these limits and in this state it follows
@@ -205,8 +205,8 @@ module _ (n : ℕ) (v r : At Limits) (s gateway : ℕ) (command : Command) (book
         logic = follows.logic;
         state = ap (λ (t : Stepped). t.state) asked_so ∙ sym
             (next_state book.limits v.who took.entry took.at took.known);
-        rest = ap (drop v.who.part.sequence) grown ∙ drop_front _ _ _ all_out ∙ sym told;
+        rest = ap (drop v.who.row.sequence) grown ∙ drop_front _ _ _ all_out ∙ sym told;
         published = ap length grown ∙ length-append (outputs_of book.limits (entries_done v.who)) this_step.outputs
             ∙ ap (λ (i : ℕ). i + length this_step.outputs) all_out
-            ∙ ap (λ (l : List Output). v.who.part.sequence + length l) (sym told);
+            ∙ ap (λ (l : List Output). v.who.row.sequence + length l) (sym told);
       })))

@@ -81,13 +81,13 @@ last_shows k q p above = by_case (last_stood k 0 q p.loads above) where
 -- where a command was read that was seen journalled, it still is
 pub read_leaves : (n : ℕ) (limits : Limits) (v r : At Limits) (s gateway : ℕ) (command : Command)
     → Took n limits v r s gateway command
-    → s < last_from journalled 0 v.who.loads → r.who.own < last_from journalled 0 r.who.loads
+    → s < last_from journalled 0 v.who.loads → r.who.sequence < last_from journalled 0 r.who.loads
 read_leaves n limits v r s gateway command took above =
     let place = took.place in
-    let own : r.who.own ≡ v.who.own = ap (λ (z : At Limits). z.who.own) took.view in
+    let own : r.who.sequence ≡ v.who.sequence = ap (λ (z : At Limits). z.who.sequence) took.view in
     let last : last_from journalled 0 r.who.loads ≡ last_from journalled 0 v.who.loads =
     ap (λ (z : At Limits). last_from journalled 0 z.who.loads) took.view
-    ∙ commands_leave n v.who.own 0 0 (command_words took.entry.gateway (reads_at limits v.who.own took.entry))
+    ∙ commands_leave n v.who.sequence 0 0 (command_words took.entry.gateway (reads_at limits v.who.sequence took.entry))
     v.who.loads in
     omega (arith, above, place, own, last)
 
@@ -102,7 +102,7 @@ works_on n p r s gateway command working may took book left limits stepped told 
     let follows = at_rest p.seat p.book p.applied s p.left working.follows may.all
     (working.whole (may.all ∙ may.next)) in
     let place = took.place in let known = took.known in
-    let own : r.who.own ≡ p.seat.who.own = ap (λ (z : At Limits). z.who.own) took.view in
+    let own : r.who.sequence ≡ p.seat.who.sequence = ap (λ (z : At Limits). z.who.sequence) took.view in
     let seen : length r.who.seen ≡ length p.seat.who.seen = ap (λ (z : At Limits). length z.who.seen) took.view in
     record {
       follows = follows_on n p.seat r s gateway command p.book took follows book left (s + 1) (add-one s) limits stepped
@@ -115,14 +115,14 @@ works_on n p r s gateway command working may took book left limits stepped told 
 -- OUTPUTS ONE BEHIND THE OTHER
 
 -- all but the row under way is as before, and published is so many above
-ahead_is : (p : Person) (k : ℕ) → (put_ahead p k ≡ record p { part = (put_ahead p k).part })
-    × ((put_ahead p k).part.sequence ≡ p.part.sequence + k)
+ahead_is : (p : Person) (k : ℕ) → (put_ahead p k ≡ record p { row = (put_ahead p k).row })
+    × ((put_ahead p k).row.sequence ≡ p.row.sequence + k)
 ahead_is p zero = (refl, omega arith)
 ahead_is p (suc k) =
     let rest = ahead_is p k in let count = rest.1 in
-    (ap (λ (q : Person). at_place q (suc (put_ahead p k).part.sequence)) rest.0, omega (arith, count))
+    (ap (λ (q : Person). at_place q (suc (put_ahead p k).row.sequence)) rest.0, omega (arith, count))
 
-pub ahead_place : (p : Person) (k : ℕ) → (put_ahead p k).part.sequence ≡ p.part.sequence + k
+pub ahead_place : (p : Person) (k : ℕ) → (put_ahead p k).row.sequence ≡ p.row.sequence + k
 ahead_place p k = (ahead_is p k).1
 
 pub ahead_loads : (p : Person) (k : ℕ) → (put_ahead p k).loads ≡ p.loads
@@ -135,30 +135,30 @@ read_stands (x ∷ xs) zero a is below = ap some (sym is)
 read_stands (x ∷ xs) (suc i) a is below = read_stands xs i a is (omega (arith, below))
 
 module _ (v u : At Limits) (k : ℕ) (is : u ≡ seated v (put_ahead v.who k)) where
-  person_is : u.who ≡ record v.who { part = (put_ahead v.who k).part }
+  person_is : u.who ≡ record v.who { row = (put_ahead v.who k).row }
   person_is = ap (λ (s : At _). s.who) is ∙ (ahead_is v.who k).0
 
-  place_is : u.who.part.sequence ≡ v.who.part.sequence + k
-  place_is = ap (λ (z : At Limits). z.who.part.sequence) is ∙ ahead_place v.who k
+  place_is : u.who.row.sequence ≡ v.who.row.sequence + k
+  place_is = ap (λ (z : At Limits). z.who.row.sequence) is ∙ ahead_place v.who k
 
   -- there is room for one more
-  pub room_behind : (g m : ℕ) → HasOutputRoom g m v.who (v.who.part.sequence + k)
-      → HasOutputRoom g m u.who u.who.part.sequence
-  room_behind g m room = subst (λ (q : Person). HasOutputRoom g m q u.who.part.sequence) (sym person_is)
+  pub room_behind : (g m : ℕ) → HasOutputRoom g m v.who (v.who.row.sequence + k)
+      → HasOutputRoom g m u.who u.who.row.sequence
+  room_behind g m room = subst (λ (q : Person). HasOutputRoom g m q u.who.row.sequence) (sym person_is)
       (subst (HasOutputRoom g m v.who) (sym place_is) room)
 
   -- its entry was seen journalled
-  pub synced_behind : Shows journalled v.who v.who.own → Shows journalled u.who u.who.own
-  synced_behind shown = subst (λ (q : Person). Shows journalled q q.own) (sym person_is) shown
+  pub synced_behind : Shows journalled v.who v.who.sequence → Shows journalled u.who u.who.sequence
+  synced_behind shown = subst (λ (q : Person). Shows journalled q q.sequence) (sym person_is) shown
 
   -- and it is the next output
   pub next_behind : (limits : Limits) (o : Output)
-      → get_elem? (outputs_of limits (take (suc v.who.own) v.who.seen)) (v.who.part.sequence + k) ≡ some o
-      → get_elem? (outputs_of limits (take (suc u.who.own) u.who.seen)) u.who.part.sequence ≡ some o
+      → get_elem? (outputs_of limits (take (suc v.who.sequence) v.who.seen)) (v.who.row.sequence + k) ≡ some o
+      → get_elem? (outputs_of limits (take (suc u.who.sequence) u.who.seen)) u.who.row.sequence ≡ some o
   next_behind limits o at = subst
-      (λ (q : Person). get_elem? (outputs_of limits (take (suc q.own) q.seen)) u.who.part.sequence ≡ some o)
+      (λ (q : Person). get_elem? (outputs_of limits (take (suc q.sequence) q.seen)) u.who.row.sequence ≡ some o)
       (sym person_is)
-      (subst (λ (s : ℕ). get_elem? (outputs_of limits (take (suc v.who.own) v.who.seen)) s ≡ some o) (sym place_is) at)
+      (subst (λ (s : ℕ). get_elem? (outputs_of limits (take (suc v.who.sequence) v.who.seen)) s ≡ some o) (sym place_is) at)
 
 -- the logic of a seat's rings is the one that it is known to have
 pub same_logic : (rings : Opened Limits) (v : At Limits) (limits : Limits) → IsAt rings v → v.logic ≡ Some limits
@@ -214,12 +214,12 @@ put_or_left A B most n few were = by_answer (nat_eq most n) refl where
       let t : true ≡ false = sym all ∙ is in cc)))
 
 module _ (g m : ℕ) (v u : At Limits) (room : ℕ) (looked : OnlyLooked v.who u.who) (u_is : u ≡ seated v u.who) where
-  looked_place : u.who.part.sequence ≡ v.who.part.sequence
-  looked_place = ap (λ (q : Person). q.part.sequence) looked.loads
+  looked_place : u.who.row.sequence ≡ v.who.row.sequence
+  looked_place = ap (λ (q : Person). q.row.sequence) looked.loads
 
   -- so many outputs have room
-  pub room_for_all : ((i : ℕ) → i < room → HasOutputRoom g m u.who (v.who.part.sequence + i)) → (k : ℕ) → k ≤ room
-      → (i : ℕ) → i < k → HasOutputRoom g m u.who (u.who.part.sequence + i)
+  pub room_for_all : ((i : ℕ) → i < room → HasOutputRoom g m u.who (v.who.row.sequence + i)) → (k : ℕ) → k ≤ room
+      → (i : ℕ) → i < k → HasOutputRoom g m u.who (u.who.row.sequence + i)
   room_for_all free k most i below = subst (λ (s : ℕ). HasOutputRoom g m u.who (s + i)) (sym looked_place)
       (free i (omega (arith, below, most)))
 
@@ -228,46 +228,46 @@ module _ (g m : ℕ) (v u : At Limits) (room : ℕ) (looked : OnlyLooked v.who u
   last_same = ap (λ (q : Person). last_from journalled 0 q.loads) looked.loads
       ∙ looks_leave 1 0 looked.values v.who.loads
 
-  own_same : u.who.own ≡ v.who.own
-  own_same = ap (λ (q : Person). q.own) looked.loads
+  own_same : u.who.sequence ≡ v.who.sequence
+  own_same = ap (λ (q : Person). q.sequence) looked.loads
 
-  pub still_synced : v.who.own < last_from journalled 0 v.who.loads → Shows journalled u.who u.who.own
+  pub still_synced : v.who.sequence < last_from journalled 0 v.who.loads → Shows journalled u.who u.who.sequence
   still_synced above = let last = last_same in let own = own_same in
-      last_shows journalled u.who.own u.who (omega (arith, above, last, own))
+      last_shows journalled u.who.sequence u.who (omega (arith, above, last, own))
 
   module _ (book : Book) (applied : ℕ) (left : List Output) (follows : FollowsRings v book applied left)
-      (one : applied ≡ suc v.who.own) where
+      (one : applied ≡ suc v.who.sequence) where
     -- what is left are the next outputs
     pub are_next : (most : ℕ) (i : ℕ) (o : Output) → get_elem? (take most left) i ≡ some o
-        → get_elem? (outputs_of book.limits (take (suc u.who.own) u.who.seen)) (u.who.part.sequence + i) ≡ some o
+        → get_elem? (outputs_of book.limits (take (suc u.who.sequence) u.who.seen)) (u.who.row.sequence + i) ≡ some o
     are_next most i o at =
-        subst (λ (q : Person). get_elem? (outputs_of book.limits (take (suc q.own) q.seen)) (q.part.sequence + i)
+        subst (λ (q : Person). get_elem? (outputs_of book.limits (take (suc q.sequence) q.seen)) (q.row.sequence + i)
         ≡ some o) (sym looked.loads)
-        (subst (λ (k : ℕ). get_elem? (outputs_of book.limits (take k v.who.seen)) (v.who.part.sequence + i) ≡ some o)
+        (subst (λ (k : ℕ). get_elem? (outputs_of book.limits (take k v.who.seen)) (v.who.row.sequence + i) ≡ some o)
         one
-        (sym (at_drop v.who.part.sequence (outputs_of book.limits (take applied v.who.seen)) i)
+        (sym (at_drop v.who.row.sequence (outputs_of book.limits (take applied v.who.seen)) i)
         ∙ ap (λ (l : List Output). get_elem? l i) follows.rest ∙ at_front most left i o at))
 
     pub has_logic : u.logic ≡ Some book.limits
     has_logic = ap (λ (z : At Limits). z.logic) u_is ∙ follows.logic
 
     module _ (most : ℕ) (within : most ≤ length left) (w : At Limits) (w_is : w ≡ seated u (put_ahead u.who most)) where
-      put_is : w.who ≡ record v.who { loads = w.who.loads; part = w.who.part }
+      put_is : w.who ≡ record v.who { loads = w.who.loads; row = w.who.row }
       put_is = let is = ap (λ (s : At _). s.who) w_is ∙ (ahead_is u.who most).0 in
-          is ∙ ap (λ (q : Person). record q { part = (put_ahead u.who most).part }) looked.loads
+          is ∙ ap (λ (q : Person). record q { row = (put_ahead u.who most).row }) looked.loads
           ∙ (λ i. record v.who {
             loads =
                 (sym (ap (λ (q : Person). q.loads)
-                (is ∙ ap (λ (q : Person). record q { part = (put_ahead u.who most).part }) looked.loads))) i;
-            part = (sym (ap (λ (q : Person). q.part) is)) i;
+                (is ∙ ap (λ (q : Person). record q { row = (put_ahead u.who most).row }) looked.loads))) i;
+            row = (sym (ap (λ (q : Person). q.row) is)) i;
           })
 
-      place_after : w.who.part.sequence ≡ v.who.part.sequence + most
-      place_after = ap (λ (z : At Limits). z.who.part.sequence) w_is ∙ ahead_place u.who most
+      place_after : w.who.row.sequence ≡ v.who.row.sequence + most
+      place_after = ap (λ (z : At Limits). z.who.row.sequence) w_is ∙ ahead_place u.who most
           ∙ ap (λ (s : ℕ). s + most) looked_place
 
-      own_after : w.who.own ≡ v.who.own
-      own_after = ap (λ (q : Person). q.own) put_is
+      own_after : w.who.sequence ≡ v.who.sequence
+      own_after = ap (λ (q : Person). q.sequence) put_is
 
       seen_after : w.who.seen ≡ v.who.seen
       seen_after = ap (λ (q : Person). q.seen) put_is
@@ -285,8 +285,8 @@ module _ (g m : ℕ) (v u : At Limits) (room : ℕ) (looked : OnlyLooked v.who u
         logic = ap (λ (z : At Limits). z.logic) w_is ∙ has_logic;
         state = follows.state ∙ ap (λ h. state_of book.limits (take applied h)) (sym seen_after);
         rest = ap (λ (k : ℕ). drop k (outputs_of book.limits (take applied w.who.seen))) place_after
-            ∙ ap (drop (v.who.part.sequence + most)) outs_after
-            ∙ sym (drop-drop most v.who.part.sequence (outputs_of book.limits (take applied v.who.seen)))
+            ∙ ap (drop (v.who.row.sequence + most)) outs_after
+            ∙ sym (drop-drop most v.who.row.sequence (outputs_of book.limits (take applied v.who.seen)))
             ∙ ap (drop most) follows.rest;
         published = let all = follows.published in
             let long = length-drop most left in
@@ -296,7 +296,7 @@ module _ (g m : ℕ) (v u : At Limits) (room : ℕ) (looked : OnlyLooked v.who u
       }
 
       -- what the processor knows is as before
-      pub same_after : (w.who.own ≡ v.who.own) × (length w.who.seen ≡ length v.who.seen)
+      pub same_after : (w.who.sequence ≡ v.who.sequence) × (length w.who.seen ≡ length v.who.seen)
           × (last_from journalled 0 w.who.loads ≡ last_from journalled 0 v.who.loads)
       same_after = (own_after, ap length seen_after, last_after)
 
@@ -314,7 +314,7 @@ all_lent put most items now is within = ap length (lent put most items now is)
 -- what the processor is when so many were put of those left
 pub record AreGone (m g : ℕ) (p : AtBook) (w : At Limits) (most : ℕ) : Type 0 where
   pub follows : FollowsRings w p.book p.applied (drop most p.left)
-  pub own : w.who.own ≡ p.seat.who.own
+  pub sequence : w.who.sequence ≡ p.seat.who.sequence
   pub seen : length w.who.seen ≡ length p.seat.who.seen
   pub last : last_from journalled 0 w.who.loads ≡ last_from journalled 0 p.seat.who.loads
   pub puts : PutsAll m g p.seat.who p.left w.who × (most < length p.left → PutsOutputs m g p.seat.who p.left w.who)
@@ -322,14 +322,14 @@ pub record AreGone (m g : ℕ) (p : AtBook) (w : At Limits) (most : ℕ) : Type 
 -- those left are the outputs from one place on, of which as many as there is room for are lent and put
 pub are_gone : (m g : ℕ) (p : AtBook) (u w : At Limits) (wanted room most put : ℕ) (items now : List Output)
     → IsWorking p → p.left ≡ drop put items
-    → p.seat.who.own < p.applied → SeesRoomFor g m p.seat.who wanted room u.who → wanted ≡ length p.left
+    → p.seat.who.sequence < p.applied → SeesRoomFor g m p.seat.who wanted room u.who → wanted ≡ length p.left
     → u ≡ seated p.seat u.who → now ≡ items
     → 0 < length p.left → most ≡ min room (length p.left)
     → w ≡ seated u (put_ahead u.who (length (take (put + most - put) (drop put now)))) → AreGone m g p w most
 are_gone m g p u w wanted room most put items now working left_is under_way sees wanted_is u_is is some_there least
     was_put =
     let v = p.seat in let looked = only_looked g m v.who wanted room u.who sees in let counts = working.counts in
-    let one : p.applied ≡ suc v.who.own = omega (arith, counts, under_way) in
+    let one : p.applied ≡ suc v.who.sequence = omega (arith, counts, under_way) in
     let within : most ≤ length p.left = omega (arith, least) in
     let long = ap length left_is in
     let w_is : w ≡ seated u (put_ahead u.who most) =
@@ -338,7 +338,7 @@ are_gone m g p u w wanted room most put items now working left_is under_way sees
     let kept = same_after g m v u room looked u_is p.book p.applied p.left working.follows one most within w w_is in
     record {
       follows = follows_after g m v u room looked u_is p.book p.applied p.left working.follows one most within w w_is;
-      own = kept.0;
+      sequence = kept.0;
       seen = kept.1;
       last = kept.2;
       puts = were_put g m v.who p.left room most u.who w.who
@@ -348,13 +348,13 @@ are_gone m g p u w wanted room most put items now working left_is under_way sees
 
 -- the processor with the others left
 pub works_behind : (m g : ℕ) (p : AtBook) (w : At Limits) (most : ℕ) (rest : List Output) → IsWorking p
-    → p.seat.who.own < p.applied
+    → p.seat.who.sequence < p.applied
     → drop most p.left ≡ rest → AreGone m g p w most → IsWorking
     (record { seat = w; book = p.book; applied = p.applied; left = rest })
 works_behind m g p w most rest working under_way is gone =
     let counts = working.counts in
     let above = working.synced under_way in
-    let own = gone.own in
+    let own = gone.sequence in
     let seen = gone.seen in
     let last = gone.last in
     record {
@@ -376,8 +376,8 @@ none_left put most len items long within few = let rest = length-drop (put + mos
 -- A POLL
 
 -- the look for commands leaves the own word, and shows the entries that it makes known as journalled
-pub gated_own : (v u : Person) → Gated v u → u.own ≡ v.own
-gated_own v u gated = ap (λ (p : Person). p.own) gated.2.1
+pub gated_own : (v u : Person) → Gated v u → u.sequence ≡ v.sequence
+gated_own v u gated = ap (λ (p : Person). p.sequence) gated.2.1
 
 lesser_low : (a b : ℕ) → lesser_of a b ≤ b
 lesser_low a b = elim (nat_le a b) as (λ t. nat_le a b ≡ t → (if t then a else b) ≤ b)
@@ -393,19 +393,19 @@ gated_synced v u s gated known =
     omega (arith, low, last, long, known)
 
 -- what a command is taken up with leaves the own word
-pub took_own : (n applied : ℕ) (limits : Limits) (v u : Person) → TakesUp n limits applied v u → u.own ≡ v.own
-took_own n applied limits v u (inl next) = ap (λ (p : Person). p.own) next.1.2.2 ∙ gated_own v next.1.0 next.1.1
-took_own n applied limits v u (inr on) = ap (λ (p : Person). p.own) on.1
+pub took_own : (n applied : ℕ) (limits : Limits) (v u : Person) → TakesUp n limits applied v u → u.sequence ≡ v.sequence
+took_own n applied limits v u (inl next) = ap (λ (p : Person). p.sequence) next.1.2.2 ∙ gated_own v next.1.0 next.1.1
+took_own n applied limits v u (inr on) = ap (λ (p : Person). p.sequence) on.1
 
 -- a command is under way: it was taken up, or had been
 pub record UnderWay (n : ℕ) (p b : AtBook) : Type 0 where
   pub taken : TakesUp n p.book.limits p.applied p.seat.who b.seat.who
   pub same : b.book.limits ≡ p.book.limits
-  pub one : b.applied ≡ suc b.seat.who.own
+  pub one : b.applied ≡ suc b.seat.who.sequence
   pub working : IsWorking b
 
-pub took_one : (n next : ℕ) (p b : AtBook) (u : Person) → p.applied ≡ next → next ≡ p.seat.who.own → Gated p.seat.who u
-    → (e : Message) × (get_elem? u.seen u.own ≡ some e) × (b.seat.who ≡ after_reading n p.book.limits u e)
+pub took_one : (n next : ℕ) (p b : AtBook) (u : Person) → p.applied ≡ next → next ≡ p.seat.who.sequence → Gated p.seat.who u
+    → (e : Message) × (get_elem? u.seen u.sequence ≡ some e) × (b.seat.who ≡ after_reading n p.book.limits u e)
     → (b.applied ≡ suc next) × (b.book.limits ≡ p.book.limits) → IsWorking b → UnderWay n p b
 took_one n next p b u all own gated read applied working =
     let taken : TakesUp n p.book.limits p.applied p.seat.who b.seat.who = inl (all ∙ own, (u, gated, read)) in
@@ -417,7 +417,7 @@ took_one n next p b u all own gated read applied working =
       working = working;
     }
 
-pub goes_on : (n : ℕ) (p : AtBook) → IsWorking p → p.seat.who.own < p.applied → UnderWay n p p
+pub goes_on : (n : ℕ) (p : AtBook) → IsWorking p → p.seat.who.sequence < p.applied → UnderWay n p p
 goes_on n p working under_way =
     let counts = working.counts in
     record { taken = inr (under_way, refl); same = refl; one = omega (arith, counts, under_way); working = working }
@@ -445,9 +445,9 @@ module _ (n m g : ℕ) (limits : Limits) (p b : AtBook) (is : p.book.limits ≡ 
       (subst (λ (t : Bool). MatchBool t (PutsAll m g b.seat.who b.left w) (PutsOutputs m g b.seat.who b.left w)) is
       puts)
 
-  module _ (q : AtBook) (kept : (q.applied ≡ b.applied) × (q.book ≡ b.book)) (own : q.seat.who.own ≡ b.seat.who.own)
+  module _ (q : AtBook) (kept : (q.applied ≡ b.applied) × (q.book ≡ b.book)) (own : q.seat.who.sequence ≡ b.seat.who.sequence)
       (working : IsWorking q) where
-    pub still_one : q.applied ≡ suc q.seat.who.own
+    pub still_one : q.applied ≡ suc q.seat.who.sequence
     still_one = kept.0 ∙ begun.one ∙ ap suc (sym own)
 
     -- what is left then is to be put

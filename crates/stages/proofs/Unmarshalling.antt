@@ -60,7 +60,7 @@ module _ {L : Type 0} (n : ℕ) (limits : Limits) (v a b : At L) (s : ℕ) (e : 
       is_its_command
 
   -- the command stands whole
-  pub is_whole : v.who.own ≤ s → get_elem? v.who.seen s ≡ some e → IsPackable raw.gateway command
+  pub is_whole : v.who.sequence ≤ s → get_elem? v.who.seen s ≡ some e → IsPackable raw.gateway command
       → WroteCommand (reads_at limits) b.who e
   is_whole from there packable = subst (λ (z : At L). WroteCommand (reads_at limits) z.who e) (sym is_written) (record {
     row = from;
@@ -74,24 +74,24 @@ module _ {L : Type 0} (n : ℕ) (limits : Limits) (v a b : At L) (s : ℕ) (e : 
 pub record WroteUpTo {L : Type 0} (n : ℕ) (limits : Limits) (v u : At L) (next s : ℕ) : Type 0 where
   pub from : next ≤ s
   pub place : u ≡ seated v u.who
-  pub own : u.who.own ≡ v.who.own
+  pub sequence : u.who.sequence ≡ v.who.sequence
   pub seen : u.who.seen ≡ v.who.seen
   pub all : Wrote n limits v.who (s - next) u.who
-  pub last : (s ≡ next) ⊎ ((s ≡ suc u.who.part.sequence) × ((e : Message) × WroteCommand (reads_at limits) u.who e))
+  pub last : (s ≡ next) ⊎ ((s ≡ suc u.who.row.sequence) × ((e : Message) × WroteCommand (reads_at limits) u.who e))
 
-module _ {L : Type 0} (n : ℕ) (limits : Limits) (v u : At L) (next s : ℕ) (is_next : next ≡ v.who.own)
+module _ {L : Type 0} (n : ℕ) (limits : Limits) (v u : At L) (next s : ℕ) (is_next : next ≡ v.who.sequence)
     (so_far : WroteUpTo n limits v u next s) where
   -- and then one more is written
   pub one_more : (w : At L) (e : Message) → get_elem? v.who.seen s ≡ some e → w ≡ seated u w.who
       → w.who ≡ after_writing n limits u.who s e
       → WroteCommand (reads_at limits) w.who e → WroteUpTo n limits v w next (s + 1)
   one_more w e there place written whole =
-      let from = so_far.from in let here : s ≡ v.who.own + (s - next) = omega arith in
+      let from = so_far.from in let here : s ≡ v.who.sequence + (s - next) = omega arith in
       let longer : suc (s - next) ≡ s + 1 - next = omega arith in
-      let row : w.who.part.sequence ≡ s = ap (λ p. p.part.sequence) written in record {
+      let row : w.who.row.sequence ≡ s = ap (λ p. p.row.sequence) written in record {
         from = omega arith;
         place = place ∙ ap (λ (z : At L). seated z w.who) so_far.place;
-        own = ap (λ p. p.own) written ∙ so_far.own;
+        sequence = ap (λ p. p.sequence) written ∙ so_far.sequence;
         seen = ap (λ p. p.seen) written ∙ so_far.seen;
         all = subst (λ (k : ℕ). Wrote n limits v.who k w.who) longer (
           u.who,

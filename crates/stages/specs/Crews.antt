@@ -30,8 +30,8 @@ module _ {D : Type 0} where
   new_crew rings journal book = record {
     unmarshaller = at rings (newcomer Unmarshal rings.base (length rings.base));
     journaller = record { seat = at rings (newcomer Journal rings.base (length rings.base)); journal = journal };
-    processor = at_rest (at rings (processor rings.base rings.given)) book;
-    marshaller = at rings (newcomer Marshal rings.base rings.given);
+    processor = at_rest (at rings (processor rings.base rings.base_outputs)) book;
+    marshaller = at rings (newcomer Marshal rings.base rings.base_outputs);
   }
 
   -- each polled once, with these turns

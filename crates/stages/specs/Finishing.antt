@@ -35,7 +35,7 @@ pub record Finished {D : Type 0} (rings : Opened Limits) (gateways : List (At Li
   pub gateways_are : seats.gateways.items ≡ gateways
   pub stages : stages_of seats ≡ people_of crew
   pub ended : Ended (outputs_of rings.logic) rings.base seats s
-  pub commands : s.commands ≡ crew.processor.seat.who.own
-  pub outputs : s.outputs ≡ crew.processor.seat.who.part.sequence
+  pub commands : s.commands ≡ crew.processor.seat.who.sequence
+  pub outputs : s.outputs ≡ crew.processor.seat.who.row.sequence
   pub survives : honest → (file : List ℕ) → disk.may_leave file → Survives ended.log (entries_done crew.journaller.seat.who) file
   pub holds : (i : ℕ) (seat : At Limits) → get_elem? gateways i ≡ some seat → IsBeginning seat.who.seen (entries_done crew.journaller.seat.who)

@@ -17,7 +17,7 @@ use Rattle.stages.specs.Turns.{after_messages}
 
 -- the journal has just the entries that are done, while no append failed; and whatever a crash leaves has them
 pub record IsKeeping {D : Type 0} (honest : Type 0) (disk : Told) (who : Person) (journal : OneJournal D) : Type 0 where
-  pub counts : journal.failed ≡ false → journal.count ≡ who.own
+  pub counts : journal.failed ≡ false → journal.count ≡ who.sequence
   pub holds : honest → journal.failed ≡ false → ∥ HoldsDone disk who ∥₁
   pub keeps : honest → ∥ KeepsDone disk who ∥₁
 
@@ -25,18 +25,18 @@ pub record IsKeeping {D : Type 0} (honest : Type 0) (disk : Told) (who : Person)
 pub record FollowsRings (v : At Limits) (book : Book) (applied : ℕ) (left : List Output) : Type 0 where
   pub logic : v.logic ≡ Some book.limits
   pub state : book.state ≡ state_of book.limits (take applied v.who.seen)
-  pub rest : drop v.who.part.sequence (outputs_of book.limits (take applied v.who.seen)) ≡ left
-  pub published : length (outputs_of book.limits (take applied v.who.seen)) ≡ v.who.part.sequence + length left
+  pub rest : drop v.who.row.sequence (outputs_of book.limits (take applied v.who.seen)) ≡ left
+  pub published : length (outputs_of book.limits (take applied v.who.seen)) ≡ v.who.row.sequence + length left
 
 -- So it is of the entries that are done, or of one more, which was seen journalled, of which some outputs may be left.
 pub record IsWorking (p : AtBook) : Type 0 where
   pub follows : FollowsRings p.seat p.book p.applied p.left
-  pub counts : (p.seat.who.own ≤ p.applied) × (p.applied ≤ suc p.seat.who.own) × (p.applied ≤ length p.seat.who.seen)
-  pub whole : p.applied ≡ p.seat.who.own → p.left ≡ []
-  pub synced : p.seat.who.own < p.applied → p.seat.who.own < last_from journalled 0 p.seat.who.loads
+  pub counts : (p.seat.who.sequence ≤ p.applied) × (p.applied ≤ suc p.seat.who.sequence) × (p.applied ≤ length p.seat.who.seen)
+  pub whole : p.applied ≡ p.seat.who.sequence → p.left ≡ []
+  pub synced : p.seat.who.sequence < p.applied → p.seat.who.sequence < last_from journalled 0 p.seat.who.loads
 
 -- the entries below upto, which stand from the own word on, were read
 pub record HasRead {L : Type 0} (n : ℕ) (v : At L) (upto : ℕ) (block : History) (w : At L) : Type 0 where
   pub read : w ≡ seated v (after_messages n v.who block)
-  pub are : block ≡ take (length block) (drop v.who.own v.who.seen)
-  pub count : upto ≡ v.who.own + length block
+  pub are : block ≡ take (length block) (drop v.who.sequence v.who.seen)
+  pub count : upto ≡ v.who.sequence + length block

@@ -22,22 +22,22 @@ after_text n m p q o = wrote (looked_twice p (out_row n m q 0) o.to) q (text_wor
 abbrev pub WroteTexts : ℕ → ℕ → List Output → Person → ℕ → Person → Type 0
 WroteTexts n m outputs v zero w = w ≡ v
 WroteTexts n m outputs v (suc k) w = (u : Person) × WroteTexts n m outputs v k u
-    × ((o : Output) × (get_elem? outputs (v.own + k) ≡ some o) × (w ≡ after_text n m u (v.own + k) o))
+    × ((o : Output) × (get_elem? outputs (v.sequence + k) ≡ some o) × (w ≡ after_text n m u (v.sequence + k) o))
 
 -- published was loaded and showed so many outputs more, which are those of a history that goes on from what was known; the texts of all of
 -- them are written, and all are handed on at once
 pub record MarshalsAll (n m : ℕ) (limits : Limits) (k : ℕ) (v w : Person) : Type 0 where
   pub rest : List Message
-  pub known : v.own + k ≤ length (outputs_of limits (v.seen ++ rest))
+  pub known : v.sequence + k ≤ length (outputs_of limits (v.seen ++ rest))
   pub last : Person
-  pub written : WroteTexts n m (outputs_of limits (v.seen ++ rest)) (knowing (looked v published (v.own + k)) rest) k last
-  pub released : w ≡ moved last (v.own + k)
+  pub written : WroteTexts n m (outputs_of limits (v.seen ++ rest)) (knowing (looked v published (v.sequence + k)) rest) k last
+  pub released : w ≡ moved last (v.sequence + k)
 
 -- published was loaded, and was the stage's own word
 pub record NothingPublished (limits : Limits) (v w : Person) : Type 0 where
   pub rest : List Message
-  pub known : v.own ≤ length (outputs_of limits (v.seen ++ rest))
-  pub only : w ≡ knowing (looked v published v.own) rest
+  pub known : v.sequence ≤ length (outputs_of limits (v.seen ++ rest))
+  pub only : w ≡ knowing (looked v published v.sequence) rest
 
 -- so many outputs were marshalled, which are all that the look showed; or there was none
 abbrev pub Marshals : ℕ → ℕ → Limits → Turn → Person → Person → Type 0

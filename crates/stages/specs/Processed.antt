@@ -5,4 +5,4 @@ use Rattle.ring_words.specs.declared.view.Person.{Person}
 
 -- the first of those that it knows, as many as its own word says
 abbrev pub entries_done : Person → List Message
-entries_done p = take p.own p.seen
+entries_done p = take p.sequence p.seen

@@ -20,23 +20,23 @@ use Rattle.stages.specs.declared.turn.Turn.TheVariants.{Did, Idle, OutFull, Jour
 -- the lesser of unmarshalled and journalled, loaded in this order, was the stage's own word, and it knows nothing beyond that
 abbrev pub NothingHandedOn : Person → Person → Type 0
 NothingHandedOn v w =
-    (length v.seen ≡ v.own) × ((u j : ℕ) × (lesser_of u j ≡ v.own) × (w ≡ looked (looked v unmarshalled u) journalled j))
+    (length v.seen ≡ v.sequence) × ((u j : ℕ) × (lesser_of u j ≡ v.sequence) × (w ≡ looked (looked v unmarshalled u) journalled j))
 
 -- the outputs of the entries that are done and of the next one, but for those that are published
 abbrev pub to_put : Limits → Person → List Output
-to_put limits p = drop p.part.sequence (outputs_of limits (take (suc p.own) p.seen))
+to_put limits p = drop p.row.sequence (outputs_of limits (take (suc p.sequence) p.seen))
 
 -- Where the book has no entry but those that are done, a command is taken up: that of the next sequence was read, which a look for new ones had left
 -- known. Else one is under way.
 abbrev pub TakesUp : ℕ → Limits → ℕ → Person → Person → Type 0
 TakesUp n limits applied v u =
-    ((applied ≡ v.own) × ((q : Person) × Gated v q × ((e : Message) × (get_elem? q.seen q.own ≡ some e) × (u ≡ after_reading n limits q e))))
-    ⊎ ((v.own < applied) × (u ≡ v))
+    ((applied ≡ v.sequence) × ((q : Person) × Gated v q × ((e : Message) × (get_elem? q.seen q.sequence ≡ some e) × (u ≡ after_reading n limits q e))))
+    ⊎ ((v.sequence < applied) × (u ≡ v))
 
 -- so many outputs more are published, one after another
 abbrev pub put_ahead : Person → ℕ → Person
 put_ahead p zero = p
-put_ahead p (suc k) = at_place (put_ahead p k) (suc (put_ahead p k).part.sequence)
+put_ahead p (suc k) = at_place (put_ahead p k) (suc (put_ahead p k).row.sequence)
 
 -- of these outputs as many were put as one look for room left room for; where there are none, nobody looks
 abbrev pub PutsOutputs : ℕ → ℕ → Person → List Output → Person → Type 0
@@ -73,9 +73,9 @@ working who applied = record { who = who; applied = applied }
 abbrev pub Processes : Sizes → Limits → Turn → Working → Working → Type 0
 Processes s limits (Did k) v w =
     (k ≡ 1) × ((u q : Person) × TakesUp s.rows limits v.applied v.who u × PutsAll s.output_rows s.gateways u (to_put limits u) q × (to_put limits q ≡ [])
-    × (w.who ≡ one_done q) × (w.applied ≡ w.who.own))
-Processes s limits Idle v w = (v.applied ≡ v.who.own) × NothingHandedOn v.who w.who × (w.applied ≡ v.applied)
+    × (w.who ≡ one_done q) × (w.applied ≡ w.who.sequence))
+Processes s limits Idle v w = (v.applied ≡ v.who.sequence) × NothingHandedOn v.who w.who × (w.applied ≡ v.applied)
 Processes s limits OutFull v w =
     (u : Person) × TakesUp s.rows limits v.applied v.who u × PutsOutputs s.output_rows s.gateways u (to_put limits u) w.who × (to_put limits w.who ≢ [])
-    × (w.applied ≡ suc w.who.own)
+    × (w.applied ≡ suc w.who.sequence)
 Processes s limits JournalFailed v w = ⊥

@@ -20,7 +20,7 @@ pub record AtBook : Type 0 where
 
 -- the processor at this seat, where no command is under way
 abbrev pub at_rest : At Limits → Book → AtBook
-at_rest seat book = record { seat = seat; book = book; applied = seat.who.own; left = [] }
+at_rest seat book = record { seat = seat; book = book; applied = seat.who.sequence; left = [] }
 
 -- the four stages of one venue
 pub record OneCrew (D : Type 0) : Type 0 where

@@ -82,7 +82,7 @@ impl<D: JournalDisk> Crew<D> {
     ) -> Result<CrewAndGateways<D>, Journal<D>>
         requires seats { AreNew G rings.now seats }
         requires book { (book.limits ≡ rings.now.logic) × (book.state ≡ state_of rings.now.logic rings.now.base) }
-        requires given { rings.now.given ≡ length (outputs_of rings.now.logic rings.now.base) }
+        requires given { rings.now.base_outputs ≡ length (outputs_of rings.now.logic rings.now.base) }
         requires journal { (journal.failed ≡ false) × (journal.count ≡ length rings.now.base) }
         requires holds { D.honest journal.disk → Holds (D.tells journal.disk) rings.now.base }
         ensures made { IfOk result (λ r. (r.0 ≡ new_crew rings.now journal book) × (r.1 ≡ seats.gateways)) }

@@ -46,7 +46,7 @@ at_start old base only_now = started old (LeftOrBehind old base) (λ c left. inl
 -- behind one poll more, in which the journaller did this
 pub behind_poll : (old mid new : Told) (base : History) (t : Turn) (v w : Person)
     → LeavesOnly old mid (LeftOrBehind old base)
-    → Behind base v → Journals 1024 t v w → LeavesOnly mid new (IsJournalFrom v.own w.seen)
+    → Behind base v → Journals 1024 t v w → LeavesOnly mid new (IsJournalFrom v.sequence w.seen)
     → LeavesOnly old new (LeftOrBehind old base)
 behind_poll old mid new base t v w so_far behind journals poll =
     joined old mid new (LeftOrBehind old base) so_far

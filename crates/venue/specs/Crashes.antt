@@ -7,4 +7,4 @@ use Rattle.ring_words.specs.declared.view.Person.{Person}
 pub record Behind (base : History) (v : Person) : Type 0 where
   pub rest : History
   pub seen : v.seen ≡ base ++ rest
-  pub kept : length base ≤ v.own
+  pub kept : length base ≤ v.sequence

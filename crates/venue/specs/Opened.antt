@@ -14,7 +14,7 @@ use Rattle.stages.specs.Crews.{new_crew}
 pub record AreBehind (limits : Limits) (base : History) (rings : Opened Limits) : Type 0 where
   pub logic : rings.logic ≡ limits
   pub base_is : rings.base ≡ base
-  pub given : rings.given ≡ length (outputs_of limits base)
+  pub base_outputs : rings.base_outputs ≡ length (outputs_of limits base)
 
 -- the book is that of the history that the rings were opened with
 pub record IsBookOf (rings : Opened Limits) (book : Book) : Type 0 where

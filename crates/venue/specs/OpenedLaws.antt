@@ -15,7 +15,7 @@ pub new_seen : (limits : Limits) (base : History) (rings : Opened Limits) (k : �
     → length base ≤ 2 ^ 48 → HasSeen seat
 new_seen limits base rings k seat behind new short =
     let told = few-told-by (reads_at limits) limits.symbols base in
-    let given : rings.given ≡ length (outputs_of rings.logic rings.base) =
-    behind.given ∙ ap (λ (l : Limits). length (outputs_of l base)) (sym behind.logic) ∙ ap (λ (h : History). length (outputs_of rings.logic h)) (sym behind.base_is) in
-    let few : rings.given ≤ 2 ^ 62 = let is = behind.given in omega (arith, told, short, is) in
+    let given : rings.base_outputs ≡ length (outputs_of rings.logic rings.base) =
+    behind.base_outputs ∙ ap (λ (l : Limits). length (outputs_of l base)) (sym behind.logic) ∙ ap (λ (h : History). length (outputs_of rings.logic h)) (sym behind.base_is) in
+    let few : rings.base_outputs ≤ 2 ^ 62 = let is = behind.base_outputs in omega (arith, told, short, is) in
     subst HasSeen (sym new) (record { logic = refl; from = omega (arith, given); to = omega (arith, given); few = few; spent = refl })

@@ -18,7 +18,7 @@ abbrev pub without_client : Opened Limits → ℕ → Accepting
 without_client rings k = record {
   gateway = record {
     front = record (begun k 0) { live = false };
-    seat = at rings (newcomer (Gateway k) rings.base rings.given);
+    seat = at rings (newcomer (Gateway k) rings.base rings.base_outputs);
   };
   wire = None;
 }

@@ -152,7 +152,7 @@ impl<'a, const G: usize> Path<'a, G> {
         book: Book,
         task: &Task,
     ) -> Result<Path<'a, G>, AllocError>
-        requires opened { (rings.now.logic ≡ book.limits) × (rings.now.base ≡ []) × (rings.now.given ≡ 0) }
+        requires opened { (rings.now.logic ≡ book.limits) × (rings.now.base ≡ []) × (rings.now.base_outputs ≡ 0) }
         requires seats { AreNew G rings.now seats }
         requires book { book.state ≡ empty }
     {

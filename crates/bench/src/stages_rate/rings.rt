@@ -28,7 +28,7 @@ fn open_rings<const G: usize>(
     limits: &Limits,
 ) -> Result<(VenueRings<G>, Seats<BookLogic>), OpenError>
     requires { (1 ≤ G) × (G ≤ 8) }
-    ensures opened { IfOk result (λ r. (r.0.logic ≡ limits.now) × (r.0.base ≡ []) × (r.0.given ≡ 0)) }
+    ensures opened { IfOk result (λ r. (r.0.logic ≡ limits.now) × (r.0.base ≡ []) × (r.0.base_outputs ≡ 0)) }
     ensures seats { IfOk result (λ r. AreNew G r.0 r.1) }
 {
     VenueRings::open(alloc, BookLogic::of(limits), &Vec::new(alloc), 0)
@@ -39,7 +39,7 @@ pub fn open<const G: usize>(
     alloc: Global,
 ) -> Result<(VenueRings<G>, Seats<BookLogic>, Book), AllocError>
     requires { (1 ≤ G) × (G ≤ 8) }
-    ensures opened { IfOk result (λ r. (r.0.logic ≡ r.2.limits) × (r.0.base ≡ []) × (r.0.given ≡ 0)) }
+    ensures opened { IfOk result (λ r. (r.0.logic ≡ r.2.limits) × (r.0.base ≡ []) × (r.0.base_outputs ≡ 0)) }
     ensures seats { IfOk result (λ r. AreNew G r.0 r.1) }
     ensures book { IfOk result (λ r. r.2.state ≡ empty) }
 {

@@ -45,7 +45,7 @@ pub fn stages_of<const N: usize, const M: usize, const G: usize>(
     seats: Seats<BookLogic>,
     limits: &Limits,
 ) -> Result<(Stages, Vec<GatewaySeat<BookLogic>>), Fail>
-    requires opened { (rings.now.logic ≡ limits.now) × (rings.now.base ≡ []) × (rings.now.given ≡ 0) }
+    requires opened { (rings.now.logic ≡ limits.now) × (rings.now.base ≡ []) × (rings.now.base_outputs ≡ 0) }
     requires seats { AreNew G rings.now seats }
     requires spent { ComeBackSpent rings.now seats.gateways.items }
     ensures rings { IfOk result (λ r. AreAt rings.now r.0.value) }

@@ -72,7 +72,7 @@ fn gateway_at<const N: usize, const M: usize, const G: usize>(
     limits: &Limits,
     seat: GatewaySeat<BookLogic>,
 ) -> Result<Box<Gateway>, Fail>
-    requires opened { (rings.now.logic ≡ limits.now) × (rings.now.base ≡ []) × (rings.now.given ≡ 0) }
+    requires opened { (rings.now.logic ≡ limits.now) × (rings.now.base ≡ []) × (rings.now.base_outputs ≡ 0) }
     requires new { seat ≡ at rings.now (newcomer (role.Gateway (number seat)) [] 0) }
     ensures { IfOk result (λ g. IsAt rings.now g.value.seat) }
 {
@@ -166,7 +166,7 @@ fn pair<const N: usize, const M: usize, const G: usize>(
     limits: &Limits,
     mut gateways: Vec<GatewaySeat<BookLogic>>,
 ) -> Result<(Box<Gateway>, Box<Gateway>), Fail>
-    requires opened { (rings.now.logic ≡ limits.now) × (rings.now.base ≡ []) × (rings.now.given ≡ 0) }
+    requires opened { (rings.now.logic ≡ limits.now) × (rings.now.base ≡ []) × (rings.now.base_outputs ≡ 0) }
     requires new { AreNewGateways rings.now gateways.items }
     ensures { IfOk result (λ pair. IsAt rings.now pair.0.value.seat × IsAt rings.now pair.1.value.seat) }
 {

@@ -17,7 +17,7 @@ pub fn open<const N: usize, const M: usize, const G: usize>(
     limits: &Limits,
 ) -> Result<(TestRings<N, M, G>, Seats<BookLogic>), OpenError>
     requires { (1 ≤ G) × (G ≤ 8) }
-    ensures opened { IfOk result (λ r. (r.0.logic ≡ limits.now) × (r.0.base ≡ []) × (r.0.given ≡ 0)) }
+    ensures opened { IfOk result (λ r. (r.0.logic ≡ limits.now) × (r.0.base ≡ []) × (r.0.base_outputs ≡ 0)) }
     ensures seats { IfOk result (λ r. AreNew G r.0 r.1) }
     ensures spent { IfOk result (λ r. ComeBackSpent r.0 r.1.gateways.items) }
 {

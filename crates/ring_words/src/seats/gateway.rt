@@ -21,7 +21,7 @@ pub struct GatewaySeat<L> {
     ghost bare: { seat.me.1 ≡ [] },
     ghost role: { (person seat.me.0).role ≡ Gateway number },
     ghost numbered: { (1 ≤ number) × (number ≤ 8) },
-    ghost counts: { taken ≡ (person seat.me.0).own },
+    ghost counts: { taken ≡ (person seat.me.0).sequence },
     ghost kept: { processed ≡ last_load processed_word None (person seat.me.0).loads },
 }
 
@@ -56,7 +56,7 @@ impl<L> GatewaySeat<L> {
 
     /// How many outputs the gateway took or passed over, with those given: the place of the next one.
     pub fn taken(&self) -> u64
-        ensures value { result ≡ self.now.who.own }
+        ensures value { result ≡ self.now.who.sequence }
     {
         self.taken
     }

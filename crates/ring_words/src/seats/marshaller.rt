@@ -13,12 +13,12 @@ use std::marker::Model;
 #[derive(Drop)]
 pub struct MarshalSeat<L> {
     pub(crate) seat: Seat<Slot, View<L>>,
-    pub(crate) own: u64,
+    pub(crate) sequence: u64,
     pub(crate) spare: Slot,
     ghost alone: { IsAlone seat.me.0 },
     ghost bare: { seat.me.1 ≡ [] },
     ghost role: { (person seat.me.0).role ≡ Marshal },
-    ghost counts: { own ≡ (person seat.me.0).own },
+    ghost counts: { sequence ≡ (person seat.me.0).sequence },
     ghost home: { (person seat.me.0).out ≡ None },
 }
 
@@ -32,9 +32,9 @@ impl<L> Model for MarshalSeat<L> {
 
 impl<L> MarshalSeat<L> {
     /// The marshaller's word: the texts of all outputs below it are written.
-    pub fn own(&self) -> u64
-        ensures value { result ≡ self.now.who.own }
+    pub fn sequence(&self) -> u64
+        ensures value { result ≡ self.now.who.sequence }
     {
-        self.own
+        self.sequence
     }
 }

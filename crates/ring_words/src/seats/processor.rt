@@ -17,7 +17,7 @@ use venue_model::MOST_GATEWAYS;
 pub struct ProcessSeat<L> {
     pub(crate) seat: Seat<Slot, View<L>>,
     pub(crate) known: u64,
-    pub(crate) own: u64,
+    pub(crate) sequence: u64,
     pub(crate) gate: u64,
     pub(crate) published: u64,
     pub(crate) taken: [Option<u64>; MOST_GATEWAYS],
@@ -25,9 +25,9 @@ pub struct ProcessSeat<L> {
     ghost alone: { IsAlone seat.me.0 },
     ghost bare: { seat.me.1 ≡ [] },
     ghost role: { (person seat.me.0).role ≡ Process },
-    ghost counts: { (known ≡ length (person seat.me.0).seen) × (own ≡ (person seat.me.0).own) × (own ≤ known) × (known ≤ 2 ^ 48) },
+    ghost counts: { (known ≡ length (person seat.me.0).seen) × (sequence ≡ (person seat.me.0).sequence) × (sequence ≤ known) × (known ≤ 2 ^ 48) },
     ghost gated: { gate ≡ last_from unmarshalled 0 (person seat.me.0).loads },
-    ghost put: { published ≡ (person seat.me.0).part.sequence },
+    ghost put: { published ≡ (person seat.me.0).row.sequence },
     ghost kept: { AreTaken taken (person seat.me.0).loads },
     ghost home: { (person seat.me.0).out ≡ None },
 }
@@ -57,16 +57,16 @@ impl<L> ProcessSeat<L> {
     }
 
     /// The processor's word: all sequences below it are processed.
-    pub fn own(&self) -> u64
-        ensures value { result ≡ self.now.who.own }
+    pub fn sequence(&self) -> u64
+        ensures value { result ≡ self.now.who.sequence }
         ensures known { result ≤ length self.now.who.seen }
     {
-        self.own
+        self.sequence
     }
 
     /// How many outputs are published: the place of the next one.
     pub fn published(&self) -> u64
-        ensures value { result ≡ self.now.who.part.sequence }
+        ensures value { result ≡ self.now.who.row.sequence }
     {
         self.published
     }

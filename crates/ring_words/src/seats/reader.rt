@@ -49,12 +49,12 @@ impl Reader for Journalling {
 pub struct ReaderSeat<L, R: Reader> {
     pub(crate) seat: Seat<Slot, View<L>>,
     pub(crate) known: u64,
-    pub(crate) own: u64,
+    pub(crate) sequence: u64,
     pub(crate) marker: PhantomData<R>,
     ghost alone: { IsAlone seat.me.0 },
     ghost bare: { seat.me.1 ≡ [] },
     ghost role: { (person seat.me.0).role ≡ R.role },
-    ghost counts: { (known ≡ length (person seat.me.0).seen) × (own ≡ (person seat.me.0).own) × (own ≤ known) × (known ≤ 2 ^ 48) },
+    ghost counts: { (known ≡ length (person seat.me.0).seen) × (sequence ≡ (person seat.me.0).sequence) × (sequence ≤ known) × (known ≤ 2 ^ 48) },
 }
 
 impl<L, R: Reader> Model for ReaderSeat<L, R> {
@@ -81,10 +81,10 @@ impl<L, R: Reader> ReaderSeat<L, R> {
     }
 
     /// The stage's word: all sequences below it are done.
-    pub fn own(&self) -> u64
-        ensures value { result ≡ self.now.who.own }
+    pub fn sequence(&self) -> u64
+        ensures value { result ≡ self.now.who.sequence }
         ensures known { result ≤ length self.now.who.seen }
     {
-        self.own
+        self.sequence
     }
 }

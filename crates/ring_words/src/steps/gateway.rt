@@ -64,7 +64,7 @@ impl<L: Logic, const N: usize, const M: usize, const G: usize> Rings<L, N, M, G>
         requires at { IsAt self.now seat.old }
         requires claimed { 0 < times_in sequence seat.old.who.claims }
         requires word { word < 41 }
-        requires order { GoesOnRow seat.old.who.part sequence word }
+        requires order { GoesOnRow seat.old.who.row sequence word }
         ensures step { Steps seat.old (stored seat.old.who sequence word value) seat.new }
     {
         let place = self.row_word(sequence, word + 1);
@@ -78,9 +78,9 @@ impl<L: Logic, const N: usize, const M: usize, const G: usize> Rings<L, N, M, G>
         requires at { IsAt self.now seat.old }
         requires claimed { 0 < times_in sequence seat.old.who.claims }
         requires small { sequence < 2 ^ 48 }
-        requires row { seat.old.who.part.sequence ≡ sequence }
-        requires message { (e : Message) × SpellsMessage seat.old.who.part.words e × IsEntry e × (e.gateway ≡ number seat.old) }
-        ensures step { (e : Message) → SpellsMessage seat.old.who.part.words e → IsEntry e → Steps seat.old (marked seat.old.who sequence e) seat.new }
+        requires row { seat.old.who.row.sequence ≡ sequence }
+        requires message { (e : Message) × SpellsMessage seat.old.who.row.words e × IsEntry e × (e.gateway ≡ number seat.old) }
+        ensures step { (e : Message) → SpellsMessage seat.old.who.row.words e → IsEntry e → Steps seat.old (marked seat.old.who sequence e) seat.new }
     {
         let place = self.row_word(sequence, 0);
         self.table
@@ -92,9 +92,9 @@ impl<L: Logic, const N: usize, const M: usize, const G: usize> Rings<L, N, M, G>
     /// has it and is legal: it has the gateway's messages exactly where these were published.
     pub fn load_marshalled(&self, seat: &mut GatewaySeat<L>) -> u64
         requires at { IsAt self.now seat.old }
-        ensures own { seat.old.who.own ≤ result }
-        ensures none { result ≡ seat.old.who.own → Steps seat.old (looked seat.old.who marshalled result) seat.new }
-        ensures some { seat.old.who.own < result → FindsOutput (L.outputs self.now.logic) seat.old result seat.new }
+        ensures own { seat.old.who.sequence ≤ result }
+        ensures none { result ≡ seat.old.who.sequence → Steps seat.old (looked seat.old.who marshalled result) seat.new }
+        ensures some { seat.old.who.sequence < result → FindsOutput (L.outputs self.now.logic) seat.old result seat.new }
     {
         self.table
             .shared
@@ -104,7 +104,7 @@ impl<L: Logic, const N: usize, const M: usize, const G: usize> Rings<L, N, M, G>
     /// Loads the address of an output that is marshalled and that the gateway hasn't taken: the gateway that it goes to.
     pub fn load_address(&self, seat: &mut GatewaySeat<L>, place: u64) -> u64
         requires at { IsAt self.now seat.old }
-        requires from { seat.old.who.own ≤ place }
+        requires from { seat.old.who.sequence ≤ place }
         requires to { Shows marshalled seat.old.who place }
         ensures step { Steps seat.old (looked seat.old.who (out_row N M place 0) result) seat.new }
         ensures address { IsAddress (L.outputs self.now.logic) seat.old.who place result }
@@ -118,7 +118,7 @@ impl<L: Logic, const N: usize, const M: usize, const G: usize> Rings<L, N, M, G>
     /// Loads a word of the text of an output that is marshalled and that the gateway hasn't taken.
     pub fn load_text(&self, seat: &mut GatewaySeat<L>, place: u64, word: usize) -> u64
         requires at { IsAt self.now seat.old }
-        requires from { seat.old.who.own ≤ place }
+        requires from { seat.old.who.sequence ≤ place }
         requires to { Shows marshalled seat.old.who place }
         requires word { word < 64 }
         ensures step { Steps seat.old (looked seat.old.who (out_row N M place (word + 64)) result) seat.new }
@@ -131,9 +131,9 @@ impl<L: Logic, const N: usize, const M: usize, const G: usize> Rings<L, N, M, G>
     /// Stores the gateway's taken word: it took the next output, or passed it over, and no longer needs its row.
     pub fn store_taken(&self, seat: &mut GatewaySeat<L>)
         requires at { IsAt self.now seat.old }
-        requires shown { Shows marshalled seat.old.who seat.old.who.own }
-        requires small { seat.old.who.own + 1 < 18446744073709551616 }
-        ensures step { Steps seat.old (moved seat.old.who (suc seat.old.who.own)) seat.new }
+        requires shown { Shows marshalled seat.old.who seat.old.who.sequence }
+        requires small { seat.old.who.sequence + 1 < 18446744073709551616 }
+        ensures step { Steps seat.old (moved seat.old.who (suc seat.old.who.sequence)) seat.new }
     {
         let next = seat.taken + 1;
         let place = self.taken_word(seat.number);

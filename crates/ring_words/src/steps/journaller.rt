@@ -13,7 +13,7 @@ impl<L: Logic, const N: usize, const M: usize, const G: usize> Rings<L, N, M, G>
     /// Stores the journaller's word: all sequences below it are kept.
     pub fn store_journalled<K: Kept>(&self, seat: &mut JournalSeat<L>, upto: u64, kept: &K)
         requires at { IsAt self.now seat.old }
-        requires from { seat.old.who.own ≤ upto }
+        requires from { seat.old.who.sequence ≤ upto }
         requires to { upto ≤ length seat.old.who.seen }
         requires kept { K.keeps kept.now (take upto seat.old.who.seen) }
         ensures step { Steps seat.old (moved seat.old.who upto) seat.new }
@@ -21,6 +21,6 @@ impl<L: Logic, const N: usize, const M: usize, const G: usize> Rings<L, N, M, G>
         self.table
             .shared
             .store::<MoveOwn>(&mut seat.seat, JOURNALLED, upto);
-        seat.own = upto;
+        seat.sequence = upto;
     }
 }

@@ -28,7 +28,7 @@ impl<L: Logic, const N: usize, const M: usize, const G: usize> Rings<L, N, M, G>
     /// back by another one.
     pub fn load_output(&self, seat: &mut MarshalSeat<L>, place: u64) -> Output
         requires at { IsAt self.now seat.old }
-        requires from { seat.old.who.own ≤ place }
+        requires from { seat.old.who.sequence ≤ place }
         requires to { Shows published seat.old.who place }
         ensures copied { FindsCopy (L.outputs self.now.logic seat.old.who.seen) seat.old (out_row N M place 0) place result seat.new }
     {
@@ -47,10 +47,10 @@ impl<L: Logic, const N: usize, const M: usize, const G: usize> Rings<L, N, M, G>
     /// so far. Of a row behind the one under way that is the first one, when that row's text is written whole.
     pub fn store_text(&self, seat: &mut MarshalSeat<L>, place: u64, word: usize, value: u64)
         requires at { IsAt self.now seat.old }
-        requires from { seat.old.who.own ≤ place }
+        requires from { seat.old.who.sequence ≤ place }
         requires to { Shows published seat.old.who place }
         requires word { word < 64 }
-        requires order { GoesOnRow seat.old.who.part place word }
+        requires order { GoesOnRow seat.old.who.row place word }
         requires row { MayWriteText (L.outputs self.now.logic) (L.text self.now.logic) seat.old.who place }
         ensures step { Steps seat.old (stored seat.old.who place word value) seat.new }
     {
@@ -64,13 +64,13 @@ impl<L: Logic, const N: usize, const M: usize, const G: usize> Rings<L, N, M, G>
     /// as are those before it.
     pub fn store_marshalled(&self, seat: &mut MarshalSeat<L>, upto: u64)
         requires at { IsAt self.now seat.old }
-        requires last { upto ≡ suc seat.old.who.part.sequence }
+        requires last { upto ≡ suc seat.old.who.row.sequence }
         requires text { (o : Output) × WroteText (L.outputs self.now.logic) (L.text self.now.logic) seat.old.who o }
         ensures step { Steps seat.old (moved seat.old.who upto) seat.new }
     {
         self.table
             .shared
             .store::<MoveOwn>(&mut seat.seat, MARSHALLED, upto);
-        seat.own = upto;
+        seat.sequence = upto;
     }
 }

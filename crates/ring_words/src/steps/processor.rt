@@ -60,7 +60,7 @@ impl<L: Logic, const N: usize, const M: usize, const G: usize> Rings<L, N, M, G>
     /// Loads a word of the command of an entry that the processor knows and hasn't released.
     pub fn load_command(&self, seat: &mut ProcessSeat<L>, sequence: u64, word: usize) -> u64
         requires at { IsAt self.now seat.old }
-        requires from { seat.old.who.own ≤ sequence }
+        requires from { seat.old.who.sequence ≤ sequence }
         requires word { word < 16 }
         ensures step { Steps seat.old (looked seat.old.who (in_row N sequence (word + 48)) result) seat.new }
         ensures command { IsCommandWord (L.reads self.now.logic) seat.old.who sequence word result }
@@ -76,8 +76,8 @@ impl<L: Logic, const N: usize, const M: usize, const G: usize> Rings<L, N, M, G>
         requires at { IsAt self.now seat.old }
         requires gateway { (1 ≤ gateway) × (gateway ≤ G) }
         ensures step { Steps seat.old (looked seat.old.who (taken gateway) result) seat.new }
-        ensures most { result ≤ seat.old.who.part.sequence }
-        ensures near { seat.old.who.part.sequence ≤ result + M }
+        ensures most { result ≤ seat.old.who.row.sequence }
+        ensures near { seat.old.who.row.sequence ≤ result + M }
     {
         let shared = &self.table.shared;
         let place = self.taken_word(gateway);
@@ -90,10 +90,10 @@ impl<L: Logic, const N: usize, const M: usize, const G: usize> Rings<L, N, M, G>
     /// then published is stored. It is one of the entries that the processor has processed, or of the one behind them, which it saw journalled.
     pub fn store_output(&self, seat: &mut ProcessSeat<L>, output: &Output)
         requires at { IsAt self.now seat.old }
-        requires room { HasOutputRoom G M seat.old.who seat.old.who.part.sequence }
-        requires synced { Shows journalled seat.old.who seat.old.who.own }
-        requires next { get_elem? (L.outputs self.now.logic (take (suc seat.old.who.own) seat.old.who.seen)) seat.old.who.part.sequence ≡ some output.now }
-        ensures step { Steps seat.old (at_place seat.old.who (suc seat.old.who.part.sequence)) seat.new }
+        requires room { HasOutputRoom G M seat.old.who seat.old.who.row.sequence }
+        requires synced { Shows journalled seat.old.who seat.old.who.sequence }
+        requires next { get_elem? (L.outputs self.now.logic (take (suc seat.old.who.sequence) seat.old.who.seen)) seat.old.who.row.sequence ≡ some output.now }
+        ensures step { Steps seat.old (at_place seat.old.who (suc seat.old.who.row.sequence)) seat.new }
     {
         let place = seat.published;
         let next = place + 1;
@@ -116,7 +116,7 @@ impl<L: Logic, const N: usize, const M: usize, const G: usize> Rings<L, N, M, G>
     /// Stores the processor's word: all sequences below it are done, their outputs are published, and their rows may be claimed again.
     pub fn store_processed(&self, seat: &mut ProcessSeat<L>, upto: u64)
         requires at { IsAt self.now seat.old }
-        requires from { seat.old.who.own ≤ upto }
+        requires from { seat.old.who.sequence ≤ upto }
         requires to { upto ≤ length seat.old.who.seen }
         requires outputs { HasPublished (L.outputs self.now.logic) seat.old.who upto }
         ensures step { Steps seat.old (moved seat.old.who upto) seat.new }
@@ -124,6 +124,6 @@ impl<L: Logic, const N: usize, const M: usize, const G: usize> Rings<L, N, M, G>
         self.table
             .shared
             .store::<MoveOwn>(&mut seat.seat, PROCESSED, upto);
-        seat.own = upto;
+        seat.sequence = upto;
     }
 }

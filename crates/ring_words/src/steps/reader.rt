@@ -43,7 +43,7 @@ impl<L: Logic, const N: usize, const M: usize, const G: usize> Rings<L, N, M, G>
         word: usize,
     ) -> u64
         requires at { IsAt self.now seat.old }
-        requires from { seat.old.who.own ≤ sequence }
+        requires from { seat.old.who.sequence ≤ sequence }
         requires word { word < 41 }
         ensures step { Steps seat.old (looked seat.old.who (in_row N sequence (word + 1)) result) seat.new }
         ensures raw { (e : Message) → get_elem? seat.old.who.seen sequence ≡ some e → word < raw_count e → (result ≡ raw_word e word) × IsEntry e }

@@ -16,10 +16,10 @@ impl<L: Logic, const N: usize, const M: usize, const G: usize> Rings<L, N, M, G>
     /// those stored so far. Of a row behind the one under way that is the first one, when that row's command is written whole.
     pub fn store_command(&self, seat: &mut UnmarshalSeat<L>, sequence: u64, word: usize, value: u64)
         requires at { IsAt self.now seat.old }
-        requires from { seat.old.who.own ≤ sequence }
+        requires from { seat.old.who.sequence ≤ sequence }
         requires to { sequence < length seat.old.who.seen }
         requires word { word < 16 }
-        requires order { GoesOnRow seat.old.who.part sequence word }
+        requires order { GoesOnRow seat.old.who.row sequence word }
         requires row { MayWrite (L.reads self.now.logic) seat.old.who sequence }
         ensures step { Steps seat.old (stored seat.old.who sequence word value) seat.new }
     {
@@ -33,13 +33,13 @@ impl<L: Logic, const N: usize, const M: usize, const G: usize> Rings<L, N, M, G>
     /// are those before it.
     pub fn store_unmarshalled(&self, seat: &mut UnmarshalSeat<L>, upto: u64)
         requires at { IsAt self.now seat.old }
-        requires last { upto ≡ suc seat.old.who.part.sequence }
+        requires last { upto ≡ suc seat.old.who.row.sequence }
         requires command { (e : Message) × WroteCommand (L.reads self.now.logic) seat.old.who e }
         ensures step { Steps seat.old (moved seat.old.who upto) seat.new }
     {
         self.table
             .shared
             .store::<MoveOwn>(&mut seat.seat, UNMARSHALLED, upto);
-        seat.own = upto;
+        seat.sequence = upto;
     }
 }

@@ -15,7 +15,7 @@ use Rattle.barrier.proofs.taking.take_output.Goals.{then-load_address-number, el
 pub load_address-requires : goal.load_address-requires
 load_address-requires g c = let v = c.args.seat.now in
     let u = c.load_marshalled.new.seat in
-    let place : c.taken-place.result ≡ v.who.own = c.taken-place.ensures.value in
+    let place : c.taken-place.result ≡ v.who.sequence = c.taken-place.ensures.value in
     let below = c.if-load_marshalled-place.false in let gained = c.load_marshalled.ensures.some (omega arith) in
     let own = own_kept v u c.load_marshalled.result gained.rest gained.step in (
       omega arith,
@@ -32,7 +32,7 @@ load_address-requires g c = let v = c.args.seat.now in
 pub read_text-requires : goal.read_text-requires
 read_text-requires g c = let v = c.args.seat.now in
     let u = c.load_marshalled.new.seat in
-    let place : c.taken-place.result ≡ v.who.own = c.taken-place.ensures.value in
+    let place : c.taken-place.result ≡ v.who.sequence = c.taken-place.ensures.value in
     let below = c.if-load_marshalled-place.false in let gained = c.load_marshalled.ensures.some (omega arith) in
     let own = own_kept v u c.load_marshalled.result gained.rest gained.step in
     let w = c.load_address.new.seat in
@@ -51,7 +51,7 @@ read_text-requires g c = let v = c.args.seat.now in
 pub store_taken-requires : goal.store_taken-requires
 store_taken-requires g c = let v = c.args.seat.now in
     let u = c.load_marshalled.new.seat in
-    let place : c.taken-place.result ≡ v.who.own = c.taken-place.ensures.value in
+    let place : c.taken-place.result ≡ v.who.sequence = c.taken-place.ensures.value in
     let below = c.if-load_marshalled-place.false in let gained = c.load_marshalled.ensures.some (omega arith) in
     let own = own_kept v u c.load_marshalled.result gained.rest gained.step in
     let w = c.load_address.new.seat in
@@ -62,14 +62,14 @@ store_taken-requires g c = let v = c.args.seat.now in
           (more_loads u w only b.read_text.new.seat b.read_text.ensures.step) b.seat-is
       | else-load_address-number b ↦ reached u w z only b.seat-is
     ] in
-    let kept : z.who.own ≡ u.who.own = ap (λ y. y.who.own) both.1 in
+    let kept : z.who.sequence ≡ u.who.sequence = ap (λ y. y.who.sequence) both.1 in
     let small = c.load_marshalled.type_inv in (
       omega arith,
       (
         search rules,
         (
-          still_shows u z both marshalled z.who.own
-              (shown v u c.load_marshalled.result gained.rest gained.step z.who.own (omega arith)),
+          still_shows u z both marshalled z.who.sequence
+              (shown v u c.load_marshalled.result gained.rest gained.step z.who.sequence (omega arith)),
           omega arith,
         ),
       ),
@@ -78,7 +78,7 @@ store_taken-requires g c = let v = c.args.seat.now in
 pub returns-clause-taken : goal.returns-clause-taken
 returns-clause-taken g c = λ _. let v = c.args.seat.now in
     let u = c.load_marshalled.new.seat in
-    let place : c.taken-place.result ≡ v.who.own = c.taken-place.ensures.value in
+    let place : c.taken-place.result ≡ v.who.sequence = c.taken-place.ensures.value in
     let below = c.if-load_marshalled-place.false in let gained = c.load_marshalled.ensures.some (omega arith) in
     let w = c.load_address.new.seat in let only : OnlyLoads u w = (_, c.load_address.ensures.step) in
     let z = c.if-load_address-number.seat in
@@ -92,7 +92,7 @@ returns-clause-taken g c = λ _. let v = c.args.seat.now in
     let logic = c.args.rings.now.logic in
     let out = gained.output in
     let o : Output = out.0 in
-    let t = g.L.Logic.text logic o v.who.own in
+    let t = g.L.Logic.text logic o v.who.sequence in
     let at_u = at_kept v u c.load_marshalled.result gained.rest gained.step (g.L.Logic.outputs logic) o
     c.taken-place.result place out.1 in
     let address : c.load_address.result ≡ o.to = c.load_address.ensures.address o at_u in (
@@ -133,7 +133,7 @@ returns-clause-taken g c = λ _. let v = c.args.seat.now in
 pub returns-clause-step : goal.returns-clause-step
 returns-clause-step g c = let v = c.args.seat.now in
     let u = c.load_marshalled.new.seat in
-    let place : c.taken-place.result ≡ v.who.own = c.taken-place.ensures.value in
+    let place : c.taken-place.result ≡ v.who.sequence = c.taken-place.ensures.value in
     let below = c.if-load_marshalled-place.false in let gained = c.load_marshalled.ensures.some (omega arith) in
     let w = c.load_address.new.seat in let only : OnlyLoads u w = (_, c.load_address.ensures.step) in
     let z = c.if-load_address-number.seat in

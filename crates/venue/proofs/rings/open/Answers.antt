@@ -11,4 +11,4 @@ unreachable-requires g c =
 pub returns-in-Ok-clause-rings : goal.returns-in-Ok-clause-rings
 returns-in-Ok-clause-rings g c =
     let opened = c.in-Ok.ensures.opened in
-    record { logic = opened.0 ∙ c.of.ensures; base_is = opened.1; given = opened.2 ∙ c.requires.given }
+    record { logic = opened.0 ∙ c.of.ensures; base_is = opened.1; base_outputs = opened.2 ∙ c.requires.given }

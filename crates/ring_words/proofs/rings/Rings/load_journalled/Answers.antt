@@ -41,7 +41,7 @@ invariant_of-seat-inside g c = let seat = c.seat.inside in
     ≡ length (p.seen ++ rest) = ap (λ (z : Seated Boxed g.row.L.Denot). length (person z.0).seen) is in
     let most : r ≤ 2 ^ 48 = c.load-found.ensures.2.1 in
     let small : x ≤ r = (lesser_low (last_from unmarshalled 0 p.loads) r).1 in
-    let own_low : seat.own ≤ seat.known = seat.counts.2 in
+    let own_low : seat.sequence ≤ seat.known = seat.counts.2 in
     still_sits seat.seat.me _ _ is seat.bare _ seat.role (
       (omega arith, search rules, omega arith, omega arith),
       (

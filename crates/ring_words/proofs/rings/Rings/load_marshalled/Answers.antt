@@ -20,7 +20,7 @@ load-requires g c = let key = c.self.inside.table.shared.key in (
 pub invariant_of-seat-inside : goal.invariant_of-seat-inside
 invariant_of-seat-inside g c = let seat = c.seat.inside in
     let found : ℕ = c.load.result in
-    let own : ℕ = (person seat.seat.me.0).own in
+    let own : ℕ = (person seat.seat.me.0).sequence in
     let told = c.load.ensures.2 in let up : own ≤ found = told.0 in
     let kept = kept_behind (person seat.seat.me.0) marshalled found _ (λ (e : marshalled ≡ processed). omega arith)
     seat.kept in

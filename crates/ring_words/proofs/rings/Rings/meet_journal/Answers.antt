@@ -24,7 +24,7 @@ load-found-requires g c = let key = c.self.inside.table.shared.key in
           (person gateway.seat.me.0) (person journal.seat.me.0) gateway.number
           (both_people gateway.seat.me.0 journal.seat.me.0 _ gateway.alone journal.alone c.bring_together.ensures.first.1)
           gateway.role journal.role (subst (λ (x : ℕ). x ≤ length (person journal.seat.me.0).seen) journal.counts.1
-          (subst (λ (x : ℕ). journal.own ≤ x) journal.counts.0 journal.counts.2)),
+          (subst (λ (x : ℕ). journal.sequence ≤ x) journal.counts.0 journal.counts.2)),
     )
 
 pub split_seat-requires : goal.split_seat-requires
@@ -42,7 +42,7 @@ invariant_of-gateway-inside g c = let gateway = c.gateway.inside in
     let learned = c.load-found.ensures.2 (person gateway.seat.me.0) (person journal.seat.me.0) gateway.number
     (both_people gateway.seat.me.0 journal.seat.me.0 _ gateway.alone journal.alone came) gateway.role journal.role
     (subst (λ (x : ℕ). x ≤ length (person journal.seat.me.0).seen) journal.counts.1
-    (subst (λ (x : ℕ). journal.own ≤ x) journal.counts.0 journal.counts.2)) in
+    (subst (λ (x : ℕ). journal.sequence ≤ x) journal.counts.0 journal.counts.2)) in
     let is = parted_first gateway.seat.me.0 journal.seat.me.0 _ _ _ _ _ came learned.0 c.split_seat.ensures.2 in
     gateway_sits (gateway.seat.me.0, []) _ _ is refl _ gateway.role gateway.numbered _ gateway.counts _
     (sym (last_now processed None c.load-found.result (person gateway.seat.me.0).loads))
@@ -54,12 +54,12 @@ invariant_of-journal-inside g c = let gateway = c.gateway.inside in
     let learned = c.load-found.ensures.2 (person gateway.seat.me.0) (person journal.seat.me.0) gateway.number
     (both_people gateway.seat.me.0 journal.seat.me.0 _ gateway.alone journal.alone came) gateway.role journal.role
     (subst (λ (x : ℕ). x ≤ length (person journal.seat.me.0).seen) journal.counts.1
-    (subst (λ (x : ℕ). journal.own ≤ x) journal.counts.0 journal.counts.2)) in
+    (subst (λ (x : ℕ). journal.sequence ≤ x) journal.counts.0 journal.counts.2)) in
     let is = parted_second gateway.seat.me.0 journal.seat.me.0 _ _ _ _ _ came learned.0 c.split_seat.ensures.4 in
     still_sits (gateway.seat.me.0, []) _ _ is refl _ journal.role (
       (
         journal.counts.0 ∙ sym (ap (λ (z : Seated Boxed g.row.L.Denot). length (person z.0).seen) is),
-        journal.counts.1 ∙ sym (ap (λ (z : Seated Boxed g.row.L.Denot). (person z.0).own) is),
+        journal.counts.1 ∙ sym (ap (λ (z : Seated Boxed g.row.L.Denot). (person z.0).sequence) is),
         journal.counts.2,
         journal.counts.3,
       ),
@@ -73,7 +73,7 @@ returns-clause-met g c = let gateway = c.gateway.inside in
     let learned = c.load-found.ensures.2 (person gateway.seat.me.0) (person journal.seat.me.0) gateway.number
     (both_people gateway.seat.me.0 journal.seat.me.0 _ gateway.alone journal.alone came) gateway.role journal.role
     (subst (λ (x : ℕ). x ≤ length (person journal.seat.me.0).seen) journal.counts.1
-    (subst (λ (x : ℕ). journal.own ≤ x) journal.counts.0 journal.counts.2)) in
+    (subst (λ (x : ℕ). journal.sequence ≤ x) journal.counts.0 journal.counts.2)) in
     let base : c.bring_together.new.first.me.0.base ≡ c.args.self.now.base =
     ap (λ (z : Seated Boxed g.row.L.Denot). z.0.base) came ∙ ap (λ (s : At g.row.L.Denot). s.base) c.gateway.view_is
     ∙ ap (λ (s : At g.row.L.Denot). s.base) c.requires.gateway in
@@ -90,7 +90,7 @@ returns-clause-steps g c = let gateway = c.gateway.inside in
     let learned = c.load-found.ensures.2 (person gateway.seat.me.0) (person journal.seat.me.0) gateway.number
     (both_people gateway.seat.me.0 journal.seat.me.0 _ gateway.alone journal.alone came) gateway.role journal.role
     (subst (λ (x : ℕ). x ≤ length (person journal.seat.me.0).seen) journal.counts.1
-    (subst (λ (x : ℕ). journal.own ≤ x) journal.counts.0 journal.counts.2)) in
+    (subst (λ (x : ℕ). journal.sequence ≤ x) journal.counts.0 journal.counts.2)) in
     let r : ℕ = c.load-found.result in let table = c.load-found.ensures.0 ∙ c.bring_together.ensures.first.0 in
     let first = steps gateway.seat.table_id c.split_seat.new.seat.table_id gateway.seat.me.0 [] c.split_seat.new.seat.me
     _ c.args.gateway.now c.gateway.view_is (cut.0 ∙ table)
@@ -98,7 +98,7 @@ returns-clause-steps g c = let gateway = c.gateway.inside in
     let second = steps gateway.seat.table_id c.split_seat.result.table_id gateway.seat.me.0 [] c.split_seat.result.me _
     c.args.gateway.now c.gateway.view_is (cut.3 ∙ table)
     (parted_second gateway.seat.me.0 journal.seat.me.0 _ _ _ _ _ came learned.0 cut.4) in
-    let told = subst (λ (z : Person × Person). Steps c.args.gateway.now (met z.0 r (take z.1.own z.1.seen))
+    let told = subst (λ (z : Person × Person). Steps c.args.gateway.now (met z.0 r (take z.1.sequence z.1.seen))
     (seat_of c.split_seat.new.seat.table_id c.split_seat.new.seat.me.0)
     × Steps c.args.journal.now (met z.1 r z.1.seen) (seat_of c.split_seat.result.table_id c.split_seat.result.me.0))
     (λ i. ((c.gateway.view_is i).who, (c.journal.view_is i).who)) (

@@ -17,7 +17,7 @@ new-requires g c = let bound = c.if-not-is_ring_size.ensures.bounds refl in
       gateways = g.row.G;
       logic = c.args.logic;
       base = c.args.base.now.items;
-      given = c.args.given;
+      base_outputs = c.args.given;
       reads = g.L.Logic.reads;
       outputs = g.L.Logic.outputs;
       text = g.L.Logic.text;

@@ -19,7 +19,7 @@ use Rattle.ring_words.proofs.rings.Rings.store_output.Goals as goal
 
 -- the output is the one at the next place
 abbrev IsNext : (List Message → List Output) → Output → Person → Type 0
-IsNext outputs o p = get_elem? (outputs (take (suc p.own) p.seen)) p.part.sequence ≡ some o
+IsNext outputs o p = get_elem? (outputs (take (suc p.sequence) p.seen)) p.row.sequence ≡ some o
 
 pub overflow_add-next : goal.overflow_add-next
 overflow_add-next g c = let seat = c.seat.inside in
@@ -29,8 +29,8 @@ overflow_add-next g c = let seat = c.seat.inside in
     let known_is : seat.known ≡ length p.seen = seat.counts.0 in
     let most : seat.known ≤ 2 ^ 48 = seat.counts.3 in
     let put = seat.put in
-    let small = place_small (g.L.Logic.outputs logic) (g.L.Logic.nothing logic) (g.L.Logic.grows logic) (suc p.own)
-    p.part.sequence p.seen c.args.output.now
+    let small = place_small (g.L.Logic.outputs logic) (g.L.Logic.nothing logic) (g.L.Logic.grows logic) (suc p.sequence)
+    p.row.sequence p.seen c.args.output.now
     (subst (IsNext (g.L.Logic.outputs logic) c.args.output.now) (sym who) c.requires.next) (omega arith) in search rules
 
 pub store-requires : goal.store-requires
@@ -43,7 +43,7 @@ store-requires g c = let key = c.self.inside.table.shared.key in
       puts_output_in (terms_of g.L.Logic.reads g.L.Logic.outputs g.L.Logic.text g.L.Logic.nothing g.L.Logic.grows key)
           g.row.N g.row.M g.row.G rows.0 rows.1 rows.2 _ _ c.from.result seat.seat.me c.args.output.now _
           seat.alone seat.role seat.home
-          (subst (λ (p : Person). HasOutputRoom g.row.G g.row.M p p.part.sequence) (sym who) c.requires.room)
+          (subst (λ (p : Person). HasOutputRoom g.row.G g.row.M p p.row.sequence) (sym who) c.requires.room)
           (c.output_word-word.ensures.place ∙ ap (λ (q : ℕ). out_row g.row.N g.row.M q 0) seat.put),
     )
 
@@ -55,26 +55,26 @@ store-requires-2 g c = let key = c.self.inside.table.shared.key in
     let logic = key.logic in
     let who : p ≡ c.args.seat.now.who = ap (λ (s : At g.row.L.Denot). s.who) c.seat.view_is in
     let put = seat.put in
-    let next : seat.published + 1 ≡ suc p.part.sequence = omega arith in
+    let next : seat.published + 1 ≡ suc p.row.sequence = omega arith in
     let told = c.store.ensures.2 (c.output_word-word.ensures.place
     ∙ ap (λ (q : ℕ). out_row g.row.N g.row.M q 0) seat.put) in
     let spare : Boxed = c.replace.new.b in
-    let row_is : c.output_row-row.result ≡ p.part.sequence % g.row.M = c.output_row-row.ensures.row
+    let row_is : c.output_row-row.result ≡ p.row.sequence % g.row.M = c.output_row-row.ensures.row
     ∙ ap (λ (q : ℕ). q % g.row.M) seat.put in
     let bare : c.exchange_report.new.seat.me
     ≡ (
-      alone seat.seat.me.0 (with_out (wrote p p.part.sequence (c.args.output.now.to ∷ [])) (Some told.0)),
-      (p.part.sequence % g.row.M, spare) ∷ [],
+      alone seat.seat.me.0 (with_out (wrote p p.row.sequence (c.args.output.now.to ∷ [])) (Some told.0)),
+      (p.row.sequence % g.row.M, spare) ∷ [],
     ) =
     c.exchange_report.ensures.left
     ∙ ap (λ (z : Seated Boxed g.row.L.Denot). (z.0, (c.output_row-row.result, spare) ∷ [])) told.1.2
     ∙ ap (λ (x : ℕ). (
-      alone seat.seat.me.0 (with_out (wrote p p.part.sequence (x ∷ [])) (Some told.0)),
+      alone seat.seat.me.0 (with_out (wrote p p.row.sequence (x ∷ [])) (Some told.0)),
       (c.output_row-row.result, spare) ∷ [],
     )) c.from.ensures
     ∙ ap (λ (j : ℕ). (
       alone seat.seat.me.0
-          (with_out (wrote p p.part.sequence (c.args.output.now.to ∷ [])) (Some told.0)),
+          (with_out (wrote p p.row.sequence (c.args.output.now.to ∷ [])) (Some told.0)),
       (j, spare) ∷ [],
     )) row_is in (
       search rules,
@@ -83,6 +83,6 @@ store-requires-2 g c = let key = c.self.inside.table.shared.key in
           g.row.M g.row.G rows.1 rows.2 _ _ seat.seat.me c.exchange_report.new.seat.me _ logic c.args.output.now told.0
           spare
           (search rules) seat.role next
-          (subst (λ (p : Person). HasOutputRoom g.row.G g.row.M p p.part.sequence) (sym who) c.requires.room)
+          (subst (λ (p : Person). HasOutputRoom g.row.G g.row.M p p.row.sequence) (sym who) c.requires.room)
           (search rules) told.1.1 (c.replace.ensures.after ∙ ap (report_of c.args.output.now) seat.put) bare,
     )

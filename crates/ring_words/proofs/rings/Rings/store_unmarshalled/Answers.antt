@@ -25,7 +25,7 @@ invariant_of-seat-inside g c = let seat = c.seat.inside in
     let e = c.requires.command.0 in
     let wrote = subst (λ (s : At g.row.L.Denot). WroteCommand (g.L.Logic.reads c.args.self.now.logic) s.who e)
     (sym c.seat.view_is) c.requires.command.1 in
-    let longer = within p.seen p.part.sequence e wrote.entry in
-    let last : c.args.upto ≡ suc p.part.sequence = search rules in
+    let longer = within p.seen p.row.sequence e wrote.entry in
+    let last : c.args.upto ≡ suc p.row.sequence = search rules in
     still_sits seat.seat.me _ _ is seat.bare _ seat.role
     ((search rules, search rules, (let known_is = seat.counts.0 in omega arith), search rules), tt)

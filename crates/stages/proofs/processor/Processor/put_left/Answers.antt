@@ -18,9 +18,9 @@ put_all-requires g c = let p = c.self.inside in
     let u = c.room.new.seat in
     let working = c.self.invariant.0 in
     let counts = working.counts in
-    let under_way = subst (λ (w : AtBook). w.seat.who.own < w.applied) (sym c.self.view_is) c.requires.under_way in
+    let under_way = subst (λ (w : AtBook). w.seat.who.sequence < w.applied) (sym c.self.view_is) c.requires.under_way in
     let at = subst (λ (w : AtBook). IsAt c.args.rings.now w.seat) (sym c.self.view_is) c.requires.at in
-    let one : p.applied ≡ suc v.who.own = omega (arith, counts, under_way) in
+    let one : p.applied ≡ suc v.who.sequence = omega (arith, counts, under_way) in
     let looked = only_looked g.row.G g.row.M v.who _ _ u.who c.room.ensures.looked in
     let view = c.room.ensures.step in
     let most = c.min-most.ensures in
@@ -33,8 +33,8 @@ put_all-requires g c = let p = c.self.inside in
           room_for_all g.row.G g.row.M v u c.room.result looked view c.room.ensures.free _ (omega (arith, most)),
           (
             still_synced g.row.G g.row.M v u c.room.result looked view (working.synced under_way),
-            λ i o at. subst (λ (logic : Limits). get_elem? (outputs_of logic (take (suc u.who.own) u.who.seen))
-                (u.who.part.sequence + i) ≡ some o) same
+            λ i o at. subst (λ (logic : Limits). get_elem? (outputs_of logic (take (suc u.who.sequence) u.who.seen))
+                (u.who.row.sequence + i) ≡ some o) same
                 (are_next g.row.G g.row.M v u c.room.result looked view p.book p.applied _ working.follows one
                 c.min-most.result i o
                 (sym (ap (λ (l : List Output). get_elem? l i)
@@ -46,7 +46,7 @@ put_all-requires g c = let p = c.self.inside in
 
 pub invariant_of-self : goal.invariant_of-self
 invariant_of-self g c = let p = c.self.inside in
-    let under_way = subst (λ (w : AtBook). w.seat.who.own < w.applied) (sym c.self.view_is) c.requires.under_way in
+    let under_way = subst (λ (w : AtBook). w.seat.who.sequence < w.applied) (sym c.self.view_is) c.requires.under_way in
     let least = c.min-most.ensures in let len = c.len.ensures in
     let long = length-drop p.put p.pending.items in
     let ok = p.pending.ok.0 in
@@ -63,7 +63,7 @@ invariant_of-self g c = let p = c.self.inside in
 
 pub returns-clause-working : goal.returns-clause-working
 returns-clause-working g c = let p = c.self.inside in
-    let under_way = subst (λ (w : AtBook). w.seat.who.own < w.applied) (sym c.self.view_is) c.requires.under_way in
+    let under_way = subst (λ (w : AtBook). w.seat.who.sequence < w.applied) (sym c.self.view_is) c.requires.under_way in
     let least = c.min-most.ensures in let len = c.len.ensures in
     let long = length-drop p.put p.pending.items in
     let ok = p.pending.ok.0 in
@@ -86,7 +86,7 @@ returns-clause-all g c = let p = c.self.inside in
 
 pub returns-clause-own : goal.returns-clause-own
 returns-clause-own g c = let p = c.self.inside in
-    let under_way = subst (λ (w : AtBook). w.seat.who.own < w.applied) (sym c.self.view_is) c.requires.under_way in
+    let under_way = subst (λ (w : AtBook). w.seat.who.sequence < w.applied) (sym c.self.view_is) c.requires.under_way in
     let least = c.min-most.ensures in let len = c.len.ensures in
     let long = length-drop p.put p.pending.items in
     let ok = p.pending.ok.0 in
@@ -97,11 +97,11 @@ returns-clause-own g c = let p = c.self.inside in
     c.room.ensures.looked (omega (arith, long, ok, put, len)) c.room.ensures.step c.deref.ensures.value
     (omega (arith, some_left, long, ok, put, len)) (omega (arith, least, long, ok, put, len))
     c.put_all.ensures.step in
-    rw (← c.self.view_is) gone.own
+    rw (← c.self.view_is) gone.sequence
 
 pub returns-clause-puts : goal.returns-clause-puts
 returns-clause-puts g c = let p = c.self.inside in
-    let under_way = subst (λ (w : AtBook). w.seat.who.own < w.applied) (sym c.self.view_is) c.requires.under_way in
+    let under_way = subst (λ (w : AtBook). w.seat.who.sequence < w.applied) (sym c.self.view_is) c.requires.under_way in
     let least = c.min-most.ensures in let len = c.len.ensures in
     let long = length-drop p.put p.pending.items in
     let ok = p.pending.ok.0 in
