@@ -1,71 +1,195 @@
 //! Measures how many commands a second the book does on one thread, with so many orders resting.
+ghost use Rattle.std.specs.Prelude.{◌↔◌, ◌+◌, ◌≤◌, IsTrue, OnOk};
+ghost use Rattle.std.specs.List.{All};
+ghost use Rattle.book.specs.Standing.{Below};
+ghost use Rattle.bench.specs.Fits.{Fits};
 
-mod choosing;
 mod flow;
-mod running;
-mod task;
 
 use crate::fault::Fault;
-use crate::rate::{Rate, Unit};
+use crate::rate::times_in;
 use book::{Book, MOST_OUTPUTS};
-use choosing::{Chosen, choose};
+use flow::{Asked, Flow, fits};
 use std::alloc::Global;
 use std::rt::Clock;
-use std::time::Instant;
-use task::Task;
-use venue_model::Limits;
+use std::time::{Duration, Instant};
+use venue_model::{Limits, Output};
 
 /// The venue's symbols.
 const SYMBOLS: [&str; 8] = ["A", "BB", "CCC", "DDDD", "EEEEE", "F6", "G77", "H888"];
 
-/// The table of the venue's symbols.
-fn limits(alloc: Global) -> Result<Limits, Fault> {
+/// The table of these symbols.
+pub fn limits_of(alloc: Global, symbols: &[&str]) -> Result<Limits, Fault> {
     let mut names = Vec::new(alloc);
-    for symbol in SYMBOLS {
+    for symbol in symbols {
         let name = String::from_str(alloc, symbol)?;
         if names.push(name).is_err() {
             return Err(Fault::Memory);
         }
     }
-    let limits = Limits::new(alloc, &names)?;
-    Ok(limits)
+    Limits::new(alloc, &names).map_err(|_| Fault::Memory)
 }
 
-/// Measures what the words ask for. The commands are chosen first, by a book of their own. How many outputs there were
-/// goes to standard error.
+/// Measures so many commands, 1 to 10,000,000, with so many orders resting, 1 to 4,000; five of a hundred are market
+/// orders, where these are asked for. How many outputs there were goes to standard error.
 pub fn measure<R: Clock + Print + Eprint + AllocGlobal>(
     rt: &R,
-    words: &[String],
+    resting: u32,
+    commands: u32,
+    asks_market: bool,
 ) -> Result<(), Fault> {
-    let task = Task::read(words)?;
-    let limits = limits(rt.alloc())?;
-    let chosen = choose(rt.alloc(), &limits, &task)?;
-    let (outputs, rate) = timed(rt, &limits, &task, &chosen)?;
-    println!(rt; "book.{}.project: {rate}", task.resting)?;
+    let all = resting.saturating_add(commands);
+    let (outputs, took) = choose_and_time(rt, resting, all, asks_market)?;
+    let rate = times_in(1_000_000, commands, took);
+    let part = if asks_market { "market" } else { "book" };
+    println!(rt;
+        "{part}.{resting}.project: {}.{:03} Morders/s",
+        rate / 1_000,
+        rate % 1_000
+    )?;
     eprintln!(rt; "{outputs} outputs")?;
     Ok(())
 }
 
-/// Fills a second book, and then does the commands that are measured, by the clock. It answers how many outputs they had,
-/// and their rate; where all outputs aren't as many as those of the first book, or a command isn't in range, there is
-/// none. The range is looked at once, before the clock.
-fn timed<R: Clock + AllocGlobal>(
+/// Chooses so many commands in all, by a book of their own, and lets a second book do them. It answers how many outputs
+/// those had that came once the book was filled, and how long these commands took; where all outputs aren't as many as
+/// those of the first book, there is no figure.
+fn choose_and_time<R: Clock + AllocGlobal>(
+    rt: &R,
+    resting: u32,
+    all: u32,
+    asks_market: bool,
+) -> Result<(u64, Duration), Fault>
+    requires { resting ≤ all }
+{
+    let limits = limits_of(rt.alloc(), &SYMBOLS)?;
+    let mut out = Vec::with_capacity(rt.alloc(), MOST_OUTPUTS)?;
+    let mut chosen = Vec::new(rt.alloc());
+    let flow = Flow::new(rt.alloc(), resting, asks_market)?;
+    let expected = choose(rt.alloc(), &limits, flow, all, &mut chosen, &mut out)?;
+    let (filled, outputs, took) = time(rt, &limits, resting, all, &chosen, &mut out)?;
+    if filled.wrapping_add(outputs) != expected {
+        return Err(Fault::Wrong);
+    }
+    Ok((outputs, took))
+}
+
+/// Chooses so many commands by what a new book answers to those before, and answers how many outputs they have.
+fn choose(
+    alloc: Global,
+    limits: &Limits,
+    mut flow: Flow,
+    all: u32,
+    chosen: &mut Vec<Asked>,
+    out: &mut Vec<Output>,
+) -> Result<u64, Fault> {
+    let mut book = Book::new(alloc, limits)?;
+    choose_by(&mut book, &mut flow, all, chosen, out)
+}
+
+/// The same by this book, which has done nothing.
+fn choose_by(
+    book: &mut Book,
+    flow: &mut Flow,
+    all: u32,
+    chosen: &mut Vec<Asked>,
+    out: &mut Vec<Output>,
+) -> Result<u64, Fault>
+    requires { Below 0 book.old.state.orders }
+{
+    let mut outputs = 0u64;
+    for turn in 0..all {
+        let asked = flow.next(turn)?;
+        if !fits(&asked) {
+            return Err(Fault::Wrong);
+        }
+        outputs = outputs.wrapping_add(apply(book, turn, &asked, out)?);
+        flow.learn(out);
+        if chosen.push(asked).is_err() {
+            return Err(Fault::Memory);
+        }
+    }
+    Ok(outputs)
+}
+
+/// Lets a new book do the chosen commands. It answers how many outputs those had that fill the book, how many the others
+/// had, and how long these took.
+fn time<R: Clock + AllocGlobal>(
     rt: &R,
     limits: &Limits,
-    task: &Task,
-    chosen: &Chosen,
-) -> Result<(u64, Rate), Fault> {
-    if !chosen.is_in_range() {
-        return Err(Fault::Wrong);
-    }
+    resting: u32,
+    all: u32,
+    chosen: &[Asked],
+    out: &mut Vec<Output>,
+) -> Result<(u64, u64, Duration), Fault>
+    requires { resting ≤ all }
+{
     let mut book = Book::new(rt.alloc(), limits)?;
-    let mut out = Vec::with_capacity(rt.alloc(), MOST_OUTPUTS)?;
-    let filled = chosen.run(&mut book, 0, task.resting, &mut out)?;
-    let begun = Instant::now(rt)?;
-    let outputs = chosen.run(&mut book, task.resting, task.all(), &mut out)?;
-    let rate = Rate::of(u64::from(task.commands), begun.elapsed(rt)?, Unit::Orders);
-    if filled.wrapping_add(outputs) != chosen.outputs {
+    time_by(rt, &mut book, resting, all, chosen, out)
+}
+
+/// The same by this book, which has done nothing.
+fn time_by<R: Clock>(
+    rt: &R,
+    book: &mut Book,
+    resting: u32,
+    all: u32,
+    chosen: &[Asked],
+    out: &mut Vec<Output>,
+) -> Result<(u64, u64, Duration), Fault>
+    requires begun { Below 0 book.old.state.orders }
+    requires order { resting ≤ all }
+{
+    if !all_fit(chosen) {
         return Err(Fault::Wrong);
     }
-    Ok((outputs, rate))
+    let filled = run(book, 0, resting, chosen, out)?;
+    let begun = Instant::now(rt)?;
+    let outputs = run(book, resting, all, chosen, out)?;
+    Ok((filled, outputs, begun.elapsed(rt)?))
+}
+
+/// Whether the book can do all of them. It is asked before the clock runs.
+fn all_fit(chosen: &[Asked]) -> bool
+    ensures { IsTrue result ↔ All Fits chosen.now }
+{
+    chosen.iter().all(fits)
+}
+
+/// Does the commands from this place of theirs on, which is the first one's sequence, and answers how many outputs they
+/// have.
+fn run(
+    book: &mut Book,
+    from: u32,
+    upto: u32,
+    chosen: &[Asked],
+    out: &mut Vec<Output>,
+) -> Result<u64, Fault>
+    requires fit { All Fits chosen.now }
+    requires behind { Below from book.old.state.orders }
+    requires order { from ≤ upto }
+    ensures { OnOk result (Below upto book.new.state.orders) }
+{
+    let mut outputs = 0u64;
+    for sequence in from..upto {
+        let Some(asked) = chosen.get(sequence as usize) else {
+            return Err(Fault::Wrong);
+        };
+        outputs = outputs.wrapping_add(apply(book, sequence, asked, out)?);
+    }
+    Ok(outputs)
+}
+
+/// Does what is asked at this sequence, and answers how many outputs it has, which come in place of those in `out`.
+fn apply(book: &mut Book, sequence: u32, asked: &Asked, out: &mut Vec<Output>) -> Result<u64, Fault>
+    requires fits { Fits asked.now }
+    requires behind { Below sequence book.old.state.orders }
+    ensures { OnOk result (Below (sequence + 1) book.new.state.orders) }
+{
+    if out.capacity() < MOST_OUTPUTS {
+        return Err(Fault::Wrong);
+    }
+    out.clear();
+    book.apply(u64::from(sequence), asked.0, &asked.1, out)?;
+    Ok(out.len() as u64)
 }

@@ -4,13 +4,12 @@ use std::alloc::AllocError;
 use std::io;
 use std::process::ExitCode;
 use thiserror::Error;
-use venue_model::LimitsFault;
 
 /// Why nothing is measured. The text is the line that the program prints.
-#[derive(Clone, Copy, Debug, PartialEq, Eq, Error)]
+#[derive(Clone, Copy, Debug, Error)]
 pub enum Fault {
     /// A word is missing, wrong or too many.
-    #[error("usage: bench fix MESSAGES | book RESTING COMMANDS | stages COMMANDS GATEWAYS | journal FOLDER")]
+    #[error("usage: bench fix MESSAGES | book RESTING COMMANDS | market RESTING COMMANDS | stages COMMANDS GATEWAYS | journal FOLDER")]
     Usage,
     #[error("bench: no memory")]
     Memory,
@@ -47,15 +46,6 @@ impl From<AllocError> for Fault {
 impl From<io::Error> for Fault {
     fn from(_failed: io::Error) -> Fault {
         Fault::Device
-    }
-}
-
-impl From<LimitsFault> for Fault {
-    fn from(fault: LimitsFault) -> Fault {
-        match fault {
-            LimitsFault::Memory => Fault::Memory,
-            LimitsFault::BadSymbol => Fault::Wrong,
-        }
     }
 }
 

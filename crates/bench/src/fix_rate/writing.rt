@@ -11,7 +11,7 @@ const REPORTS: usize = 4;
 const FIRST_EXEC_ID: u64 = 1_234_567;
 
 /// The body of the first one, an acknowledgement.
-pub const ACKNOWLEDGEMENT: &[u8] =
+const ACKNOWLEDGEMENT: &[u8] =
     b"37=601234\x0117=1234567\x01150=0\x0139=0\x0111=1000000017\x0155=ABC\x0154=1\x0138=2500\x0144=10050\x01151=2500\x0114=0\x016=0\x01";
 
 /// What happened to an order of this client: a fill of its quantity in part or in full, or nothing but that it came in.
@@ -32,6 +32,7 @@ fn report(client: u8, exec_type: ExecType, cum: u64) -> Output {
                 symbol,
                 side: Side::Buy,
                 price: 10_050,
+                is_market: false,
                 total: 2_500,
                 cum,
                 notional: cum.wrapping_mul(10_050),
@@ -42,7 +43,7 @@ fn report(client: u8, exec_type: ExecType, cum: u64) -> Output {
 }
 
 /// The reports of an order's life, as four clients get theirs.
-pub fn reports() -> [Output; 4] {
+pub fn reports() -> [Output; REPORTS] {
     let part = ExecType::Trade {
         last_qty: 700,
         last_px: 10_050,
@@ -62,14 +63,19 @@ pub fn reports() -> [Output; 4] {
     ]
 }
 
-/// Writes the body of the acknowledgement at the buffer's front, and answers how many bytes it has.
-pub fn write_first(body: &mut [u8; LONGEST_MESSAGE], reports: &[Output; 4]) -> usize {
-    body_of(&reports[0], FIRST_EXEC_ID, body)
+/// Writes the body of the acknowledgement at the buffer's front, and says whether it is right.
+pub fn writes_first(body: &mut [u8; LONGEST_MESSAGE], reports: &[Output; REPORTS]) -> bool {
+    let end = body_of(&reports[0], FIRST_EXEC_ID, body);
+    body.get(..end) == Some(ACKNOWLEDGEMENT)
 }
 
 /// Writes so many bodies by turns, each over the one before and each with an ExecID of its own, and answers how many
 /// bytes were written.
-pub fn write_bodies(body: &mut [u8; LONGEST_MESSAGE], reports: &[Output; 4], copies: u32) -> u64 {
+pub fn write_bodies(
+    body: &mut [u8; LONGEST_MESSAGE],
+    reports: &[Output; REPORTS],
+    copies: u32,
+) -> u64 {
     let mut written = 0u64;
     for at in 0..copies {
         let report = &reports[at as usize % REPORTS];

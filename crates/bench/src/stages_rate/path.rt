@@ -1,22 +1,22 @@
 //! The whole path of a run: gateways and stages at the same rings.
 ghost use Rattle.std.specs.Prelude.{◌≡◌, [], false, IfOk, IfSome};
-ghost use Rattle.venue_model.specs.Step.{empty};
 ghost use Rattle.ring_words.specs.At.{IsAt};
 ghost use Rattle.ring_words.specs.Crew.{AreNewGateways, AreNew};
 ghost use Rattle.stages.specs.Crews.{AreAt};
 ghost use Rattle.std.specs.Thread.{IsSync};
 
 use crate::fault::Fault;
+use crate::stages_rate::VenueRings;
 use crate::stages_rate::gateway::Gateway;
-use crate::stages_rate::rings::VenueRings;
-use crate::stages_rate::task::Task;
 use book::{Book, BookLogic};
 use journal::{Journal, NullDisk};
 use ring_words::{GatewaySeat, Seats};
-use stages::{Crew, Turn, Turns};
+use stages::{Crew, CrewAndGateways};
 use std::alloc::{AllocError, Global};
 use std::rt::Clock;
 use std::thread::{Threads, join};
+use std::time::{Duration, Instant};
+use venue_model::Limits;
 use workers::{NoGate, Outcome, Signals, Station, Worker, run, work};
 
 /// Gateways with their messages, the last one first, and the stages.
@@ -25,6 +25,7 @@ pub struct Path<'a, const G: usize> {
     rings: &'a VenueRings<G>,
     gateways: Vec<Gateway<'a, G>>,
     crew: Crew<NullDisk>,
+    commands: u64,
     ghost fits: { AreAt rings.now crew },
 }
 
@@ -35,9 +36,32 @@ const STAGES: u64 = 4;
 fn empty_journal(alloc: Global) -> Result<Journal<NullDisk>, AllocError>
     ensures { IfOk result (λ journal. (journal.failed ≡ false) × (journal.count ≡ 0)) }
 {
-    match Journal::open(alloc, NullDisk) {
-        Ok((journal, entries)) if entries.is_empty() => Ok(journal),
-        _ => Err(AllocError),
+    let Ok((journal, entries)) = Journal::open(alloc, NullDisk) else {
+        return Err(AllocError);
+    };
+    if !entries.is_empty() {
+        return Err(AllocError);
+    }
+    Ok(journal)
+}
+
+/// The stages of new rings, with an empty book, and the gateways' seats.
+fn crew_of<const G: usize>(
+    alloc: Global,
+    rings: &VenueRings<G>,
+    seats: Seats<BookLogic>,
+    limits: &Limits,
+) -> Result<CrewAndGateways<NullDisk>, AllocError>
+    requires opened { (rings.now.logic ≡ limits.now) × (rings.now.base ≡ []) × (rings.now.base_outputs ≡ 0) }
+    requires seats { AreNew G rings.now seats }
+    ensures crew { IfOk result (λ r. AreAt rings.now r.0) }
+    ensures gateways { IfOk result (λ r. AreNewGateways rings.now r.1.items) }
+{
+    let journal = empty_journal(alloc)?;
+    let book = Book::new(alloc, limits)?;
+    match Crew::new(alloc, rings, seats, limits, journal, book) {
+        Ok(made) => Ok(made),
+        Err(_) => Err(AllocError),
     }
 }
 
@@ -59,14 +83,17 @@ fn gateways<'a, const G: usize>(
     alloc: Global,
     rings: &'a VenueRings<G>,
     mut seats: Vec<GatewaySeat<BookLogic>>,
-    task: &Task,
-) -> Result<Vec<Gateway<'a, G>>, AllocError>
+    commands: u32,
+) -> Result<Vec<Gateway<'a, G>>, Fault>
     requires { AreNewGateways rings.now seats.items }
 {
     let mut all = Vec::new(alloc);
     for _ in 0..G {
         if let Some(seat) = next_seat(rings, &mut seats) {
-            all.push(Gateway::new(alloc, rings, seat, task)?)?;
+            let gateway = Gateway::new(alloc, rings, seat, commands)?;
+            if all.push(gateway).is_err() {
+                return Err(Fault::Memory);
+            }
         }
     }
     Ok(all)
@@ -101,29 +128,15 @@ fn serve<R: Threads + Clock + Sync, const G: usize>(
             requires { IsSync R.row }
         { serve(rt, gateways, signals) },
     );
-    one?;
-    others
+    one.and(others)
 }
 
 /// Looks whether all commands were processed.
-fn check_processed(crew: &Crew<NullDisk>, task: &Task) -> Result<(), Fault> {
-    if crew.processor.next_seq() != task.commands {
+fn check_processed(crew: &Crew<NullDisk>, commands: u64) -> Result<(), Fault> {
+    if crew.processor.next_seq() != commands {
         return Err(Fault::WrongOutputs);
     }
     Ok(())
-}
-
-/// Whether each stage did something.
-fn did_all(turns: Turns) -> bool {
-    matches!(
-        (
-            turns.unmarshaller,
-            turns.journaller,
-            turns.processor,
-            turns.marshaller
-        ),
-        (Turn::Did(_), Turn::Did(_), Turn::Did(_), Turn::Did(_))
-    )
 }
 
 /// Lets the gateway at this place take its turn, and says whether it did something.
@@ -144,43 +157,44 @@ fn turn_all<const G: usize>(gateways: &mut [Gateway<'_, G>]) -> bool {
 }
 
 impl<'a, const G: usize> Path<'a, G> {
-    /// The path over new rings, with an empty book.
+    /// The path of so many commands over new rings, with an empty book.
     pub fn new(
         alloc: Global,
         rings: &'a VenueRings<G>,
         seats: Seats<BookLogic>,
-        book: Book,
-        task: &Task,
-    ) -> Result<Path<'a, G>, AllocError>
-        requires opened { (rings.now.logic ≡ book.limits) × (rings.now.base ≡ []) × (rings.now.base_outputs ≡ 0) }
+        limits: &Limits,
+        commands: u32,
+    ) -> Result<Path<'a, G>, Fault>
+        requires opened { (rings.now.logic ≡ limits.now) × (rings.now.base ≡ []) × (rings.now.base_outputs ≡ 0) }
         requires seats { AreNew G rings.now seats }
-        requires book { book.state ≡ empty }
     {
-        let journal = empty_journal(alloc)?;
-        let Ok((crew, seats)) = Crew::new(alloc, rings, seats, journal, book) else {
-            return Err(AllocError);
-        };
-        let gateways = gateways(alloc, rings, seats, task)?;
+        let (crew, seats) = crew_of(alloc, rings, seats, limits)?;
+        let gateways = gateways(alloc, rings, seats, commands)?;
         Ok(Path {
             rings,
             gateways,
             crew,
+            commands: u64::from(commands),
         })
     }
 
-    /// Lets gateways and stages do the task, each on a thread of its own, and looks whether each gateway has what is
+    /// How long gateways and stages take for the commands, each on a thread of its own, until each gateway has what is
     /// due to it and all commands were processed.
-    pub fn run_on_threads<R: Threads + Clock + Sync>(
-        self,
-        rt: &R,
-        task: &Task,
-    ) -> Result<(), Fault> {
+    pub fn time_on_threads<R: Threads + Clock + Sync>(self, rt: &R) -> Result<Duration, Fault> {
+        let begun = Instant::now(rt);
+        self.run_on_threads(rt)?;
+        Ok(begun?.elapsed(rt)?)
+    }
+
+    /// Lets them do that.
+    fn run_on_threads<R: Threads + Clock + Sync>(self, rt: &R) -> Result<(), Fault> {
         let Path {
             rings,
             gateways,
             crew,
+            commands,
         } = self;
-        let all = Signals::new(task.gateways + STAGES);
+        let all = Signals::new((G as u64).saturating_add(STAGES));
         let signals = &all;
         let (crew, served) = run(
             rt,
@@ -192,33 +206,43 @@ impl<'a, const G: usize> Path<'a, G> {
             { serve(rt, gateways, signals) },
             signals,
         );
-        served?;
-        check_processed(&crew, task)
+        served.and(check_processed(&crew, commands))
     }
 
-    /// Brings the next message of the gateway at this place through all stages, and what comes of it to all gateways,
-    /// and says whether that went well.
-    fn pass(&mut self, place: usize) -> bool {
-        turn_at(self.gateways.as_mut_slice(), place)
-            && did_all(self.crew.poll(self.rings))
-            && turn_all(self.gateways.as_mut_slice())
+    /// How long they take on this thread, one command after another, each of the next gateway.
+    pub fn time_on_one_thread<R: Clock>(&mut self, rt: &R) -> Result<Duration, Fault> {
+        let begun = Instant::now(rt)?;
+        self.pass_all()?;
+        let took = begun.elapsed(rt)?;
+        self.check()?;
+        Ok(took)
     }
 
-    /// Lets gateways and stages do the task on this thread, one command after another, each of the next gateway.
-    pub fn run_on_one_thread(&mut self, task: &Task) -> Result<(), Fault> {
-        for command in 0..task.commands {
-            if !self.pass((command % task.gateways) as usize) {
+    /// Brings all commands through.
+    fn pass_all(&mut self) -> Result<(), Fault> {
+        for command in 0..self.commands {
+            if !self.pass((command % (G as u64).max(1)) as usize) {
                 return Err(Fault::GaveUp);
             }
         }
         Ok(())
     }
 
+    /// Brings the next message of the gateway at this place through all stages, and what comes of it to all gateways,
+    /// and says whether that went well.
+    fn pass(&mut self, place: usize) -> bool {
+        if !turn_at(self.gateways.as_mut_slice(), place) {
+            return false;
+        }
+        self.crew.poll(self.rings);
+        turn_all(self.gateways.as_mut_slice())
+    }
+
     /// Looks whether each gateway has what is due to it and all commands were processed.
-    pub fn check(&self, task: &Task) -> Result<(), Fault> {
+    fn check(&self) -> Result<(), Fault> {
         for gateway in &self.gateways {
             gateway.check()?;
         }
-        check_processed(&self.crew, task)
+        check_processed(&self.crew, self.commands)
     }
 }

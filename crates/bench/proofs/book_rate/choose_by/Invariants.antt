@@ -1,5 +1,5 @@
 use Rattle.book.specs.Standing.{Below}
-use Rattle.bench.proofs.book_rate.choosing.choose.Given as goal
+use Rattle.bench.proofs.book_rate.choose_by.Given as goal
 
 -- the book did the turns in front
 abbrev pub invariant-loop-turn : goal.invariant-loop-turn
