@@ -84,10 +84,10 @@ module _ (symbols : Symbols) (greatest : List ℕ) (client name : ℕ) (os : Lis
   its-client = eqb-true old.client client (and_first (nat_eq old.client client) (nat_eq old.cl_ord_id name) its.is_it)
 
   -- another one of its client, symbol and stamp stands in its place
-  pub book-instead : (o : Order) → o.client ≡ old.client → o.symbol ≡ old.symbol → o.stamp ≡ old.stamp → InRange o →
+  pub book-instead : (o : Order) → o.client ≡ old.client → o.symbol ≡ old.symbol → o.stamp ≡ old.stamp → o.is_market ≡ old.is_market → InRange o →
       0 < leaves o → o.cl_ord_id ≤ slice_index greatest (client - 1) → NoneNamed client o.cl_ord_id os →
       IsBook symbols (its.before ++ o ∷ its.behind) greatest
-  book-instead o client_is symbol_is stamp range some named fresh =
+  book-instead o client_is symbol_is stamp market range some named fresh =
       let mine : o.client ≡ client = client_is ∙ its-client in
       let belongs : Belongs symbols greatest o = record {
         from = let from = its-belongs.from in omega (arith, from, client_is);
@@ -99,7 +99,7 @@ module _ (symbols : Symbols) (greatest : List ℕ) (client name : ℕ) (os : Lis
       rw mine (subst (NoneNamed client o.cl_ord_id) its.split fresh) in
       let alone : live_alone o ≡ o ∷ [] = ap (λ b. if b then o ∷ [] else []) (live-true o some) in
       subst (λ zs. IsBook symbols (its.before ++ (zs ++ its.behind)) greatest) alone (record {
-        standing = standing-instead old o its.before its.behind stamp range whole.standing;
+        standing = standing-instead old o its.before its.behind stamp market range whole.standing;
         apart = apart-instead old o its.before its.behind its_fresh whole.apart;
         each = each-instead old o (Belongs symbols greatest) its.before its.behind (λ live b. belongs) whole.each;
         clients = whole.clients;
@@ -163,7 +163,7 @@ module _ (symbols : Symbols) (greatest : List ℕ) (client : ℕ) (r : OrderCanc
         let asks = can.some in
         subst (λ zs. IsBook symbols zs greatest)
         (sym (one-amended ∙ amended-are client r.orig_cl_ord_id os o its (amended r)))
-        (book-instead symbols greatest client r.orig_cl_ord_id os o its book (amended r o) refl refl refl
+        (book-instead symbols greatest client r.orig_cl_ord_id os o its book (amended r o) refl refl refl refl
         (amended-range r o range asks (omega (arith, total, no_more)) (rw price range.price)) (omega (arith, asks))
         named fresh)
 

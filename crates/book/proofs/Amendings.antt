@@ -41,6 +41,7 @@ amend-rests o m t rests can =
     let range = rests.in_range in
     record {
       live = can.some;
+      limit = rests.limit;
       in_range = record {
         cum = omega (arith, can.some);
         total = omega (arith, can.no_more, range.total);

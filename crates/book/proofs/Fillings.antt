@@ -126,6 +126,7 @@ fill-rests o q rests less =
     let cost = mul-le-mul_left q range.price in
     record {
       live = omega (arith, less, rests.live);
+      limit = rests.limit;
       in_range = record {
         cum = omega (arith, less);
         total = range.total;

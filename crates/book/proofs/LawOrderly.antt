@@ -22,7 +22,7 @@ use Rattle.venue_model.specs.declared.outputs.CxlRejReason.{CxlRejReason}
 use Rattle.venue_model.specs.declared.outputs.CxlRejReason.TheVariants.{BrokerOption, DuplicateClOrdId}
 use Rattle.venue_model.specs.Orders.{meets, same_side}
 use Rattle.venue_model.specs.Match.{matched}
-use Rattle.venue_model.specs.Requests.{Limits, Symbols, State, is_day, greatest_of, accepted, new_refusal, new_answered}
+use Rattle.venue_model.specs.Requests.{Limits, Symbols, State, is_day, greatest_of, accepted, new_refusal, new_answered, terms_of}
 use Rattle.venue_model.specs.Requests.{entering, is_named, named, others, unfit, cancel_refusal, cancel_answered}
 use Rattle.venue_model.specs.Requests.{order_canceled, replace_fits, replace_refusal, replace_answered, keeps_place}
 use Rattle.venue_model.specs.Requests.{amended_in_place, restamped, amended, order_replaced}
@@ -190,7 +190,7 @@ module _ (sequence : ℕ) (s : State) (orderly : IsOrderly sequence s) where
     new-orderly n (Some reason) above = unchanged
     new-orderly n None above = matched-orderly sequence s.greatest c.gateway n.cl_ord_id from to orderly.clients
         (above refl)
-        n.time_in_force (entering c n) s.orders stamp refl refl orderly.pairs orderly.each
+        (terms_of n) (entering c n) s.orders stamp refl refl orderly.pairs orderly.each
 
     -- some orders leave
     fewer-orderly : (p : Order → Bool) (name : ℕ) → greatest_of s c.gateway < name

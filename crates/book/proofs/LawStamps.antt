@@ -16,7 +16,7 @@ use Rattle.venue_model.specs.declared.outputs.OrdRejReason.{OrdRejReason}
 use Rattle.venue_model.specs.declared.outputs.CxlRejReason.{CxlRejReason}
 use Rattle.venue_model.specs.Orders.{leaves, is_live, crosses}
 use Rattle.venue_model.specs.Match.{crossing, after_fill, settled, done, rest, live_alone, can_fill, matched}
-use Rattle.venue_model.specs.Requests.{Symbols, State, new_refusal, new_answered, entering, is_named, named, others}
+use Rattle.venue_model.specs.Requests.{Symbols, State, new_refusal, new_answered, entering, is_named, named, others, terms_of}
 use Rattle.venue_model.specs.Requests.{cancel_refusal, cancel_answered, order_canceled, replace_refusal}
 use Rattle.venue_model.specs.Requests.{replace_answered, restamped, amended, order_replaced}
 use Rattle.venue_model.specs.Step.{Request, cause, obey, step, empty, state_from, state, requests_from, requests}
@@ -56,7 +56,7 @@ module _ (s : State) (c : Cause) (below : Below (c.sequence + 1) s.orders) where
   new-below : (n : NewOrderSingle) (refusal : Option OrdRejReason)
       → Below (c.sequence + 1) (new_answered s c n refusal).state.orders
   new-below n (Some reason) = below
-  new-below n None = matched-below (c.sequence + 1) (entering c n) s.orders below n.time_in_force (omega arith)
+  new-below n None = matched-below (c.sequence + 1) (entering c n) s.orders below (terms_of n) (omega arith)
 
   others-below : (client name : ℕ) → Below (c.sequence + 1) (others s client name)
   others-below client name = each-filter (λ o. o.stamp < c.sequence + 1) (λ o. not (is_named client name o)) s.orders

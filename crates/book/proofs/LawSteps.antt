@@ -18,7 +18,7 @@ use Rattle.venue_model.specs.declared.outputs.Report.{Report}
 use Rattle.venue_model.specs.declared.outputs.Report.TheVariants.{Exec, CancelReject, SessionReject}
 use Rattle.venue_model.specs.declared.outputs.Output.{Output}
 use Rattle.venue_model.specs.Match.{output, exec, match_outputs}
-use Rattle.venue_model.specs.Requests.{Symbols, State, new_refusal, new_answered, entering, named, others}
+use Rattle.venue_model.specs.Requests.{Symbols, State, new_refusal, new_answered, entering, named, others, terms_of}
 use Rattle.venue_model.specs.Requests.{cancel_refusal, cancel_reject, cancel_answered, canceled, order_canceled}
 use Rattle.venue_model.specs.Requests.{replace_refusal, replace_reject, replace_answered, restamped, amended}
 use Rattle.venue_model.specs.Requests.{order_replaced}
@@ -66,8 +66,8 @@ module _ (Good : List Output → Type 0) (nothing : Good [])
     new-good : (n : NewOrderSingle) (refusal : Option OrdRejReason) → Good (new_answered s c n refusal).outputs
     new-good n (Some reason) = plain (exec c (exec_type.Rejected reason) (entering c n)) [] tt nothing
     new-good n None = plain (exec c exec_type.New (entering c n))
-        (match_outputs c n.time_in_force (entering c n) s.orders) tt
-        (fills c n.time_in_force (entering c n) s.orders)
+        (match_outputs c (terms_of n) (entering c n) s.orders) tt
+        (fills c (terms_of n) (entering c n) s.orders)
 
     cancel-good : (r : OrderCancelRequest) (refusal : Option CxlRejReason)
         → Good (cancel_answered s c r refusal).outputs

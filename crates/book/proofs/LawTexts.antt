@@ -1,5 +1,5 @@
 -- Each output's text is fields: an order keeps its symbol, which was spelled as one where it came in.
-use Rattle.std.proofs.Common.{◌≡◌, ℕ, zero, suc, ◌+◌, Bool, true, false, not, List, [], ◌∷◌, map, subst, sym, Option}
+use Rattle.std.proofs.Common.{◌≡◌, ℕ, nat_le, zero, suc, ◌+◌, Bool, true, false, not, List, [], ◌∷◌, map, subst, sym, Option}
 use Rattle.std.proofs.Common.{Some, None}
 use Rattle.std.specs.Prelude.{⊤, MatchOption, if◌then◌else◌}
 use Rattle.std.specs.List.{AllByRecursion}
@@ -25,7 +25,7 @@ use Rattle.venue_model.specs.declared.outputs.Output.{Output}
 use Rattle.venue_model.specs.Orders.{leaves, is_live, crosses}
 use Rattle.venue_model.specs.Match.{crossing, after_fill, done, settled, rest, exec, trade, trades, can_fill}
 use Rattle.venue_model.specs.Match.{live_alone, matched, canceled_rest, match_outputs}
-use Rattle.venue_model.specs.Requests.{Limits, Symbols, State, Stepped, new_refusal, new_answered, entering, is_named}
+use Rattle.venue_model.specs.Requests.{Limits, Symbols, State, Stepped, new_refusal, new_answered, entering, is_named, terms_of}
 use Rattle.venue_model.specs.Requests.{named, others, cancel_refusal, cancel_answered, order_canceled, amended}
 use Rattle.venue_model.specs.Requests.{restamped, replace_refusal, replace_answered, order_replaced}
 use Rattle.venue_model.specs.Step.{Request, cause, obey, step, empty, outputs_from, requests_from}
@@ -97,8 +97,8 @@ module _ (s : State) (c : Cause) (all : AllByRecursion Spelled s.orders) where
       → Keeps (new_answered s c n refusal)
   new-keeps n (Some reason) is = record { rests = all; tells = (is, tt) }
   new-keeps n None is = record {
-    rests = matched-spelled c (entering c n) s.orders is all n.time_in_force;
-    tells = (is, match-tells c (entering c n) s.orders is all n.time_in_force);
+    rests = matched-spelled c (entering c n) s.orders is all (terms_of n);
+    tells = (is, match-tells c (entering c n) s.orders is all (terms_of n));
   }
 
   module _ (name : ℕ) where
@@ -159,7 +159,7 @@ from-tells : (limits : Limits) (sequence : ℕ) (s : State) (h : List Message) �
 from-tells limits sequence s [] all = tt
 from-tells limits sequence s (m ∷ h) all =
     let r : Request = request_at limits sequence m in
-    let kept = step-keeps limits.symbols s sequence r (reads_names m.bytes) all in
+    let kept = step-keeps limits.symbols s sequence r (reads_names (nat_le limits.cut sequence) m.bytes) all in
     each-append Tells (step limits.symbols s sequence r).outputs
     (outputs_from limits.symbols (sequence + 1) (step limits.symbols s sequence r).state
     (requests_from (reads_at limits) (sequence + 1) h)) kept.tells

@@ -37,6 +37,7 @@ mod LawOrder
 mod LawCrossed
 mod LawOrderly
 mod LawTotals
+mod LawMarket
 mod LawTraded
 pub mod LawStamps
 pub mod LawTexts

@@ -1,5 +1,5 @@
 -- What stands in the book's list, behind a fill, with orders taken out, and with one more at the end.
-use Rattle.std.proofs.Common.{◌≡◌, ℕ, suc, ◌+◌, ◌<◌, ◌≤◌, Bool, true, false, List, [], ◌∷◌, ◌++◌, length, refl, sym}
+use Rattle.std.proofs.Common.{◌≡◌, ℕ, suc, ◌+◌, ◌<◌, ◌≤◌, Bool, true, false, List, [], ◌∷◌, ◌++◌, length, refl, sym, ◌∙◌}
 use Rattle.std.proofs.Common.{subst, arith, length-append}
 use Rattle.std.specs.Prelude.{if◌then◌else◌, filter}
 use Rattle.std.specs.List.{AllByRecursion}
@@ -19,8 +19,8 @@ rising-append (x ∷ xs) ys front back apart =
     (each-append (λ y. x.stamp < y.stamp) xs ys front.0 apart.0, rising-append xs ys front.1 back apart.1)
 
 -- of an order of which something is left
-rests-live : (o : Order) → is_live o ≡ true → InRange o → Rests o
-rests-live o live in_range = record { live = grind (arith, nat_tests); in_range = in_range }
+rests-live : (o : Order) → is_live o ≡ true → o.is_market ≡ false → InRange o → Rests o
+rests-live o live limit in_range = record { live = grind (arith, nat_tests); limit = limit; in_range = in_range }
 
 length-alone : (o : Order) → length (live_alone o) ≤ 1
 length-alone o = elim (is_live o) as (λ b. length (if b then o ∷ [] else []) ≤ 1)
@@ -52,11 +52,11 @@ module _ (o o' : Order) where
       let one = length-alone o' in
       omega (arith, whole, after, rest, one)
 
-  pub standing-instead : (xs ys : List Order) → o'.stamp ≡ o.stamp → InRange o' → IsBookList (xs ++ o ∷ ys)
+  pub standing-instead : (xs ys : List Order) → o'.stamp ≡ o.stamp → o'.is_market ≡ o.is_market → InRange o' → IsBookList (xs ++ o ∷ ys)
       → IsBookList (xs ++ (live_alone o' ++ ys))
-  standing-instead xs ys stamp in_range standing = record {
+  standing-instead xs ys stamp market in_range standing = record {
     rising = rising-instead xs ys stamp standing.rising;
-    each = each-instead Rests xs ys (λ live r. rests-live o' live in_range) standing.each;
+    each = each-instead Rests xs ys (λ live r. rests-live o' live (market ∙ r.limit) in_range) standing.each;
     few = let shorter = length-instead xs ys in let few = standing.few in omega (arith, shorter, few);
   }
 
@@ -81,8 +81,8 @@ pub below-push : (xs : List Order) (o : Order) (sequence : ℕ) → o.stamp < se
 below-push xs o sequence h below = each-append (λ x. x.stamp < sequence) xs (o ∷ []) below (h, tt)
 
 -- the incoming order is in range: it rests where something is left of it
-pub rests-left : (o : Order) → InRange o → (leaves o ≡ 0 → ⊥) → Rests o
-rests-left o in_range some = record { live = omega (arith, some); in_range = in_range }
+pub rests-left : (o : Order) → InRange o → o.is_market ≡ false → (leaves o ≡ 0 → ⊥) → Rests o
+rests-left o in_range limit some = record { live = omega (arith, some); limit = limit; in_range = in_range }
 
 -- some of the list
 below-filter : (n : ℕ) (p : Order → Bool) (xs : List Order) → AllByRecursion (λ y. n < y.stamp) xs

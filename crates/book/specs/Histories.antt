@@ -1,5 +1,5 @@
 -- What a history of entries comes to, by one book of one thread: what its entries ask, its state, and all its outputs.
-use Rattle.std.specs.Prelude.{ℕ, List}
+use Rattle.std.specs.Prelude.{ℕ, nat_le, List}
 use Rattle.venue_model.specs.History.{History, Message}
 use Rattle.venue_model.specs.declared.commands.Command.{Command}
 use Rattle.venue_model.specs.declared.outputs.Output.{Output}
@@ -7,9 +7,10 @@ use Rattle.venue_model.specs.Requests.{Limits, State}
 use Rattle.venue_model.specs.Step.{Request, requests, state, outputs}
 use Rattle.fix_orders.specs.Reading.{reads}
 
--- the command of the entry at this sequence, for a venue with these limits: that of its message's bytes, whatever the two are
+-- the command of the entry at this sequence, for a venue with these limits: that of its message's bytes; market orders are
+-- read from the cut on
 abbrev pub reads_at : Limits → ℕ → Message → Command
-reads_at limits sequence m = reads m.bytes
+reads_at limits sequence m = reads (nat_le limits.cut sequence) m.bytes
 
 -- what the entry at this sequence asks
 abbrev pub request_at : Limits → ℕ → Message → Request

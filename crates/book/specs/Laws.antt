@@ -1,5 +1,5 @@
 -- Words of the laws of matching.
-use Rattle.std.specs.Prelude.{◌≡◌, ◌⊎◌, ⊤, ℕ, ◌-◌, ◌*◌, ◌<◌, ◌≤◌, true, false, List, [], ◌∷◌, length, slice_index, MatchOption, sum_by, ◌&&◌, if◌then◌else◌}
+use Rattle.std.specs.Prelude.{◌≡◌, ◌⊎◌, ⊤, ℕ, ◌-◌, ◌*◌, ◌<◌, ◌≤◌, true, false, not, List, [], ◌∷◌, length, slice_index, MatchOption, sum_by, ◌&&◌, if◌then◌else◌}
 use Rattle.std.specs.List.{AllByRecursion, Contains}
 use Rattle.std.specs.Str.{bytes_eq}
 use Rattle.fix_frame.specs.Grammar.{IsField}
@@ -51,6 +51,15 @@ pub record TradesWithOne (incoming : Order) (orders : List Order) (told : Order)
 -- an output, if it tells a trade, tells one of the incoming order or of a resting one that it crosses, at the resting one's price
 abbrev pub KeepsPrice : Order → List Order → Output → Type 0
 KeepsPrice incoming orders o = TellsTradeAt (TradesWithOne incoming orders) o.report
+
+-- an order has a price, one that is in range
+abbrev pub HasPrice : Order → Type 0
+HasPrice o = (o.is_market ≡ false) × (o.price ≤ 1000000)
+
+-- an incoming order crosses one that rests just where their symbols are one and their sides are two, whatever the price
+abbrev pub CrossesAnyPrice : Order → Order → Type 0
+CrossesAnyPrice incoming o =
+    crosses incoming o ≡ (bytes_eq incoming.symbol o.symbol && not (same_side incoming.side o.side))
 
 -- a command comes through one of the eight gateways
 pub record IsFromGateway (r : Request) : Type 0 where

@@ -10,7 +10,7 @@ use Rattle.venue_model.specs.declared.commands.Command.TheVariants.{New, Cancel,
 use Rattle.venue_model.specs.declared.outputs.Cause.{Cause}
 use Rattle.venue_model.specs.Orders.{leaves}
 use Rattle.venue_model.specs.Match.{crossing, filled_orders, can_fill}
-use Rattle.venue_model.specs.Requests.{Symbols, State, entering, new_refusal, named, others, amended, restamped, keeps_place, replace_refusal}
+use Rattle.venue_model.specs.Requests.{Symbols, State, entering, new_refusal, named, others, amended, restamped, keeps_place, replace_refusal, terms_of}
 use Rattle.venue_model.specs.Step.{Request, cause}
 
 -- how many of the resting orders an incoming one fills
@@ -30,9 +30,9 @@ pub record IsMatched (filled before now : ℕ) : Type 0 where
 
 -- a new order reads those that it fills, and one more at most; where it is refused or killed, it reads none
 pub record NewReads (symbols : Symbols) (s : State) (c : Cause) (n : NewOrderSingle) (reads : ℕ) : Type 0 where
-  pub matched : new_refusal symbols s c.gateway n ≡ None → IsMatched (filled_by n.time_in_force (entering c n) s.orders) 0 reads
+  pub matched : new_refusal symbols s c.gateway n ≡ None → IsMatched (filled_by (terms_of n) (entering c n) s.orders) 0 reads
   pub refused : new_refusal symbols s c.gateway n ≢ None → reads ≡ 0
-  pub killed : n.time_in_force ≡ FillOrKill → can_fill (entering c n) s.orders ≡ false → reads ≡ 0
+  pub killed : terms_of n ≡ FillOrKill → can_fill (entering c n) s.orders ≡ false → reads ≡ 0
 
 -- what a request reads to find the order that it names: that one, if it rests
 abbrev pub named_reads : Option Order → ℕ

@@ -11,9 +11,10 @@ pub record InRange (o : Order) : Type 0 where
   pub price : o.price ≤ 1000000
   pub notional : o.notional ≤ o.cum * 1000000
 
--- an order that rests: something is left of it
+-- an order that rests: something is left of it, and it has a price
 pub record Rests (o : Order) : Type 0 where
   pub live : o.cum < o.total
+  pub limit : o.is_market ≡ false
   pub in_range : InRange o
 
 -- all stamps are below a sequence

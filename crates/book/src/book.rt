@@ -40,9 +40,16 @@ impl Book {
     pub fn new(alloc: Global, limits: &Limits) -> Result<Book, AllocError>
         ensures { IfOk result (λ b. b ≡ record { limits = limits.now; state = empty; reads = 0 }) }
     {
-        let orders = RestingOrders::new(alloc, limits.symbols())?;
+        Book::of(alloc, BookLogic::of(limits))
+    }
+
+    /// The empty book of a venue with this logic: with its symbols. From which entry on market orders are read is no matter to a book.
+    pub fn of(alloc: Global, logic: BookLogic) -> Result<Book, AllocError>
+        ensures { IfOk result (λ b. b ≡ record { limits = logic; state = empty; reads = 0 }) }
+    {
+        let orders = RestingOrders::new(alloc, logic.symbols())?;
         Ok(Book {
-            logic: BookLogic::of(limits),
+            logic,
             orders,
             greatest: [0; MOST_GATEWAYS],
             reads: 0,

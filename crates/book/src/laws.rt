@@ -1,20 +1,23 @@
 //! Laws of matching, in the words of those who trade and audit: functions that do nothing, whose contracts are the laws.
 //! They speak of the definitions that the book is proved to follow, so they hold of the book.
-ghost use Rattle.std.specs.Prelude.{◌≡◌, ℕ, ◌+◌, ◌≤◌, min, nat_lt, true, false, List, [], ◌∷◌, ◌++◌, length, map, filter, sum_by};
+ghost use Rattle.std.specs.Prelude.{◌≡◌, ◌≢◌, ℕ, ◌+◌, ◌≤◌, min, nat_lt, true, false, List, [], ◌∷◌, ◌++◌, Some, length, map, filter, sum_by};
 ghost use Rattle.std.specs.List.{AllByRecursion};
 ghost use Rattle.std.specs.List.Sorted.{IsPermutation};
 ghost use Rattle.venue_model.specs.History.{History, IsMessage};
+ghost use Rattle.venue_model.specs.declared.commands.NewOrderSingle.{NewOrderSingle};
+ghost use Rattle.venue_model.specs.declared.commands.OrdType.TheVariants.{Market};
 ghost use Rattle.venue_model.specs.declared.commands.TimeInForce.TheVariants.{FillOrKill};
 ghost use Rattle.venue_model.specs.declared.orders.Order.{Order};
 ghost use Rattle.venue_model.specs.declared.orders.Side.TheVariants.{Buy, Sell};
 ghost use Rattle.venue_model.specs.declared.outputs.Cause.{Cause};
+ghost use Rattle.venue_model.specs.declared.outputs.OrdRejReason.TheVariants.{BookFull};
 ghost use Rattle.venue_model.specs.Orders.{leaves, is_live, ahead};
 ghost use Rattle.venue_model.specs.Match.{crossing, fill, settled, done, filled_orders, trades, can_fill, canceled_rest, matched, match_outputs};
-ghost use Rattle.venue_model.specs.Requests.{Limits, Symbols, State};
+ghost use Rattle.venue_model.specs.Requests.{Limits, Symbols, State, is_day, terms_of, new_refusal, entering};
 ghost use Rattle.venue_model.specs.Step.{Request, step, state, outputs_from, outputs};
 ghost use Rattle.book.specs.Histories.{state_of, outputs_of};
 ghost use Rattle.book.specs.Standing.{Rising, Below};
-ghost use Rattle.book.specs.Laws.{AreCrossed, GoesFirst, IsAheadOf, KeepsLimit, KeepsPrice, KeepsTotal, IsFromGateway, Pairwise, IsOrderly, IsUncrossed, TellsFields, quantity_traded, money_traded};
+ghost use Rattle.book.specs.Laws.{AreCrossed, GoesFirst, IsAheadOf, HasPrice, CrossesAnyPrice, KeepsLimit, KeepsPrice, KeepsTotal, IsFromGateway, Pairwise, IsOrderly, IsUncrossed, TellsFields, quantity_traded, money_traded};
 
 /// What was told stays told: a history's outputs begin with the outputs of each of its beginnings, and each command
 /// adds its own behind them. Its step begins at the state that those before it have left.
@@ -124,6 +127,18 @@ pub fn the_book_is_never_crossed()
 pub fn no_order_is_overfilled()
     ensures { (symbols : Symbols) (rs : List Request) → AllByRecursion IsFromGateway rs
         → AllByRecursion KeepsTotal (outputs symbols rs) }
+{}
+
+/// A market order takes what there is: it crosses each order that rests just where their symbols are one and their sides are
+/// two, whatever the price. It never comes in to rest; all that rest after any history have a price. And a full book doesn't
+/// refuse it.
+pub fn market_orders_take_what_there_is()
+    ensures crosses { (limits : Limits) (h : History) (c : Cause) (n : NewOrderSingle) → n.ord_type ≡ Market
+        → AllByRecursion (CrossesAnyPrice (entering c n)) (state_of limits h).orders }
+    ensures terms { (n : NewOrderSingle) → n.ord_type ≡ Market → is_day (terms_of n) ≡ false }
+    ensures rests { (limits : Limits) (h : History) → AllByRecursion HasPrice (state_of limits h).orders }
+    ensures room { (symbols : Symbols) (s : State) (client : ℕ) (n : NewOrderSingle) → n.ord_type ≡ Market
+        → new_refusal symbols s client n ≢ Some BookFull }
 {}
 
 /// The stamp of a resting order is the sequence of a command of the history: after so many commands, or after a history of so

@@ -106,6 +106,7 @@ pub(crate) fn enter(
     requires behind { Below incoming.now.stamp orders.old }
     requires fresh { NoneNamed incoming.now.client incoming.now.cl_ord_id orders.old }
     requires place { is_day terms ≡ true → length orders.old < most_resting }
+    requires limit { is_day terms ≡ true → incoming.now.is_market ≡ false }
     requires room { vec_len out.old + 2 * length orders.old < vec_capacity out.old }
     requires reads { reads.old < 2 ^ 32 }
     ensures orders { orders.new ≡ matched terms incoming.now orders.old }

@@ -6,7 +6,7 @@ ghost use Rattle.std.specs.List.{list_any};
 ghost use Rattle.std.specs.Str.{bytes_eq};
 ghost use Rattle.venue_model.specs.Orders.{leaves};
 ghost use Rattle.venue_model.specs.Match.{exec, can_fill, matched, match_outputs};
-ghost use Rattle.venue_model.specs.Step.{IsAmount};
+ghost use Rattle.venue_model.specs.Step.{IsAmount, IsPriced};
 ghost use Rattle.book.specs.Standing.{InRange, Below};
 ghost use Rattle.book.specs.Books.{NoneNamed, IsBook, StandsInBook, StaysInPlace, TakesOut};
 ghost use Rattle.book.specs.Reads.{fills, filled_by, named_reads, IsMatched, NewReads, ReplaceReads};
@@ -51,7 +51,7 @@ impl Book {
             Some(OrdRejReason::DuplicateOrder)
         } else if !self.logic.has(&order.symbol) {
             Some(OrdRejReason::UnknownSymbol)
-        } else if order.time_in_force.rests() && MOST_RESTING <= self.orders.len() {
+        } else if order.terms().rests() && MOST_RESTING <= self.orders.len() {
             Some(OrdRejReason::BookFull)
         } else {
             None
@@ -93,7 +93,7 @@ impl Book {
         requires to { cause.gateway ≤ 8 }
         requires sequence { cause.sequence < 2 ^ 48 }
         requires behind { Below cause.sequence self.old.state.orders }
-        requires price { IsAmount request.now.price }
+        requires price { IsPriced request.now.ord_type }
         requires quantity { IsAmount request.now.quantity }
         requires room { vec_len out.old + 8194 ≤ vec_capacity out.old }
         requires reads { reads.old ≡ 0 }
@@ -108,14 +108,7 @@ impl Book {
             tell(out, cause, ExecType::Rejected { reason }, &order);
             return;
         }
-        self.admit(
-            cause,
-            ExecType::New,
-            &order,
-            request.time_in_force,
-            out,
-            reads,
-        );
+        self.admit(cause, ExecType::New, &order, request.terms(), out, reads);
     }
 
     /// An order of a symbol of the venue comes in on these terms, under a name that is accepted with it: its client is
@@ -137,6 +130,7 @@ impl Book {
         requires some { 0 < leaves order.now }
         requires behind { Below order.now.stamp self.old.state.orders }
         requires place { is_day terms ≡ true → length self.old.state.orders < most_resting }
+        requires limit { is_day terms ≡ true → order.now.is_market ≡ false }
         requires room { vec_len out.old + 8194 ≤ vec_capacity out.old }
         requires reads { reads.old < 2 ^ 32 }
         ensures state { self.new ≡ record self.old {
@@ -289,7 +283,8 @@ fn entering(cause: Cause, request: &NewOrderSingle) -> Order
         cl_ord_id: request.cl_ord_id,
         symbol: request.symbol,
         side: request.side,
-        price: request.price,
+        price: request.ord_type.price_of(request.side),
+        is_market: request.ord_type.is_market(),
         total: request.quantity,
         cum: 0,
         notional: 0,

@@ -1,6 +1,6 @@
 -- A command as the words that the unmarshaller stores in its row. Word 0, the head, has what is small, from its lowest bit on:
 --
---     new, cancel, replace:   kind 3 bits, gateway 4, side 1, TimeInForce 2, quantity 20, price 20 (0 where a cancel has none)
+--     new, cancel, replace:   kind 3 bits, gateway 4, side 1, TimeInForce 2, quantity 20, price 20 (0 where there is none)
 --     malformed:              kind 3 bits, gateway 4, reason 3, type of the message 2, tag 32
 --     void:                   kind 3 bits, gateway 4
 --
@@ -18,6 +18,8 @@ use Rattle.venue_model.specs.declared.commands.Command.{Command}
 use Rattle.venue_model.specs.declared.commands.Command.TheVariants.{New, Cancel, Replace, Malformed, Void}
 use Rattle.venue_model.specs.declared.commands.TimeInForce.{TimeInForce}
 use Rattle.venue_model.specs.declared.commands.TimeInForce.TheVariants.{Day, ImmediateOrCancel, FillOrKill}
+use Rattle.venue_model.specs.declared.commands.OrdType.{OrdType}
+use Rattle.venue_model.specs.declared.commands.OrdType.TheVariants.{Market, Limit}
 use Rattle.venue_model.specs.declared.commands.SessionRejectReason.{SessionRejectReason}
 use Rattle.venue_model.specs.declared.commands.SessionRejectReason.TheVariants.{RequiredTagMissing, TagNotDefined, ValueIncorrect, IncorrectFormat, TagAppearsMoreThanOnce}
 use Rattle.venue_model.specs.declared.commands.RefMsgType.{RefMsgType}
@@ -35,6 +37,11 @@ abbrev pub time_in_force_number : TimeInForce → ℕ
 time_in_force_number Day = 0
 time_in_force_number ImmediateOrCancel = 1
 time_in_force_number FillOrKill = 2
+
+-- the price, 0 where there is none
+abbrev pub price_number : OrdType → ℕ
+price_number Market = 0
+price_number (Limit price) = price
 
 abbrev pub reason_number : SessionRejectReason → ℕ
 reason_number RequiredTagMissing = 0
@@ -65,7 +72,7 @@ abbrev pub fault_fields : SessionRejectReason → RefMsgType → ℕ → ℕ
 fault_fields reason ref_type tag = 128 * reason_number reason + 1024 * type_number ref_type + 4096 * tag
 
 abbrev pub head_fields : Command → ℕ
-head_fields (New time order) = packed_fields order.side order.time_in_force order.quantity order.price
+head_fields (New time order) = packed_fields order.side order.time_in_force order.quantity (price_number order.ord_type)
 head_fields (Cancel time request) = packed_fields request.side Day 0 0
 head_fields (Replace time request) = packed_fields request.side request.time_in_force request.quantity request.price
 head_fields (Malformed time fault) = fault_fields fault.reason fault.ref_type fault.tag

@@ -11,7 +11,7 @@
 //! | 3 replace: 3 | 4 | side 1, TimeInForce 2, quantity 20, price 20 | SendingTime, ClOrdID, OrigClOrdID, Symbol |
 //! | 4 malformed: 3 | 4 | reason 3, type of the message 2, tag 32 | SendingTime, MsgSeqNum |
 //!
-//! A symbol is one word: its bytes, big-endian, with zeros behind them.
+//! The price is 0 where there is none, in a market order. A symbol is one word: its bytes, big-endian, with zeros behind them.
 ghost use Rattle.std.specs.Prelude.{◌≡◌, ℕ, ◌^◌, ◌<◌, ◌≤◌, List, ◌∷◌, length, take};
 ghost use Rattle.venue_model.specs.Spelling.{IsSpelling};
 ghost use Rattle.venue_model.specs.Step.{IsCommand};
@@ -23,8 +23,8 @@ mod unpacking;
 
 use crate::packing::fields::{
     CANCEL, GATEWAY, MALFORMED, NEW, PRICE, QUANTITY, REASON, REF_TYPE, REPLACE, SIDE, TAG,
-    TIME_IN_FORCE, VOID, kind_in, reason_number, side_number, symbol_word, time_in_force_number,
-    type_number,
+    TIME_IN_FORCE, VOID, kind_in, price_number, reason_number, side_number, symbol_word,
+    time_in_force_number, type_number,
 };
 use std::marker::Model;
 pub use unpacking::unpack;
@@ -174,7 +174,12 @@ fn head_word(gateway: u8, command: &Command) -> u64
     let (kind, fields) = match command {
         Command::New { order, .. } => (
             NEW,
-            order_fields(order.side, order.time_in_force, order.quantity, order.price),
+            order_fields(
+                order.side,
+                order.time_in_force,
+                order.quantity,
+                price_number(order.ord_type),
+            ),
         ),
         Command::Cancel { request, .. } => {
             (CANCEL, order_fields(request.side, TimeInForce::Day, 0, 0))

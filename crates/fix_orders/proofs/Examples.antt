@@ -1,11 +1,12 @@
 -- Definitions computed on messages and reports: what they read, and what they say.
-use Rattle.std.specs.Prelude.{◌≡◌, ◌++◌, replicate, codes, Some, None, refl}
+use Rattle.std.specs.Prelude.{◌≡◌, true, false, ◌++◌, replicate, codes, Some, None, refl}
 use Rattle.std.specs.Fmt.{digits}
 use Rattle.fix_frame.specs.Grammar.{field_then, print_fields, frame_of, head, trailer, pieces, fields_of}
 use Rattle.venue_model.specs.declared.commands.Command.TheVariants.{New, Cancel, Malformed, Void}
 use Rattle.venue_model.specs.declared.commands.SessionRejectReason.TheVariants.{TagNotDefined, ValueIncorrect}
-use Rattle.venue_model.specs.declared.commands.SessionRejectReason.TheVariants.{TagAppearsMoreThanOnce}
+use Rattle.venue_model.specs.declared.commands.SessionRejectReason.TheVariants.{RequiredTagMissing, TagAppearsMoreThanOnce}
 use Rattle.venue_model.specs.declared.commands.RefMsgType.TheVariants.{NewOrderSingle}
+use Rattle.venue_model.specs.declared.commands.OrdType.TheVariants.{Market, Limit}
 use Rattle.venue_model.specs.declared.commands.TimeInForce.TheVariants.{Day}
 use Rattle.venue_model.specs.declared.orders.Side.TheVariants.{Buy, Sell}
 use Rattle.venue_model.specs.declared.outputs.ExecType.TheVariants as events
@@ -19,13 +20,13 @@ use Rattle.fix_orders.specs.Text.{body_fields}
 
 -- a day order
 reads-new :
-    reads (codes
+    reads true (codes
     "8=FIX.4.4\u{1}9=102\u{1}35=D\u{1}49=C1\u{1}56=VENUE\u{1}34=2\u{1}52=20250102-09:30:00\u{1}11=1\u{1}55=ABC\u{1}54=1\u{1}60=20250102-09:30:00\u{1}38=100\u{1}40=2\u{1}44=50\u{1}10=098\u{1}")
     ≡ New 20250102093000 (record {
       cl_ord_id = 1;
       symbol = codes "ABC";
       side = Buy;
-      price = 50;
+      ord_type = Limit 50;
       quantity = 100;
       time_in_force = Day;
     })
@@ -34,7 +35,7 @@ reads-new = refl
 
 -- a cancel of it
 reads-cancel :
-    reads (codes
+    reads true (codes
     "8=FIX.4.4\u{1}9=96\u{1}35=F\u{1}49=C1\u{1}56=VENUE\u{1}34=3\u{1}52=20250102-09:30:00\u{1}41=1\u{1}11=2\u{1}55=ABC\u{1}54=1\u{1}60=20250102-09:30:00\u{1}38=100\u{1}10=055\u{1}")
     ≡ Cancel 20250102093000 (record { cl_ord_id = 2; orig_cl_ord_id = 1; symbol = codes "ABC"; side = Buy })
 unfolding digits field_then head trailer frame_of pieces fields_of exact_fields command_of reads
@@ -42,7 +43,7 @@ reads-cancel = refl
 
 -- a side out of range
 reads-side :
-    reads (codes
+    reads true (codes
     "8=FIX.4.4\u{1}9=102\u{1}35=D\u{1}49=C1\u{1}56=VENUE\u{1}34=2\u{1}52=20250102-09:30:00\u{1}11=1\u{1}55=ABC\u{1}54=3\u{1}60=20250102-09:30:00\u{1}38=100\u{1}40=2\u{1}44=50\u{1}10=100\u{1}")
     ≡ Malformed 20250102093000 (record { reason = ValueIncorrect; tag = 54; ref_seq = 2; ref_type = NewOrderSingle })
 unfolding digits field_then head trailer frame_of pieces fields_of exact_fields command_of reads
@@ -50,7 +51,7 @@ reads-side = refl
 
 -- a tag twice comes before a missing one
 reads-twice :
-    reads (codes
+    reads true (codes
     "8=FIX.4.4\u{1}9=102\u{1}35=D\u{1}49=C1\u{1}56=VENUE\u{1}34=2\u{1}52=20250102-09:30:00\u{1}11=1\u{1}54=1\u{1}60=20250102-09:30:00\u{1}38=100\u{1}38=100\u{1}40=2\u{1}44=50\u{1}10=046\u{1}")
     ≡ Malformed 20250102093000 (record {
       reason = TagAppearsMoreThanOnce;
@@ -61,17 +62,47 @@ reads-twice :
 unfolding digits field_then head trailer frame_of pieces fields_of exact_fields command_of reads
 reads-twice = refl
 
--- a market order
+-- a market order, as it is read since there are any
 reads-market :
-    reads (codes
-    "8=FIX.4.4\u{1}9=102\u{1}35=D\u{1}49=C1\u{1}56=VENUE\u{1}34=2\u{1}52=20250102-09:30:00\u{1}11=1\u{1}55=ABC\u{1}54=1\u{1}60=20250102-09:30:00\u{1}38=100\u{1}40=1\u{1}44=50\u{1}10=097\u{1}")
-    ≡ Malformed 20250102093000 (record { reason = ValueIncorrect; tag = 40; ref_seq = 2; ref_type = NewOrderSingle })
+    reads true (codes
+    "8=FIX.4.4\u{1}9=96\u{1}35=D\u{1}49=C1\u{1}56=VENUE\u{1}34=2\u{1}52=20250102-09:30:00\u{1}11=1\u{1}55=ABC\u{1}54=1\u{1}60=20250102-09:30:00\u{1}38=100\u{1}40=1\u{1}10=050\u{1}")
+    ≡ New 20250102093000 (record {
+      cl_ord_id = 1;
+      symbol = codes "ABC";
+      side = Buy;
+      ord_type = Market;
+      quantity = 100;
+      time_in_force = Day;
+    })
 unfolding digits field_then head trailer frame_of pieces fields_of exact_fields command_of reads
 reads-market = refl
 
+-- and as it was read before: its price is missing
+reads-market-before :
+    reads false (codes
+    "8=FIX.4.4\u{1}9=96\u{1}35=D\u{1}49=C1\u{1}56=VENUE\u{1}34=2\u{1}52=20250102-09:30:00\u{1}11=1\u{1}55=ABC\u{1}54=1\u{1}60=20250102-09:30:00\u{1}38=100\u{1}40=1\u{1}10=050\u{1}")
+    ≡ Malformed 20250102093000 (record { reason = RequiredTagMissing; tag = 44; ref_seq = 2; ref_type = NewOrderSingle })
+unfolding digits field_then head trailer frame_of pieces fields_of exact_fields command_of reads
+reads-market-before = refl
+
+-- a market order with a price
+reads-market-priced :
+    reads true (codes
+    "8=FIX.4.4\u{1}9=102\u{1}35=D\u{1}49=C1\u{1}56=VENUE\u{1}34=2\u{1}52=20250102-09:30:00\u{1}11=1\u{1}55=ABC\u{1}54=1\u{1}60=20250102-09:30:00\u{1}38=100\u{1}40=1\u{1}44=50\u{1}10=097\u{1}")
+    ≡ Malformed 20250102093000 (record { reason = TagNotDefined; tag = 44; ref_seq = 2; ref_type = NewOrderSingle })
+unfolding digits field_then head trailer frame_of pieces fields_of exact_fields command_of reads
+reads-market-priced = refl
+
+reads-market-priced-before :
+    reads false (codes
+    "8=FIX.4.4\u{1}9=102\u{1}35=D\u{1}49=C1\u{1}56=VENUE\u{1}34=2\u{1}52=20250102-09:30:00\u{1}11=1\u{1}55=ABC\u{1}54=1\u{1}60=20250102-09:30:00\u{1}38=100\u{1}40=1\u{1}44=50\u{1}10=097\u{1}")
+    ≡ Malformed 20250102093000 (record { reason = ValueIncorrect; tag = 40; ref_seq = 2; ref_type = NewOrderSingle })
+unfolding digits field_then head trailer frame_of pieces fields_of exact_fields command_of reads
+reads-market-priced-before = refl
+
 -- a message of 320 bytes with a tag that no order has
 reads-long :
-    reads (codes
+    reads true (codes
     "8=FIX.4.4\u{1}9=297\u{1}35=D\u{1}49=C1\u{1}56=VENUE\u{1}34=2\u{1}52=20250102-09:30:00\u{1}11=1\u{1}55=ABC\u{1}54=1\u{1}60=20250102-09:30:00\u{1}38=100\u{1}40=2\u{1}44=50\u{1}58=" ++ (replicate 191 120 ++ codes "\u{1}10=164\u{1}"))
     ≡ Malformed 20250102093000 (record { reason = TagNotDefined; tag = 58; ref_seq = 2; ref_type = NewOrderSingle })
 unfolding digits field_then head trailer frame_of pieces fields_of exact_fields command_of reads
@@ -79,7 +110,7 @@ reads-long = refl
 
 -- a Logon asks nothing of the book
 reads-logon :
-    reads (codes
+    reads true (codes
     "8=FIX.4.4\u{1}9=63\u{1}35=A\u{1}49=C1\u{1}56=VENUE\u{1}34=1\u{1}52=20250102-09:30:00\u{1}98=0\u{1}108=0\u{1}141=Y\u{1}10=026\u{1}") ≡ Void
 unfolding digits field_then head trailer frame_of pieces fields_of exact_fields command_of reads
 reads-logon = refl
@@ -95,6 +126,7 @@ says-new : print_fields (body_fields
         symbol = codes "ABC";
         side = Buy;
         price = 50;
+        is_market = false;
         total = 100;
         cum = 0;
         notional = 0;
@@ -117,6 +149,7 @@ says-whole : print_fields (body_fields
             symbol = codes "ABC";
             side = Buy;
             price = 50;
+            is_market = false;
             total = 10;
             cum = 10;
             notional = 500;
@@ -139,6 +172,7 @@ says-part : print_fields (body_fields
             symbol = codes "ABC";
             side = Sell;
             price = 50;
+            is_market = false;
             total = 15;
             cum = 10;
             notional = 500;
@@ -161,6 +195,7 @@ says-average : print_fields (body_fields
             symbol = codes "ABC";
             side = Buy;
             price = 51;
+            is_market = false;
             total = 100;
             cum = 40;
             notional = 2015;
@@ -183,6 +218,7 @@ says-replaced : print_fields (body_fields
             symbol = codes "ABC";
             side = Buy;
             price = 50;
+            is_market = false;
             total = 8;
             cum = 0;
             notional = 0;
@@ -204,6 +240,7 @@ says-canceled : print_fields (body_fields
         symbol = codes "ABC";
         side = Buy;
         price = 50;
+        is_market = false;
         total = 100;
         cum = 0;
         notional = 0;
@@ -226,6 +263,7 @@ says-own-terms : print_fields (body_fields
             symbol = codes "ABC";
             side = Buy;
             price = 50;
+            is_market = false;
             total = 100;
             cum = 0;
             notional = 0;
@@ -247,6 +285,7 @@ says-duplicate : print_fields (body_fields
         symbol = codes "ABC";
         side = Buy;
         price = 50;
+        is_market = false;
         total = 10;
         cum = 0;
         notional = 0;
@@ -268,6 +307,7 @@ says-full : print_fields (body_fields
         symbol = codes "ABC";
         side = Buy;
         price = 1;
+        is_market = false;
         total = 1;
         cum = 0;
         notional = 0;
@@ -289,6 +329,7 @@ says-unfit : print_fields (body_fields
             symbol = codes "ABC";
             side = Buy;
             price = 50;
+            is_market = false;
             total = 10;
             cum = 4;
             notional = 200;

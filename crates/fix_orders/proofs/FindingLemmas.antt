@@ -8,7 +8,7 @@ use Rattle.std.proofs.lemmas.List.Elements.{filter-append}
 use Rattle.std.proofs.lemmas.List.Folds.{list_any-append}
 use denote.Enum.Bare.{sameb}
 use Rattle.fix_frame.specs.Grammar.{Field, IsField}
-use Rattle.venue_model.specs.declared.commands.RefMsgType.{RefMsgType}
+use Rattle.fix_orders.specs.declared.tables.Table.{Table}
 use Rattle.fix_orders.specs.declared.tags.Need.TheVariants.{Required, Optional, Undefined}
 use Rattle.fix_orders.specs.declared.tags.OrderTag.{OrderTag}
 use Rattle.fix_orders.specs.declared.tags.OrderTag.TheVariants.{ClOrdId, OrderQty, OrdType, OrigClOrdId, Price, Side}
@@ -203,18 +203,18 @@ undefined_by true optional = refl
 undefined_by false true = refl
 undefined_by false false = refl
 
-defined_is : (type : RefMsgType) (tag : OrderTag)
-    → is_defined type (tag_number tag) ≡ (is_among (required type) (tag_number tag) || is_among (optional type)
+defined_is : (table : Table) (tag : OrderTag)
+    → is_defined table (tag_number tag) ≡ (is_among (required table) (tag_number tag) || is_among (optional table)
     (tag_number tag))
-defined_is type tag =
-    list_any-append (λ t. t == tag_number tag) (outside ++ required type) (optional type)
-    ∙ ap (λ b. b || is_among (optional type) (tag_number tag)) (seen_order tag (required type))
+defined_is table tag =
+    list_any-append (λ t. t == tag_number tag) (outside ++ required table) (optional table)
+    ∙ ap (λ b. b || is_among (optional table) (tag_number tag)) (seen_order tag (required table))
 
-pub undefined_is : (type : RefMsgType) (tag : OrderTag)
-    → sameb need_type (need_of type tag) Undefined ≡ not (is_defined type (tag_number tag))
-undefined_is type tag =
-    undefined_by (is_among (required type) (tag_number tag)) (is_among (optional type) (tag_number tag))
-    ∙ ap not (sym (defined_is type tag))
+pub undefined_is : (table : Table) (tag : OrderTag)
+    → sameb need_type (need_of table tag) Undefined ≡ not (is_defined table (tag_number tag))
+undefined_is table tag =
+    undefined_by (is_among (required table) (tag_number tag)) (is_among (optional table) (tag_number tag))
+    ∙ ap not (sym (defined_is table tag))
 
 ill_formed_by : (format range : Bool) → sameb judged_type (cond format (cond range Right OutOfRange) WrongFormat)
     WrongFormat ≡ not format

@@ -8,9 +8,8 @@ use Rattle.std.proofs.lemmas.List.Elements.{filter-append, filter_more}
 use Rattle.std.proofs.lemmas.List.Filters.{length-filter_both}
 use denote.Enum.Bare.{sameb}
 use Rattle.fix_frame.specs.Grammar.{Field, IsField}
-use Rattle.venue_model.specs.declared.commands.RefMsgType.{RefMsgType}
-use Rattle.venue_model.specs.declared.commands.RefMsgType.TheVariants.{NewOrderSingle, OrderCancelRequest}
-use Rattle.venue_model.specs.declared.commands.RefMsgType.TheVariants.{OrderCancelReplaceRequest}
+use Rattle.fix_orders.specs.declared.tables.Table.{Table}
+use Rattle.fix_orders.specs.declared.tables.Table.TheVariants.{LimitOrder, MarketOrder, CancelRequest, ReplaceRequest}
 use Rattle.venue_model.specs.declared.commands.SessionRejectReason.TheVariants.{TagNotDefined, ValueIncorrect}
 use Rattle.venue_model.specs.declared.commands.SessionRejectReason.TheVariants.{IncorrectFormat}
 use Rattle.fix_orders.specs.declared.fields.OrderFields.{OrderFields}
@@ -36,7 +35,7 @@ use Rattle.fix_orders.proofs.FieldLemmas.{value_at_none}
 use Rattle.fix_orders.proofs.FindingLemmas.{tags_push, wrong_push, repeated_push, value_push, kept_value, least_push_if}
 use Rattle.fix_orders.proofs.FindingLemmas.{valued, seen_value, undefined_is, ill_formed_is, out_of_range_is}
 
--- the tags that no type has, and one more tag
+-- the tags that no table has, and one more tag
 others_push : (fields : List Field) (f : Field) (b : Bool) → is_other f.tag ≡ b
     → filter is_other (tags (fields ++ f ∷ [])) ≡ filter is_other (tags fields) ++ cond b (f.tag ∷ []) []
 others_push fields f b is =
@@ -55,24 +54,24 @@ not_other TimeInForce = refl
 not_other TransactTime = refl
 
 -- an order tag
-pub record TakesValue (type : RefMsgType) (tag : OrderTag) (value : List ℕ) (old new : OrderFields) : Type 0 where
+pub record TakesValue (table : Table) (tag : OrderTag) (value : List ℕ) (old new : OrderFields) : Type 0 where
   pub values : (t : OrderTag) → value_in new.values t ≡ with_value (value_in old.values) tag value t
   pub others : new.others ≡ old.others
   pub repeated : new.repeated ≡ lesser_if (not (is_nothing (value_in old.values tag))) (tag_number tag) old.repeated
-  pub undefined : new.undefined ≡ lesser_if (sameb need_type (need_of type tag) Undefined) (tag_number tag)
+  pub undefined : new.undefined ≡ lesser_if (sameb need_type (need_of table tag) Undefined) (tag_number tag)
       old.undefined
   pub ill_formed : new.ill_formed
-      ≡ lesser_if (sameb judged_type (judged_value (format_of (tag_number tag)) value) WrongFormat)
+      ≡ lesser_if (sameb judged_type (judged_value (format_of table (tag_number tag)) value) WrongFormat)
       (tag_number tag) old.ill_formed
   pub out_of_range : new.out_of_range ≡ lesser_if
-      (sameb judged_type (judged_value (format_of (tag_number tag)) value) OutOfRange) (tag_number tag) old.out_of_range
+      (sameb judged_type (judged_value (format_of table (tag_number tag)) value) OutOfRange) (tag_number tag) old.out_of_range
 
 -- another tag
-pub record TakesElse (type : RefMsgType) (fields : List Field) (tag : ℕ) (old new : OrderFields) : Type 0 where
+pub record TakesElse (table : Table) (fields : List Field) (tag : ℕ) (old new : OrderFields) : Type 0 where
   pub values : new.values ≡ old.values
   pub others : new.others.items ≡ old.others.items ++ cond (is_other tag) (tag ∷ []) []
   pub repeated : new.repeated ≡ lesser_if (is_among (outside ++ tags fields) tag) tag old.repeated
-  pub undefined : new.undefined ≡ lesser_if (not (is_defined type tag)) tag old.undefined
+  pub undefined : new.undefined ≡ lesser_if (not (is_defined table tag)) tag old.undefined
   pub ill_formed : new.ill_formed ≡ old.ill_formed
   pub out_of_range : new.out_of_range ≡ old.out_of_range
 
@@ -80,10 +79,10 @@ value_stays : (among : Bool) (value : List ℕ) → (among ≡ false → value �
 value_stays true value none = refl
 value_stays false value none = sym (none refl)
 
-module _ (type : RefMsgType) (fields : List Field) (old new : OrderFields) (found : IsFound type fields old) where
+module _ (table : Table) (fields : List Field) (old new : OrderFields) (found : IsFound table fields old) where
   pub found_value : (tag : OrderTag) (value : List ℕ) → IsField (field (tag_number tag) value)
-      → TakesValue type tag value old new
-      → IsFound type (fields ++ field (tag_number tag) value ∷ []) new
+      → TakesValue table tag value old new
+      → IsFound table (fields ++ field (tag_number tag) value ∷ []) new
   found_value tag value is takes =
       let n = tag_number tag in
       let f = field n value in record {
@@ -102,23 +101,23 @@ module _ (type : RefMsgType) (fields : List Field) (old new : OrderFields) (foun
             ∙ ap (λ b. lesser_if b n old.repeated) (sym (seen_value tag fields found.each))
             ∙ ap (lesser_if (is_among (outside ++ tags fields) n) n) found.repeated ∙ sym (repeated_push fields f);
         undefined =
-            takes.undefined ∙ ap (λ b. lesser_if b n old.undefined) (undefined_is type tag)
+            takes.undefined ∙ ap (λ b. lesser_if b n old.undefined) (undefined_is table tag)
             ∙ ap (lesser_if _ n) found.undefined
-            ∙ sym (wrong_push (is_wrong TagNotDefined type fields) fields f);
+            ∙ sym (wrong_push (is_wrong TagNotDefined table fields) fields f);
         ill_formed =
-            takes.ill_formed ∙ ap (λ b. lesser_if b n old.ill_formed) (ill_formed_is (format_of n) value)
+            takes.ill_formed ∙ ap (λ b. lesser_if b n old.ill_formed) (ill_formed_is (format_of table n) value)
             ∙ ap (lesser_if _ n) found.ill_formed
-            ∙ sym (wrong_push (is_wrong IncorrectFormat type fields) fields f);
+            ∙ sym (wrong_push (is_wrong IncorrectFormat table fields) fields f);
         out_of_range =
-            takes.out_of_range ∙ ap (λ b. lesser_if b n old.out_of_range) (out_of_range_is (format_of n) value)
+            takes.out_of_range ∙ ap (λ b. lesser_if b n old.out_of_range) (out_of_range_is (format_of table n) value)
             ∙ ap (lesser_if _ n) found.out_of_range
-            ∙ sym (wrong_push (is_wrong ValueIncorrect type fields) fields f);
+            ∙ sym (wrong_push (is_wrong ValueIncorrect table fields) fields f);
       }
 
   -- a tag that no order tag is, with any format
   pub found_else : (tag : ℕ) (value : List ℕ) → IsField (field tag value)
       → ((t : OrderTag) → (tag == tag_number t) ≡ false)
-      → format_of tag ≡ any → TakesElse type fields tag old new → IsFound type (fields ++ field tag value ∷ []) new
+      → format_of table tag ≡ any → TakesElse table fields tag old new → IsFound table (fields ++ field tag value ∷ []) new
   found_else tag value is apart free takes =
       let f = field tag value in record {
         each = all_push fields f found.each is;
@@ -137,45 +136,45 @@ module _ (type : RefMsgType) (fields : List Field) (old new : OrderFields) (foun
             ∙ sym (repeated_push fields f);
         undefined =
             takes.undefined ∙ ap (lesser_if _ tag) found.undefined
-            ∙ sym (wrong_push (is_wrong TagNotDefined type fields) fields f);
+            ∙ sym (wrong_push (is_wrong TagNotDefined table fields) fields f);
         ill_formed =
             takes.ill_formed ∙ found.ill_formed
-            ∙ sym (wrong_push (is_wrong IncorrectFormat type fields) fields f
+            ∙ sym (wrong_push (is_wrong IncorrectFormat table fields) fields f
             ∙ ap (λ k. lesser_if (not (has_format k value)) tag
-            (least (tags (filter (is_wrong IncorrectFormat type fields) fields)))) free);
+            (least (tags (filter (is_wrong IncorrectFormat table fields) fields)))) free);
         out_of_range =
             takes.out_of_range ∙ found.out_of_range
-            ∙ sym (wrong_push (is_wrong ValueIncorrect type fields) fields f
+            ∙ sym (wrong_push (is_wrong ValueIncorrect table fields) fields f
             ∙ ap (λ k. lesser_if (has_format k value && not (is_in_range k value)) tag
-            (least (tags (filter (is_wrong ValueIncorrect type fields) fields)))) free);
+            (least (tags (filter (is_wrong ValueIncorrect table fields) fields)))) free);
       }
 
 -- reading on
-reading_long : (type : RefMsgType) (rest all : List Field) (found : OrderFields)
-    (reading : IsReading type rest all found)
+reading_long : (table : Table) (rest all : List Field) (found : OrderFields)
+    (reading : IsReading table rest all found)
     → length reading.front + length rest ≡ length all
-reading_long type rest all found reading = sym (length-append reading.front rest) ∙ ap length reading.whole
+reading_long table rest all found reading = sym (length-append reading.front rest) ∙ ap length reading.whole
 
-pub reading_room : (type : RefMsgType) (f : Field) (more rest all : List Field) (found : OrderFields)
-    → IsReading type rest all found
+pub reading_room : (table : Table) (f : Field) (more rest all : List Field) (found : OrderFields)
+    → IsReading table rest all found
     → rest ≡ f ∷ more → length all ≤ 74 → length found.others.items < 74
-reading_room type f more rest all found reading next few =
+reading_room table f more rest all found reading next few =
     let kept = length-filter_both is_other (λ tag. not (is_other tag)) (λ tag. refl) (tags reading.front) in
     let same : length (tags reading.front) ≡ length reading.front = length-map reading.front (λ (g : Field). g.tag) in
     omega (
       arith,
-      reading_long type rest all found reading,
+      reading_long table rest all found reading,
       ap length next,
       ap length reading.found_in.others,
       kept,
       same,
     )
 
-pub reading_next : (type : RefMsgType) (f : Field) (more rest all : List Field) (old new : OrderFields)
-    → IsReading type rest all old
-    → rest ≡ f ∷ more → ((fields : List Field) → IsFound type fields old → IsFound type (fields ++ f ∷ []) new)
-    → IsReading type more all new
-reading_next type f more rest all old new reading next takes =
+pub reading_next : (table : Table) (f : Field) (more rest all : List Field) (old new : OrderFields)
+    → IsReading table rest all old
+    → rest ≡ f ∷ more → ((fields : List Field) → IsFound table fields old → IsFound table (fields ++ f ∷ []) new)
+    → IsReading table more all new
+reading_next table f more rest all old new reading next takes =
     let each : IsField f × AllByRecursion IsField more = subst (AllByRecursion IsField) next reading.each in record {
       front = reading.front ++ f ∷ [];
       found_in = takes reading.front reading.found_in;
@@ -184,11 +183,11 @@ reading_next type f more rest all old new reading next takes =
       each = each.1;
     }
 
-pub reading_done : (type : RefMsgType) (rest all : List Field) (found : OrderFields) → IsReading type rest all found
+pub reading_done : (table : Table) (rest all : List Field) (found : OrderFields) → IsReading table rest all found
     → rest ≡ []
-    → IsFound type all found
-reading_done type rest all found reading none =
-    subst (λ fields. IsFound type fields found)
+    → IsFound table all found
+reading_done table rest all found reading none =
+    subst (λ fields. IsFound table fields found)
     (sym (append-nil reading.front) ∙ ap (λ fields. reading.front ++ fields) (sym none) ∙ reading.whole)
     reading.found_in
 
@@ -198,16 +197,16 @@ numbers_if ts t true = map-append tag_number ts (t ∷ [])
 numbers_if ts t false = ap (map tag_number) (append-nil ts) ∙ sym (append-nil (map tag_number ts))
 
 -- the required tags that have no value, one tag more
-pub missing_more : (type : RefMsgType) (values : Values) (some : List OrderTag) (i : ℕ) (d : OrderTag) → i < length some
-    → least (missing_among type values (take (i + 1) some))
-    ≡ lesser_if (is_missing type values (get_or some i d)) (tag_number (get_or some i d))
-    (least (missing_among type values (take i some)))
-missing_more type values some i d within =
-    ap (λ ts. least (map tag_number ts)) (filter_more (is_missing type values) some i d within)
-    ∙ ap least (numbers_if (filter (is_missing type values) (take i some)) (get_or some i d)
-    (is_missing type values (get_or some i d)))
-    ∙ least_push_if (missing_among type values (take i some)) (tag_number (get_or some i d))
-    (is_missing type values (get_or some i d))
+pub missing_more : (table : Table) (values : Values) (some : List OrderTag) (i : ℕ) (d : OrderTag) → i < length some
+    → least (missing_among table values (take (i + 1) some))
+    ≡ lesser_if (is_missing table values (get_or some i d)) (tag_number (get_or some i d))
+    (least (missing_among table values (take i some)))
+missing_more table values some i d within =
+    ap (λ ts. least (map tag_number ts)) (filter_more (is_missing table values) some i d within)
+    ∙ ap least (numbers_if (filter (is_missing table values) (take i some)) (get_or some i d)
+    (is_missing table values (get_or some i d)))
+    ∙ least_push_if (missing_among table values (take i some)) (tag_number (get_or some i d))
+    (is_missing table values (get_or some i d))
 
 -- all of them
 numbers_by : (t : OrderTag) (b : Bool) (ts : List OrderTag) (ns : List ℕ) → map tag_number ts ≡ ns
@@ -222,23 +221,24 @@ numbers_kept p q same (t ∷ ts) =
     numbers_by t (p t) (filter p ts) (filter q (map tag_number ts)) (numbers_kept p q same ts)
     ∙ ap (λ b. cond b (tag_number t ∷ filter q (map tag_number ts)) (filter q (map tag_number ts))) (same t)
 
-abbrev lacks : RefMsgType → List Field → ℕ → Bool
-lacks type fields n = is_among (required type) n && not (is_among (tags fields) n)
+abbrev lacks : Table → List Field → ℕ → Bool
+lacks table fields n = is_among (required table) n && not (is_among (tags fields) n)
 
-lacking : (type : RefMsgType) (fields : List Field)
-    → filter (lacks type fields) order_numbers ≡ missing_tags type fields
-lacking NewOrderSingle fields = refl
-lacking OrderCancelRequest fields = refl
-lacking OrderCancelReplaceRequest fields = refl
+lacking : (table : Table) (fields : List Field)
+    → filter (lacks table fields) order_numbers ≡ missing_tags table fields
+lacking LimitOrder fields = refl
+lacking MarketOrder fields = refl
+lacking CancelRequest fields = refl
+lacking ReplaceRequest fields = refl
 
-pub missing_is : (type : RefMsgType) (fields : List Field) (found : OrderFields) (some : List OrderTag)
-    → IsFound type fields found
-    → map tag_number some ≡ order_numbers → missing_among type found.values some ≡ missing_tags type fields
-missing_is type fields found some finds all =
-    numbers_kept (is_missing type found.values) (lacks type fields)
-    (λ t. ap (λ b. is_among (required type) (tag_number t) && b)
+pub missing_is : (table : Table) (fields : List Field) (found : OrderFields) (some : List OrderTag)
+    → IsFound table fields found
+    → map tag_number some ≡ order_numbers → missing_among table found.values some ≡ missing_tags table fields
+missing_is table fields found some finds all =
+    numbers_kept (is_missing table found.values) (lacks table fields)
+    (λ t. ap (λ b. is_among (required table) (tag_number t) && b)
     (ap is_nothing (finds.values t) ∙ valued (tag_number t) fields finds.each)) some
-    ∙ ap (filter (lacks type fields)) all ∙ lacking type fields
+    ∙ ap (filter (lacks table fields)) all ∙ lacking table fields
 
 -- what is right is neither of another format nor out of range
 pub right_alone : (j : JudgedValue) → sameb judged_type j Right ≡ true

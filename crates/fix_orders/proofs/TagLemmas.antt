@@ -6,9 +6,8 @@ use Rattle.std.proofs.lemmas.Bool.{and_parts}
 use Rattle.std.proofs.lemmas.Bool.Decides.{nat_tests}
 use Rattle.std.proofs.lemmas.List.Folds.{list_any-append}
 use Rattle.std.proofs.lemmas.Map.Views.{any-filter_same}
-use Rattle.venue_model.specs.declared.commands.RefMsgType.{RefMsgType}
-use Rattle.venue_model.specs.declared.commands.RefMsgType.TheVariants.{NewOrderSingle, OrderCancelRequest}
-use Rattle.venue_model.specs.declared.commands.RefMsgType.TheVariants.{OrderCancelReplaceRequest}
+use Rattle.fix_orders.specs.declared.tables.Table.{Table}
+use Rattle.fix_orders.specs.declared.tables.Table.TheVariants.{LimitOrder, MarketOrder, CancelRequest, ReplaceRequest}
 use Rattle.fix_orders.specs.declared.tags.OrderTag.{OrderTag}
 use Rattle.fix_orders.specs.declared.tags.OrderTag.TheVariants.{ClOrdId, OrderQty, OrdType, OrigClOrdId, Price, Side}
 use Rattle.fix_orders.specs.declared.tags.OrderTag.TheVariants.{Symbol, TimeInForce, TransactTime}
@@ -39,13 +38,13 @@ apart_by tag t false same none = refl
 -- what holds of a tag that no order tag is
 pub record IsApart (tag : ℕ) : Type 0 where
   pub unequal : (t : OrderTag) → (tag == tag_number t) ≡ false
-  pub free : format_of tag ≡ any
+  pub free : (table : Table) → format_of table tag ≡ any
 
 pub unequal_of : (tag : ℕ) → is_among order_numbers tag ≡ false → (t : OrderTag) → (tag == tag_number t) ≡ false
 unequal_of tag none t = apart_by tag t (tag == tag_number t) refl none
 
-free_of : (tag : ℕ) → ((t : OrderTag) → (tag == tag_number t) ≡ false) → format_of tag ≡ any
-free_of tag unequal =
+free_of : (tag : ℕ) → ((t : OrderTag) → (tag == tag_number t) ≡ false) → (table : Table) → format_of table tag ≡ any
+free_of tag unequal table =
     rw (
       unequal ClOrdId,
       unequal OrigClOrdId,
@@ -77,25 +76,25 @@ among_all P (n ∷ ns) tag all is = among_by P n tag ns (n == tag) refl all.0 (a
 pub record IsOutside (tag : ℕ) : Type 0 where
   pub order : is_among order_numbers tag ≡ false
   pub other : is_other tag ≡ false
-  pub defined : (type : RefMsgType) → is_defined type tag ≡ true
+  pub defined : (table : Table) → is_defined table tag ≡ true
 
 pub outside_is : (tag : ℕ) → is_among outside tag ≡ true → IsOutside tag
 outside_is tag is =
     among_all IsOutside outside tag (
-      record { order = refl; other = refl; defined = λ type. refl },
+      record { order = refl; other = refl; defined = λ table. refl },
       (
-        record { order = refl; other = refl; defined = λ type. refl },
+        record { order = refl; other = refl; defined = λ table. refl },
         (
-          record { order = refl; other = refl; defined = λ type. refl },
+          record { order = refl; other = refl; defined = λ table. refl },
           (
-            record { order = refl; other = refl; defined = λ type. refl },
+            record { order = refl; other = refl; defined = λ table. refl },
             (
-              record { order = refl; other = refl; defined = λ type. refl },
+              record { order = refl; other = refl; defined = λ table. refl },
               (
-                record { order = refl; other = refl; defined = λ type. refl },
+                record { order = refl; other = refl; defined = λ table. refl },
                 (
-                  record { order = refl; other = refl; defined = λ type. refl },
-                  (record { order = refl; other = refl; defined = λ type. refl }, tt),
+                  record { order = refl; other = refl; defined = λ table. refl },
+                  (record { order = refl; other = refl; defined = λ table. refl }, tt),
                 ),
               ),
             ),
@@ -123,22 +122,25 @@ none_of_part (m ∷ ms) all tag part none =
 pub record IsOther (tag : ℕ) : Type 0 where
   pub outer : is_among outside tag ≡ false
   pub order : is_among order_numbers tag ≡ false
-  pub undefined : (type : RefMsgType) → is_defined type tag ≡ false
+  pub undefined : (table : Table) → is_defined table tag ≡ false
 
 not_true : (b : Bool) → not b ≡ true → b ≡ false
 not_true true is = cc
 not_true false is = refl
 
-undefined_other : (type : RefMsgType) (tag : ℕ) → is_among (outside ++ order_numbers) tag ≡ false
-    → is_defined type tag ≡ false
-undefined_other NewOrderSingle tag none =
-    none_of_part (frame_tags ++ header_tags ++ required NewOrderSingle ++ optional NewOrderSingle)
+undefined_other : (table : Table) (tag : ℕ) → is_among (outside ++ order_numbers) tag ≡ false
+    → is_defined table tag ≡ false
+undefined_other LimitOrder tag none =
+    none_of_part (frame_tags ++ header_tags ++ required LimitOrder ++ optional LimitOrder)
     (outside ++ order_numbers) tag refl none
-undefined_other OrderCancelRequest tag none =
-    none_of_part (frame_tags ++ header_tags ++ required OrderCancelRequest ++ optional OrderCancelRequest)
+undefined_other MarketOrder tag none =
+    none_of_part (frame_tags ++ header_tags ++ required MarketOrder ++ optional MarketOrder)
     (outside ++ order_numbers) tag refl none
-undefined_other OrderCancelReplaceRequest tag none =
-    none_of_part (frame_tags ++ header_tags ++ required OrderCancelReplaceRequest ++ optional OrderCancelReplaceRequest)
+undefined_other CancelRequest tag none =
+    none_of_part (frame_tags ++ header_tags ++ required CancelRequest ++ optional CancelRequest)
+    (outside ++ order_numbers) tag refl none
+undefined_other ReplaceRequest tag none =
+    none_of_part (frame_tags ++ header_tags ++ required ReplaceRequest ++ optional ReplaceRequest)
     (outside ++ order_numbers) tag refl none
 
 pub other_is : (tag : ℕ) → is_other tag ≡ true → IsOther tag
@@ -146,7 +148,7 @@ other_is tag is =
     let none = not_true (is_among (outside ++ order_numbers) tag) is in record {
       outer = none_of_part outside (outside ++ order_numbers) tag refl none;
       order = none_of_part order_numbers (outside ++ order_numbers) tag refl none;
-      undefined = λ type. undefined_other type tag none;
+      undefined = λ table. undefined_other table tag none;
     }
 
 same_other : (k tag : ℕ) → (k == tag) ≡ true → is_other tag ≡ true → is_other k ≡ true

@@ -10,9 +10,12 @@ use mathlib.Core.Path.{fun_ext}
 use Rattle.fix_frame.specs.Grammar.{Field}
 use Rattle.venue_model.specs.declared.commands.Command.{Command}
 use Rattle.venue_model.specs.declared.commands.Command.TheVariants.{New, Cancel, Replace}
+use Rattle.venue_model.specs.declared.commands.NewOrderSingle.{NewOrderSingle}
+use Rattle.venue_model.specs.declared.commands.OrdType.{OrdType as OrdTypeAsked}
+use Rattle.venue_model.specs.declared.commands.OrdType.TheVariants.{Market, Limit}
 use Rattle.venue_model.specs.declared.commands.RefMsgType.{RefMsgType}
-use Rattle.venue_model.specs.declared.commands.RefMsgType.TheVariants.{NewOrderSingle, OrderCancelRequest}
-use Rattle.venue_model.specs.declared.commands.RefMsgType.TheVariants.{OrderCancelReplaceRequest}
+use Rattle.fix_orders.specs.declared.tables.Table.{Table}
+use Rattle.fix_orders.specs.declared.tables.Table.TheVariants.{LimitOrder, MarketOrder, CancelRequest, ReplaceRequest}
 use Rattle.venue_model.specs.declared.commands.SessionRejectReason.{SessionRejectReason}
 use Rattle.venue_model.specs.declared.commands.SessionRejectReason.TheVariants.{RequiredTagMissing, TagNotDefined}
 use Rattle.venue_model.specs.declared.commands.SessionRejectReason.TheVariants.{ValueIncorrect, IncorrectFormat}
@@ -29,7 +32,7 @@ use Rattle.fix_orders.specs.Formats.{value_of, format_of, has_format, is_in_rang
 use Rattle.fix_orders.specs.Header.{Header, is_header, header_of}
 use Rattle.fix_orders.specs.OrderTags.{tag_number}
 use Rattle.fix_orders.specs.Reading.{header_tags, tags, is_among, required, optional, value_at, faulty_tags, least}
-use Rattle.fix_orders.specs.Reading.{or_next, first_fault, classes, asked, side_of, time_in_force_of}
+use Rattle.fix_orders.specs.Reading.{or_next, table_of, first_fault, classes, asked, side_of, time_in_force_of}
 use Rattle.fix_orders.specs.Text.{field}
 use Rattle.fix_orders.specs.Values.{value_in}
 use Rattle.fix_orders.proofs.AgainLemmas.{same_least, count, count-append, among_counted, again_among}
@@ -120,15 +123,16 @@ tags_kept p (f ∷ fs) = tags_kept_by 0 f (p f.tag) (filter (λ g. p g.tag) fs) 
 same_count : (all : List ℕ) (k x : ℕ) → (k == x) ≡ true → nat_lt 1 (count k all) ≡ nat_lt 1 (count x all)
 same_count all k x same = let e : k ≡ x = grind (arith, nat_tests) in ap (λ n. nat_lt 1 (count n all)) e
 
-missing_whole : (kind : RefMsgType) (a b c d e : List ℕ) (rest : List Field)
-    → least_in RequiredTagMissing kind rest ≡ least (faulty_tags RequiredTagMissing kind (headed_by a b c d e rest))
-missing_whole NewOrderSingle a b c d e rest = refl
-missing_whole OrderCancelRequest a b c d e rest = refl
-missing_whole OrderCancelReplaceRequest a b c d e rest = refl
+missing_whole : (table : Table) (a b c d e : List ℕ) (rest : List Field)
+    → least_in RequiredTagMissing table rest ≡ least (faulty_tags RequiredTagMissing table (headed_by a b c d e rest))
+missing_whole LimitOrder a b c d e rest = refl
+missing_whole MarketOrder a b c d e rest = refl
+missing_whole CancelRequest a b c d e rest = refl
+missing_whole ReplaceRequest a b c d e rest = refl
 
-module _ (kind : RefMsgType) (a b c d e : List ℕ) (rest : List Field) where
-  repeated_whole : least_in TagAppearsMoreThanOnce kind rest ≡ least
-      (faulty_tags TagAppearsMoreThanOnce kind (headed_by a b c d e rest))
+module _ (table : Table) (a b c d e : List ℕ) (rest : List Field) where
+  repeated_whole : least_in TagAppearsMoreThanOnce table rest ≡ least
+      (faulty_tags TagAppearsMoreThanOnce table (headed_by a b c d e rest))
   repeated_whole =
       let all = outside ++ tags rest in
       let twice = λ (n : ℕ). nat_lt 1 (count n all) in
@@ -141,19 +145,19 @@ module _ (kind : RefMsgType) (a b c d e : List ℕ) (rest : List Field) where
       ∙ ap (λ among. twice x && among) (list_any-append (λ n. n == x) header_tags (tags rest))))
 
   -- for each reason the header's fields are right
-  least_whole : (r : SessionRejectReason) → least_in r kind rest ≡ least (faulty_tags r kind (headed_by a b c d e rest))
+  least_whole : (r : SessionRejectReason) → least_in r table rest ≡ least (faulty_tags r table (headed_by a b c d e rest))
   least_whole TagAppearsMoreThanOnce = repeated_whole
   least_whole TagNotDefined = refl
-  least_whole RequiredTagMissing = missing_whole kind a b c d e rest
+  least_whole RequiredTagMissing = missing_whole table a b c d e rest
   least_whole IncorrectFormat = refl
   least_whole ValueIncorrect = refl
 
   faults_whole : (rs : List SessionRejectReason)
-      → fault_in rs kind rest ≡ first_fault rs kind (headed_by a b c d e rest)
+      → fault_in rs table rest ≡ first_fault rs table (headed_by a b c d e rest)
   faults_whole [] = refl
   faults_whole (r ∷ rs) =
-      ap (λ found. or_next r found (fault_in rs kind rest)) (least_whole r)
-      ∙ ap (or_next r (least (faulty_tags r kind (headed_by a b c d e rest)))) (faults_whole rs)
+      ap (λ found. or_next r found (fault_in rs table rest)) (least_whole r)
+      ∙ ap (or_next r (least (faulty_tags r table (headed_by a b c d e rest)))) (faults_whole rs)
 
   value_whole : (t : OrderTag) → value_at (tag_number t) (headed_by a b c d e rest) ≡ value_at (tag_number t) rest
   value_whole ClOrdId = refl
@@ -167,17 +171,17 @@ module _ (kind : RefMsgType) (a b c d e : List ℕ) (rest : List Field) where
   value_whole TransactTime = refl
 
 -- the fault of the fields that were read is that of the message
-pub fault_whole : (kind : RefMsgType) (fields rest : List Field) → HasHeader fields rest
-    → fault_in classes kind rest ≡ first_fault classes kind fields
-fault_whole kind fields rest (a, b, c, d, e, is) = faults_whole kind a b c d e rest classes
-    ∙ ap (first_fault classes kind) (sym is)
+pub fault_whole : (table : Table) (fields rest : List Field) → HasHeader fields rest
+    → fault_in classes table rest ≡ first_fault classes table fields
+fault_whole table fields rest (a, b, c, d, e, is) = faults_whole table a b c d e rest classes
+    ∙ ap (first_fault classes table) (sym is)
 
 -- and so are the values
-pub values_whole : (kind : RefMsgType) (fields rest : List Field) (found : OrderFields) → HasHeader fields rest
-    → IsFound kind rest found
+pub values_whole : (table : Table) (fields rest : List Field) (found : OrderFields) → HasHeader fields rest
+    → IsFound table rest found
     → (t : OrderTag) → value_in found.values t ≡ value_at (tag_number t) fields
-values_whole kind fields rest found (a, b, c, d, e, is) finds t =
-    finds.values t ∙ sym (value_whole kind a b c d e rest t) ∙ ap (value_at (tag_number t)) (sym is)
+values_whole table fields rest found (a, b, c, d, e, is) finds t =
+    finds.values t ∙ sym (value_whole table a b c d e rest t) ∙ ap (value_at (tag_number t)) (sym is)
 
 needed_by : (needed allowed : Bool) → cond needed Required (cond allowed Optional Undefined) ≡ Required → needed ≡ true
 needed_by true allowed is = refl
@@ -185,63 +189,74 @@ needed_by false true is = cc
 needed_by false false is = cc
 
 -- without a fault each required value is right
-pub values_right : (kind : RefMsgType) (fields : List Field) (values : Values)
+pub values_right : (table : Table) (fields : List Field) (values : Values)
     → ((t : OrderTag) → value_in values t ≡ value_at (tag_number t) fields)
-    → first_fault classes kind fields ≡ None → AreRight kind values
-values_right kind fields values are none = record {
+    → first_fault classes table fields ≡ None → AreRight table values
+values_right table fields values are none = record {
   format = λ t needed.
-      subst (λ v. IsTrue (has_format (format_of (tag_number t)) v)) (sym (are t))
-      (right_value kind fields (tag_number t) none
-      (needed_by (is_among (required kind) (tag_number t)) (is_among (optional kind) (tag_number t)) needed)).format;
+      subst (λ v. IsTrue (has_format (format_of table (tag_number t)) v)) (sym (are t))
+      (right_value table fields (tag_number t) none
+      (needed_by (is_among (required table) (tag_number t)) (is_among (optional table) (tag_number t)) needed)).format;
   range = λ t needed.
-      subst (λ v. IsTrue (is_in_range (format_of (tag_number t)) v)) (sym (are t))
-      (right_value kind fields (tag_number t) none
-      (needed_by (is_among (required kind) (tag_number t)) (is_among (optional kind) (tag_number t)) needed)).range;
+      subst (λ v. IsTrue (is_in_range (format_of table (tag_number t)) v)) (sym (are t))
+      (right_value table fields (tag_number t) none
+      (needed_by (is_among (required table) (tag_number t)) (is_among (optional table) (tag_number t)) needed)).range;
 }
 
+-- the table that a message is read by is that of the fields that were read
+pub table_whole : (market : Bool) (kind : RefMsgType) (fields rest : List Field) → HasHeader fields rest
+    → table_of market kind rest ≡ table_of market kind fields
+table_whole market kind fields rest (a, b, c, d, e, is) = ap (table_of market kind) (sym is)
+
 -- what they ask is what the message asks
-abbrev asked_by : RefMsgType → ℕ → (OrderTag → List ℕ) → Command
-asked_by NewOrderSingle time v = New time (record {
+abbrev order_by : OrdTypeAsked → (OrderTag → List ℕ) → NewOrderSingle
+order_by ord_type v = record {
   cl_ord_id = value_of (v ClOrdId);
+  symbol = v Symbol;
+  side = side_of (v Side);
+  ord_type = ord_type;
+  quantity = value_of (v OrderQty);
+  time_in_force = time_in_force_of (v TimeInForce);
+}
+
+abbrev asked_by : Table → ℕ → (OrderTag → List ℕ) → Command
+asked_by LimitOrder time v = New time (order_by (Limit (value_of (v Price))) v)
+asked_by MarketOrder time v = New time (order_by Market v)
+asked_by CancelRequest time v = Cancel time (record {
+  cl_ord_id = value_of (v ClOrdId);
+  orig_cl_ord_id = value_of (v OrigClOrdId);
+  symbol = v Symbol;
+  side = side_of (v Side);
+})
+asked_by ReplaceRequest time v = Replace time (record {
+  cl_ord_id = value_of (v ClOrdId);
+  orig_cl_ord_id = value_of (v OrigClOrdId);
   symbol = v Symbol;
   side = side_of (v Side);
   price = value_of (v Price);
   quantity = value_of (v OrderQty);
   time_in_force = time_in_force_of (v TimeInForce);
 })
-asked_by OrderCancelRequest time v = Cancel time (record {
-  cl_ord_id = value_of (v ClOrdId);
-  orig_cl_ord_id = value_of (v OrigClOrdId);
-  symbol = v Symbol;
-  side = side_of (v Side);
-})
-asked_by OrderCancelReplaceRequest time v = Replace time (record {
-  cl_ord_id = value_of (v ClOrdId);
-  orig_cl_ord_id = value_of (v OrigClOrdId);
-  symbol = v Symbol;
-  side = side_of (v Side);
-  price = value_of (v Price);
-  quantity = value_of (v OrderQty);
-  time_in_force = time_in_force_of (v TimeInForce);
-})
 
-asked_values : (kind : RefMsgType) (time : ℕ) (values : Values)
-    → asked_in kind time values ≡ asked_by kind time (value_in values)
-asked_values NewOrderSingle time values = refl
-asked_values OrderCancelRequest time values = refl
-asked_values OrderCancelReplaceRequest time values = refl
+asked_values : (table : Table) (time : ℕ) (values : Values)
+    → asked_in table time values ≡ asked_by table time (value_in values)
+asked_values LimitOrder time values = refl
+asked_values MarketOrder time values = refl
+asked_values CancelRequest time values = refl
+asked_values ReplaceRequest time values = refl
 
-asked_fields : (kind : RefMsgType) (time : ℕ) (fields : List Field)
-    → asked_by kind time (λ t. value_at (tag_number t) fields) ≡ asked kind time fields
-asked_fields NewOrderSingle time fields = refl
-asked_fields OrderCancelRequest time fields = refl
-asked_fields OrderCancelReplaceRequest time fields = refl
+asked_fields : (table : Table) (time : ℕ) (fields : List Field)
+    → asked_by table time (λ t. value_at (tag_number t) fields) ≡ asked table time fields
+asked_fields LimitOrder time fields = refl
+asked_fields MarketOrder time fields = refl
+asked_fields CancelRequest time fields = refl
+asked_fields ReplaceRequest time fields = refl
 
-pub asked_whole : (kind : RefMsgType) (time : ℕ) (fields : List Field) (values : Values)
+pub asked_whole : (table : Table) (time : ℕ) (fields : List Field) (values : Values)
     → ((t : OrderTag) → value_in values t ≡ value_at (tag_number t) fields)
-    → asked_in kind time values ≡ asked kind time fields
-asked_whole kind time fields values are =
-    asked_values kind time values ∙ ap (asked_by kind time) (fun_ext are) ∙ asked_fields kind time fields
+    → asked_in table time values ≡ asked table time fields
+asked_whole table time fields values are =
+    asked_values table time values ∙ ap (asked_by table time) (fun_ext are) ∙ asked_fields table time fields
 
 -- no more fields than those of the message
 pub fewer : (fields rest : List Field) → HasHeader fields rest → length fields ≤ 74 → length rest ≤ 74

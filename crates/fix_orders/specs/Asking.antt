@@ -5,8 +5,10 @@ use Rattle.venue_model.specs.declared.commands.Command.TheVariants.{New, Cancel,
 use Rattle.venue_model.specs.declared.commands.NewOrderSingle.{NewOrderSingle}
 use Rattle.venue_model.specs.declared.commands.OrderCancelRequest.{OrderCancelRequest}
 use Rattle.venue_model.specs.declared.commands.OrderCancelReplaceRequest.{OrderCancelReplaceRequest}
-use Rattle.venue_model.specs.declared.commands.RefMsgType.{RefMsgType}
-use Rattle.venue_model.specs.declared.commands.RefMsgType.TheVariants as types
+use Rattle.venue_model.specs.declared.commands.OrdType.{OrdType}
+use Rattle.venue_model.specs.declared.commands.OrdType.TheVariants.{Market, Limit}
+use Rattle.fix_orders.specs.declared.tables.Table.{Table}
+use Rattle.fix_orders.specs.declared.tables.Table.TheVariants.{LimitOrder, MarketOrder, CancelRequest, ReplaceRequest}
 use Rattle.fix_orders.specs.declared.tags.Need.TheVariants.{Required}
 use Rattle.fix_orders.specs.declared.tags.OrderTag.{OrderTag}
 use Rattle.fix_orders.specs.declared.tags.OrderTag.TheVariants.{ClOrdId, OrderQty, OrigClOrdId, Price, Side, Symbol, TimeInForce}
@@ -17,23 +19,23 @@ use Rattle.fix_orders.specs.Reading.{side_of, time_in_force_of}
 use Rattle.fix_orders.specs.Values.{value_in}
 
 -- the value of each required tag is of its format and in its range
-pub record AreRight (type : RefMsgType) (values : Values) : Type 0 where
-  pub format : (tag : OrderTag) → need_of type tag ≡ Required
-      → IsTrue (has_format (format_of (tag_number tag)) (value_in values tag))
-  pub range : (tag : OrderTag) → need_of type tag ≡ Required
-      → IsTrue (is_in_range (format_of (tag_number tag)) (value_in values tag))
+pub record AreRight (table : Table) (values : Values) : Type 0 where
+  pub format : (tag : OrderTag) → need_of table tag ≡ Required
+      → IsTrue (has_format (format_of table (tag_number tag)) (value_in values tag))
+  pub range : (tag : OrderTag) → need_of table tag ≡ Required
+      → IsTrue (is_in_range (format_of table (tag_number tag)) (value_in values tag))
 
 -- the number of a tag
 abbrev pub number_in : Values → OrderTag → ℕ
 number_in values tag = value_of (value_in values tag)
 
 -- NewOrderSingle
-abbrev pub new_in : Values → NewOrderSingle
-new_in values = record {
+abbrev pub new_in : OrdType → Values → NewOrderSingle
+new_in ord_type values = record {
   cl_ord_id = number_in values ClOrdId;
   symbol = value_in values Symbol;
   side = side_of (value_in values Side);
-  price = number_in values Price;
+  ord_type = ord_type;
   quantity = number_in values OrderQty;
   time_in_force = time_in_force_of (value_in values TimeInForce);
 }
@@ -60,7 +62,8 @@ replace_in values = record {
 }
 
 -- what these values ask
-abbrev pub asked_in : RefMsgType → ℕ → Values → Command
-asked_in types.NewOrderSingle time values = New time (new_in values)
-asked_in types.OrderCancelRequest time values = Cancel time (cancel_in values)
-asked_in types.OrderCancelReplaceRequest time values = Replace time (replace_in values)
+abbrev pub asked_in : Table → ℕ → Values → Command
+asked_in LimitOrder time values = New time (new_in (Limit (number_in values Price)) values)
+asked_in MarketOrder time values = New time (new_in Market values)
+asked_in CancelRequest time values = Cancel time (cancel_in values)
+asked_in ReplaceRequest time values = Replace time (replace_in values)

@@ -191,17 +191,17 @@ exact_complete bytes fields frame =
     ∙ ap (λ b. cond b (Some fields) None) (and_from _ _ (body_to fields frame.body) ((bytes_eq-Decides bytes (frame_text fields)).1 frame.spells))
 
 -- a frame is read by its fields, and what is none asks nothing
-pub reads_frame : (bytes : List ℕ) (fields : List Field) → IsFrame most_in bytes fields
-    → reads bytes ≡ command_of fields
+pub reads_frame : (market : Bool) (bytes : List ℕ) (fields : List Field) → IsFrame most_in bytes fields
+    → reads market bytes ≡ command_of market fields
 unfolding reads
-reads_frame bytes fields frame = ap (λ found. option_map_or command_of found Void) (exact_complete bytes fields frame)
+reads_frame market bytes fields frame = ap (λ found. option_map_or (command_of market) found Void) (exact_complete bytes fields frame)
 
 no_fields : (bytes : List ℕ) (found : Option (List Field)) → exact_fields bytes ≡ found
     → ((fields : List Field) → IsFrame most_in bytes fields → ⊥) → exact_fields bytes ≡ None
 no_fields bytes None is none = is
 no_fields bytes (Some fields) is none = absurd (none fields (exact_sound bytes fields is))
 
-pub reads_none : (bytes : List ℕ) → ((fields : List Field) → IsFrame most_in bytes fields → ⊥) → reads bytes ≡ Void
+pub reads_none : (market : Bool) (bytes : List ℕ) → ((fields : List Field) → IsFrame most_in bytes fields → ⊥) → reads market bytes ≡ Void
 unfolding reads
-reads_none bytes none =
-    ap (λ found. option_map_or command_of found Void) (no_fields bytes (exact_fields bytes) refl none)
+reads_none market bytes none =
+    ap (λ found. option_map_or (command_of market) found Void) (no_fields bytes (exact_fields bytes) refl none)

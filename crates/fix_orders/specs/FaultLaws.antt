@@ -4,8 +4,8 @@ use Rattle.std.specs.List.{filter}
 use Rattle.std.proofs.lemmas.Bool.{and_parts}
 use Rattle.std.proofs.lemmas.Bool.Decides.{nat_tests}
 use Rattle.fix_frame.specs.Grammar.{Field}
-use Rattle.venue_model.specs.declared.commands.RefMsgType.{RefMsgType}
-use Rattle.venue_model.specs.declared.commands.RefMsgType.TheVariants.{NewOrderSingle, OrderCancelRequest, OrderCancelReplaceRequest}
+use Rattle.fix_orders.specs.declared.tables.Table.{Table}
+use Rattle.fix_orders.specs.declared.tables.Table.TheVariants.{LimitOrder, MarketOrder, CancelRequest, ReplaceRequest}
 use Rattle.venue_model.specs.Spelling.{IsSpelling}
 use Rattle.venue_model.specs.declared.commands.SessionRejectReason.{SessionRejectReason}
 use Rattle.venue_model.specs.declared.commands.SessionRejectReason.TheVariants.{RequiredTagMissing, TagNotDefined, ValueIncorrect, IncorrectFormat, TagAppearsMoreThanOnce}
@@ -31,10 +31,10 @@ or_next_none r None next e = (refl, e)
 or_next_none r (Some tag) next e = cc
 
 -- without a fault no reason has a tag
-first_none : (r : SessionRejectReason) (rs : List SessionRejectReason) (kind : RefMsgType) (fields : List Field)
-    → first_fault (r ∷ rs) kind fields ≡ None → (faulty_tags r kind fields ≡ []) × (first_fault rs kind fields ≡ None)
-first_none r rs kind fields e =
-    let both = or_next_none r (least (faulty_tags r kind fields)) (first_fault rs kind fields) e in (least_none _ both.0, both.1)
+first_none : (r : SessionRejectReason) (rs : List SessionRejectReason) (table : Table) (fields : List Field)
+    → first_fault (r ∷ rs) table fields ≡ None → (faulty_tags r table fields ≡ []) × (first_fault rs table fields ≡ None)
+first_none r rs table fields e =
+    let both = or_next_none r (least (faulty_tags r table fields)) (first_fault rs table fields) e in (least_none _ both.0, both.1)
 
 -- where nothing passes a test, its first element doesn't, and nothing of the rest
 none_kept : {X : Type 0} (x : X) (xs : List X) (b : Bool) → cond b (x ∷ xs) xs ≡ [] → (b ≡ false) × (xs ≡ [])
@@ -82,24 +82,24 @@ and_not_false true b is e = not_false b e
 and_not_false false b is e = cc
 
 -- in a message without a fault the value of a required tag is of its format and in its range
-pub record IsRightValue (tag : ℕ) (value : List ℕ) : Type 0 where
-  pub format : IsTrue (has_format (format_of tag) value)
-  pub range : IsTrue (is_in_range (format_of tag) value)
+pub record IsRightValue (table : Table) (tag : ℕ) (value : List ℕ) : Type 0 where
+  pub format : IsTrue (has_format (format_of table tag) value)
+  pub range : IsTrue (is_in_range (format_of table tag) value)
 
-pub right_value : (kind : RefMsgType) (fields : List Field) (tag : ℕ) → first_fault classes kind fields ≡ None
-    → IsTrue (is_among (required kind) tag)
-    → IsRightValue tag (value_at tag fields)
-right_value kind fields tag none needed =
-    let repeated = first_none TagAppearsMoreThanOnce (drop 1 classes) kind fields none in
-    let undefined = first_none TagNotDefined (drop 2 classes) kind fields repeated.1 in
-    let missing = first_none RequiredTagMissing (drop 3 classes) kind fields undefined.1 in
-    let format = first_none IncorrectFormat (drop 4 classes) kind fields missing.1 in
-    let range = first_none ValueIncorrect (drop 5 classes) kind fields format.1 in
-    let there = not_false _ (none_among (λ t. not (is_among (tags fields) t)) (required kind) tag missing.0 needed) in
-    let right = not_false _ (none_at (is_wrong IncorrectFormat kind fields) fields tag (tags_none _ format.0) there) in
+pub right_value : (table : Table) (fields : List Field) (tag : ℕ) → first_fault classes table fields ≡ None
+    → IsTrue (is_among (required table) tag)
+    → IsRightValue table tag (value_at tag fields)
+right_value table fields tag none needed =
+    let repeated = first_none TagAppearsMoreThanOnce (drop 1 classes) table fields none in
+    let undefined = first_none TagNotDefined (drop 2 classes) table fields repeated.1 in
+    let missing = first_none RequiredTagMissing (drop 3 classes) table fields undefined.1 in
+    let format = first_none IncorrectFormat (drop 4 classes) table fields missing.1 in
+    let range = first_none ValueIncorrect (drop 5 classes) table fields format.1 in
+    let there = not_false _ (none_among (λ t. not (is_among (tags fields) t)) (required table) tag missing.0 needed) in
+    let right = not_false _ (none_at (is_wrong IncorrectFormat table fields) fields tag (tags_none _ format.0) there) in
     record {
       format = right;
-      range = and_not_false _ _ right (none_at (is_wrong ValueIncorrect kind fields) fields tag (tags_none _ range.0) there);
+      range = and_not_false _ _ right (none_at (is_wrong ValueIncorrect table fields) fields tag (tags_none _ range.0) there);
     }
 
 -- the value of a short number
@@ -113,28 +113,28 @@ short_number time value short format range = cc
 short_number any value short format range = cc
 
 -- going over the reasons: where one has a tag it is the fault, else the next ones decide
-fault_step : (i : ℕ) (d : SessionRejectReason) (kind : RefMsgType) (fields : List Field) → i < length classes
-    → fault_in (drop i classes) kind fields
-    ≡ or_next (get_or classes i d) (least_in (get_or classes i d) kind fields)
-    (fault_in (drop (i + 1) classes) kind fields)
-fault_step i d kind fields within =
-    ap (λ rs. fault_in rs kind fields) (drop-cons classes i d within)
-    ∙ ap (λ k. or_next (get_or classes i d) (least_in (get_or classes i d) kind fields)
-    (fault_in (drop k classes) kind fields)) (sym (add-one i))
+fault_step : (i : ℕ) (d : SessionRejectReason) (table : Table) (fields : List Field) → i < length classes
+    → fault_in (drop i classes) table fields
+    ≡ or_next (get_or classes i d) (least_in (get_or classes i d) table fields)
+    (fault_in (drop (i + 1) classes) table fields)
+fault_step i d table fields within =
+    ap (λ rs. fault_in rs table fields) (drop-cons classes i d within)
+    ∙ ap (λ k. or_next (get_or classes i d) (least_in (get_or classes i d) table fields)
+    (fault_in (drop k classes) table fields)) (sym (add-one i))
 
-pub fault_found : (i : ℕ) (d : SessionRejectReason) (kind : RefMsgType) (fields : List Field) (tag : ℕ)
-    → i < length classes → least_in (get_or classes i d) kind fields ≡ Some tag
-    → fault_in (drop i classes) kind fields ≡ Some (record { reason = get_or classes i d; tag = tag })
-fault_found i d kind fields tag within found =
-    fault_step i d kind fields within
-    ∙ ap (λ t. or_next (get_or classes i d) t (fault_in (drop (i + 1) classes) kind fields)) found
+pub fault_found : (i : ℕ) (d : SessionRejectReason) (table : Table) (fields : List Field) (tag : ℕ)
+    → i < length classes → least_in (get_or classes i d) table fields ≡ Some tag
+    → fault_in (drop i classes) table fields ≡ Some (record { reason = get_or classes i d; tag = tag })
+fault_found i d table fields tag within found =
+    fault_step i d table fields within
+    ∙ ap (λ t. or_next (get_or classes i d) t (fault_in (drop (i + 1) classes) table fields)) found
 
-pub fault_later : (i : ℕ) (d : SessionRejectReason) (kind : RefMsgType) (fields : List Field) → i < length classes
-    → least_in (get_or classes i d) kind fields ≡ None
-    → fault_in (drop i classes) kind fields ≡ fault_in (drop (i + 1) classes) kind fields
-fault_later i d kind fields within none =
-    fault_step i d kind fields within
-    ∙ ap (λ t. or_next (get_or classes i d) t (fault_in (drop (i + 1) classes) kind fields)) none
+pub fault_later : (i : ℕ) (d : SessionRejectReason) (table : Table) (fields : List Field) → i < length classes
+    → least_in (get_or classes i d) table fields ≡ None
+    → fault_in (drop i classes) table fields ≡ fault_in (drop (i + 1) classes) table fields
+fault_later i d table fields within none =
+    fault_step i d table fields within
+    ∙ ap (λ t. or_next (get_or classes i d) t (fault_in (drop (i + 1) classes) table fields)) none
 
 -- a symbol is spelled as one
 pub spelling : (value : List ℕ) → IsTrue (is_symbol value) → IsSpelling value
@@ -143,8 +143,9 @@ spelling value is =
     let long = and_parts (nat_lt 0 (length value)) (nat_le (length value) 8) parts.0 in
     record { some = grind (arith, nat_tests, long.0); most = grind (arith, nat_tests, long.1); each = parts.1 }
 
--- every type requires Symbol
-pub symbol_needed : (kind : RefMsgType) → need_of kind tags_of.Symbol ≡ Required
-symbol_needed NewOrderSingle = refl
-symbol_needed OrderCancelRequest = refl
-symbol_needed OrderCancelReplaceRequest = refl
+-- every table requires Symbol
+pub symbol_needed : (table : Table) → need_of table tags_of.Symbol ≡ Required
+symbol_needed LimitOrder = refl
+symbol_needed MarketOrder = refl
+symbol_needed CancelRequest = refl
+symbol_needed ReplaceRequest = refl

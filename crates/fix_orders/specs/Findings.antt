@@ -3,11 +3,11 @@
 use Rattle.std.specs.Prelude.{◌≡◌, ℕ, Bool, not, ◌&&◌, if◌then◌else◌, List, [], ◌∷◌, ◌++◌, map, filter, Option, Some, None}
 use Rattle.std.specs.List.{AllByRecursion}
 use Rattle.fix_frame.specs.Grammar.{Field, IsField}
-use Rattle.venue_model.specs.declared.commands.RefMsgType.{RefMsgType}
 use Rattle.venue_model.specs.declared.commands.SessionRejectReason.{SessionRejectReason}
 use Rattle.venue_model.specs.declared.commands.SessionRejectReason.TheVariants.{RequiredTagMissing, TagNotDefined, ValueIncorrect, IncorrectFormat, TagAppearsMoreThanOnce}
 use Rattle.fix_orders.specs.declared.faults.Fault.{Fault}
 use Rattle.fix_orders.specs.declared.fields.OrderFields.{OrderFields}
+use Rattle.fix_orders.specs.declared.tables.Table.{Table}
 use Rattle.fix_orders.specs.declared.tags.OrderTag.{OrderTag}
 use Rattle.fix_orders.specs.declared.values.Values.{Values}
 use Rattle.fix_orders.specs.OrderTags.{tag_number, order_numbers}
@@ -33,39 +33,39 @@ again seen (tag ∷ more) =
     if is_among seen tag then tag ∷ again (seen ++ tag ∷ []) more else again (seen ++ tag ∷ []) more
 
 -- the least tag at fault for a reason among these fields
-abbrev pub least_in : SessionRejectReason → RefMsgType → List Field → Option ℕ
-least_in TagAppearsMoreThanOnce type fields = least (again outside (tags fields))
-least_in TagNotDefined type fields = least (faulty_tags TagNotDefined type fields)
-least_in RequiredTagMissing type fields = least (faulty_tags RequiredTagMissing type fields)
-least_in IncorrectFormat type fields = least (faulty_tags IncorrectFormat type fields)
-least_in ValueIncorrect type fields = least (faulty_tags ValueIncorrect type fields)
+abbrev pub least_in : SessionRejectReason → Table → List Field → Option ℕ
+least_in TagAppearsMoreThanOnce table fields = least (again outside (tags fields))
+least_in TagNotDefined table fields = least (faulty_tags TagNotDefined table fields)
+least_in RequiredTagMissing table fields = least (faulty_tags RequiredTagMissing table fields)
+least_in IncorrectFormat table fields = least (faulty_tags IncorrectFormat table fields)
+least_in ValueIncorrect table fields = least (faulty_tags ValueIncorrect table fields)
 
--- a type requires the tag, and it has no value
-abbrev pub is_missing : RefMsgType → Values → OrderTag → Bool
-is_missing type values tag = is_among (required type) (tag_number tag) && is_nothing (value_in values tag)
+-- a table requires the tag, and it has no value
+abbrev pub is_missing : Table → Values → OrderTag → Bool
+is_missing table values tag = is_among (required table) (tag_number tag) && is_nothing (value_in values tag)
 
 -- the numbers of the missing ones among some tags
-abbrev pub missing_among : RefMsgType → Values → List OrderTag → List ℕ
-missing_among type values some = map tag_number (filter (is_missing type values) some)
+abbrev pub missing_among : Table → Values → List OrderTag → List ℕ
+missing_among table values some = map tag_number (filter (is_missing table values) some)
 
 -- this is what is found of these fields
-pub record IsFound (type : RefMsgType) (fields : List Field) (found : OrderFields) : Type 0 where
+pub record IsFound (table : Table) (fields : List Field) (found : OrderFields) : Type 0 where
   pub each : AllByRecursion IsField fields
   pub values : (tag : OrderTag) → value_in found.values tag ≡ value_at (tag_number tag) fields
   pub others : found.others.items ≡ filter is_other (tags fields)
-  pub repeated : found.repeated ≡ least_in TagAppearsMoreThanOnce type fields
-  pub undefined : found.undefined ≡ least_in TagNotDefined type fields
-  pub ill_formed : found.ill_formed ≡ least_in IncorrectFormat type fields
-  pub out_of_range : found.out_of_range ≡ least_in ValueIncorrect type fields
+  pub repeated : found.repeated ≡ least_in TagAppearsMoreThanOnce table fields
+  pub undefined : found.undefined ≡ least_in TagNotDefined table fields
+  pub ill_formed : found.ill_formed ≡ least_in IncorrectFormat table fields
+  pub out_of_range : found.out_of_range ≡ least_in ValueIncorrect table fields
 
 -- the first of some reasons for which one of these fields is wrong, and its least tag
-abbrev pub fault_in : List SessionRejectReason → RefMsgType → List Field → Option Fault
-fault_in [] type fields = None
-fault_in (r ∷ rs) type fields = or_next r (least_in r type fields) (fault_in rs type fields)
+abbrev pub fault_in : List SessionRejectReason → Table → List Field → Option Fault
+fault_in [] table fields = None
+fault_in (r ∷ rs) table fields = or_next r (least_in r table fields) (fault_in rs table fields)
 
 -- this is what is found of all fields but these last ones
-pub record IsReading (type : RefMsgType) (rest all : List Field) (found : OrderFields) : Type 0 where
+pub record IsReading (table : Table) (rest all : List Field) (found : OrderFields) : Type 0 where
   pub front : List Field
-  pub found_in : IsFound type front found
+  pub found_in : IsFound table front found
   pub whole : front ++ rest ≡ all
   pub each : AllByRecursion IsField rest

@@ -4,6 +4,8 @@ use Rattle.std.specs.List.{list_all, list_any, zip}
 use Rattle.std.specs.Str.Parse.{digits_value}
 use Rattle.fix_frame.specs.Ascii.{is_digit}
 use Rattle.venue_model.specs.Spelling.{is_symbol_byte}
+use Rattle.fix_orders.specs.declared.tables.Table.{Table}
+use Rattle.fix_orders.specs.declared.tables.Table.TheVariants.{LimitOrder, MarketOrder, CancelRequest, ReplaceRequest}
 
 -- a number: digits, one or more, the first not 0 unless it stands alone; of any length
 abbrev pub is_number : List ℕ → Bool
@@ -59,12 +61,19 @@ pub data Format : Type 0 where
   time : Format
   any : Format
 
--- the tags of order messages
-abbrev pub format_of : ℕ → Format
-format_of tag =
+-- OrdType (40): 1, market, in the table of market orders, and 2, limit, in all others
+abbrev pub ord_type_code : Table → List ℕ
+ord_type_code LimitOrder = codes "2"
+ord_type_code MarketOrder = codes "1"
+ord_type_code CancelRequest = codes "2"
+ord_type_code ReplaceRequest = codes "2"
+
+-- the tags of order messages, by the table that a message is read by
+abbrev pub format_of : Table → ℕ → Format
+format_of table tag =
     if tag == 11 || tag == 41 then number_to 999999999999999  -- ClOrdID, OrigClOrdID
     else (if tag == 38 || tag == 44 then number_to 1000000  -- OrderQty, Price
-    else (if tag == 40 then byte_of (codes "2")  -- OrdType: limit
+    else (if tag == 40 then byte_of (ord_type_code table)  -- OrdType: limit, market
     else (if tag == 54 then byte_of (codes "12")  -- Side: buy, sell
     else (if tag == 55 then symbol  -- Symbol
     else (if tag == 59 then byte_of (codes "034")  -- TimeInForce: day, immediate or cancel, fill or kill

@@ -1,6 +1,6 @@
 -- Private: the tags of order messages behind the header, as the code names them.
 use Rattle.std.specs.Prelude.{ℕ, if◌then◌else◌, List, [], ◌∷◌}
-use Rattle.venue_model.specs.declared.commands.RefMsgType.{RefMsgType}
+use Rattle.fix_orders.specs.declared.tables.Table.{Table}
 use Rattle.fix_orders.specs.declared.tags.Need.{Need}
 use Rattle.fix_orders.specs.declared.tags.Need.TheVariants.{Required, Optional, Undefined}
 use Rattle.fix_orders.specs.declared.tags.OrderTag.{OrderTag}
@@ -35,8 +35,8 @@ tag_place Symbol = 6
 tag_place TimeInForce = 7
 tag_place TransactTime = 8
 
--- what a type does with a tag
-abbrev pub need_of : RefMsgType → OrderTag → Need
-need_of type tag =
-    if is_among (required type) (tag_number tag) then Required
-    else (if is_among (optional type) (tag_number tag) then Optional else Undefined)
+-- what a table does with a tag
+abbrev pub need_of : Table → OrderTag → Need
+need_of table tag =
+    if is_among (required table) (tag_number tag) then Required
+    else (if is_among (optional table) (tag_number tag) then Optional else Undefined)

@@ -14,11 +14,15 @@ use Rattle.venue_model.specs.declared.commands.SessionRejectReason.{SessionRejec
 use Rattle.venue_model.specs.declared.commands.SessionRejectReason.TheVariants.{RequiredTagMissing, TagNotDefined, ValueIncorrect, IncorrectFormat, TagAppearsMoreThanOnce}
 use Rattle.venue_model.specs.declared.commands.RefMsgType.{RefMsgType}
 use Rattle.venue_model.specs.declared.commands.RefMsgType.TheVariants as types
+use Rattle.venue_model.specs.declared.commands.OrdType.{OrdType}
+use Rattle.venue_model.specs.declared.commands.OrdType.TheVariants.{Market, Limit}
 use Rattle.venue_model.specs.declared.commands.TimeInForce.{TimeInForce}
 use Rattle.venue_model.specs.declared.commands.TimeInForce.TheVariants.{Day, ImmediateOrCancel, FillOrKill}
 use Rattle.venue_model.specs.declared.orders.Side.{Side}
 use Rattle.venue_model.specs.declared.orders.Side.TheVariants.{Buy, Sell}
 use Rattle.fix_orders.specs.declared.faults.Fault.{Fault}
+use Rattle.fix_orders.specs.declared.tables.Table.{Table}
+use Rattle.fix_orders.specs.declared.tables.Table.TheVariants.{LimitOrder, MarketOrder, CancelRequest, ReplaceRequest}
 use Rattle.fix_orders.specs.Formats.{value_of, number_of_time, format_of, has_format, is_in_range}
 use Rattle.fix_orders.specs.Header.{Header, header_of}
 
@@ -67,17 +71,19 @@ ref_type_of value =
     else (if bytes_eq value (codes "F") then Some types.OrderCancelRequest
     else (if bytes_eq value (codes "G") then Some types.OrderCancelReplaceRequest else None))
 
--- the tags that a type requires behind its header, from the smallest on
-abbrev pub required : RefMsgType → List ℕ
-required types.NewOrderSingle = 11 ∷ 38 ∷ 40 ∷ 44 ∷ 54 ∷ 55 ∷ 60 ∷ []
-required types.OrderCancelRequest = 11 ∷ 38 ∷ 41 ∷ 54 ∷ 55 ∷ 60 ∷ []
-required types.OrderCancelReplaceRequest = 11 ∷ 38 ∷ 40 ∷ 41 ∷ 44 ∷ 54 ∷ 55 ∷ 60 ∷ []
+-- the tags that a table requires behind the header, from the smallest on
+abbrev pub required : Table → List ℕ
+required LimitOrder = 11 ∷ 38 ∷ 40 ∷ 44 ∷ 54 ∷ 55 ∷ 60 ∷ []
+required MarketOrder = 11 ∷ 38 ∷ 40 ∷ 54 ∷ 55 ∷ 60 ∷ []
+required CancelRequest = 11 ∷ 38 ∷ 41 ∷ 54 ∷ 55 ∷ 60 ∷ []
+required ReplaceRequest = 11 ∷ 38 ∷ 40 ∷ 41 ∷ 44 ∷ 54 ∷ 55 ∷ 60 ∷ []
 
 -- the tags that it allows besides
-abbrev pub optional : RefMsgType → List ℕ
-optional types.NewOrderSingle = 59 ∷ []
-optional types.OrderCancelRequest = []
-optional types.OrderCancelReplaceRequest = 59 ∷ []
+abbrev pub optional : Table → List ℕ
+optional LimitOrder = 59 ∷ []
+optional MarketOrder = 59 ∷ []
+optional CancelRequest = []
+optional ReplaceRequest = 59 ∷ []
 
 -- BeginString, BodyLength and CheckSum
 abbrev pub frame_tags : List ℕ
@@ -90,35 +96,35 @@ header_tags = 35 ∷ 49 ∷ 56 ∷ 34 ∷ 52 ∷ []
 abbrev pub is_among : List ℕ → ℕ → Bool
 is_among all tag = list_any (λ t. t == tag) all
 
--- the tag is in the type's table
-abbrev pub is_defined : RefMsgType → ℕ → Bool
-is_defined type tag = is_among (frame_tags ++ header_tags ++ required type ++ optional type) tag
+-- the tag is in the table
+abbrev pub is_defined : Table → ℕ → Bool
+is_defined table tag = is_among (frame_tags ++ header_tags ++ required table ++ optional table) tag
 
 -- how often a tag stands in the whole message
 abbrev pub times : ℕ → List Field → ℕ
 times tag fields = length (filter (λ t. t == tag) (frame_tags ++ tags fields))
 
 -- a field of a message is wrong for this reason
-abbrev pub is_wrong : SessionRejectReason → RefMsgType → List Field → Field → Bool
-is_wrong TagAppearsMoreThanOnce type fields f = nat_lt 1 (times f.tag fields)
-is_wrong TagNotDefined type fields f = not (is_defined type f.tag)
-is_wrong RequiredTagMissing type fields f = false
-is_wrong IncorrectFormat type fields f = not (has_format (format_of f.tag) f.value)
-is_wrong ValueIncorrect type fields f =
-    has_format (format_of f.tag) f.value && not (is_in_range (format_of f.tag) f.value)
+abbrev pub is_wrong : SessionRejectReason → Table → List Field → Field → Bool
+is_wrong TagAppearsMoreThanOnce table fields f = nat_lt 1 (times f.tag fields)
+is_wrong TagNotDefined table fields f = not (is_defined table f.tag)
+is_wrong RequiredTagMissing table fields f = false
+is_wrong IncorrectFormat table fields f = not (has_format (format_of table f.tag) f.value)
+is_wrong ValueIncorrect table fields f =
+    has_format (format_of table f.tag) f.value && not (is_in_range (format_of table f.tag) f.value)
 
 -- the tags of the wrong fields
-abbrev pub wrong_tags : SessionRejectReason → RefMsgType → List Field → List ℕ
-wrong_tags reason type fields = tags (filter (is_wrong reason type fields) fields)
+abbrev pub wrong_tags : SessionRejectReason → Table → List Field → List ℕ
+wrong_tags reason table fields = tags (filter (is_wrong reason table fields) fields)
 
 -- the required tags that no field has
-abbrev pub missing_tags : RefMsgType → List Field → List ℕ
-missing_tags type fields = filter (λ t. not (is_among (tags fields) t)) (required type)
+abbrev pub missing_tags : Table → List Field → List ℕ
+missing_tags table fields = filter (λ t. not (is_among (tags fields) t)) (required table)
 
 -- the tags at fault for this reason
-abbrev pub faulty_tags : SessionRejectReason → RefMsgType → List Field → List ℕ
-faulty_tags RequiredTagMissing type fields = missing_tags type fields
-faulty_tags reason type fields = wrong_tags reason type fields
+abbrev pub faulty_tags : SessionRejectReason → Table → List Field → List ℕ
+faulty_tags RequiredTagMissing table fields = missing_tags table fields
+faulty_tags reason table fields = wrong_tags reason table fields
 
 -- the order in which reasons are chosen: SessionRejectReason (373) 13, 2, 1, 6, 5
 abbrev pub classes : List SessionRejectReason
@@ -140,9 +146,9 @@ or_next reason (Some tag) next = Some (record { reason = reason; tag = tag })
 or_next reason None next = next
 
 -- the first of these reasons for which a tag is wrong, and its least tag
-abbrev pub first_fault : List SessionRejectReason → RefMsgType → List Field → Option Fault
-first_fault [] type fields = None
-first_fault (r ∷ rs) type fields = or_next r (least (faulty_tags r type fields)) (first_fault rs type fields)
+abbrev pub first_fault : List SessionRejectReason → Table → List Field → Option Fault
+first_fault [] table fields = None
+first_fault (r ∷ rs) table fields = or_next r (least (faulty_tags r table fields)) (first_fault rs table fields)
 
 -- Side (54)
 abbrev pub side_of : List ℕ → Side
@@ -154,12 +160,12 @@ time_in_force_of value =
     if bytes_eq value (codes "3") then ImmediateOrCancel else (if bytes_eq value (codes "4") then FillOrKill else Day)
 
 -- NewOrderSingle
-abbrev pub new_of : List Field → NewOrderSingle
-new_of fields = record {
+abbrev pub new_of : OrdType → List Field → NewOrderSingle
+new_of ord_type fields = record {
   cl_ord_id = number_at 11 fields;
   symbol = value_at 55 fields;
   side = side_of (value_at 54 fields);
-  price = number_at 44 fields;
+  ord_type = ord_type;
   quantity = number_at 38 fields;
   time_in_force = time_in_force_of (value_at 59 fields);
 }
@@ -186,36 +192,62 @@ replace_of fields = record {
 }
 
 -- the fields of a message without a fault, as the command that they ask
-abbrev pub asked : RefMsgType → ℕ → List Field → Command
-asked types.NewOrderSingle time fields = New time (new_of fields)
-asked types.OrderCancelRequest time fields = Cancel time (cancel_of fields)
-asked types.OrderCancelReplaceRequest time fields = Replace time (replace_of fields)
+abbrev pub asked : Table → ℕ → List Field → Command
+asked LimitOrder time fields = New time (new_of (Limit (number_at 44 fields)) fields)
+asked MarketOrder time fields = New time (new_of Market fields)
+asked CancelRequest time fields = Cancel time (cancel_of fields)
+asked ReplaceRequest time fields = Replace time (replace_of fields)
+
+-- the type whose messages a table is for
+abbrev pub ref_type : Table → RefMsgType
+ref_type LimitOrder = types.NewOrderSingle
+ref_type MarketOrder = types.NewOrderSingle
+ref_type CancelRequest = types.OrderCancelRequest
+ref_type ReplaceRequest = types.OrderCancelReplaceRequest
+
+-- the table of a type, and of market orders
+abbrev pub table_for : RefMsgType → Bool → Table
+table_for types.NewOrderSingle asks_market = if asks_market then MarketOrder else LimitOrder
+table_for types.OrderCancelRequest asks_market = CancelRequest
+table_for types.OrderCancelReplaceRequest asks_market = ReplaceRequest
+
+-- OrdType (40) is 1
+abbrev pub asks_market : List ℕ → Bool
+asks_market value = bytes_eq value (codes "1")
+
+-- the table by which a message of this type is read, and whether market orders are read
+abbrev pub table_of : Bool → RefMsgType → List Field → Table
+table_of market type fields = table_for type (market && asks_market (value_at 40 fields))
 
 -- the command of an order message, by its one fault or by its fields
-abbrev pub judged_order : RefMsgType → Header → List Field → Option Fault → Command
-judged_order type header fields None = asked type (number_of_time header.time) fields
-judged_order type header fields (Some fault) =
+abbrev pub judged_order : Table → Header → List Field → Option Fault → Command
+judged_order table header fields None = asked table (number_of_time header.time) fields
+judged_order table header fields (Some fault) =
     Malformed (number_of_time header.time) (record {
       reason = fault.reason;
       tag = fault.tag;
       ref_seq = header.number;
-      ref_type = type;
+      ref_type = ref_type table;
     })
 
+-- the command of an order message by a table
+abbrev pub judged_by : Header → List Field → Table → Command
+judged_by header fields table = judged_order table header fields (first_fault classes table fields)
+
 -- the command of a message of this type
-abbrev pub typed : Header → List Field → Option RefMsgType → Command
-typed header fields None = Void
-typed header fields (Some type) = judged_order type header fields (first_fault classes type fields)
+abbrev pub typed : Bool → Header → List Field → Option RefMsgType → Command
+typed market header fields None = Void
+typed market header fields (Some type) = judged_by header fields (table_of market type fields)
 
 -- the command of a message with this header
-abbrev pub headed : List Field → Option Header → Command
-headed fields None = Void
-headed fields (Some header) = typed header fields (ref_type_of header.msg_type)
+abbrev pub headed : Bool → List Field → Option Header → Command
+headed market fields None = Void
+headed market fields (Some header) = typed market header fields (ref_type_of header.msg_type)
 
--- the command of a frame with these body fields
-unfoldable pub command_of : List Field → Command
-command_of fields = headed fields (header_of fields)
+-- the command of a frame with these body fields, and whether market orders are read
+unfoldable pub command_of : Bool → List Field → Command
+command_of market fields = headed market fields (header_of fields)
 
--- the command of an entry's bytes; none but exactly one frame asks anything
-unfoldable pub reads : List ℕ → Command
-reads bytes = option_map_or command_of (exact_fields bytes) Void
+-- The command of an entry's bytes, and whether market orders are read; none but exactly one frame asks anything.
+unfoldable pub reads : Bool → List ℕ → Command
+reads market bytes = option_map_or (command_of market) (exact_fields bytes) Void

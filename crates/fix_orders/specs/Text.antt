@@ -69,9 +69,13 @@ orig_fields (Canceled (Some orig)) = number 41 orig ∷ []
 orig_fields (Replaced orig) = number 41 orig ∷ []
 orig_fields (Rejected reason) = []
 
--- Symbol (55), Side (54), OrderQty (38) and Price (44)
+-- Price (44), which a market order doesn't have
+abbrev pub price_fields : Order → List Field
+price_fields o = if o.is_market then [] else number 44 o.price ∷ []
+
+-- Symbol (55), Side (54), OrderQty (38), and Price (44) where there is one
 abbrev pub order_fields : Order → List Field
-order_fields o = field 55 o.symbol ∷ field 54 (side_code o.side) ∷ number 38 o.total ∷ number 44 o.price ∷ []
+order_fields o = field 55 o.symbol ∷ field 54 (side_code o.side) ∷ number 38 o.total ∷ price_fields o
 
 -- LastQty (32) and LastPx (31), in the report of a trade
 abbrev pub last_fields : ExecType → List Field

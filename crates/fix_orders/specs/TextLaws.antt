@@ -1,5 +1,5 @@
 -- The fields of a report's body are fields, where the report tells of an order whose symbol is spelled as one.
-use Rattle.std.proofs.Common.{◌≢◌, ℕ, zero, suc, ◌/◌, ◌%◌, ◌==◌, ◌<◌, ◌≤◌, true, false, List, [], ◌∷◌, ◌++◌, length, refl, arith, Option, Some, None, cond}
+use Rattle.std.proofs.Common.{◌≢◌, ℕ, zero, suc, ◌/◌, ◌%◌, ◌==◌, ◌<◌, ◌≤◌, Bool, true, false, List, [], ◌∷◌, ◌++◌, length, refl, arith, Option, Some, None, cond}
 use Rattle.std.specs.Prelude.{⊤}
 use Rattle.std.specs.List.{AllByRecursion}
 use Rattle.std.specs.Fmt.{digits, digits_onto, digit_glyph}
@@ -62,10 +62,14 @@ orig_each (Canceled (Some orig)) = (number_each 41 orig (omega arith) (omega ari
 orig_each (Replaced orig) = (number_each 41 orig (omega arith) (omega arith), tt)
 orig_each (Rejected reason) = tt
 
+price_each : (is_market : Bool) (price : ℕ) → AllByRecursion IsField (cond is_market [] (number 44 price ∷ []))
+price_each true price = tt
+price_each false price = (number_each 44 price (omega arith) (omega arith), tt)
+
 order_each : (o : Order) → IsSpelling o.symbol → AllByRecursion IsField (order_fields o)
 order_each o spelled = (
   symbol_field o.symbol spelled,
-  (side_field o.side, (number_each 38 o.total (omega arith) (omega arith), (number_each 44 o.price (omega arith) (omega arith), tt))),
+  (side_field o.side, (number_each 38 o.total (omega arith) (omega arith), price_each o.is_market o.price)),
 )
 
 last_each : (kind : ExecType) → AllByRecursion IsField (last_fields kind)

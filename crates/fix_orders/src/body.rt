@@ -4,7 +4,7 @@
 ghost use Rattle.std.specs.Prelude.{◌≡◌, ◌+◌, ◌*◌, ◌≤◌, [], ◌∷◌, length, take};
 ghost use Rattle.std.specs.List.{AllByRecursion};
 ghost use Rattle.fix_frame.specs.Grammar.{IsField, print_fields};
-ghost use Rattle.fix_orders.specs.Text.{event_fields, orig_fields, order_fields, last_fields, filled_fields, refusal_fields, exec_fields, cancel_reject_fields, reject_fields, body_fields, leaves_after, average, named_id, field};
+ghost use Rattle.fix_orders.specs.Text.{event_fields, orig_fields, price_fields, order_fields, last_fields, filled_fields, refusal_fields, exec_fields, cancel_reject_fields, reject_fields, body_fields, leaves_after, average, named_id, field};
 ghost use Rattle.fix_orders.specs.Writing.{PutsFields};
 
 use crate::codes;
@@ -77,7 +77,7 @@ fn put_orig(buf: &mut [u8], at: usize, kind: ExecType) -> usize
     }
 }
 
-/// Symbol, Side, OrderQty and Price.
+/// Symbol, Side, OrderQty, and Price where there is one.
 fn put_order(buf: &mut [u8], at: usize, order: &Order) -> usize
     requires { at + 77 ≤ length buf.old }
     ensures puts { PutsFields buf.old buf.new at result (order_fields order.now) }
@@ -87,7 +87,21 @@ fn put_order(buf: &mut [u8], at: usize, order: &Order) -> usize
     let at = put_field(buf, at, 55, order.symbol.as_bytes());
     let at = put_field(buf, at, 54, codes::side_code(order.side));
     let at = put_number(buf, at, 38, order.total);
-    put_number(buf, at, 44, order.price)
+    put_price(buf, at, order)
+}
+
+/// Price, which a market order doesn't have.
+fn put_price(buf: &mut [u8], at: usize, order: &Order) -> usize
+    requires { at + 27 * length (price_fields order.now) ≤ length buf.old }
+    ensures puts { PutsFields buf.old buf.new at result (price_fields order.now) }
+    ensures each { AllByRecursion IsField (price_fields order.now) }
+    ensures most { result ≤ at + 27 * length (price_fields order.now) }
+{
+    if order.is_market {
+        at
+    } else {
+        put_number(buf, at, 44, order.price)
+    }
 }
 
 /// LastQty and LastPx of a trade.

@@ -1,12 +1,13 @@
 //! Commands out of frames: the first thing that happens to an entry behind the input ring.
-ghost use Rattle.std.specs.Prelude.{◌≡◌, List, IsTrue};
+ghost use Rattle.std.specs.Prelude.{◌≡◌, ◌≤◌, List, length, IsTrue};
 ghost use Rattle.fix_frame.specs.Grammar.{Field, IsFrame, most_in};
-ghost use Rattle.fix_frame.specs.Borrowed.{frame_fields};
+ghost use Rattle.fix_frame.specs.Borrowed.{frame_fields, fields_left};
 ghost use Rattle.venue_model.specs.Step.{IsCommand};
 ghost use Rattle.fix_orders.specs.Formats.{format_of, is_short, value_of};
 ghost use Rattle.fix_orders.specs.OrderTags.{tag_number, need_of};
 ghost use Rattle.fix_orders.specs.declared.tags.Need.TheVariants.{Required};
-ghost use Rattle.fix_orders.specs.Reading.{ref_type_of, side_of, time_in_force_of, command_of, reads};
+ghost use Rattle.fix_orders.specs.Reading.{ref_type_of, table_of, side_of, time_in_force_of, command_of, reads};
+ghost use Rattle.fix_orders.specs.Findings.{IsFound};
 ghost use Rattle.fix_orders.specs.Values.{value_in};
 ghost use Rattle.fix_orders.specs.Asking.{AreRight, asked_in, new_in, cancel_in, replace_in};
 
@@ -14,33 +15,35 @@ use crate::faults::first_fault;
 use crate::fields::OrderFields;
 use crate::header::read_header;
 use crate::number::read_digits;
+use crate::tables::Table;
 use crate::tags::OrderTag;
 use crate::time::number_of_time;
 use crate::values::Values;
-use fix_frame::{Frame, whole};
+use fix_frame::{Fields, Frame, whole};
 use venue_model::{
-    Command, Malformed, NewOrderSingle, OrderCancelReplaceRequest, OrderCancelRequest, RefMsgType,
-    Side, Symbol, TimeInForce,
+    Command, Malformed, NewOrderSingle, OrdType, OrderCancelReplaceRequest, OrderCancelRequest,
+    RefMsgType, Side, Symbol, TimeInForce,
 };
 
-/// The command of an entry's bytes, whatever they are: none but exactly one frame asks anything.
-pub fn decode(bytes: &[u8]) -> Command
-    ensures value { result ≡ reads bytes.now }
+/// The command of an entry's bytes, whatever they are: none but exactly one frame asks anything. Where `market` is false, an order with
+/// 40=1 is read by the table of limit orders, as before there were market orders, and so rejected.
+pub fn decode(bytes: &[u8], market: bool) -> Command
+    ensures value { result ≡ reads market bytes.now }
     ensures frame { (fields : List Field) →
-        IsFrame most_in bytes.now fields → result ≡ command_of fields }
+        IsFrame most_in bytes.now fields → result ≡ command_of market fields }
     ensures none { ((fields : List Field) → IsFrame most_in bytes.now fields → ⊥) →
         result ≡ Command.Void }
     ensures range { IsCommand result }
 {
     match whole(bytes) {
-        Some(frame) => command_of(&frame),
+        Some(frame) => command_of(&frame, market),
         None => Command::Void,
     }
 }
 
-/// The command of a frame.
-pub fn command_of(frame: &Frame) -> Command
-    ensures { result ≡ command_of (frame_fields frame.now) }
+/// The command of a frame. Market orders are read where `market` is true.
+pub fn command_of(frame: &Frame, market: bool) -> Command
+    ensures { result ≡ command_of market (frame_fields frame.now) }
 {
     let Some(header) = read_header(frame.fields()) else {
         return Command::Void;
@@ -49,19 +52,35 @@ pub fn command_of(frame: &Frame) -> Command
         return Command::Void;
     };
     let sending_time = number_of_time(header.time);
-    let found = OrderFields::read(kind, header.rest);
-    match first_fault(kind, &found) {
-        None => asked(kind, sending_time, &found.values),
+    let (table, found) = read_fields(kind, header.rest, market);
+    match first_fault(table, &found) {
+        None => asked(table, sending_time, &found.values),
         Some(fault) => Command::Malformed {
             sending_time,
             fault: Malformed {
                 reason: fault.reason,
                 tag: fault.tag,
                 ref_seq: header.number,
-                ref_type: kind,
+                ref_type: table.ref_type(),
             },
         },
     }
+}
+
+/// Reads the fields behind a header by their table. They are read again only where they ask for a market order.
+#[inline(always)]
+fn read_fields<'a>(kind: RefMsgType, fields: Fields<'a>, market: bool) -> (Table, OrderFields<'a>)
+    requires { length (fields_left fields) ≤ 74 }
+    ensures table { result.0 ≡ table_of market kind (fields_left fields.entry) }
+    ensures found { IsFound result.0 (fields_left fields.entry) result.1 }
+{
+    let table = Table::of(kind, false);
+    let found = OrderFields::read(table, fields);
+    if market && found.values.ask_market() {
+        let table = Table::of(kind, true);
+        return (table, OrderFields::read(table, fields));
+    }
+    (table, found)
 }
 
 /// The type of an order message.
@@ -77,86 +96,92 @@ fn type_of(msg_type: &[u8]) -> Option<RefMsgType>
 }
 
 /// What a message without a fault asks, by its values.
-fn asked(kind: RefMsgType, sending_time: u64, values: &Values) -> Command
-    requires { AreRight kind values.now }
-    ensures { result ≡ asked_in kind sending_time values.now }
+fn asked(table: Table, sending_time: u64, values: &Values) -> Command
+    requires { AreRight table values.now }
+    ensures { result ≡ asked_in table sending_time values.now }
 {
-    match kind {
-        RefMsgType::NewOrderSingle => Command::New {
+    match table {
+        Table::LimitOrder => {
+            let price = number_at(table, values, OrderTag::Price);
+            Command::New {
+                sending_time,
+                order: new_of(table, OrdType::Limit { price }, values),
+            }
+        }
+        Table::MarketOrder => Command::New {
             sending_time,
-            order: new_of(values),
+            order: new_of(table, OrdType::Market, values),
         },
-        RefMsgType::OrderCancelRequest => Command::Cancel {
+        Table::CancelRequest => Command::Cancel {
             sending_time,
             request: cancel_of(values),
         },
-        RefMsgType::OrderCancelReplaceRequest => Command::Replace {
+        Table::ReplaceRequest => Command::Replace {
             sending_time,
             request: replace_of(values),
         },
     }
 }
 
-/// NewOrderSingle (35=D).
-fn new_of(values: &Values) -> NewOrderSingle
-    requires { AreRight RefMsgType.NewOrderSingle values.now }
-    ensures { result ≡ new_in values.now }
+/// NewOrderSingle (35=D), of this OrdType (40).
+fn new_of(table: Table, ord_type: OrdType, values: &Values) -> NewOrderSingle
+    requires { AreRight table values.now }
+    ensures { result ≡ new_in ord_type values.now }
 {
-    let kind = RefMsgType::NewOrderSingle;
     NewOrderSingle {
-        cl_ord_id: number_at(kind, values, OrderTag::ClOrdId),
-        symbol: symbol_of(kind, values),
+        cl_ord_id: number_at(table, values, OrderTag::ClOrdId),
+        symbol: symbol_of(table, values),
         side: side_of(values.get(OrderTag::Side)),
-        price: number_at(kind, values, OrderTag::Price),
-        quantity: number_at(kind, values, OrderTag::OrderQty),
+        ord_type,
+        quantity: number_at(table, values, OrderTag::OrderQty),
         time_in_force: time_in_force_of(values.get(OrderTag::TimeInForce)),
     }
 }
 
 /// OrderCancelRequest (35=F).
 fn cancel_of(values: &Values) -> OrderCancelRequest
-    requires { AreRight RefMsgType.OrderCancelRequest values.now }
+    requires { AreRight Table.CancelRequest values.now }
     ensures { result ≡ cancel_in values.now }
 {
-    let kind = RefMsgType::OrderCancelRequest;
+    let table = Table::CancelRequest;
     OrderCancelRequest {
-        cl_ord_id: number_at(kind, values, OrderTag::ClOrdId),
-        orig_cl_ord_id: number_at(kind, values, OrderTag::OrigClOrdId),
-        symbol: symbol_of(kind, values),
+        cl_ord_id: number_at(table, values, OrderTag::ClOrdId),
+        orig_cl_ord_id: number_at(table, values, OrderTag::OrigClOrdId),
+        symbol: symbol_of(table, values),
         side: side_of(values.get(OrderTag::Side)),
     }
 }
 
 /// OrderCancelReplaceRequest (35=G).
 fn replace_of(values: &Values) -> OrderCancelReplaceRequest
-    requires { AreRight RefMsgType.OrderCancelReplaceRequest values.now }
+    requires { AreRight Table.ReplaceRequest values.now }
     ensures { result ≡ replace_in values.now }
 {
-    let kind = RefMsgType::OrderCancelReplaceRequest;
+    let table = Table::ReplaceRequest;
     OrderCancelReplaceRequest {
-        cl_ord_id: number_at(kind, values, OrderTag::ClOrdId),
-        orig_cl_ord_id: number_at(kind, values, OrderTag::OrigClOrdId),
-        symbol: symbol_of(kind, values),
+        cl_ord_id: number_at(table, values, OrderTag::ClOrdId),
+        orig_cl_ord_id: number_at(table, values, OrderTag::OrigClOrdId),
+        symbol: symbol_of(table, values),
         side: side_of(values.get(OrderTag::Side)),
-        price: number_at(kind, values, OrderTag::Price),
-        quantity: number_at(kind, values, OrderTag::OrderQty),
+        price: number_at(table, values, OrderTag::Price),
+        quantity: number_at(table, values, OrderTag::OrderQty),
         time_in_force: time_in_force_of(values.get(OrderTag::TimeInForce)),
     }
 }
 
 /// The number of a required tag.
-fn number_at(kind: RefMsgType, values: &Values, tag: OrderTag) -> u64
-    requires right { AreRight kind values.now }
-    requires required { need_of kind tag ≡ Required }
-    requires number { IsTrue (is_short (format_of (tag_number tag))) }
+fn number_at(table: Table, values: &Values, tag: OrderTag) -> u64
+    requires right { AreRight table values.now }
+    requires required { need_of table tag ≡ Required }
+    requires number { IsTrue (is_short (format_of table (tag_number tag))) }
     ensures { result ≡ value_of (value_in values.now tag) }
 {
     read_digits(values.get(tag))
 }
 
 /// Symbol (55).
-fn symbol_of(kind: RefMsgType, values: &Values) -> Symbol
-    requires { AreRight kind values.now }
+fn symbol_of(table: Table, values: &Values) -> Symbol
+    requires { AreRight table values.now }
     ensures { result ≡ value_in values.now OrderTag.Symbol }
 {
     Symbol::of_name(values.get(OrderTag::Symbol))

@@ -5,7 +5,8 @@ ghost use Rattle.fix_orders.specs.Reading.{classes};
 ghost use Rattle.fix_orders.specs.Findings.{IsFound, fault_in};
 
 use crate::fields::OrderFields;
-use venue_model::{RefMsgType, SessionRejectReason};
+use crate::tables::Table;
+use venue_model::SessionRejectReason;
 
 /// Why a message is rejected.
 #[derive(Clone, Copy)]
@@ -25,13 +26,13 @@ const CLASSES: [SessionRejectReason; 5] = [
     SessionRejectReason::ValueIncorrect,
 ];
 
-/// The one fault of a message of this type with these fields behind its header, if it has any.
-pub fn first_fault(kind: RefMsgType, found: &OrderFields) -> Option<Fault>
-    ensures { (fields : List Field) → IsFound kind fields found.now →
-        result ≡ fault_in classes kind fields }
+/// The one fault by this table of a message with these fields behind its header, if it has any.
+pub fn first_fault(table: Table, found: &OrderFields) -> Option<Fault>
+    ensures { (fields : List Field) → IsFound table fields found.now →
+        result ≡ fault_in classes table fields }
 {
     for reason in CLASSES {
-        if let Some(tag) = found.least(reason, kind) {
+        if let Some(tag) = found.least(reason, table) {
             return Some(Fault { reason, tag });
         }
     }

@@ -4,17 +4,19 @@ ghost use Rattle.std.specs.Prelude.{◌≡◌, ◌<◌, ◌≤◌, ◌++◌, ◌
 ghost use Rattle.fix_frame.specs.Grammar.{Field as FixField, IsField};
 ghost use Rattle.fix_frame.specs.Fields.{as_field};
 ghost use Rattle.fix_frame.specs.Borrowed.{fields_left};
+ghost use Rattle.fix_orders.specs.declared.tables.Table.{Table};
 ghost use Rattle.fix_orders.specs.OrderTags.{tag_number};
 ghost use Rattle.fix_orders.specs.Reading.{is_among, least, missing_tags};
 ghost use Rattle.fix_orders.specs.Findings.{IsFound, outside, is_other, lesser_if, least_in, is_missing};
 ghost use Rattle.fix_orders.specs.Text.{field};
 
 use crate::formats::{JudgedValue, format_of, judge};
+use crate::tables::Table;
 use crate::tags::{Need, ORDER_TAGS, OrderTag};
 use crate::values::Values;
 use arrayvec::ArrayVec;
 use fix_frame::{Field, Fields};
-use venue_model::{RefMsgType, SessionRejectReason};
+use venue_model::SessionRejectReason;
 
 /// How many fields the body of a message that comes in has at most.
 const MOST_FIELDS: usize = 74;
@@ -36,21 +38,21 @@ pub struct OrderFields<'a> {
 }
 
 impl<'a> OrderFields<'a> {
-    /// What is found of all these fields in a message of this type.
-    pub fn read(kind: RefMsgType, fields: Fields<'a>) -> OrderFields<'a>
+    /// What is found of all these fields of a message, by this table.
+    pub fn read(table: Table, fields: Fields<'a>) -> OrderFields<'a>
         requires { length (fields_left fields) ≤ 74 }
-        ensures { IsFound kind (fields_left fields.entry) result }
+        ensures { IsFound table (fields_left fields.entry) result }
     {
         let mut found = OrderFields::new();
         for field in fields {
-            found.take(kind, field);
+            found.take(table, field);
         }
         found
     }
 
     /// What is found of no fields.
     fn new() -> OrderFields<'a>
-        ensures { (kind : RefMsgType) → IsFound kind [] result }
+        ensures { (table : Table) → IsFound table [] result }
     {
         OrderFields {
             values: Values::new(),
@@ -63,28 +65,28 @@ impl<'a> OrderFields<'a> {
     }
 
     /// Takes the next field.
-    fn take(&mut self, kind: RefMsgType, field: Field<'a>)
+    fn take(&mut self, table: Table, field: Field<'a>)
         requires room { length self.old.others.items < 74 }
         requires field { IsField (as_field field) }
-        ensures { (fields : List FixField) → IsFound kind fields self.old →
-            IsFound kind (fields ++ as_field field.entry ∷ []) self.new }
+        ensures { (fields : List FixField) → IsFound table fields self.old →
+            IsFound table (fields ++ as_field field.entry ∷ []) self.new }
     {
         match OrderTag::of(field.tag) {
-            Some(tag) => self.take_value(kind, tag, field.value),
+            Some(tag) => self.take_value(table, tag, field.value),
             None if is_among(&OUTSIDE, field.tag) => self.take_outside(field.tag),
             None => self.take_other(field.tag),
         }
     }
 
     /// The same of a tag that some type of order message has.
-    fn take_value(&mut self, kind: RefMsgType, tag: OrderTag, value: &'a [u8])
+    fn take_value(&mut self, table: Table, tag: OrderTag, value: &'a [u8])
         requires { IsField (field (tag_number tag) value.now) }
-        ensures { (fields : List FixField) → IsFound kind fields self.old →
-            IsFound kind (fields ++ field (tag_number tag) value.now ∷ []) self.new }
+        ensures { (fields : List FixField) → IsFound table fields self.old →
+            IsFound table (fields ++ field (tag_number tag) value.now ∷ []) self.new }
     {
-        let judged = judge(format_of(tag), value);
+        let judged = judge(format_of(table, tag), value);
         let is_repeated = self.values.has(tag);
-        let is_undefined = tag.need(kind) == Need::Undefined;
+        let is_undefined = tag.need(table) == Need::Undefined;
         self.values.keep(tag, value);
         if judged == JudgedValue::Right && !is_repeated && !is_undefined {
             return;
@@ -99,8 +101,8 @@ impl<'a> OrderFields<'a> {
     /// The same of a tag that the message has outside of these fields.
     fn take_outside(&mut self, tag: u32)
         requires { is_among outside tag ≡ true }
-        ensures { (kind : RefMsgType) (fields : List FixField) (value : List ℕ) → IsField (field tag value) →
-            IsFound kind fields self.old → IsFound kind (fields ++ field tag value ∷ []) self.new }
+        ensures { (table : Table) (fields : List FixField) (value : List ℕ) → IsField (field tag value) →
+            IsFound table fields self.old → IsFound table (fields ++ field tag value ∷ []) self.new }
     {
         self.repeated = lesser_if(true, tag, self.repeated);
     }
@@ -109,8 +111,8 @@ impl<'a> OrderFields<'a> {
     fn take_other(&mut self, tag: u32)
         requires room { length self.old.others.items < 74 }
         requires other { is_other tag ≡ true }
-        ensures { (kind : RefMsgType) (fields : List FixField) (value : List ℕ) → IsField (field tag value) →
-            IsFound kind fields self.old → IsFound kind (fields ++ field tag value ∷ []) self.new }
+        ensures { (table : Table) (fields : List FixField) (value : List ℕ) → IsField (field tag value) →
+            IsFound table fields self.old → IsFound table (fields ++ field tag value ∷ []) self.new }
     {
         self.repeated = lesser_if(is_among(self.others.as_slice(), tag), tag, self.repeated);
         self.undefined = lesser_if(true, tag, self.undefined);
@@ -118,47 +120,47 @@ impl<'a> OrderFields<'a> {
     }
 
     /// The least tag at fault for this reason.
-    pub fn least(&self, reason: SessionRejectReason, kind: RefMsgType) -> Option<u32>
-        ensures { (fields : List FixField) → IsFound kind fields self.now →
-            result ≡ least_in reason kind fields }
+    pub fn least(&self, reason: SessionRejectReason, table: Table) -> Option<u32>
+        ensures { (fields : List FixField) → IsFound table fields self.now →
+            result ≡ least_in reason table fields }
     {
         match reason {
             SessionRejectReason::TagAppearsMoreThanOnce => self.repeated,
             SessionRejectReason::TagNotDefined => self.undefined,
-            SessionRejectReason::RequiredTagMissing => self.least_missing(kind),
+            SessionRejectReason::RequiredTagMissing => self.least_missing(table),
             SessionRejectReason::IncorrectFormat => self.ill_formed,
             SessionRejectReason::ValueIncorrect => self.out_of_range,
         }
     }
 
     /// The least required tag that no field has.
-    fn least_missing(&self, kind: RefMsgType) -> Option<u32>
-        ensures { (fields : List FixField) → IsFound kind fields self.now →
-            result ≡ least (missing_tags kind fields) }
+    fn least_missing(&self, table: Table) -> Option<u32>
+        ensures { (fields : List FixField) → IsFound table fields self.now →
+            result ≡ least (missing_tags table fields) }
     {
         let mut found = None;
         for tag in ORDER_TAGS {
-            found = self.lesser_missing(kind, tag, found);
+            found = self.lesser_missing(table, tag, found);
         }
         found
     }
 
     /// The lesser of a tag that was found and this one, where it is missing. Most tags of a message aren't.
-    fn lesser_missing(&self, kind: RefMsgType, tag: OrderTag, found: Option<u32>) -> Option<u32>
-        ensures { result ≡ lesser_if (is_missing kind self.now.values tag) (tag_number tag) found }
+    fn lesser_missing(&self, table: Table, tag: OrderTag, found: Option<u32>) -> Option<u32>
+        ensures { result ≡ lesser_if (is_missing table self.now.values tag) (tag_number tag) found }
     {
-        if self.is_missing(kind, tag) {
+        if self.is_missing(table, tag) {
             lesser_if(true, tag.number(), found)
         } else {
             found
         }
     }
 
-    /// Whether the type requires the tag and no field has it.
-    fn is_missing(&self, kind: RefMsgType, tag: OrderTag) -> bool
-        ensures { result ≡ is_missing kind self.now.values tag }
+    /// Whether the table requires the tag and no field has it.
+    fn is_missing(&self, table: Table, tag: OrderTag) -> bool
+        ensures { result ≡ is_missing table self.now.values tag }
     {
-        !self.values.has(tag) && tag.need(kind) == Need::Required
+        !self.values.has(tag) && tag.need(table) == Need::Required
     }
 }
 

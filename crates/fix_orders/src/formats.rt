@@ -6,6 +6,7 @@ ghost use Rattle.fix_orders.specs.OrderTags.{tag_number};
 ghost use Rattle.fix_orders.specs.Judging.{as_format, IsBounded, judged_value};
 
 use crate::number::read_number;
+use crate::tables::Table;
 use crate::tags::OrderTag;
 use crate::time::is_time;
 use venue_model::Symbol;
@@ -29,15 +30,15 @@ pub enum JudgedValue {
     OutOfRange,
 }
 
-/// The format of a tag.
-pub fn format_of(tag: OrderTag) -> Format
-    ensures value { as_format result ≡ format_of (tag_number tag) }
+/// The format of a tag in this table.
+pub fn format_of(table: Table, tag: OrderTag) -> Format
+    ensures value { as_format result ≡ format_of table (tag_number tag) }
     ensures bounded { IsBounded result }
 {
     match tag {
         OrderTag::ClOrdId | OrderTag::OrigClOrdId => Format::NumberTo(999_999_999_999_999),
         OrderTag::OrderQty | OrderTag::Price => Format::NumberTo(1_000_000),
-        OrderTag::OrdType => Format::ByteOf(b"2"),
+        OrderTag::OrdType => Format::ByteOf(table.ord_type()),
         OrderTag::Side => Format::ByteOf(b"12"),
         OrderTag::TimeInForce => Format::ByteOf(b"034"),
         OrderTag::Symbol => Format::Symbol,

@@ -1,8 +1,9 @@
 //! Laws of the definitions: functions that do nothing, whose contracts are the laws.
-ghost use Rattle.std.specs.Prelude.{◌≡◌, ℕ, IsTrue, List, Some};
+ghost use Rattle.std.specs.Prelude.{◌≡◌, ℕ, Bool, false, IsTrue, List, Some};
 ghost use Rattle.fix_frame.specs.Grammar.{Field, IsFrame, most_in};
 ghost use Rattle.venue_model.specs.Step.{IsCommand};
 ghost use Rattle.fix_orders.specs.Formats.{is_time, number_of_time, time_text};
+ghost use Rattle.fix_orders.specs.RangeLaws.{AsksNoMarket};
 ghost use Rattle.fix_orders.specs.Reading.{exact_fields, command_of, reads};
 
 /// The test for exactly one frame finds the fields of a frame and nothing else.
@@ -21,6 +22,11 @@ pub fn times_are_kept()
 /// Whatever bytes come, the numbers of the command that they are read as are in range: ClOrdIDs 1 to
 /// 999,999,999,999,999, prices and quantities 1 to 1,000,000. So are those of the command of any fields.
 pub fn numbers_are_in_range()
-    ensures bytes { (bytes : List ℕ) → IsCommand (reads bytes) }
-    ensures fields { (fields : List Field) → IsCommand (command_of fields) }
+    ensures bytes { (market : Bool) (bytes : List ℕ) → IsCommand (reads market bytes) }
+    ensures fields { (market : Bool) (fields : List Field) → IsCommand (command_of market fields) }
+{}
+
+/// Where market orders aren't read, no message is one: an entry of before keeps its meaning.
+pub fn no_market_orders_before_the_cut()
+    ensures { (bytes : List ℕ) → AsksNoMarket (reads false bytes) }
 {}

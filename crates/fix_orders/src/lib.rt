@@ -11,6 +11,7 @@ mod header;
 mod laws;
 mod number;
 mod put;
+mod tables;
 mod tags;
 mod time;
 mod values;
@@ -19,6 +20,8 @@ pub use body::body_of;
 pub use codes::msg_type_code;
 pub use command::{command_of, decode};
 pub use header::{Header, read_header};
-pub use laws::{exactly_one_frame, numbers_are_in_range, times_are_kept};
+pub use laws::{
+    exactly_one_frame, no_market_orders_before_the_cut, numbers_are_in_range, times_are_kept,
+};
 pub use put::{put_bytes, put_field, put_number};
 pub use time::{number_of_time, time_text};

@@ -1,10 +1,10 @@
-//! The tags of order messages behind the header, and the table of what each type has (docs/PROFILE.md, "Order
+//! The tags of order messages behind the header, and what each table has of them (docs/PROFILE.md, "Order
 //! messages").
 ghost use Rattle.std.specs.Prelude.{◌≡◌, ◌<◌, MatchOption, IsFalse};
 ghost use Rattle.fix_orders.specs.OrderTags.{tag_number, tag_place, need_of, order_numbers};
 ghost use Rattle.fix_orders.specs.Reading.{is_among};
 
-use venue_model::RefMsgType;
+use crate::tables::Table;
 
 /// A tag that some type of order message has.
 #[derive(Clone, Copy, Debug, PartialEq, Eq)]
@@ -33,7 +33,7 @@ pub const ORDER_TAGS: [OrderTag; 9] = [
     OrderTag::TransactTime,
 ];
 
-/// What a type of message does with a tag.
+/// What a table does with a tag.
 #[derive(Clone, Copy, Debug, PartialEq, Eq)]
 pub enum Need {
     Required,
@@ -85,17 +85,15 @@ impl OrderTag {
         }
     }
 
-    /// What messages of this type do with it.
-    pub fn need(self, kind: RefMsgType) -> Need
-        ensures { result ≡ need_of kind self }
+    /// What this table does with it.
+    pub fn need(self, table: Table) -> Need
+        ensures { result ≡ need_of table self }
     {
-        match (kind, self) {
-            (RefMsgType::NewOrderSingle, OrderTag::OrigClOrdId) => Need::Undefined,
-            (
-                RefMsgType::OrderCancelRequest,
-                OrderTag::OrdType | OrderTag::Price | OrderTag::TimeInForce,
-            ) => Need::Undefined,
-            (_, OrderTag::TimeInForce) => Need::Optional,
+        match (self, table) {
+            (OrderTag::OrigClOrdId, Table::LimitOrder | Table::MarketOrder) => Need::Undefined,
+            (OrderTag::Price, Table::MarketOrder | Table::CancelRequest) => Need::Undefined,
+            (OrderTag::OrdType | OrderTag::TimeInForce, Table::CancelRequest) => Need::Undefined,
+            (OrderTag::TimeInForce, _) => Need::Optional,
             _ => Need::Required,
         }
     }

@@ -1,5 +1,6 @@
 //! The values of an order message by tag.
 ghost use Rattle.std.specs.Prelude.{◌≡◌, [], not};
+ghost use Rattle.fix_orders.specs.Reading.{asks_market};
 ghost use Rattle.fix_orders.specs.Values.{value_in, with_value, is_nothing};
 
 use crate::tags::OrderTag;
@@ -30,6 +31,13 @@ impl<'a> Values<'a> {
         ensures { result ≡ not (is_nothing (value_in self.now tag)) }
     {
         !self.get(tag).is_empty()
+    }
+
+    /// Whether OrdType (40) is 1: the message asks for a market order.
+    pub fn ask_market(&self) -> bool
+        ensures { result ≡ asks_market (value_in self.now OrderTag.OrdType) }
+    {
+        matches!(self.get(OrderTag::OrdType), b"1")
     }
 
     /// Keeps a value, where its tag has none.

@@ -26,7 +26,7 @@ use Rattle.gateway.specs.Ledgers.{Ledger, CarriesSaid}
 
 -- the limits of a logic that is known
 abbrev pub known : Option Limits → Limits
-known None = record { symbols = [] }
+known None = record { symbols = []; cut = 0 }
 known (Some limits) = limits
 
 -- the venue's limits

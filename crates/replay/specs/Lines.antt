@@ -1,7 +1,7 @@
 -- The text of a report, for those who read it at a terminal.
 use Rattle.std.specs.Prelude.{ℕ, ◌+◌, ◌^◌, ◌≤◌, ◌==◌, if◌then◌else◌, List, [], ◌∷◌, ◌++◌, codes, length, map, Option}
 use Rattle.std.specs.Io.KnownBytes.{Appends}
-use Rattle.journal.specs.Format.{IsJournal}
+use Rattle.journal.specs.Format.{HasCut, IsJournal}
 use Rattle.std.specs.List.{flat_map}
 use Rattle.std.specs.Fmt.{decimal}
 use Rattle.fix_frame.specs.Grammar.{Field, print_fields}
@@ -65,9 +65,11 @@ abbrev pub report_text : Limits → History → Subject → List ℕ
 report_text limits h subject = subject_lines limits h subject ++ counts_line (length h) (length (outputs_of limits h))
 
 -- One history, of at most 2^48 entries, and the report of it stands behind what `out` held, where that is known. Where the disk is honest,
--- its file is the journal of that history.
+-- its file is the journal of that history, and market orders are read from the file's cut on.
 pub record Reports (honest : Type 0) (file : List ℕ) (limits : Limits) (subject : Subject) (old new : Option (List ℕ)) : Type 0 where
   pub history : History
   pub few : length history ≤ 2 ^ 48
   pub journal : honest → IsJournal file history
-  pub printed : Appends old new (report_text limits history subject)
+  pub cut : ℕ
+  pub by_cut : honest → HasCut file cut
+  pub printed : Appends old new (report_text (record limits { cut = cut }) history subject)

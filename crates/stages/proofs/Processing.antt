@@ -1,6 +1,6 @@
 -- One command through the processor: it is read at the own word and done in the book, and its outputs are put behind
 -- those before.
-use Rattle.std.proofs.Common.{◌≡◌, ℕ, zero, suc, ◌+◌, ◌<◌, ◌≤◌, List, [], ◌∷◌, ◌++◌, length, take, drop, ap, refl, sym}
+use Rattle.std.proofs.Common.{◌≡◌, ℕ, zero, suc, ◌+◌, ◌<◌, ◌≤◌, nat_le, List, [], ◌∷◌, ◌++◌, length, take, drop, ap, refl, sym}
 use Rattle.std.proofs.Common.{subst, ◌∙◌, length-append, arith, Some}
 use Rattle.std.proofs.lemmas.List.{length-take-le}
 use mathlib.Core.Option.{some, some-injective, some-ne-none}
@@ -55,9 +55,13 @@ module _ (limits : Limits) (p : Person) (e : Message) (at : get_elem? p.seen p.s
   place : length (requests_of limits (entries_done p)) ≡ p.sequence
   place = length-requests (reads_at limits) 0 (entries_done p) ∙ length-take-le p.sequence p.seen (omega arith)
 
+  here : 0 + length (entries_done p) ≡ p.sequence
+  here = let whole = length-take-le p.sequence p.seen (omega arith) in omega (arith, whole)
+
   one_more : requests_of limits (take (suc p.sequence) p.seen) ≡ requests_of limits (entries_done p) ++ ask ∷ []
   one_more = ap (requests_of limits) (take_next p.seen p.sequence e at)
       ∙ requests_from-more (reads_at limits) 0 (entries_done p) e
+      ∙ ap (λ (n : ℕ). requests_of limits (entries_done p) ++ request_at limits n e ∷ []) here
 
   -- the state with one entry more, and the outputs
   next_state : state_of limits (take (suc p.sequence) p.seen) ≡ next.state
@@ -98,6 +102,14 @@ abbrev Loads : ℕ → Limits → At Limits → At Limits → ℕ → Type 0
 Loads n limits v r s = (e : Message) → get_elem? v.who.seen s ≡ some e →
     r ≡ seated v (after_command n v.who s (command_words e.gateway (reads_at limits s e)))
 
+-- what was read by some limits was read by those that they are
+pub reads_so : (l m : Limits) (v : At Limits) (s gateway : ℕ) (command : Command) → m ≡ l → Reads l v s gateway command
+    → Reads m v s gateway command
+reads_so l m v s gateway command same is = subst (λ (x : Limits). Reads x v s gateway command) (sym same) is
+
+pub loads_so : (n : ℕ) (l m : Limits) (v r : At Limits) (s : ℕ) → m ≡ l → Loads n l v r s → Loads n m v r s
+loads_so n l m v r s same is = subst (λ (x : Limits). Loads n x v r s) (sym same) is
+
 module _ (limits : Limits) (v : At Limits) (s gateway : ℕ) (command : Command)
     (known : s < length v.who.seen) (is : Reads limits v s gateway command) where
   -- the book may be asked to do it
@@ -106,7 +118,7 @@ module _ (limits : Limits) (v : At Limits) (s gateway : ℕ) (command : Command)
       let from = read.0 in let entry = read.2.message in (
         omega (arith, from, entry.from),
         omega (arith, from, entry.to),
-        subst IsCommand (sym read.1) (reads_within stood.0.bytes),
+        subst IsCommand (sym read.1) (reads_within (nat_le limits.cut s) stood.0.bytes),
       )
 
   pub took : (n : ℕ) (r : At Limits) → s ≡ v.who.sequence → Loads n limits v r s → Took n limits v r s gateway command
@@ -141,6 +153,9 @@ left_to_put v book applied left follows one =
 -- the message of the next sequence was read
 abbrev pub HasRead : ℕ → Limits → Person → Person → Type 0
 HasRead n limits v w = (e : Message) × (get_elem? v.seen v.sequence ≡ some e) × (w ≡ after_reading n limits v e)
+
+pub has_read_so : (n : ℕ) (l m : Limits) (v w : Person) → m ≡ l → HasRead n l v w → HasRead n m v w
+has_read_so n l m v w same is = subst (λ (x : Limits). HasRead n x v w) (sym same) is
 
 -- where no outputs are left of them
 pub at_rest : (v : At Limits) (book : Book) (applied s : ℕ) (left : List Output) → FollowsRings v book applied left

@@ -1,6 +1,6 @@
 -- Sequences through the unmarshaller: of each its words are loaded and its command is stored, and then all are handed
 -- on at once.
-use Rattle.std.proofs.Common.{◌≡◌, ◌⊎◌, inl, inr, ℕ, suc, ◌+◌, ◌-◌, ◌≤◌, List, take, refl, ap, sym, subst, ◌∙◌, arith}
+use Rattle.std.proofs.Common.{◌≡◌, ◌⊎◌, inl, inr, ℕ, suc, ◌+◌, ◌-◌, ◌≤◌, nat_le, List, take, refl, ap, sym, subst, ◌∙◌, arith}
 use mathlib.Core.Option.{some}
 use lib.ListN.{get_elem?}
 use Rattle.venue_model.specs.History.{Message}
@@ -40,15 +40,20 @@ still_may n limits v a s e loaded may = subst (λ (z : At _). MayWrite (reads_at
             ),
           ))
 
+-- what is read by some limits is read by those that they are
+pub reads_by : (l limits : Limits) (s : ℕ) (bytes : List ℕ) (command : Command) → l ≡ limits
+    → command ≡ reads (nat_le l.cut s) bytes → command ≡ reads (nat_le limits.cut s) bytes
+reads_by l limits s bytes command same read = subst (λ (x : Limits). command ≡ reads (nat_le x.cut s) bytes) same read
+
 -- one sequence
 module _ {L : Type 0} (n : ℕ) (limits : Limits) (v a b : At L) (s : ℕ) (e : Message) (raw : Raw) (buf : List ℕ)
     (command : Command)
-    (read : ReadsMessage e raw buf) (decoded : command ≡ reads (take raw.len buf))
+    (read : ReadsMessage e raw buf) (decoded : command ≡ reads (nat_le limits.cut s) (take raw.len buf))
     (loaded : a ≡ seated v (after_loads n v.who s e (raw_count e)))
     (stored : b ≡ seated a (wrote a.who s (command_words raw.gateway command))) where
   -- the command that was decoded is the entry's
   is_its_command : command ≡ reads_at limits s e
-  is_its_command = decoded ∙ ap reads read.bytes
+  is_its_command = decoded ∙ ap (reads (nat_le limits.cut s)) read.bytes
 
   -- its message was read and its command stored
   pub is_written : b ≡ seated v (after_writing n limits v.who s e)

@@ -22,6 +22,7 @@ use journal::{Journal, JournalDisk};
 use ring_words::{GatewaySeat, Rings, Seats, Summary};
 use std::alloc::Global;
 use std::marker::Model;
+use venue_model::Limits;
 
 /// What the stages' polls came to.
 #[derive(Clone, Copy, Debug, PartialEq, Eq)]
@@ -70,17 +71,19 @@ impl<D: JournalDisk> Model for Crew<D> {
 pub type CrewAndGateways<D> = (Crew<D>, Vec<GatewaySeat<BookLogic>>);
 
 impl<D: JournalDisk> Crew<D> {
-    /// The stages at the seats of rings that were just opened, the journal of the history that these were opened with, and the book of that
-    /// history, and the gateways' seats. Where memory for the outputs of one command or for the entries of one block is refused, the
+    /// The stages at the seats of rings that were just opened with these limits' logic, the journal of the history that they were opened
+    /// with, and the book of that history, and the gateways' seats. Where memory for the outputs of one command or for the entries of one block is refused, the
     /// journal is given back.
     pub fn new<const N: usize, const M: usize, const G: usize>(
         alloc: Global,
         rings: &Rings<BookLogic, N, M, G>,
         seats: Seats<BookLogic>,
+        limits: &Limits,
         journal: Journal<D>,
         book: Book,
     ) -> Result<CrewAndGateways<D>, Journal<D>>
         requires seats { AreNew G rings.now seats }
+        requires limits { limits.now ≡ rings.now.logic }
         requires book { (book.limits ≡ rings.now.logic) × (book.state ≡ state_of rings.now.logic rings.now.base) }
         requires given { rings.now.base_outputs ≡ length (outputs_of rings.now.logic rings.now.base) }
         requires journal { (journal.failed ≡ false) × (journal.count ≡ length rings.now.base) }
@@ -103,7 +106,7 @@ impl<D: JournalDisk> Crew<D> {
             Err((_, _, journal)) => return Err(journal),
         };
         let crew = Crew {
-            unmarshaller: Unmarshaller::new(unmarshal),
+            unmarshaller: Unmarshaller::new(unmarshal, limits),
             journaller,
             processor,
             marshaller: Marshaller::new(marshal),

@@ -10,7 +10,7 @@ use Rattle.stages.specs.Finishing.{Finished}
 use Rattle.stages.specs.Journalling.{JournalsOn}
 use Rattle.venue.specs.Faults.{status_of_end}
 use Rattle.venue.specs.Members.{AreBack}
-use Rattle.venue.specs.Opened.{AreBehind, IsNewCrew}
+use Rattle.venue.specs.Opened.{AreBehind, IsNewCrew, ReadsByCut}
 use Rattle.venue.specs.Venues.{Device}
 use Rattle.venue.specs.declared.fault.ServeFault.{ServeFault}
 use Rattle.venue.specs.declared.fault.ServeFault.TheVariants as fault
@@ -22,7 +22,7 @@ end_of false true = Ok tt
 end_of false false = Err fault.Memory
 
 module _ {D : Type 0} where
-  -- Members were served behind the journal's history. The stages went on from there, the journaller with all that it was told, and all g gateways'
+  -- Members were served behind the journal's history, which is read by the journal's cut. The stages went on from there, the journaller with all that it was told, and all g gateways'
   -- seats came back; one log tells of all of them, of which the disk keeps what was answered.
   pub record Listens (limits : Limits) (device : Device D) (g : ℕ) (old new : D) (status : ℕ) : Type 0 where
     pub rings : Opened Limits
@@ -31,7 +31,8 @@ module _ {D : Type 0} where
     pub seats : List (At Limits)
     pub ready : Bool
     pub summary : Summary
-    pub behind : AreBehind limits rings.base rings
+    pub behind : AreBehind (record limits { cut = rings.logic.cut }) rings.base rings
+    pub cut : ReadsByCut (device.honest (disk_of begun)) (device.tells (disk_of begun)) rings
     pub crew : IsNewCrew rings begun
     pub counts : device.failed (disk_of begun) ≡ device.failed old
     pub opened : IsOpened (device.honest old) (device.honest (disk_of begun)) (device.tells old) (device.tells (disk_of begun)) rings.base

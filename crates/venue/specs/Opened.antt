@@ -2,6 +2,8 @@
 use Rattle.std.specs.Prelude.{◌≡◌, ℕ, false, length}
 use Rattle.venue_model.specs.History.{History}
 use Rattle.venue_model.specs.Requests.{Limits}
+use Rattle.disks.specs.Disk.{Told}
+use Rattle.journal.specs.Format.{HasCut}
 use Rattle.ring_words.specs.At.{Opened}
 use Rattle.ring_words.specs.Crew.{AreNew}
 use Rattle.ring_words.specs.declared.seats.Seats.{Seats}
@@ -15,6 +17,10 @@ pub record AreBehind (limits : Limits) (base : History) (rings : Opened Limits) 
   pub logic : rings.logic ≡ limits
   pub base_is : rings.base ≡ base
   pub base_outputs : rings.base_outputs ≡ length (outputs_of limits base)
+
+-- market orders are read from the cut of the journal on the disk
+abbrev pub ReadsByCut : Type 0 → Told → Opened Limits → Type 0
+ReadsByCut honest disk rings = honest → HasCut disk.file rings.logic.cut
 
 -- the book is that of the history that the rings were opened with
 pub record IsBookOf (rings : Opened Limits) (book : Book) : Type 0 where

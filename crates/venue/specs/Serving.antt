@@ -14,7 +14,7 @@ use Rattle.ring_words.specs.declared.close.Summary.{Summary}
 use Rattle.venue.specs.Faults.{status_of_end}
 use Rattle.stages.specs.Stations.{disk_of}
 use Rattle.stages.specs.Finishing.{Finished}
-use Rattle.venue.specs.Opened.{AreBehind, IsNewCrew}
+use Rattle.venue.specs.Opened.{AreBehind, IsNewCrew, ReadsByCut}
 use Rattle.venue.specs.Rounds.{Served}
 use Rattle.venue.specs.VenueRings.{IsFirstSeat}
 use Rattle.venue.specs.Venues.{Venue, Device, IsJournalBehind}
@@ -36,10 +36,12 @@ pub record Outside (D : Type 0) : Type 0 where
   pub wire : wires.Told
 
 module _ {D : Type 0} where
-  -- Gateway 1 has begun a session, and nothing was done: the venue stands behind the journal's history, and so does the gateway's seat.
+  -- Gateway 1 has begun a session, and nothing was done: the venue stands behind the journal's history, which it reads by the journal's cut,
+  -- and so does the gateway's seat.
   pub record Opens (limits : Limits) (device : Device D) (old : Outside D) (s : Venue D) : Type 0 where
     pub crew : IsNewCrew s.rings s.crew
-    pub behind : AreBehind limits s.rings.base s.rings
+    pub behind : AreBehind (record limits { cut = s.rings.logic.cut }) s.rings.base s.rings
+    pub cut : ReadsByCut (device.honest (disk_of s.crew)) (device.tells (disk_of s.crew)) s.rings
     pub seat : IsFirstSeat s.rings s.gateway.seat
     pub session : s.gateway.front ≡ begun 1 0
     pub wire : s.wire ≡ old.wire

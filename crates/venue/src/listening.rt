@@ -182,7 +182,8 @@ fn close<D: JournalDisk, const G: usize>(
 /// Serves `G` members at the ports from `port` on, behind the history of the journal on the disk, until the sign to stop is there, and gives the
 /// disk back. Answers the program's status: 0; 1, with the fault's line, where the journal can't be opened, a port can't be had or room was
 /// refused, before anybody was served; 2, with the line of the journal, where that failed. What is left of the sign from before is taken away
-/// first. All room but that of connections is taken before the first is let in.
+/// first. All room but that of connections is taken before the first is let in. Market orders are read from the journal's cut on; that of the
+/// limits isn't used.
 pub fn listen<
     R: Threads + Clock + Net<Listener = TcpListener, Stream = TcpStream> + AllocGlobal + Sync,
     Q: Gate + Sync,
@@ -194,7 +195,7 @@ pub fn listen<
 >(
     rt: &R,
     gate: &Q,
-    limits: &Limits,
+    limits: Limits,
     port: u16,
     disk: D,
     sign: &mut S,
@@ -203,7 +204,7 @@ pub fn listen<
 ) -> (u8, D)
     requires gateways { (1 ≤ G) × (G ≤ 8) }
     requires ports { port + G ≤ 65536 }
-    ensures ends { EndsListening limits.now (device D.honest D.tells D.failed) G disk result.1 result.0 }
+    ensures ends { EndsListening limits (device D.honest D.tells D.failed) G disk result.1 result.0 }
     ensures honest { Both (D.honest disk) (D.honest result.1) }
     ensures any_moment { D.honest disk → LeavesFrom (D.tells disk) (D.tells result.1) }
 {
@@ -212,7 +213,7 @@ pub fn listen<
         Ok(opened) => opened,
         Err((fault, disk)) => return (ServeFault::from(fault).say(err), disk),
     };
-    let (posts, home) = match open_posts(rt, rt.alloc(), limits, &rings, port, seats) {
+    let (posts, home) = match open_posts(rt, rt.alloc(), &rings, port, seats) {
         Ok(opened) => opened,
         Err(fault) => return (fault.say(err), unserved(crew)),
     };

@@ -3,7 +3,6 @@
 ghost use Rattle.std.specs.Prelude.{◌≡◌, ◌+◌, ◌≤◌, ◌<◌, ◌^◌, [], length, vec_len, false, IfOk, IfErr, IfSome, IfNone, MatchOption};
 ghost use Rattle.std.specs.Vec.{vec_capacity};
 ghost use Rattle.std.specs.Thread.{IsSync};
-ghost use Rattle.venue_model.specs.Requests.{Limits};
 ghost use Rattle.ring_words.specs.At.{IsAt};
 ghost use Rattle.ring_words.specs.Crew.{AreNewGateways};
 ghost use Rattle.ring_words.specs.declared.view.Role.TheVariants.{Gateway};
@@ -23,7 +22,6 @@ use std::alloc::Global;
 use std::net::{Ipv4Addr, Net, SocketAddr, SocketAddrV4, TcpListener, TcpStream};
 use std::rt::Clock;
 use std::thread::{Threads, join};
-use venue_model::Limits;
 use workers::{Gate, Signals};
 
 /// The posts of a venue's members, and an empty list that has room for all seats when they come back.
@@ -67,12 +65,11 @@ fn listen_at<R: Net<Listener = TcpListener, Stream = TcpStream>>(
 pub fn open_posts<R: Net<Listener = TcpListener, Stream = TcpStream>, const G: usize>(
     rt: &R,
     alloc: Global,
-    limits: &Limits,
     rings: &VenueRings<G>,
     first: u16,
     mut seats: Vec<GatewaySeat<BookLogic>>,
 ) -> Result<Posts, ServeFault>
-    requires behind { AreBehind limits.now rings.now.base rings.now }
+    requires behind { AreBehind rings.now.logic rings.now.base rings.now }
     requires few { length rings.now.base ≤ 2 ^ 48 }
     requires seats { AreNewGateways rings.now seats.items }
     requires ports { first + vec_len seats ≤ 65536 }
@@ -85,22 +82,21 @@ pub fn open_posts<R: Net<Listener = TcpListener, Stream = TcpStream>, const G: u
         return Ok((Vec::new(alloc), seats));
     };
     let before = seats.len() as u16;
-    let (posts, home) = open_posts(rt, alloc, limits, rings, first, seats)?;
+    let (posts, home) = open_posts(rt, alloc, rings, first, seats)?;
     let listener = listen_at(rt, first + before)?;
-    let posts = with_post(alloc, limits, rings, posts, seat, listener)?;
+    let posts = with_post(alloc, rings, posts, seat, listener)?;
     Ok((posts, home))
 }
 
 /// These posts and one more behind them, of this seat and listener.
 fn with_post<const G: usize>(
     alloc: Global,
-    limits: &Limits,
     rings: &VenueRings<G>,
     mut posts: Vec<Post>,
     seat: GatewaySeat<BookLogic>,
     listener: TcpListener,
 ) -> Result<Vec<Post>, ServeFault>
-    requires behind { AreBehind limits.now rings.now.base rings.now }
+    requires behind { AreBehind rings.now.logic rings.now.base rings.now }
     requires few { length rings.now.base ≤ 2 ^ 48 }
     requires posts { ArePosts rings.now posts.items }
     requires seat { IsNew rings.now (vec_len posts + 1) seat }
@@ -109,7 +105,6 @@ fn with_post<const G: usize>(
     ensures fault { IfErr result (λ fault. fault ≡ ServeFault.Memory) }
 {
     let _rings = rings;
-    let _limits = limits;
     let number = seat.number();
     let Ok(acceptor) = Acceptor::new(alloc, seat) else {
         return Err(ServeFault::Memory);

@@ -28,19 +28,20 @@ use std::alloc::{AllocError, Global};
 use std::io::Write;
 use venue_model::Limits;
 
-/// Serves the client of gateway 1 until its session ends, behind the history of the journal on the disk, and gives the disk back. Answers
+/// Serves the client of gateway 1 until its session ends, behind the history of the journal on the disk, and gives the disk back. Market orders
+/// are read from the journal's cut on; that of the limits isn't used. Answers
 /// the program's status: 0; 1, with the fault's line, where the journal can't be opened or room was refused, before a byte is read or
 /// written; 2, with the line of the journal, where that failed. All room is taken before the session begins.
 pub fn serve<D: JournalDisk, W: Wire, E: Write>(
     alloc: Global,
-    limits: &Limits,
+    limits: Limits,
     disk: D,
     wire: &mut W,
     err: &mut E,
 ) -> (u8, D)
     ensures status { IsStatus (W.tells wire.old) (W.tells wire.new) (D.failed disk) (D.failed result.1) result.0 }
     ensures untouched { result.0 ≡ 1 → wire.new ≡ wire.old }
-    ensures served { EndsWith limits.now (device D.honest D.tells D.failed) (record { disk = disk; wire = W.tells wire.old })
+    ensures served { EndsWith limits (device D.honest D.tells D.failed) (record { disk = disk; wire = W.tells wire.old })
         (record { disk = result.1; wire = W.tells wire.new }) result.0 }
     ensures honest { Both (D.honest disk) (D.honest result.1) }
     ensures any_moment { D.honest disk → LeavesFrom (D.tells disk) (D.tells result.1) }

@@ -2,6 +2,7 @@
 use Rattle.std.specs.Prelude.{ℕ, List, [], ◌∷◌, map, codes, Option, Some, None}
 use Rattle.venue_model.specs.declared.orders.Side.{Side}
 use Rattle.venue_model.specs.declared.orders.Order.{Order}
+use Rattle.venue_model.specs.declared.commands.OrdType.TheVariants.{Market, Limit}
 use Rattle.venue_model.specs.declared.commands.TimeInForce.{TimeInForce}
 use Rattle.venue_model.specs.declared.commands.TimeInForce.TheVariants.{Day}
 use Rattle.venue_model.specs.declared.commands.Command.TheVariants as command
@@ -29,7 +30,21 @@ new terms client side quantity price name = record {
     cl_ord_id = name;
     symbol = codes "ABC";
     side = side;
-    price = price;
+    ord_type = Limit price;
+    quantity = quantity;
+    time_in_force = terms;
+  });
+}
+
+-- a market order in ABC: client, side, quantity, ClOrdID
+abbrev pub market : TimeInForce → ℕ → Side → ℕ → ℕ → Request
+market terms client side quantity name = record {
+  gateway = client;
+  command = command.New half_past_nine (record {
+    cl_ord_id = name;
+    symbol = codes "ABC";
+    side = side;
+    ord_type = Market;
     quantity = quantity;
     time_in_force = terms;
   });

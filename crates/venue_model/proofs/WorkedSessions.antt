@@ -1,8 +1,8 @@
 -- Worked examples of the definitions, each computed: the requests, and what the venue answers.
 use Rattle.std.specs.Prelude.{◌≡◌, ℕ, List, [], ◌∷◌, refl}
 use Rattle.venue_model.specs.declared.orders.Side.TheVariants.{Buy, Sell}
-use Rattle.venue_model.specs.declared.commands.TimeInForce.TheVariants.{ImmediateOrCancel, FillOrKill}
-use Rattle.venue_model.proofs.WorkedBooks.{new, day, cancel, replace, told, resting}
+use Rattle.venue_model.specs.declared.commands.TimeInForce.TheVariants.{Day, ImmediateOrCancel, FillOrKill}
+use Rattle.venue_model.proofs.WorkedBooks.{new, market, day, cancel, replace, told, resting}
 
 first_acknowledgement : told (day 1 Buy 100 50 1 ∷ []) ≡ (1 ∷ 1 ∷ 1 ∷ 100 ∷ 50 ∷ 100 ∷ 0 ∷ 0 ∷ 48 ∷ []) ∷ []
 first_acknowledgement = refl
@@ -114,3 +114,41 @@ cancel_request : told (day 1 Buy 100 50 1 ∷ cancel 1 Buy 1 2 ∷ []) ≡
     (1 ∷ 1 ∷ 1 ∷ 100 ∷ 50 ∷ 100 ∷ 0 ∷ 0 ∷ 48 ∷ [])
     ∷ (1 ∷ 1 ∷ 2 ∷ 100 ∷ 50 ∷ 100 ∷ 0 ∷ 0 ∷ 52 ∷ 1 ∷ []) ∷ []
 cancel_request = refl
+
+-- a market order of 12 buys all that two offers have, at their prices; its own price is the one that all offers meet
+abbrev swept : List (List ℕ)
+swept =
+    (1 ∷ 1 ∷ 1 ∷ 5 ∷ 50 ∷ 5 ∷ 0 ∷ 0 ∷ 48 ∷ [])
+    ∷ (1 ∷ 2 ∷ 2 ∷ 5 ∷ 60 ∷ 5 ∷ 0 ∷ 0 ∷ 48 ∷ [])
+    ∷ (2 ∷ 3 ∷ 1 ∷ 12 ∷ 1000000 ∷ 12 ∷ 0 ∷ 0 ∷ 48 ∷ [])
+    ∷ (1 ∷ 1 ∷ 1 ∷ 5 ∷ 50 ∷ 0 ∷ 5 ∷ 250 ∷ 70 ∷ 5 ∷ 50 ∷ [])
+    ∷ (2 ∷ 3 ∷ 1 ∷ 12 ∷ 1000000 ∷ 7 ∷ 5 ∷ 250 ∷ 70 ∷ 5 ∷ 50 ∷ [])
+    ∷ (1 ∷ 2 ∷ 2 ∷ 5 ∷ 60 ∷ 0 ∷ 5 ∷ 300 ∷ 70 ∷ 5 ∷ 60 ∷ [])
+    ∷ (2 ∷ 3 ∷ 1 ∷ 12 ∷ 1000000 ∷ 2 ∷ 10 ∷ 550 ∷ 70 ∷ 5 ∷ 60 ∷ [])
+    ∷ (2 ∷ 3 ∷ 1 ∷ 12 ∷ 1000000 ∷ 2 ∷ 10 ∷ 550 ∷ 52 ∷ []) ∷ []
+
+-- what is left of it is canceled, also where it is an order for the day
+market_order_sweeps : told (day 1 Sell 5 50 1 ∷ day 1 Sell 5 60 2 ∷ market Day 2 Buy 12 1 ∷ []) ≡ swept
+market_order_sweeps = refl
+
+market_order_at_once : told (day 1 Sell 5 50 1 ∷ day 1 Sell 5 60 2 ∷ market ImmediateOrCancel 2 Buy 12 1 ∷ []) ≡ swept
+market_order_at_once = refl
+
+nothing_rests_of_a_market_order : resting (day 1 Sell 5 50 1 ∷ day 1 Sell 5 60 2 ∷ market Day 2 Buy 12 1 ∷ []) ≡ []
+nothing_rests_of_a_market_order = refl
+
+-- fill or kill: more than there is
+market_order_killed : told (day 1 Sell 5 50 1 ∷ day 1 Sell 5 60 2 ∷ market FillOrKill 2 Buy 12 1 ∷ []) ≡
+    (1 ∷ 1 ∷ 1 ∷ 5 ∷ 50 ∷ 5 ∷ 0 ∷ 0 ∷ 48 ∷ [])
+    ∷ (1 ∷ 2 ∷ 2 ∷ 5 ∷ 60 ∷ 5 ∷ 0 ∷ 0 ∷ 48 ∷ [])
+    ∷ (2 ∷ 3 ∷ 1 ∷ 12 ∷ 1000000 ∷ 12 ∷ 0 ∷ 0 ∷ 48 ∷ [])
+    ∷ (2 ∷ 3 ∷ 1 ∷ 12 ∷ 1000000 ∷ 12 ∷ 0 ∷ 0 ∷ 52 ∷ []) ∷ []
+market_order_killed = refl
+
+-- a market order with nobody on the other side is accepted and canceled, a sale as well
+market_order_alone : told (market Day 1 Buy 100 1 ∷ market Day 1 Sell 7 2 ∷ []) ≡
+    (1 ∷ 1 ∷ 1 ∷ 100 ∷ 1000000 ∷ 100 ∷ 0 ∷ 0 ∷ 48 ∷ [])
+    ∷ (1 ∷ 1 ∷ 1 ∷ 100 ∷ 1000000 ∷ 100 ∷ 0 ∷ 0 ∷ 52 ∷ [])
+    ∷ (1 ∷ 2 ∷ 2 ∷ 7 ∷ 0 ∷ 7 ∷ 0 ∷ 0 ∷ 48 ∷ [])
+    ∷ (1 ∷ 2 ∷ 2 ∷ 7 ∷ 0 ∷ 7 ∷ 0 ∷ 0 ∷ 52 ∷ []) ∷ []
+market_order_alone = refl

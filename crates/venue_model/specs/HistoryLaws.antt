@@ -23,7 +23,7 @@ use Rattle.venue_model.specs.declared.outputs.Output.{Output}
 use Rattle.venue_model.specs.History.{Message}
 use Rattle.venue_model.specs.Orders.{leaves, is_live, crosses, ahead}
 use Rattle.venue_model.specs.Match.{crossing, fill, done, rest, settled, output, exec, insert_by_priority, by_priority, filled_orders, trade, trades, can_fill, live_alone, matched, canceled_rest, match_outputs}
-use Rattle.venue_model.specs.Requests.{Symbols, State, Stepped, most_resting, is_day, new_refusal, new_answered, entering, greatest_of, accepted, is_named, named, others, cancel_refusal, cancel_reject, cancel_answered, order_canceled, replace_refusal, replace_reject, replace_answered, restamped, amended, order_replaced}
+use Rattle.venue_model.specs.Requests.{Symbols, State, Stepped, most_resting, is_day, new_refusal, new_answered, entering, greatest_of, accepted, is_named, named, others, cancel_refusal, cancel_reject, cancel_answered, order_canceled, replace_refusal, replace_reject, replace_answered, restamped, amended, order_replaced, terms_of}
 use Rattle.venue_model.specs.Step.{Request, cause, obey, step, empty, state_from, outputs_from, state, outputs, requests_from, requests}
 use Rattle.venue_model.specs.ReplacedLaws.{either_way}
 
@@ -184,18 +184,18 @@ below : (n most : ℕ) → nat_le most n ≡ false → n < most
 below n most h = grind (arith, nat_tests)
 
 has-place : (symbols : Symbols) (s : State) (client : ℕ) (n : NewOrderSingle) → new_refusal symbols s client n ≡ None →
-    is_day n.time_in_force ≡ true → length s.orders < most_resting
+    is_day (terms_of n) ≡ true → length s.orders < most_resting
 has-place symbols s client n accepted day = below (length s.orders) most_resting
-    (not-full (nat_le n.cl_ord_id (greatest_of s client)) (not (list_any (bytes_eq n.symbol) symbols)) (is_day n.time_in_force)
+    (not-full (nat_le n.cl_ord_id (greatest_of s client)) (not (list_any (bytes_eq n.symbol) symbols)) (is_day (terms_of n))
     (nat_le most_resting (length s.orders)) accepted day)
 
 module _ (s : State) (c : Cause) (few : length s.orders ≤ most_resting) where
-  few-new : (n : NewOrderSingle) (refusal : Option OrdRejReason) → (refusal ≡ None → is_day n.time_in_force ≡ true → length s.orders < most_resting) →
+  few-new : (n : NewOrderSingle) (refusal : Option OrdRejReason) → (refusal ≡ None → is_day (terms_of n) ≡ true → length s.orders < most_resting) →
       Few most_resting 8194 (new_answered s c n refusal)
   few-new n (Some reason) room = few-answered most_resting 8194 s (exec c (exec_type.Rejected reason) (entering c n)) few (omega arith)
   few-new n None room = record {
-    resting = few-matched n.time_in_force (entering c n) s.orders most_resting few (room refl);
-    told = let told = few-told c n.time_in_force (entering c n) s.orders in omega (arith, told, few);
+    resting = few-matched (terms_of n) (entering c n) s.orders most_resting few (room refl);
+    told = let told = few-told c (terms_of n) (entering c n) s.orders in omega (arith, told, few);
   }
 
   few-cancel : (r : OrderCancelRequest) (refusal : Option CxlRejReason) → Few most_resting 8194 (cancel_answered s c r refusal)

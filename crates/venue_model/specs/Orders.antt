@@ -5,6 +5,8 @@ use Rattle.std.specs.Str.{bytes_eq}
 use Rattle.venue_model.specs.declared.orders.Side.{Side}
 use Rattle.venue_model.specs.declared.orders.Side.TheVariants.{Buy, Sell}
 use Rattle.venue_model.specs.declared.orders.Order.{Order}
+use Rattle.venue_model.specs.declared.commands.OrdType.{OrdType}
+use Rattle.venue_model.specs.declared.commands.OrdType.TheVariants.{Market, Limit}
 
 -- LeavesQty (151): what is left to fill
 abbrev pub leaves : Order → ℕ
@@ -31,6 +33,17 @@ meets Buy p Sell q = nat_le q p
 meets Sell p Buy q = nat_le p q
 meets Buy p Buy q = false
 meets Sell p Sell q = false
+
+-- an order of this type has no price
+abbrev pub is_market : OrdType → Bool
+is_market Market = true
+is_market (Limit price) = false
+
+-- the price by which an order of this side crosses others: no price of the other side is beyond that of a market order
+abbrev pub price_of : Side → OrdType → ℕ
+price_of side (Limit price) = price
+price_of Buy Market = 1000000
+price_of Sell Market = 0
 
 -- a buy crosses the sells of its symbol at its price or below, a sell the buys at its price or above
 abbrev pub crosses : Order → Order → Bool

@@ -19,16 +19,17 @@ use Rattle.venue_model.specs.declared.outputs.CxlRejResponseTo.TheVariants.{Canc
 use Rattle.venue_model.specs.declared.outputs.ExecType.TheVariants as exec_type
 use Rattle.venue_model.specs.declared.outputs.Report.TheVariants.{CancelReject, SessionReject}
 use Rattle.venue_model.specs.declared.outputs.Output.{Output}
-use Rattle.venue_model.specs.Orders.{same_side}
+use Rattle.venue_model.specs.Orders.{same_side, is_market, price_of}
 use Rattle.venue_model.specs.Match.{output, exec, matched, match_outputs}
 
 -- the venue's symbols, in the order of the command line
 abbrev pub Symbols : Type 0
 Symbols = List (List ℕ)
 
--- what a venue is started with, and keeps for a run
+-- what a venue is started with, and keeps for a run: its symbols, and the first sequence at which market orders are read
 pub record Limits : Type 0 where
   pub symbols : Symbols
+  pub cut : ℕ
 
 -- the resting orders, and each client's greatest accepted ClOrdID: client k's at place k - 1, 0 before the first
 pub record State : Type 0 where
@@ -63,6 +64,16 @@ is_day FillOrKill = false
 
 -- NewOrderSingle
 
+-- the same terms for an order that never rests
+abbrev pub at_once : TimeInForce → TimeInForce
+at_once Day = ImmediateOrCancel
+at_once ImmediateOrCancel = ImmediateOrCancel
+at_once FillOrKill = FillOrKill
+
+-- the terms on which a new order comes in: what is left of a market order never rests
+abbrev pub terms_of : NewOrderSingle → TimeInForce
+terms_of n = if is_market n.ord_type then at_once n.time_in_force else n.time_in_force
+
 -- a new order as it comes in
 abbrev pub entering : Cause → NewOrderSingle → Order
 entering c n = record {
@@ -71,7 +82,8 @@ entering c n = record {
   cl_ord_id = n.cl_ord_id;
   symbol = n.symbol;
   side = n.side;
-  price = n.price;
+  price = price_of n.side n.ord_type;
+  is_market = is_market n.ord_type;
   total = n.quantity;
   cum = 0;
   notional = 0;
@@ -83,14 +95,14 @@ abbrev pub new_refusal : Symbols → State → ℕ → NewOrderSingle → Option
 new_refusal symbols s client n =
     if nat_le n.cl_ord_id (greatest_of s client) then Some DuplicateOrder
     else (if not (list_any (bytes_eq n.symbol) symbols) then Some UnknownSymbol
-    else (if is_day n.time_in_force && nat_le most_resting (length s.orders) then Some BookFull
+    else (if is_day (terms_of n) && nat_le most_resting (length s.orders) then Some BookFull
     else None))
 
 abbrev pub new_answered : State → Cause → NewOrderSingle → Option OrdRejReason → Stepped
 new_answered s c n (Some reason) = answered s (exec c (exec_type.Rejected reason) (entering c n))
 new_answered s c n None = record {
-  state = accepted s c.gateway n.cl_ord_id (matched n.time_in_force (entering c n) s.orders);
-  outputs = exec c exec_type.New (entering c n) ∷ match_outputs c n.time_in_force (entering c n) s.orders;
+  state = accepted s c.gateway n.cl_ord_id (matched (terms_of n) (entering c n) s.orders);
+  outputs = exec c exec_type.New (entering c n) ∷ match_outputs c (terms_of n) (entering c n) s.orders;
 }
 
 -- it is refused; or accepted, matched, and what is left rests or is canceled

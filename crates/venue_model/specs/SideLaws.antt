@@ -1,8 +1,10 @@
 -- The two sides, and the prices of one that meet the other's.
-use Rattle.std.proofs.Common.{◌≡◌, ℕ, true, refl}
+use Rattle.std.proofs.Common.{◌≡◌, ℕ, ◌≤◌, true, not, refl, arith}
+use Rattle.std.proofs.lemmas.Bool.Decides.{nat_tests}
+use Rattle.venue_model.specs.declared.commands.OrdType.TheVariants.{Market}
 use Rattle.venue_model.specs.declared.orders.Side.{Side}
 use Rattle.venue_model.specs.declared.orders.Side.TheVariants.{Buy, Sell}
-use Rattle.venue_model.specs.Orders.{opposite, same_side, meets}
+use Rattle.venue_model.specs.Orders.{opposite, same_side, meets, price_of}
 
 -- the test tells the sides apart
 pub one_side : (a b : Side) → same_side a b ≡ true → a ≡ b
@@ -23,3 +25,11 @@ met_side Buy p Buy q h = cc
 met_side Buy p Sell q h = refl
 met_side Sell p Buy q h = refl
 met_side Sell p Sell q h = cc
+
+-- the price of a market order is met by each of the other side that is in range
+pub market_meets : (side other : Side) (q : ℕ) → q ≤ 1000000 →
+    meets side (price_of side Market) other q ≡ not (same_side side other)
+market_meets Buy Buy q most = refl
+market_meets Buy Sell q most = grind (arith, nat_tests, most)
+market_meets Sell Buy q most = grind (arith, nat_tests)
+market_meets Sell Sell q most = refl

@@ -3,6 +3,8 @@ use Rattle.std.specs.Prelude.{⊤, ℕ, ◌+◌, ◌≤◌, List, [], ◌∷◌,
 use Rattle.venue_model.specs.History.{Message}
 use Rattle.venue_model.specs.declared.commands.Command.{Command}
 use Rattle.venue_model.specs.declared.commands.Command.TheVariants.{New, Cancel, Replace, Malformed, Void}
+use Rattle.venue_model.specs.declared.commands.OrdType.{OrdType}
+use Rattle.venue_model.specs.declared.commands.OrdType.TheVariants.{Market, Limit}
 use Rattle.venue_model.specs.declared.outputs.Cause.{Cause}
 use Rattle.venue_model.specs.declared.outputs.Output.{Output}
 use Rattle.venue_model.specs.Requests.{State, Stepped, Symbols, on_new, on_cancel, on_replace, on_malformed}
@@ -14,9 +16,14 @@ IsName n = (1 ≤ n) × (n ≤ 999999999999999)
 abbrev pub IsAmount : ℕ → Type 0
 IsAmount n = (1 ≤ n) × (n ≤ 1000000)
 
+-- the price of an order, where it has one
+abbrev pub IsPriced : OrdType → Type 0
+IsPriced Market = ⊤
+IsPriced (Limit price) = IsAmount price
+
 -- the numbers of a command are in these ranges
 abbrev pub IsCommand : Command → Type 0
-IsCommand (New time order) = IsName order.cl_ord_id × IsAmount order.price × IsAmount order.quantity
+IsCommand (New time order) = IsName order.cl_ord_id × IsPriced order.ord_type × IsAmount order.quantity
 IsCommand (Cancel time request) = IsName request.cl_ord_id × IsName request.orig_cl_ord_id
 IsCommand (Replace time request) =
     IsName request.cl_ord_id × IsName request.orig_cl_ord_id × IsAmount request.price × IsAmount request.quantity

@@ -12,6 +12,9 @@ pub const MOST_SYMBOLS: usize = 8;
 /// How many bytes spell a symbol at most.
 pub const LONGEST_SYMBOL: usize = 8;
 
+/// The highest price, in ticks; the lowest is 1.
+pub const HIGHEST_PRICE: u64 = 1_000_000;
+
 /// How many orders rest at most.
 pub const MOST_RESTING: usize = 4_096;
 

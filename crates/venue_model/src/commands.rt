@@ -1,15 +1,16 @@
 //! Commands: what the messages of traders ask of the book, as the unmarshaller reads them.
 
 ghost use Rattle.std.specs.Prelude.{◌≡◌, IsTrue, ◌↔◌};
-ghost use Rattle.venue_model.specs.Requests.{is_day};
-ghost use Rattle.venue_model.specs.Step.{IsName, IsAmount, IsCommand};
+ghost use Rattle.venue_model.specs.Orders.{is_market, price_of};
+ghost use Rattle.venue_model.specs.Requests.{is_day, at_once, terms_of};
+ghost use Rattle.venue_model.specs.Step.{IsName, IsAmount, IsPriced, IsCommand};
 
-use crate::{Side, Symbol};
+use crate::{HIGHEST_PRICE, Side, Symbol};
 
 /// TimeInForce (59).
 #[derive(Clone, Copy, Debug, PartialEq, Eq)]
 pub enum TimeInForce {
-    /// 0, or no 59: what isn't filled rests in the book.
+    /// 0, or no 59: what isn't filled rests in the book. Of a market order it is canceled (`NewOrderSingle::terms`).
     Day,
     /// 3: what isn't filled at once is canceled.
     ImmediateOrCancel,
@@ -24,9 +25,49 @@ impl TimeInForce {
     {
         self == TimeInForce::Day
     }
+
+    /// The same terms for an order that never rests: what would rest is canceled.
+    fn at_once(self) -> TimeInForce
+        ensures { result ≡ at_once self }
+    {
+        match self {
+            TimeInForce::Day => TimeInForce::ImmediateOrCancel,
+            _ => self,
+        }
+    }
 }
 
-/// NewOrderSingle (35=D): a limit order.
+/// OrdType (40), with Price (44) where an order has one.
+#[derive(Clone, Copy, Debug, PartialEq, Eq)]
+pub enum OrdType {
+    /// 1: it trades at whatever price there is, and never rests.
+    Market,
+    /// 2: it trades at its price, in ticks, 1 to 1,000,000, or at a better one.
+    Limit { price: u64 },
+}
+
+impl OrdType {
+    /// Whether an order of it has no price.
+    pub fn is_market(self) -> bool
+        ensures { result ≡ is_market self }
+    {
+        self == OrdType::Market
+    }
+
+    /// The price by which an order of this side crosses others: a limit order's own. A market order has one that all prices
+    /// of the other side meet, 1,000,000 where it buys and 0 where it sells.
+    pub fn price_of(self, side: Side) -> u64
+        ensures { result ≡ price_of side self }
+    {
+        match (self, side) {
+            (OrdType::Limit { price }, _) => price,
+            (OrdType::Market, Side::Buy) => HIGHEST_PRICE,
+            (OrdType::Market, Side::Sell) => 0,
+        }
+    }
+}
+
+/// NewOrderSingle (35=D).
 #[derive(Clone, Copy)]
 pub struct NewOrderSingle {
     /// ClOrdID (11), 1 to 999,999,999,999,999.
@@ -35,12 +76,26 @@ pub struct NewOrderSingle {
     pub symbol: Symbol,
     /// Side (54).
     pub side: Side,
-    /// Price (44) in ticks, 1 to 1,000,000.
-    pub price: u64,
+    /// OrdType (40), and Price (44).
+    pub ord_type: OrdType,
     /// OrderQty (38), 1 to 1,000,000.
     pub quantity: u64,
-    /// TimeInForce (59).
+    /// TimeInForce (59), as the message has it.
     pub time_in_force: TimeInForce,
+}
+
+impl NewOrderSingle {
+    /// The terms on which it comes in: those of its message, but what isn't filled at once of a market order is canceled
+    /// where its message would have it rest.
+    pub fn terms(&self) -> TimeInForce
+        ensures { result ≡ terms_of self.now }
+    {
+        if self.ord_type.is_market() {
+            self.time_in_force.at_once()
+        } else {
+            self.time_in_force
+        }
+    }
 }
 
 /// OrderCancelRequest (35=F). Its OrderQty (38) is read and otherwise unused.
@@ -150,7 +205,7 @@ impl Command {
     {
         match self {
             Command::New { order, .. } => {
-                is_name(order.cl_ord_id) && is_amount(order.price) && is_amount(order.quantity)
+                is_name(order.cl_ord_id) && is_price(order.ord_type) && is_amount(order.quantity)
             }
             Command::Cancel { request, .. } => {
                 is_name(request.cl_ord_id) && is_name(request.orig_cl_ord_id)
@@ -171,6 +226,16 @@ fn is_name(number: u64) -> bool
     ensures { IsTrue result ↔ IsName number }
 {
     1 <= number && number <= 999_999_999_999_999
+}
+
+/// Whether the price is one, where there is one.
+fn is_price(ord_type: OrdType) -> bool
+    ensures { IsTrue result ↔ IsPriced ord_type }
+{
+    match ord_type {
+        OrdType::Market => true,
+        OrdType::Limit { price } => is_amount(price),
+    }
 }
 
 /// Whether the number is a price or a quantity.

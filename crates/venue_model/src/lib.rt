@@ -12,12 +12,12 @@ mod symbol;
 mod symbols;
 
 pub use bounds::{
-    LONGEST_MESSAGE, LONGEST_SYMBOL, MOST_GATEWAYS, MOST_IN_BLOCK, MOST_OUTPUTS, MOST_RESTING,
-    MOST_SYMBOLS,
+    HIGHEST_PRICE, LONGEST_MESSAGE, LONGEST_SYMBOL, MOST_GATEWAYS, MOST_IN_BLOCK, MOST_OUTPUTS,
+    MOST_RESTING, MOST_SYMBOLS,
 };
 pub use commands::{
-    Command, Malformed, NewOrderSingle, OrderCancelReplaceRequest, OrderCancelRequest, RefMsgType,
-    SessionRejectReason, TimeInForce,
+    Command, Malformed, NewOrderSingle, OrdType, OrderCancelReplaceRequest, OrderCancelRequest,
+    RefMsgType, SessionRejectReason, TimeInForce,
 };
 pub use entries::Entry;
 pub use logic::{Kept, Logic};

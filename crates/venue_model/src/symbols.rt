@@ -1,5 +1,5 @@
-//! The table of the symbols that the venue trades, fixed for a run.
-ghost use Rattle.std.specs.Prelude.{◌≡◌, [], ◌∷◌, ◌++◌, map, string_bytes, IfOk, OnOk, IsErrOf};
+//! The table of the symbols that the venue trades, and from which entry on market orders are read: both fixed for a run.
+ghost use Rattle.std.specs.Prelude.{◌≡◌, ◌≤◌, ◌^◌, [], ◌∷◌, ◌++◌, map, string_bytes, IfOk, OnOk, IsErrOf};
 ghost use Rattle.std.specs.List.{list_any};
 ghost use Rattle.std.specs.Str.{bytes_eq};
 ghost use Rattle.venue_model.specs.Spelling.{AreSymbols, CanJoin};
@@ -21,10 +21,12 @@ pub enum LimitsFault {
     Memory,
 }
 
-/// The symbols (1 to 8) in the order of the command line, numbered by place. Contracts see a record with the list.
+/// The symbols (1 to 8) in the order of the command line, numbered by place, and the cut: the first sequence at which market
+/// orders are read. Contracts see a record with the list and the cut.
 #[derive(Drop)]
 pub struct Limits {
     symbols: IndexSet<Symbol>,
+    cut: u64,
 }
 
 impl Model for Limits {
@@ -33,15 +35,15 @@ impl Model for Limits {
 
     ghost Value = { Limits };
 
-    ghost view = { λ l. record { symbols = l.symbols.keys } };
+    ghost view = { λ l. record { symbols = l.symbols.keys; cut = l.cut } };
 
     ghost invariant = { λ l. AreSymbols l.symbols.keys };
 }
 
 impl Limits {
-    /// The table of these names. `Memory` says nothing of the names.
+    /// The table of these names; market orders are read from the first entry on. `Memory` says nothing of the names.
     pub fn new(alloc: Global, names: &[String]) -> Result<Limits, LimitsFault>
-        ensures names { IfOk result (λ limits. limits ≡ record { symbols = map string_bytes names.now }) }
+        ensures names { IfOk result (λ limits. limits ≡ record { symbols = map string_bytes names.now; cut = 0 }) }
         ensures good { IfOk result (λ _. AreSymbols (map string_bytes names.now)) }
         ensures bad { IsErrOf result LimitsFault.BadSymbol → AreSymbols (map string_bytes names.now) → ⊥ }
     {
@@ -54,7 +56,23 @@ impl Limits {
         for name in names {
             add(&mut symbols, name.as_bytes())?;
         }
-        Ok(Limits { symbols })
+        Ok(Limits { symbols, cut: 0 })
+    }
+
+    /// The same symbols, and market orders are read from the entry of this sequence on (at most 2^48): in a journal that was
+    /// begun before there were any, they stay the Rejects that they were.
+    pub fn cut_at(self, cut: u64) -> Limits
+        requires { cut ≤ 2 ^ 48 }
+        ensures { result ≡ record self { cut = cut } }
+    {
+        Limits { cut, ..self }
+    }
+
+    /// The first sequence at which market orders are read.
+    pub fn cut(&self) -> u64
+        ensures { result ≡ self.now.cut }
+    {
+        self.cut
     }
 
     /// The symbols, in order.

@@ -26,7 +26,7 @@ module _ (old new : Place) (honest : Type 0) (file : Told) (opens : Opens old ne
       at false is = let made = opens.made is in
           inr (
             is,
-            ⊎_elim (λ may. ([], subst (λ f. IsJournal f []) (sym (made.1 c may)) made.0))
+            ⊎_elim (λ may. ([], subst (λ f. IsJournal f []) (sym (made.1 c may)) made.0.0))
                 (λ more. (more.0 ++ more.2.0, more.2.1)) left,
           )
 

@@ -54,27 +54,32 @@ fn start<
     W: Wire,
     O: Write,
     E: Write,
->(rt: &R, words: &Words, wire: &mut W, out: &mut O, err: &mut E) -> u8
-    requires { IsInRange words.now.mode }
+>(rt: &R, words: Words, wire: &mut W, out: &mut O, err: &mut E) -> u8
+    requires { IsInRange words.mode }
 {
     let _streams = match StandardStreams::hold(rt) {
         Ok(streams) => streams,
         Err(fault) => return ServeFault::from(JournalFault::from(fault)).say(err),
     };
-    let journal = words.journal.as_str();
+    let Words {
+        mode,
+        journal,
+        limits,
+    } = words;
+    let journal = journal.as_str();
     let Ok(mut folder) = SystemFolder::new(rt, journal) else {
         return ServeFault::Memory.say(err);
     };
     let Ok(mut sign) = StopFile::beside(rt, journal) else {
         return ServeFault::Memory.say(err);
     };
-    match words.mode {
+    match mode {
         Mode::Standard => {
-            let (status, _) = run(rt.alloc(), words, &mut folder, wire, err);
+            let (status, _) = run(rt.alloc(), limits, &mut folder, wire, err);
             status
         }
         Mode::Listening { port, gateways } => {
-            run_for(rt, words, port, gateways, &mut folder, &mut sign, out, err)
+            run_for(rt, limits, port, gateways, &mut folder, &mut sign, out, err)
         }
     }
 }
@@ -84,7 +89,7 @@ fn main(rt: HostRuntime) -> ExitCode {
     let mut out = rt.stdout();
     let mut wire = StdWire::new(rt.stdin(), rt.stdout());
     let status = match read_words(&rt) {
-        Ok(words) => start(&rt, &words, &mut wire, &mut out, &mut err),
+        Ok(words) => start(&rt, words, &mut wire, &mut out, &mut err),
         Err(fault) => refuse(fault, &mut err),
     };
     ExitCode::from(status)

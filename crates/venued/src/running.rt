@@ -7,7 +7,6 @@ ghost use Rattle.journal.specs.Openings.{LeftOrNew};
 ghost use Rattle.venued.specs.Running.{Runs};
 ghost use Rattle.venue.specs.Serving.{IsStatus};
 
-use crate::words::Words;
 use disks::{FileDisk, Folder, JournalDisk, RawFile};
 use gateway::Wire;
 use journal::open_journal;
@@ -17,13 +16,14 @@ use std::net::{Net, TcpListener, TcpStream};
 use std::rt::Clock;
 use std::thread::Threads;
 use venue::{ServeFault, StopSign, listen, serve};
+use venue_model::Limits;
 use workers::{Gate, NoGate};
 
 /// Opens the file of the journal, or makes it, and serves over it: the program's status, and the disk if the file could
 /// be opened. The status is that of `serve`, or 1, with the fault's line, where the file couldn't be opened.
 pub fn run<P: Folder, W: Wire, E: Write>(
     alloc: Global,
-    words: &Words,
+    limits: Limits,
     folder: &mut P,
     wire: &mut W,
     err: &mut E,
@@ -42,7 +42,7 @@ pub fn run<P: Folder, W: Wire, E: Write>(
 {
     match open_journal(folder) {
         Ok(disk) => {
-            let (status, disk) = serve(alloc, &words.limits, disk, wire, err);
+            let (status, disk) = serve(alloc, limits, disk, wire, err);
             (status, Some(disk))
         }
         Err(fault) => (ServeFault::from(fault).say(err), None),
@@ -64,7 +64,7 @@ pub fn run_listening<
 >(
     rt: &R,
     gate: &Q,
-    words: &Words,
+    limits: Limits,
     port: u16,
     folder: &mut P,
     sign: &mut S,
@@ -85,14 +85,7 @@ pub fn run_listening<
     match open_journal(folder) {
         Ok(disk) => {
             let (status, disk) = listen::<R, Q, FileDisk<F>, S, O, E, G>(
-                rt,
-                gate,
-                &words.limits,
-                port,
-                disk,
-                sign,
-                out,
-                err,
+                rt, gate, limits, port, disk, sign, out, err,
             );
             (status, Some(disk))
         }
@@ -110,7 +103,7 @@ pub fn run_for<
     E: Write,
 >(
     rt: &R,
-    words: &Words,
+    limits: Limits,
     port: u16,
     gateways: u8,
     folder: &mut P,
@@ -122,28 +115,28 @@ pub fn run_for<
 {
     let (status, _) = match gateways {
         1 => run_listening::<R, NoGate, F, P, S, O, E, 1>(
-            rt, &NoGate, words, port, folder, sign, out, err,
+            rt, &NoGate, limits, port, folder, sign, out, err,
         ),
         2 => run_listening::<R, NoGate, F, P, S, O, E, 2>(
-            rt, &NoGate, words, port, folder, sign, out, err,
+            rt, &NoGate, limits, port, folder, sign, out, err,
         ),
         3 => run_listening::<R, NoGate, F, P, S, O, E, 3>(
-            rt, &NoGate, words, port, folder, sign, out, err,
+            rt, &NoGate, limits, port, folder, sign, out, err,
         ),
         4 => run_listening::<R, NoGate, F, P, S, O, E, 4>(
-            rt, &NoGate, words, port, folder, sign, out, err,
+            rt, &NoGate, limits, port, folder, sign, out, err,
         ),
         5 => run_listening::<R, NoGate, F, P, S, O, E, 5>(
-            rt, &NoGate, words, port, folder, sign, out, err,
+            rt, &NoGate, limits, port, folder, sign, out, err,
         ),
         6 => run_listening::<R, NoGate, F, P, S, O, E, 6>(
-            rt, &NoGate, words, port, folder, sign, out, err,
+            rt, &NoGate, limits, port, folder, sign, out, err,
         ),
         7 => run_listening::<R, NoGate, F, P, S, O, E, 7>(
-            rt, &NoGate, words, port, folder, sign, out, err,
+            rt, &NoGate, limits, port, folder, sign, out, err,
         ),
         _ => run_listening::<R, NoGate, F, P, S, O, E, 8>(
-            rt, &NoGate, words, port, folder, sign, out, err,
+            rt, &NoGate, limits, port, folder, sign, out, err,
         ),
     };
     status

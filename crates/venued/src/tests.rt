@@ -100,19 +100,28 @@ impl StopSign for WhenMet<'_> {
     }
 }
 
+/// A venue's limits, with the one symbol ABC.
+fn limits(alloc: Global) -> Result<Limits, Fail> {
+    let words = [String::from_str(alloc, "ABC")?];
+    match Limits::new(alloc, &words) {
+        Ok(limits) => Ok(limits),
+        Err(_) => Err(Fail::from("no symbols")),
+    }
+}
+
 /// The venue's status behind the meeting, and what it printed, at some free ports.
 fn serve_two<
     R: Threads + Clock + Net<Listener = TcpListener, Stream = TcpStream> + AllocGlobal + Sync,
->(rt: &R, meeting: &Meeting, limits: &Limits) -> Result<(u8, Vec<u8>), Fail> {
+>(rt: &R, meeting: &Meeting) -> Result<(u8, Vec<u8>), Fail> {
     for at in 0..TRIES {
         let mut disk = MemDisk::new(rt.alloc(), b"")?;
-        format(&mut disk)?;
+        format(&mut disk, 1)?;
         let (mut out, mut err) = (Vec::new(rt.alloc()), Vec::new(rt.alloc()));
         let mut sign = WhenMet(meeting);
         let (status, _) = listen::<R, Meeting, MemDisk, WhenMet<'_>, Vec<u8>, Vec<u8>, 2>(
             rt,
             meeting,
-            limits,
+            limits(rt.alloc())?,
             20_000 + 997 * at,
             disk,
             &mut sign,
@@ -128,12 +137,8 @@ fn serve_two<
 
 #[test]
 fn side_by_side(rt: HostRuntime) -> Result<(), Fail> {
-    let words = [String::from_str(rt.alloc(), "ABC")?];
-    let Ok(limits) = Limits::new(rt.alloc(), &words) else {
-        return Err(Fail::from("no symbols"));
-    };
     let meeting = Meeting::new();
-    let (status, out) = serve_two(&rt, &meeting, &limits)?;
+    let (status, out) = serve_two(&rt, &meeting)?;
     assert_eq!(rt; status, 0);
     assert!(rt; meeting.is_full());
     assert_eq!(rt;

@@ -2,9 +2,12 @@
 ghost use Rattle.std.specs.Prelude.{◌≡◌, ℕ, ◌/◌, ◌%◌, ◌<◌, ◌≤◌, List, not, nat_eq, Some};
 ghost use Rattle.std.specs.List.{prefix_len};
 ghost use Rattle.venue_model.specs.Spelling.{IsSpelling};
-ghost use Rattle.command_words.specs.Packing.{side_number, time_in_force_number, reason_number, type_number, symbol_word};
+ghost use Rattle.venue_model.specs.Step.{IsPriced};
+ghost use Rattle.command_words.specs.Packing.{side_number, time_in_force_number, price_number, reason_number, type_number, symbol_word};
 
-use venue_model::{LONGEST_SYMBOL, RefMsgType, SessionRejectReason, Side, Symbol, TimeInForce};
+use venue_model::{
+    LONGEST_SYMBOL, OrdType, RefMsgType, SessionRejectReason, Side, Symbol, TimeInForce,
+};
 
 /// The kind of a void command.
 pub(super) const VOID: u64 = 0;
@@ -69,6 +72,16 @@ pub(super) fn time_in_force_number(time_in_force: TimeInForce) -> u64
     }
 }
 
+/// The price, 0 where there is none.
+pub(super) fn price_number(ord_type: OrdType) -> u64
+    ensures { result ≡ price_number ord_type }
+{
+    match ord_type {
+        OrdType::Market => 0,
+        OrdType::Limit { price } => price,
+    }
+}
+
 pub(crate) fn reason_number(reason: SessionRejectReason) -> u64
     ensures value { result ≡ reason_number reason }
     ensures small { result < 5 }
@@ -103,6 +116,15 @@ pub(super) fn price_in(head: u64) -> u64
     ensures { result ≡ head / 1073741824 }
 {
     head / PRICE
+}
+
+pub(super) fn ord_type_in(head: u64) -> OrdType
+    ensures { (ord_type : OrdType) → IsPriced ord_type → head / 1073741824 ≡ price_number ord_type → result ≡ ord_type }
+{
+    match price_in(head) {
+        0 => OrdType::Market,
+        price => OrdType::Limit { price },
+    }
 }
 
 pub(super) fn side_in(head: u64) -> Side

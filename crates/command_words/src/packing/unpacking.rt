@@ -8,8 +8,8 @@ ghost use Rattle.venue_model.specs.declared.commands.Malformed.{Malformed};
 ghost use Rattle.command_words.specs.Packing.{command_words, IsPackable};
 
 use crate::packing::fields::{
-    CANCEL, MALFORMED, NEW, REPLACE, gateway_in, kind_in, price_in, quantity_in, reason_in,
-    side_in, symbol_in, tag_in, time_in_force_in, type_in,
+    CANCEL, MALFORMED, NEW, REPLACE, gateway_in, kind_in, ord_type_in, price_in, quantity_in,
+    reason_in, side_in, symbol_in, tag_in, time_in_force_in, type_in,
 };
 use venue_model::{
     Command, Malformed, NewOrderSingle, OrderCancelReplaceRequest, OrderCancelRequest,
@@ -47,7 +47,7 @@ fn new_in(words: &[u64]) -> Option<Command>
             cl_ord_id,
             symbol,
             side: side_in(head),
-            price: price_in(head),
+            ord_type: ord_type_in(head),
             quantity: quantity_in(head),
             time_in_force: time_in_force_in(head),
         },

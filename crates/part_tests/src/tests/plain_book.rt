@@ -4,8 +4,8 @@
 use std::alloc::{AllocError, Global};
 use venue_model::{
     Command, CxlRejReason, CxlRejResponseTo, ExecType, ExecutionReport, Malformed, NewOrderSingle,
-    OrdRejReason, Order, OrderCancelReject, OrderCancelReplaceRequest, OrderCancelRequest, Output,
-    Report, Side, Symbol, TimeInForce,
+    OrdRejReason, OrdType, Order, OrderCancelReject, OrderCancelReplaceRequest, OrderCancelRequest,
+    Output, Report, Side, Symbol, TimeInForce,
 };
 
 /// How many orders rest at most.
@@ -25,6 +25,14 @@ pub struct PlainBook {
     pub orders: Vec<Order>,
     greatest: [u64; 8],
     symbol: Symbol,
+}
+
+/// On which terms a new order comes in: nothing of a market order rests.
+fn terms_of(request: &NewOrderSingle) -> TimeInForce {
+    match (request.ord_type, request.time_in_force) {
+        (OrdType::Market, TimeInForce::Day) => TimeInForce::ImmediateOrCancel,
+        (_, time_in_force) => time_in_force,
+    }
 }
 
 impl PlainBook {
@@ -97,13 +105,19 @@ impl PlainBook {
         request: &NewOrderSingle,
         out: &mut Vec<Output>,
     ) -> Result<(), AllocError> {
+        let (price, is_market) = match (request.ord_type, request.side) {
+            (OrdType::Limit { price }, _) => (price, false),
+            (OrdType::Market, Side::Buy) => (1_000_000, true),
+            (OrdType::Market, Side::Sell) => (0, true),
+        };
         let order = Order {
             id: origin.sequence.wrapping_add(1),
             client: origin.client,
             cl_ord_id: request.cl_ord_id,
             symbol: request.symbol,
             side: request.side,
-            price: request.price,
+            price,
+            is_market,
             total: request.quantity,
             cum: 0,
             notional: 0,
@@ -114,7 +128,7 @@ impl PlainBook {
         }
         self.accept(origin.client, request.cl_ord_id);
         tell(origin, ExecType::New, &order, out)?;
-        self.enter(origin, &order, request.time_in_force, out)
+        self.enter(origin, &order, terms_of(request), out)
     }
 
     /// Why a new order is refused.
@@ -123,7 +137,7 @@ impl PlainBook {
             Some(OrdRejReason::DuplicateOrder)
         } else if !self.symbol.is(&request.symbol) {
             Some(OrdRejReason::UnknownSymbol)
-        } else if request.time_in_force == TimeInForce::Day && self.orders.len() >= MOST {
+        } else if terms_of(request) == TimeInForce::Day && self.orders.len() >= MOST {
             Some(OrdRejReason::BookFull)
         } else {
             None

@@ -9,7 +9,7 @@ use fix_orders::body_of;
 use std::alloc::Global;
 use std::test::Fail;
 use venue_model::{
-    Command, ExecType, LONGEST_MESSAGE, Limits, MOST_GATEWAYS, NewOrderSingle, Order,
+    Command, ExecType, LONGEST_MESSAGE, Limits, MOST_GATEWAYS, NewOrderSingle, OrdType, Order,
     OrderCancelReplaceRequest, OrderCancelRequest, Output, Report, Side, Symbol, TimeInForce,
 };
 
@@ -50,7 +50,7 @@ fn new(
     symbol: Symbol,
     cl_ord_id: u64,
     side: Side,
-    price: u64,
+    ord_type: OrdType,
     quantity: u64,
     time_in_force: TimeInForce,
 ) -> Command {
@@ -60,14 +60,14 @@ fn new(
             cl_ord_id,
             symbol,
             side,
-            price,
+            ord_type,
             quantity,
             time_in_force,
         },
     }
 }
 
-/// A new order by chance, which rests, or which trades on one of three terms.
+/// A new order by chance, which rests, or which trades on one of three terms, one in four of these without a price.
 fn new_order(state: &mut u64, symbol: Symbol, cl_ord_id: u64, trades: bool) -> Command {
     let side = side_of(chance(state));
     let time_in_force = match chance(state) % 3 {
@@ -76,8 +76,12 @@ fn new_order(state: &mut u64, symbol: Symbol, cl_ord_id: u64, trades: bool) -> C
         _ => TimeInForce::Day,
     };
     let price = price_of(side, chance(state), trades);
+    let ord_type = match chance(state) % 4 {
+        0 if trades => OrdType::Market,
+        _ => OrdType::Limit { price },
+    };
     let quantity = 1 + chance(state) % 100;
-    new(symbol, cl_ord_id, side, price, quantity, time_in_force)
+    new(symbol, cl_ord_id, side, ord_type, quantity, time_in_force)
 }
 
 /// A cancel of a resting order.
@@ -280,14 +284,22 @@ fn full_book_is_hardly_read(rt: HostRuntime) -> Result<(), Fail> {
     let symbol = Symbol::new(b"ABC").ok_or("no symbol")?;
     let mut book = Book::new(alloc, &limits(alloc)?)?;
     let mut out = Vec::with_capacity(alloc, MOST_OUTPUTS)?;
+    let ord_type = OrdType::Limit { price: 1 };
     for turn in 0..4_097u64 {
-        let buy = new(symbol, turn + 1, Side::Buy, 1, 1, TimeInForce::Day);
+        let buy = new(symbol, turn + 1, Side::Buy, ord_type, 1, TimeInForce::Day);
         ask(&mut book, turn, 1, &buy, &mut out)?;
         if book.reads() != 0 {
             Err("an order that crosses none reads none")?;
         }
     }
-    let sell = new(symbol, 1, Side::Sell, 1, 1, TimeInForce::ImmediateOrCancel);
+    let sell = new(
+        symbol,
+        1,
+        Side::Sell,
+        ord_type,
+        1,
+        TimeInForce::ImmediateOrCancel,
+    );
     ask(&mut book, 4_097, 2, &sell, &mut out)?;
     if out.len() != 3 || book.reads() > 2 {
         Err("a sale of one reads two at most")?;

@@ -9,8 +9,8 @@ use fix_orders::body_of;
 use std::alloc::{AllocError, Global};
 use std::test::Fail;
 use venue_model::{
-    Command, LONGEST_MESSAGE, Limits, MOST_GATEWAYS, NewOrderSingle, OrderCancelReplaceRequest,
-    OrderCancelRequest, Output, Side, Symbol, TimeInForce,
+    Command, LONGEST_MESSAGE, Limits, MOST_GATEWAYS, NewOrderSingle, OrdType,
+    OrderCancelReplaceRequest, OrderCancelRequest, Output, Side, Symbol, TimeInForce,
 };
 
 /// 2025-01-02, 09:30:00.
@@ -31,7 +31,7 @@ enum Kind {
 use Kind::{Cancel, Day, FillOrKill, ImmediateOrCancel, Replace};
 use Side::{Buy, Sell};
 
-/// A request in ABC: client, what it asks, side, quantity, price, ClOrdID.
+/// A request in ABC: client, what it asks, side, quantity, price (0 in a market order, which has none), ClOrdID.
 type Ask = (u8, Kind, Side, u64, u64, u64);
 
 /// A day's name; how many orders of C1 to buy 1 at 1 rest at its beginning; requests; and of the reports the last ones: to
@@ -98,7 +98,10 @@ fn new(
             cl_ord_id,
             symbol,
             side,
-            price,
+            ord_type: match price {
+                0 => OrdType::Market,
+                price => OrdType::Limit { price },
+            },
             quantity,
             time_in_force,
         },
@@ -203,7 +206,76 @@ fn ends_in(out: &[Output], reports: &[(u8, &[u8])]) -> bool {
 
 #[test]
 fn worked_days(rt: HostRuntime) -> Result<(), Fail> {
-    let rows: [Row; 11] = [
+    let rows: [Row; 14] = [
+        (
+            "market_order_alone",
+            0,
+            &[(1, Day, Buy, 100, 0, 1)],
+            &[
+                (
+                    1,
+                    b"37=1|17=1|150=0|39=0|11=1|55=ABC|54=1|38=100|151=100|14=0|6=0|",
+                ),
+                (
+                    1,
+                    b"37=1|17=2|150=4|39=4|11=1|55=ABC|54=1|38=100|151=0|14=0|6=0|",
+                ),
+            ],
+        ),
+        (
+            "market_order_sweeps",
+            0,
+            &[
+                (1, Day, Sell, 5, 50, 1),
+                (1, Day, Sell, 5, 60, 2),
+                (2, Day, Buy, 12, 0, 1),
+            ],
+            &[
+                (
+                    2,
+                    b"37=3|17=3|150=0|39=0|11=1|55=ABC|54=1|38=12|151=12|14=0|6=0|",
+                ),
+                (
+                    1,
+                    b"37=1|17=4|150=F|39=2|11=1|55=ABC|54=2|38=5|44=50|32=5|31=50|151=0|14=5|6=50|",
+                ),
+                (
+                    2,
+                    b"37=3|17=5|150=F|39=1|11=1|55=ABC|54=1|38=12|32=5|31=50|151=7|14=5|6=50|",
+                ),
+                (
+                    1,
+                    b"37=2|17=6|150=F|39=2|11=2|55=ABC|54=2|38=5|44=60|32=5|31=60|151=0|14=5|6=60|",
+                ),
+                (
+                    2,
+                    b"37=3|17=7|150=F|39=1|11=1|55=ABC|54=1|38=12|32=5|31=60|151=2|14=10|6=55|",
+                ),
+                (
+                    2,
+                    b"37=3|17=8|150=4|39=4|11=1|55=ABC|54=1|38=12|151=0|14=10|6=55|",
+                ),
+            ],
+        ),
+        (
+            "market_order_killed",
+            0,
+            &[
+                (1, Day, Sell, 5, 50, 1),
+                (1, Day, Sell, 5, 60, 2),
+                (2, FillOrKill, Buy, 12, 0, 1),
+            ],
+            &[
+                (
+                    2,
+                    b"37=3|17=3|150=0|39=0|11=1|55=ABC|54=1|38=12|151=12|14=0|6=0|",
+                ),
+                (
+                    2,
+                    b"37=3|17=4|150=4|39=4|11=1|55=ABC|54=1|38=12|151=0|14=0|6=0|",
+                ),
+            ],
+        ),
         (
             "first_trade",
             0,

@@ -54,7 +54,7 @@ pub fn stages_of<const N: usize, const M: usize, const G: usize>(
 {
     let journal = empty_journal(alloc)?;
     let book = Book::new(alloc, limits)?;
-    let Ok((crew, gateways)) = Crew::new(alloc, rings, seats, journal, book) else {
+    let Ok((crew, gateways)) = Crew::new(alloc, rings, seats, limits, journal, book) else {
         return Err(Fail::from("no memory"));
     };
     Ok((Box::new(alloc, crew)?, gateways))

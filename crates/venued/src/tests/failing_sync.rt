@@ -1,11 +1,11 @@
 //! A session over standard streams whose first order can't be brought to the disk.
 
+use crate::tests::limits;
 use gateway::MemWire;
 use journal::{Call, MemDisk, entries, format};
 use std::alloc::Global;
 use std::test::Fail;
 use venue::serve;
-use venue_model::Limits;
 
 /// A Logon and an order to buy 100 at 50.
 const INPUT: &[u8] =
@@ -20,7 +20,7 @@ const LOGON_IS_TOLD: &[u8] =
 /// A disk with an empty journal, and how many calls it takes to open that.
 fn empty_journal(alloc: Global) -> Result<(MemDisk, usize), Fail> {
     let mut disk = MemDisk::new(alloc, b"")?;
-    format(&mut disk)?;
+    format(&mut disk, 1)?;
     let formatted = disk.calls().len();
     entries(alloc, &mut disk)?;
     let opening = disk.calls().len().wrapping_sub(formatted);
@@ -29,15 +29,11 @@ fn empty_journal(alloc: Global) -> Result<(MemDisk, usize), Fail> {
 
 #[test]
 fn first_sync_fails(rt: HostRuntime) -> Result<(), Fail> {
-    let words = [String::from_str(rt.alloc(), "ABC")?];
-    let Ok(limits) = Limits::new(rt.alloc(), &words) else {
-        return Err(Fail::from("no symbols"));
-    };
     let (mut disk, opening) = empty_journal(rt.alloc())?;
     disk.fail_at(opening.wrapping_add(2) as u64, 0);
     let mut wire = MemWire::new(rt.alloc(), INPUT)?;
     let mut err = Vec::new(rt.alloc());
-    let (status, disk) = serve(rt.alloc(), &limits, disk, &mut wire, &mut err);
+    let (status, disk) = serve(rt.alloc(), limits(rt.alloc())?, disk, &mut wire, &mut err);
     assert_eq!(rt; status, 2);
     assert_eq!(rt; wire.taken(), LOGON_IS_TOLD);
     assert_eq!(rt; err.as_slice(), b"venued: journal failed\n".as_slice());

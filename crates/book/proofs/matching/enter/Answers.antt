@@ -1,5 +1,5 @@
 -- What is left of a day order joins the list at its end; what rested stays in order.
-use Rattle.std.proofs.Common.{◌≡◌, ◌<◌, length, ap, sym, subst, ◌∙◌, arith}
+use Rattle.std.proofs.Common.{◌≡◌, ◌<◌, false, length, ap, sym, subst, ◌∙◌, arith}
 use Rattle.venue_model.specs.declared.orders.Order.{Order}
 use Rattle.venue_model.specs.Orders.{leaves}
 use Rattle.venue_model.specs.Requests.{is_day, most_resting}
@@ -30,9 +30,11 @@ returns-then-leaves-ne0-clause-standing c =
     let stamp : c.args.incoming.now.stamp ≡ left.stamp = ap (λ (o : Order). o.stamp) (sym c.sweep-left.ensures.done) in
     let some : leaves left ≡ 0 → ⊥ = λ none. c.if-leaves-ne0.true (c.leaves.ensures ∙ none) in
     let day = c.requires.place (ap is_day c.in-Day.is) in
+    let limit : left.is_market ≡ false = ap (λ (o : Order). o.is_market) c.sweep-left.ensures.done
+    ∙ c.requires.limit (ap is_day c.in-Day.is) in
     let no_longer = c.sweep-left.ensures.no_longer in
     let few : length xs < most_resting = omega (arith, day, no_longer) in
-    rw c.push.ensures (standing-push xs left (rests-left left c.sweep-left.ensures.in_range some)
+    rw c.push.ensures (standing-push xs left (rests-left left c.sweep-left.ensures.in_range limit some)
     (subst (λ s. Below s xs) stamp (c.sweep-left.ensures.below c.args.incoming.now.stamp c.requires.behind)) few
     c.sweep-left.ensures.standing)
 

@@ -14,7 +14,7 @@ returns c = c.read_digits.ensures ∙ ap value_of c.get.ensures
 pub read_digits-requires : goal.read_digits-requires
 read_digits-requires c =
     let value = value_in c.args.values.now c.args.tag in
-    let number = short_number (format_of (tag_number c.args.tag)) value c.requires.number
+    let number = short_number (format_of c.args.table (tag_number c.args.tag)) value c.requires.number
     (c.requires.right.format c.args.tag c.requires.required)
     (c.requires.right.range c.args.tag c.requires.required) in
     rw c.get.ensures (record {

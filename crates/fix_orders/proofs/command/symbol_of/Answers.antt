@@ -6,4 +6,4 @@ use Rattle.fix_orders.proofs.command.symbol_of.Goals as goal
 
 pub of_name-requires : goal.of_name-requires
 of_name-requires c =
-    subst IsSpelling (sym c.get.ensures) (spelling _ (c.requires.format Symbol (symbol_needed c.args.kind)))
+    subst IsSpelling (sym c.get.ensures) (spelling _ (c.requires.format Symbol (symbol_needed c.args.table)))

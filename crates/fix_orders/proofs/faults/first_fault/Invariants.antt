@@ -7,5 +7,5 @@ use Rattle.fix_orders.proofs.faults.first_fault.Given as goal
 
 abbrev pub invariant-loop-reason : goal.invariant-loop-reason
 invariant-loop-reason l =
-    (fields : List Field) → IsFound l.kind fields l.found
-    → fault_in (drop l.reason-index l.reason-items) l.kind fields ≡ fault_in classes l.kind fields
+    (fields : List Field) → IsFound l.table fields l.found
+    → fault_in (drop l.reason-index l.reason-items) l.table fields ≡ fault_in classes l.table fields

@@ -24,6 +24,7 @@ returns-clause-ends g c =
       ready = served.result.1;
       summary = c.close-disk.result.0;
       behind = opened.opened.0;
+      cut = opened.cut;
       crew = opened.opened.1;
       counts = opened.counts;
       opened = opened.disk;

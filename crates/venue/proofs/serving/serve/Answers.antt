@@ -46,6 +46,7 @@ returns-clause-served g c =
         opens = record {
           crew = opened.opened.1;
           behind = opened.opened.0;
+          cut = opened.cut;
           seat = subst (λ (s : At Limits). IsFirstSeat rings s) (sym first.1) c.first_seat-seat.ensures.seat;
           session = first.0;
           wire = refl;

@@ -44,6 +44,10 @@ admit-requires-clause-in_range c =
     (amended-range r o c.requires.stands.rests.in_range (fits-more r o c.requires.fits) c.requires.quantity
     c.requires.price))
 
+pub admit-requires-clause-limit : goal.admit-requires-clause-limit
+admit-requires-clause-limit c = λ day.
+    rw (c.restamped-order.ensures, c.amended-amended.ensures) c.requires.stands.rests.limit
+
 pub admit-requires-clause-behind : goal.admit-requires-clause-behind
 admit-requires-clause-behind c =
     rw c.restamped-order.ensures (c.take_out.ensures.below c.args.cause.sequence c.requires.behind)

@@ -1,7 +1,7 @@
 -- The order that comes in is in a symbol of the venue, and behind all others.
-use Rattle.std.proofs.Common.{◌≡◌, ap, sym, ◌∙◌}
+use Rattle.std.proofs.Common.{◌≡◌, ap, sym, ◌∙◌, arith}
 use Rattle.venue_model.specs.declared.orders.Order.{Order}
-use Rattle.book.proofs.RequestLemmas.{known-new}
+use Rattle.book.proofs.RequestLemmas.{known-new, limit-rests, price-most}
 use Rattle.book.proofs.book.Book.new_order.Goals as goal
 
 pub admit-requires-clause-known : goal.admit-requires-clause-known
@@ -10,6 +10,20 @@ admit-requires-clause-known c =
     ap (λ (o : Order). o.symbol) c.entering-order.ensures in
     rw symbol (known-new c.args.self.now.limits.symbols c.args.self.now.state c.args.cause.gateway c.args.request.now
     (sym c.new_refusal.ensures ∙ c.in_default.is))
+
+pub admit-requires-clause-in_range : goal.admit-requires-clause-in_range
+admit-requires-clause-in_range c =
+    let n = c.args.request.now in
+    rw c.entering-order.ensures (record {
+      cum = omega arith;
+      total = c.requires.quantity.1;
+      price = price-most n.side n.ord_type c.requires.price;
+      notional = omega arith;
+    })
+
+pub admit-requires-clause-limit : goal.admit-requires-clause-limit
+admit-requires-clause-limit c = λ day.
+    rw c.entering-order.ensures (limit-rests c.args.request.now (rw c.terms.ensures at day))
 
 pub returns-clause-behind : goal.returns-clause-behind
 returns-clause-behind c =

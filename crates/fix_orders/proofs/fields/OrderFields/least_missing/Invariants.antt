@@ -5,4 +5,4 @@ use Rattle.fix_orders.specs.Reading.{least}
 use Rattle.fix_orders.proofs.fields.OrderFields.least_missing.Given as goal
 
 abbrev pub invariant-loop-tag : goal.invariant-loop-tag
-invariant-loop-tag l = l.found ≡ least (missing_among l.kind l.self.values (take l.tag-index l.tag-items))
+invariant-loop-tag l = l.found ≡ least (missing_among l.table l.self.values (take l.tag-index l.tag-items))

@@ -6,7 +6,7 @@ use Rattle.fix_orders.proofs.fields.OrderFields.read.Goals as goal
 pub loop-field-init : goal.loop-field-init
 loop-field-init c = record {
   front = _;
-  found_in = c.new-found.ensures c.args.kind;
+  found_in = c.new-found.ensures c.args.table;
   whole = ap fields_left c.into_iter-field-iterator.ensures.into_iter_gives;
   each = c.into_iter-field-iterator.result.run.each;
 }

@@ -4,4 +4,4 @@ use Rattle.fix_orders.specs.Findings.{IsReading}
 use Rattle.fix_orders.proofs.fields.OrderFields.read.Given as goal
 
 abbrev pub invariant-loop-field : goal.invariant-loop-field
-invariant-loop-field l = IsReading l.kind (fields_left l.field-iterator) (fields_left l.fn.fields) l.found
+invariant-loop-field l = IsReading l.table (fields_left l.field-iterator) (fields_left l.fn.fields) l.found
