@@ -4,7 +4,7 @@
     scripts/kill-and-restart.py [KILLS]             20 kills, if left out, and 10 ordered stops between them
     scripts/kill-and-restart.py --standard [KILLS]  the same for `venued -`, one member over pipes, without stops
 
-Four members trade over TCP at once, in bursts, with orders on all terms, cancels and replaces.
+Four members trade over TCP at once, in bursts, with limit orders on all terms, market orders, cancels and replaces.
 After each kill, or stop by the file, the reports that venue-replay prints have to
 
 - begin with those that it printed before: nothing that was kept is lost or told otherwise;

@@ -1,4 +1,5 @@
-"""A journal of a day by chance, for the scripts that measure: so many entries, with about so many orders resting."""
+"""A journal of a day by chance, for the scripts that measure: so many entries, with about so many orders resting. It has
+limit orders alone, and version 1, so that the programs of two releases can be measured on the same day."""
 import random
 import struct
 

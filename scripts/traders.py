@@ -5,15 +5,18 @@ import re
 import threading
 import time
 
-from venues import PATIENCE, TIME, Trouble, Venue, message, order, parted, replay, value
+from venues import PATIENCE, TIME, Trouble, Venue, market_order, message, order, parted, replay, value
 
 BURST = 32     # Requests that a member sends in one go, so that many are under way at a kill.
 PLACE = re.compile(r"\|17=(\d+)\|")
 
 
 def request(name):
-    """Type and body of a member's request of this ClOrdID. Of eight in a row each has another form."""
+    """Type and body of a member's request of this ClOrdID. Of eight in a row each has another form; the last of each
+    sixteen is a market order."""
     side, quantity, price = 1 + name % 2, 1 + name % 7, 49 + name % 3
+    if name % 16 == 0:
+        return "D", market_order(name, 1 + name // 16 % 2, quantity)
     of_before = f"11={name}|41={name - 1}|55=ABC|54={3 - side}|60={TIME}|38={quantity + 5}|"
     forms = {2: ("D", order(name, side, quantity, price, more="59=3|")),
              3: ("D", order(name, side, quantity, price, more="59=4|")),

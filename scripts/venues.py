@@ -50,6 +50,11 @@ def order(name, side, quantity, price, symbol="ABC", more=""):
     return f"11={name}|55={symbol}|54={side}|60={TIME}|38={quantity}|40=2|44={price}|{more}"
 
 
+def market_order(name, side, quantity, symbol="ABC", more=""):
+    """The body of a new order without a price: it trades at any, and never rests."""
+    return f"11={name}|55={symbol}|54={side}|60={TIME}|38={quantity}|40=1|{more}"
+
+
 def printed(data):
     """Bytes of FIX with the byte 01 as a bar."""
     return data.decode("ascii", "replace").replace("\x01", "|")

@@ -64,10 +64,14 @@ class Profile:
         return found
 
     def orders(self):
+        """Where a type has several columns, one for each form of it, a field is required if each form demands it."""
         head, rows = self.table("Order messages")
-        marks = {"required": "Y", "optional": "N"}
-        return {quoted(kind)[0]: [(row[0], marks[row[at]]) for row in rows if row[at]]
-                for at, kind in enumerate(head) if kind.startswith("`")}
+        columns = {}
+        for at, kind in enumerate(head):
+            if kind.startswith("`"):
+                columns.setdefault(quoted(kind)[0], []).append(at)
+        return {kind: [(row[0], mark) for row in rows if (mark := mark_of([row[at] for at in places]))]
+                for kind, places in columns.items()}
 
     def reports(self):
         """The venue's messages behind the session's: what stands in brackets is optional."""
@@ -152,6 +156,15 @@ def tables_of(text):
             rows = []
         if line.startswith("#"):
             section = line.lstrip("# ")
+
+
+def mark_of(cells):
+    """Y where a field is required in all forms of a type, N where it may be left out in some, None where it stands in none."""
+    if not any(cells):
+        return None
+    if set(cells) - {"required", "optional", ""}:
+        raise ValueError(f"neither required nor optional: {cells}")
+    return "Y" if set(cells) == {"required"} else "N"
 
 
 def quoted(text):

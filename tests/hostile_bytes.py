@@ -8,10 +8,12 @@
 
 Three tests. `cuts`: the bytes of the first order in two pieces, cut at each place, are answered as in one.
 `replaced_bytes`: each of them is replaced by 00 and by other values. `mutated_sessions`: sessions of up to a hundred
-messages, right ones and wrong ones, many on one journal, so that later ones find a book. tests/rules.py says which bytes
-may come out: the venue's own answers in their order, the reports in theirs, numbered together, nothing behind a Logout;
-where a Logout ended the session, reports that were due may be missing at the end. Behind every journal venue-replay has
-to print each report that the rules know of.
+messages, right ones and wrong ones, many on one journal, so that later ones find a book. A tenth of the messages are
+market orders, or were before they were changed; of the journals each second one is of version 1, on which the venue
+refuses these. tests/rules.py says which bytes may come out: the venue's own answers in their order, the reports in
+theirs, numbered together, nothing behind a Logout; where a Logout ended the session, reports that were due may be missing
+at the end. Behind every journal venue-replay has to print each report that the rules know of, and the journal has to have
+the version that it had.
 
 What differs is shown with its input as a line of hex digits. The last line is `N passed, M failed`, and the status is 1
 where one failed. Build both programs first, by scripts/build; others are taken by the environment's VENUED and
@@ -24,6 +26,7 @@ import fcntl
 import itertools
 import os
 import random
+import re
 import struct
 import subprocess
 import sys
@@ -35,17 +38,31 @@ ROOT = os.path.dirname(os.path.dirname(os.path.abspath(__file__)))
 sys.path.insert(0, os.path.join(ROOT, "scripts"))
 
 import needs_python  # (in front of what an older Python can't read)
-from rules import Book, Judged, Session, sealed
+from rules import Book, Judged, Session, asks_for_market, sealed
 from venues import PATIENCE, REPLAY, TIME, VENUED, Trouble, message, need_programs, order, printed
 
 SYMBOLS = ("ABC", "XYZ")
 FIRST = message(1, 1, "A", "98=0|108=0|141=Y|") + message(1, 2, "D", order(1, 1, 100, 50))
 OTHERS = b"\x00\x01\x30\x7f\x80\xff"
-SESSIONS = 16     # Sessions of one journal.
+SESSIONS = 16      # Sessions of one journal.
+VERSIONS = (1, 2)  # Of journals, by turns.
+WITHOUT_PRICE = r"\|38=\d+\|(?:32|151)="  # In a report: behind the quantity comes what stands behind a Price.
 WANTED = [*(f"58={it}" for it in ("bad begin", "bad length", "bad checksum", "too long", "bad field", "bad header",
                                   "wrong party", "wrong number", "no logon", "bad logon", "bad test", "bad type")),
           *(f"373={it}" for it in (13, 2, 1, 6, 5)), *(f"150={it}" for it in "0F458"), *(f"103={it}" for it in (1, 6)),
           *(f"102={it}" for it in (1, 2, 6))]
+ASKED = "asked for a market order"
+MARKET = {"market order accepted": rf"\|150=0\|.*{WITHOUT_PRICE}",
+          "filled in part": rf"\|150=F\|39=1\|.*{WITHOUT_PRICE}",
+          "filled": rf"\|150=F\|39=2\|.*{WITHOUT_PRICE}",
+          "its remainder cancelled": rf"\|150=4\|.*{WITHOUT_PRICE}0\|14=[1-9]",
+          "cancelled untouched": rf"\|150=4\|.*{WITHOUT_PRICE}0\|14=0\|",
+          "refused as stale": rf"\|150=8\|.*{WITHOUT_PRICE}.*\|103=6\|",
+          "refused for its symbol": rf"\|150=8\|.*{WITHOUT_PRICE}.*\|103=1\|",
+          "rejected for its price": r"\|371=44\|372=D\|373=2\|"}
+OLD = {"rejected by an old journal": r"\|371=44\|372=D\|373=1\|"}
+SHOWN = {**{it: re.compile(rf"\|{re.escape(it)}\|") for it in WANTED},
+         **{it: re.compile(form) for it, form in {**MARKET, **OLD}.items()}}
 
 NUMBERS = ["0", "00", "01", "-1", "+1", " 1", "1 ", "1.0", "1e3", "2", "7", "50", "999999", "1000000", "1000001",
            "4294967297", "999999999999999", "1000000000000000", "18446744073709551616", "9" * 40]
@@ -149,7 +166,9 @@ class Writer:
                   ("54", chance.choice("12")), ("60", TIME), ("38", chance.choice((1, 2, 5, 10, 10, 100, 1_000_000)))]
         if kind != "D":
             fields.insert(0, ("41", max(1, self.name - chance.randint(0, 6))))
-        if kind != "F":
+        if kind == "D" and chance.random() < 0.23:  # Half of all messages are new orders, and some of these are changed.
+            fields += [("40", "1")] + [("59", chance.choice("034"))] * chance.randint(0, 1)
+        elif kind != "F":
             fields += [("40", "2"), ("44", chance.choice((1, 48, 49, 50, 50, 50, 51, 52, 1_000_000)))]
             fields += [("59", chance.choice("0034"))] * chance.choice((0, 0, 1))
         return [(tag, str(value)) for tag, value in fields]
@@ -278,24 +297,49 @@ def kept(journal):
     return ran_.stdout.decode("latin-1").splitlines()
 
 
+def header(version):
+    """How a journal of this version begins: the header, and a closed gate behind it is an empty one."""
+    return b"VNJL" + struct.pack(">I", version)
+
+
+def begun(journal, version):
+    """A journal of this version for sessions to come. The venue makes one of the newest version by itself."""
+    if version == 1:
+        with open(journal, "wb") as file:
+            file.write(header(version) + b"\0")
+
+
+def check_kept(journal, version, lines):
+    """How a journal differs from these lines of venue-replay, or by its version from what it was, or None."""
+    if (came := kept(journal)) != lines:
+        at = next(at for at, (one, two) in enumerate(itertools.zip_longest(lines, came)) if one != two)
+        return f"venue-replay, line {at + 1}: expected {lines[at:at + 1]} came {came[at:at + 1]}"
+    with open(journal, "rb") as file:
+        if (came := file.read(8)) != header(version):
+            return f"expected a journal that begins with {header(version).hex()} came {came.hex()}"
+    return None
+
+
 def batch(number, seed, journal):
     """Sessions on one journal: how many messages, what they met, and what differed."""
-    writer, book = Writer(random.Random(f"{seed} {number}")), Book(SYMBOLS)
+    version = VERSIONS[number % len(VERSIONS)]
+    writer, book = Writer(random.Random(f"{seed} {number}")), Book(SYMBOLS, version)
     met, messages, lines = collections.Counter(), 0, []
+    begun(journal, version)
     for at in range(SESSIONS):
         data, count = writer.session()
         judged = Judged(data, book)
         if why := ran(journal, data, judged):
-            return messages, met, f"batch {number}, session {at}: {why}; its bytes: {data.hex()}"
+            return messages, met, f"batch {number}, version {version}, session {at}: {why}; its bytes: {data.hex()}"
         messages += count
         ends = [f"|{printed(body)}" for _, _, body, _ in judged.session.answers[-1:]]
-        met.update(it for text in judged.lines() + ends for it in WANTED if f"|{it}|" in text)
+        met.update(name for text in judged.lines() + ends for name, form in SHOWN.items()
+                   if form.search(text) and (name not in OLD or version == 1))
+        met[ASKED] += sum(asks_for_market(kind, found) for _, kind, _, found in judged.session.orders)
         lines += judged.lines()
     lines.append(f"commands {book.commands} outputs {book.outputs}")
-    if (came := kept(journal)) != lines:
-        at = next(at for at, (one, two) in enumerate(itertools.zip_longest(lines, came)) if one != two)
-        why = f"venue-replay, line {at + 1}: expected {lines[at:at + 1]} came {came[at:at + 1]}"
-        return messages, met, f"batch {number}: {why}"
+    if why := check_kept(journal, version, lines):
+        return messages, met, f"batch {number}, version {version}: {why}"
     return messages, met, None
 
 
@@ -313,7 +357,8 @@ def mutated_sessions(messages, seconds, seed, together):
                 for name in os.listdir(folder):
                     os.remove(os.path.join(folder, name))
     print("    " + ", ".join(f"{it}: {met[it]}" for it in WANTED))
-    faults += [f"no session met {it}" for it in WANTED if not met[it] and total > 50_000]
+    print("    " + ", ".join(f"{it}: {met[it]}" for it in [ASKED, *MARKET, *OLD]))
+    faults += [f"no session met {it}" for it in SHOWN if not met[it] and total > 50_000]
     print(f"    {batches * SESSIONS} sessions on {batches} journals")
     return total, faults
 

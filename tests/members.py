@@ -20,13 +20,15 @@ ROOT = os.path.dirname(os.path.dirname(os.path.abspath(__file__)))
 sys.path.insert(0, os.path.join(ROOT, "scripts"))
 
 import needs_python  # (in front of what an older Python can't read)
-from venues import HOST, PATIENCE, VENUED, Client, Trouble, Venue, framed, free_port, kill_all, message, need_programs
-from venues import order, replay, started, value
+from venues import HOST, PATIENCE, VENUED, Client, Trouble, Venue, framed, free_port, kill_all, market_order, message
+from venues import need_programs, order, replay, started, value
 
 UNPRINTED = re.compile(r"\|(?:8|9|34|49|56|10)=[^|]*(?=\|)")
 DAYS = ["first_trade", "time_priority", "sweep_two_levels", "fill_or_kill", "replace_and_place_in_queue",
-        "replace_crosses", "replace_below_filled"]
+        "replace_crosses", "replace_below_filled", "market_order_without_match", "market_sweep"]
 JOURNAL = "venue.journal"
+EMPTY, OLD_EMPTY = b"VNJL\0\0\0\2\0", b"VNJL\0\0\0\1\0"  # Journals without entries, as venued makes one and as it did before.
+PROFILE = os.path.join(ROOT, "docs", "PROFILE.md")
 USAGE = "usage: venued PORT JOURNAL GATEWAYS SYMBOL..."
 LOGON = "8=FIX.4.4|9=63|35=A|49=C1|56=VENUE|34=1|52=20250102-09:30:00|98=0|108=0|141=Y|10=026|"
 ORDER = ("8=FIX.4.4|9=102|35=D|49=C1|56=VENUE|34=2|52=20250102-09:30:00|11=1|55=ABC|54=1|60=20250102-09:30:00|38=100|"
@@ -71,6 +73,11 @@ def ran(*words):
     except subprocess.TimeoutExpired:
         raise Trouble(f"venued {' '.join(words)} hasn't ended within {PATIENCE} seconds") from None
     return it.returncode, it.stdout, it.stderr
+
+
+def write(name, data):
+    with open(name, "wb") as file:
+        file.write(data)
 
 
 def contents(name):
@@ -167,8 +174,82 @@ def worked_days():
                 expect(replay(journal, what)[0], lines[:-1])
 
 
+def example(words):
+    """The messages of the example of PROFILE.md whose paragraph begins with these words."""
+    with open(PROFILE, encoding="utf-8") as file:
+        _, found, rest = file.read().partition(f"\n\n{words}")
+    if not found:
+        raise Trouble(f"PROFILE.md has no example that begins with: {words}")
+    return rest.partition("```text\n")[2].partition("```")[0].splitlines()
+
+
+def market_orders_of_the_profile():
+    """The examples of PROFILE.md on market orders, byte by byte: the reports of each, behind sells of C1."""
+    sent = coded("".join(example("A market order:")))
+    expect(sent, message(1, 2, "D", market_order(1, 1, 100)))
+    sells = [order(1, 2, 5, 50), order(2, 2, 5, 60)]
+    for words, sells, member, body in (
+            ("A market order that finds nothing", [], 1, market_order(1, 1, 100)),
+            ("A market order that trades", sells, 2, market_order(1, 1, 12)),
+            ("A market order that is filled whole or not", sells, 2, market_order(1, 1, 12, more="59=4|")),
+            ("A market order that is refused", [], 1, market_order(1, 1, 10, "XYZ"))):
+        venue = started(words.replace(" ", "_"), 2)
+        clients = {it: Client(venue.port, it).log_on() for it in (1, 2)}
+        for sell in sells:
+            clients[1].send("D", sell)
+            hears_reports(clients[1], "150=0|")
+        clients[member].send("D", body)
+        lines = example(words)
+        for line in lines:
+            hears(clients[int(value(line, "56")[1:])], line)
+        expect(all(it.is_quiet(0) for it in clients.values()), True)
+        expect(venue.stop(), (len(sells) + 1, len(sells) + len(lines)))
+
+
+def rejected_market_orders_of_the_profile():
+    """The examples of PROFILE.md on market orders that are rejected: for a price, and all on a journal of version 1."""
+    for words, empty in (("2, Price isn't defined for a market order", None), ("On a journal of version 1", OLD_EMPTY)):
+        journal = f"{words.split()[0]}.journal"
+        if empty:
+            write(journal, empty)
+        venue = started(journal, 1)
+        client = Client(venue.port, 1)
+        sent, answer = example(words)
+        client.send_bytes(coded(LOGON + sent))
+        hears(client, WELCOME, answer)
+        expect(venue.stop(), (1, 1))
+
+
+def an_old_journal():
+    """A journal of version 1 goes on as version 1, over stops and kills, and its members have no market orders. A missing
+    one is made with version 2."""
+    write(JOURNAL, OLD_EMPTY)
+    venue = started(JOURNAL, 2)
+    clients = [Client(venue.port, it).log_on() for it in (1, 2)]
+    clients[0].send("D", order(1, 2, 10, 50))
+    hears_reports(clients[0], "34=2|17=1|150=0|")
+    clients[1].send("D", market_order(1, 1, 4))
+    hears_reports(clients[1], "35=3|34=2|45=2|371=44|372=D|373=1|")
+    venue.kill()
+    expect(contents(JOURNAL)[:8], OLD_EMPTY[:8])
+    venue = Venue(venue.port, JOURNAL, 2)
+    expect(venue.ready(), (2, 2))
+    client = Client(venue.port, 2).log_on()
+    client.send("D", market_order(1, 1, 4, more="59=3|"))
+    hears_reports(client, "35=3|34=2|45=2|371=44|372=D|373=1|")
+    client.send("D", order(1, 1, 4, 50, more="59=3|"))
+    hears_reports(client, "34=3|17=4|150=0|44=50|", "34=4|17=6|150=F|39=2|")
+    expect(venue.stop(), (4, 6))
+    expect(contents(JOURNAL)[:8], OLD_EMPTY[:8])
+    expect(replay(JOURNAL, "book"), (["ABC 2 50 6 1 C1 1"], (4, 6)))
+    venue = started("new.journal", 1)
+    expect(contents("new.journal"), EMPTY)
+    expect(venue.stop(), (0, 0))
+
+
 def a_full_book():
-    """4,096 orders of one member rest; the next is refused, and another member's trade makes room."""
+    """4,096 orders of one member rest; the next is refused, and another member's trade makes room. A market order is
+    accepted whether there is room or not."""
     venue = started(JOURNAL, 2)
     first, second = (Client(venue.port, member).log_on() for member in (1, 2))
     for name in range(1, 4098):
@@ -181,7 +262,11 @@ def a_full_book():
     hears_reports(first, "34=4099|37=1|17=4099|150=F|39=2|11=1|")
     first.send("D", order(4098, 1, 1, 1))
     hears_reports(first, "34=4100|37=4099|17=4101|150=0|")
-    expect(venue.stop(), (4099, 4101))
+    first.send("D", market_order(4099, 1, 1))
+    hears_reports(first, "34=4101|37=4100|17=4102|150=0|", "34=4102|37=4100|17=4103|150=4|39=4|14=0|")
+    second.send("D", market_order(2, 2, 1, more="59=4|"))
+    hears_reports(second, "34=4|37=4101|17=4104|150=0|", "34=5|37=4101|17=4106|150=F|39=2|32=1|31=1|")
+    expect(venue.stop(), (4101, 4106))
 
 
 def a_report_without_a_session():
@@ -321,15 +406,14 @@ def a_client_that_stays():
 
 def a_taken_port():
     """Where a port is taken the venue says so, and the journal stays as it is."""
-    with open(JOURNAL, "wb") as file:
-        file.write(b"VNJL\0\0\0\1\0")
+    write(JOURNAL, EMPTY)
     port = free_port(3)
     for taken in range(3):
         with socket.socket() as other:
             other.bind((HOST, port + taken))
             other.listen()
             expect(ran(str(port), JOURNAL, "3", "ABC"), (1, "", f"venued: cannot listen on {port + taken}\n"))
-        expect(contents(JOURNAL), b"VNJL\0\0\0\1\0")
+        expect(contents(JOURNAL), EMPTY)
     venue = Venue(port, JOURNAL, 3)
     expect(venue.ready(), (0, 0))
     expect(venue.stop(), (0, 0))
@@ -408,7 +492,8 @@ def wrong_words():
     expect(os.listdir(), [])
 
 
-TESTS = [the_worked_example, worked_days, a_full_book, trades_of_eight, a_report_without_a_session, one_at_a_time,
+TESTS = [the_worked_example, worked_days, market_orders_of_the_profile, rejected_market_orders_of_the_profile,
+         an_old_journal, a_full_book, trades_of_eight, a_report_without_a_session, one_at_a_time,
          no_other_member, vanishing_clients, half_closed_behind_an_order, in_single_bytes, a_wrong_logon,
          a_client_that_stays, a_taken_port, the_ports_of_another_venue, one_venue_a_journal, a_stop_file_of_before,
          start_after_stop, a_stop_with_members, wrong_words]

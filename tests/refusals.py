@@ -15,7 +15,8 @@ from rules import Book, Judged, told
 from venues import COUNTS, PATIENCE, TRIES, VENUED, Trouble, Venue, free_port, kill_all, message, need_programs, order
 from venues import printed, replay
 
-FRESH = b"VNJL\0\0\0\1\0"
+FRESH = b"VNJL\0\0\0\2\0"  # An empty journal, as venued makes one; an old one has version 1.
+OLD = b"VNJL\0\0\0\1\0"
 LOGON = message(1, 1, "A", "98=0|108=0|141=Y|")
 LONG = 4 * PATIENCE  # A venue tries for ten seconds to start a thread, and for longer where others keep the cores busy.
 MOST_CALLS = 10_000  # A bound for a test that goes wrong.
@@ -146,9 +147,9 @@ def put(name, data):
             file.write(data)
 
 
-def journal_of(messages):
-    """The bytes of a journal of these messages of C1, each in a block of its own."""
-    data = FRESH[:-1]
+def journal_of(messages, empty=FRESH):
+    """The bytes of a journal of these messages of C1, each in a block of its own, behind the header of an empty one."""
+    data = empty[:-1]
     for it in messages:
         data += b"\1" + (len(it) + 3).to_bytes(4, "big") + b"\1" + len(it).to_bytes(2, "big") + it
     return data + b"\0"

@@ -17,11 +17,14 @@ MOST_RESTING = 4096
 UNITS = range(1, 1_000_001)
 NAMES = range(1, 10 ** 15)
 
-# The format and the range of each tag, and what each type of order message needs and may have.
+# The format and the range of each tag, and what each type of order message needs and may have. A D that asks for a market
+# order has a table of its own, in which OrdType is what has brought it there.
 FIELDS = {11: (NUMBER, NAMES), 41: (NUMBER, NAMES), 38: (NUMBER, UNITS), 44: (NUMBER, UNITS),
           40: (BYTE, (b"2",)), 54: (BYTE, (b"1", b"2")), 59: (BYTE, (b"0", b"3", b"4")), 55: (SYMBOL, None), 60: (TIME, None)}
 NEEDED = {b"D": {11, 38, 40, 44, 54, 55, 60}, b"F": {11, 38, 41, 54, 55, 60}, b"G": {11, 38, 40, 41, 44, 54, 55, 60}}
 ALLOWED = {b"D": {59}, b"F": set(), b"G": {59}}
+MARKET_FIELDS = {**FIELDS, 40: (BYTE, (b"1",))}
+MARKET_NEEDED = NEEDED[b"D"] - {44}
 
 
 def body(text):
@@ -85,28 +88,33 @@ def next_frame(data):
     return None if len(data) < end else (data[:end], trailer_fault(data[:end], at))
 
 
-def order_fault(kind, found):
-    """The reason and the tag of an order message's fault, or None."""
+def asks_for_market(kind, found):
+    """Whether a message asks for a market order: a D whose one OrdType is exactly 1."""
+    return kind == b"D" and [value for tag, value in found if tag == 40] == [b"1"]
+
+
+def order_fault(kind, found, is_market):
+    """The reason and the tag of an order message's fault, or None. A market order is read by its own table."""
+    needed, formats = (MARKET_NEEDED, MARKET_FIELDS) if is_market else (NEEDED[kind], FIELDS)
     tags = [tag for tag, _ in found]
     own = [(tag, value) for tag, value in found if tag not in HEADER and tag != 10]
     given = {tag for tag, _ in own}
     faults = [(13, {tag for tag in tags if tags.count(tag) > 1}),
-              (2, given - NEEDED[kind] - ALLOWED[kind]),
-              (1, NEEDED[kind] - given),
-              (6, {tag for tag, value in own if tag in FIELDS and not FIELDS[tag][0].fullmatch(value)}),
-              (5, {tag for tag, value in own if tag in FIELDS and not is_in_range(tag, value)})]
+              (2, given - needed - ALLOWED[kind]),
+              (1, needed - given),
+              (6, {tag for tag, value in own if tag in formats and not formats[tag][0].fullmatch(value)}),
+              (5, {tag for tag, value in own if tag in formats and not is_in_range(formats[tag][1], value)})]
     return next(((reason, min(wrong)) for reason, wrong in faults if wrong), None)
 
 
-def is_in_range(tag, value):
-    kept = FIELDS[tag][1]
+def is_in_range(kept, value):
     if isinstance(kept, range):
         return value.isdigit() and int(value) in kept
     return kept is None or value in kept
 
 
 class Order:
-    """A resting order."""
+    """An order. A market order has no price."""
 
     def __init__(self, number, name, symbol, side, total, price, stamp):
         self.number, self.name, self.symbol, self.side = number, name, symbol, side
@@ -124,22 +132,29 @@ class Order:
 
     def crosses(self, other):
         """Whether it trades with an order of the other side."""
-        return (self.symbol == other.symbol and self.side != other.side
-                and (self.price >= other.price if self.side == b"1" else self.price <= other.price))
+        return self.symbol == other.symbol and self.side != other.side and self.takes(other.price)
+
+    def takes(self, price):
+        """Whether it trades at this price: a market order does at any."""
+        if self.price is None:
+            return True
+        return self.price >= price if self.side == b"1" else self.price <= price
 
 
 class Book:
-    """The book of a venue with one member: what rests, and each report in its order."""
+    """The book of a venue with one member: what rests, and each report in its order. Where the journal is of version 1
+    market orders aren't read."""
 
-    def __init__(self, symbols=("ABC",)):
+    def __init__(self, symbols=("ABC",), version=2):
         self.symbols, self.resting, self.greatest = [it.encode() for it in symbols], [], 0
+        self.reads_market = version > 1
         self.commands, self.outputs, self.stamps = 0, 0, 0
 
     def apply(self, kind, found):
         """The reports of an order message, each its type and body."""
         self.commands += 1
-        told = dict(found)
-        if fault := order_fault(kind, found):
+        told, is_market = dict(found), self.reads_market and asks_for_market(kind, found)
+        if fault := order_fault(kind, found, is_market):
             self.outputs += 1
             number = found[5][1].decode()
             return [("3", body(f"45={number}|371={fault[1]}|372={kind.decode()}|373={fault[0]}|"))]
@@ -152,13 +167,17 @@ class Book:
         self.outputs += 1
         was = f"41={was}|" if was else ""
         fill = f"32={fill[0]}|31={fill[1]}|" if fill else ""
+        price = "" if order.price is None else f"44={order.price}|"
         self.reports.append(("8", f"37={order.number}|17={self.outputs}|150={event}|39={status}|11={name or order.name}|{was}"
-                             f"55={order.symbol.decode()}|54={order.side.decode()}|38={order.total}|44={order.price}|{fill}"
+                             f"55={order.symbol.decode()}|54={order.side.decode()}|38={order.total}|{price}{fill}"
                              f"151={left}|14={order.cum}|6={order.average()}|{more}"))
 
     def enter(self, told):
-        order = Order(self.commands, int(told[11]), told[55], told[54], int(told[38]), int(told[44]), 0)
+        price = int(told[44]) if 44 in told else None
+        order = Order(self.commands, int(told[11]), told[55], told[54], int(told[38]), price, 0)
         term = told.get(59, b"0")
+        if price is None and term == b"0":
+            term = b"3"  # What is left of a market order never rests.
         if order.name <= self.greatest:
             return self.report("8", "8", order, 0, more="103=6|")
         if order.symbol not in self.symbols:
