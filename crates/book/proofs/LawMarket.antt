@@ -1,6 +1,6 @@
 -- What rests has a price that is in range: commands let limit orders rest alone. So a market order crosses each that rests of its
 -- symbol and of the other side.
-use Rattle.std.proofs.Common.{◌≡◌, ◌≢◌, ℕ, ◌+◌, ◌≤◌, Bool, true, false, not, ◌&&◌, nat_le, List, [], ◌∷◌, length, ap, sym, ◌∙◌}
+use Rattle.std.proofs.Common.{◌≡◌, ◌≢◌, ℕ, ◌+◌, ◌≤◌, Bool, true, false, not, ◌&&◌, nat_le, List, [], ◌∷◌, length, ap, ◌∙◌}
 use Rattle.std.proofs.Common.{subst, refl, Option, Some, None}
 use Rattle.std.specs.Prelude.{if◌then◌else◌, find}
 use Rattle.std.specs.List.{AllByRecursion, list_any}
@@ -26,7 +26,7 @@ use Rattle.venue_model.specs.Requests.{Limits, Symbols, State, is_day, at_once, 
 use Rattle.venue_model.specs.Requests.{entering, is_named, named, others, greatest_of, cancel_refusal, cancel_answered}
 use Rattle.venue_model.specs.Requests.{order_canceled, replace_refusal, replace_answered, restamped, amended, order_replaced}
 use Rattle.venue_model.specs.SideLaws.{market_meets}
-use Rattle.venue_model.specs.Step.{Request, IsCommand, cause, obey, step, empty, state_from, state, requests_from, requests}
+use Rattle.venue_model.specs.Step.{Request, IsCommand, cause, obey, step, empty, state_from, state, requests_from}
 use Rattle.fix_orders.specs.RangeLaws.{reads_within}
 use Rattle.book.specs.Histories.{reads_at, state_of}
 use Rattle.book.specs.Laws.{HasPrice, CrossesAnyPrice}

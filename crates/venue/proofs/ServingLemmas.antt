@@ -12,8 +12,6 @@ use Rattle.disks.specs.MomentLaws.{started, joined, weaker}
 use Rattle.ring_words.specs.At.{Opened, At, IsAt, number}
 use Rattle.ring_words.specs.Crew.{AreGateways}
 use Rattle.ring_words.specs.Ending.{AreSpent}
-use Rattle.stages.specs.Stations.{OneCrew}
-use Rattle.stages.specs.Crews.{AreAt}
 use Rattle.ring_words.specs.declared.view.Person.{Person}
 use Rattle.ring_words.specs.declared.view.Role.TheVariants.{Gateway}
 use Rattle.stages.specs.declared.turn.Turn.{Turn}
@@ -32,7 +30,6 @@ use Rattle.gateway.specs.declared.ending.Turned.{Turned}
 use Rattle.gateway.specs.declared.ending.Turned.TheVariants.{Worked, Quiet, Ended}
 use Rattle.venue.specs.Crashes.{Behind}
 use Rattle.venue.specs.Rounds.{Round, Rounds}
-use Rattle.venue.specs.Opened.{IsNewCrew}
 use Rattle.venue.specs.VenueRings.{IsFirstSeat}
 use Rattle.stages.specs.PollLaws.{journaller_grows}
 use Rattle.venue.specs.CrashLaws.{LeftOrBehind, leaves_behind}
