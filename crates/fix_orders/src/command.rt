@@ -68,19 +68,20 @@ pub fn command_of(frame: &Frame, market: bool) -> Command
 }
 
 /// Reads the fields behind a header by their table. They are read again only where they ask for a market order.
-#[inline(always)]
 fn read_fields<'a>(kind: RefMsgType, fields: Fields<'a>, market: bool) -> (Table, OrderFields<'a>)
     requires { length (fields_left fields) ≤ 74 }
     ensures table { result.0 ≡ table_of market kind (fields_left fields.entry) }
     ensures found { IsFound result.0 (fields_left fields.entry) result.1 }
 {
-    let table = Table::of(kind, false);
-    let found = OrderFields::read(table, fields);
-    if market && found.values.ask_market() {
-        let table = Table::of(kind, true);
-        return (table, OrderFields::read(table, fields));
+    let mut asks_market = false;
+    loop {
+        let table = Table::of(kind, asks_market);
+        let found = OrderFields::read(table, fields);
+        if asks_market || !market || !found.values.ask_market() {
+            return (table, found);
+        }
+        asks_market = true;
     }
-    (table, found)
 }
 
 /// The type of an order message.
