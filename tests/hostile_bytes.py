@@ -1,7 +1,7 @@
 #!/usr/bin/env python3
 """Feeds bytes of all kinds to `venued -`, and compares what comes out with the rules of docs/PROFILE.md in plain Python.
 
-    tests/hostile_bytes.py                              the sample that the gate takes, half a minute
+    tests/hostile_bytes.py                              the sample that the full check takes, half a minute
     tests/hostile_bytes.py --messages 1000000           as many mutated messages, however long that takes
     tests/hostile_bytes.py --messages N --seconds S     the same, for so long at most
     tests/hostile_bytes.py --seed N                     the same messages again

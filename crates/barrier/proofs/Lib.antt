@@ -1,5 +1,5 @@
 pub mod Looks
-pub mod Gates
+pub mod Behind
 pub mod Words
 pub mod CommandWords
 pub mod TextStores

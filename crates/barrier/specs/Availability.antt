@@ -31,5 +31,5 @@ Shown n v w = (rest : List Message) × AreEntries rest
     ⊎ ((length w.seen < v.sequence + n) × ((x : ℕ) × (x ≢ suc (length w.seen)) × (w ≡ looked (grown_by n v rest) (in_row n (length w.seen) 0) x))))
 
 -- unmarshalled was loaded, then journalled, and as many entries are known as the lesser of both says
-abbrev pub Gated : Person → Person → Type 0
-Gated v w = (u j : ℕ) × ((rest : List Message) × (w ≡ knowing (looked (looked v unmarshalled u) journalled j) rest) × (length w.seen ≡ lesser_of u j))
+abbrev pub BehindBoth : Person → Person → Type 0
+BehindBoth v w = (u j : ℕ) × ((rest : List Message) × (w ≡ knowing (looked (looked v unmarshalled u) journalled j) rest) × (length w.seen ≡ lesser_of u j))

@@ -1,7 +1,7 @@
 //! How far a stage may read. What stands below is published, and stays in its row until the stage releases it.
 ghost use Rattle.std.specs.Prelude.{◌≡◌, ◌<◌, ◌≤◌, ◌^◌, length};
 ghost use Rattle.ring_words.specs.At.{IsAt, SamePlace};
-ghost use Rattle.barrier.specs.Availability.{Shown, Gated};
+ghost use Rattle.barrier.specs.Availability.{Shown, BehindBoth};
 
 use ring_words::{ProcessSeat, Reader, ReaderSeat, Rings};
 use venue_model::Logic;
@@ -35,7 +35,7 @@ pub fn commands_available<L: Logic, const N: usize, const M: usize, const G: usi
     requires at { IsAt rings.now seat.old }
     ensures known { (result ≡ length seat.new.who.seen) × (result ≤ 2 ^ 48) }
     ensures step { SamePlace seat.old seat.new }
-    ensures gated { Gated seat.old.who seat.new.who }
+    ensures behind { BehindBoth seat.old.who seat.new.who }
 {
     rings.load_unmarshalled(seat);
     rings.load_journalled(seat);

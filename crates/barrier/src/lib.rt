@@ -1,4 +1,4 @@
-//! The barriers of both rings: how a stage reads entries or outputs behind its gate and releases their rows, and how a gateway takes outputs.
+//! The barriers of both rings: how a stage reads entries or outputs behind its barrier and releases their rows, and how a gateway takes outputs.
 //! A message goes through here from a ring to who reads it, after it was published.
 #![tactic(auto)]
 
@@ -6,12 +6,13 @@ mod availability;
 mod commands;
 mod outputs;
 mod reading;
-mod releasing;
 mod taking;
 
 pub use availability::{available, commands_available};
 pub use commands::{read_command, write_command};
-pub use outputs::{outputs_available, read_output, write_text};
+pub use outputs::write_text;
 pub use reading::read_raw;
-pub use releasing::{release, release_kept, release_marshalled, release_written};
+pub use ring_words::{
+    outputs_available, read_output, release, release_kept, release_marshalled, release_written,
+};
 pub use taking::{Head, Take, take_output};

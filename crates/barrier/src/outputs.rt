@@ -1,40 +1,13 @@
-//! Outputs on their way through the marshaller: it reads each one out of its row, and writes its text beside it.
+//! An output on its way through the marshaller, which has read it out of its row, and writes its text beside it.
 ghost use Rattle.std.specs.Prelude.{◌≤◌, length};
 ghost use Rattle.ring_words.specs.Texts.{text_words, IsPackableText};
-ghost use Rattle.ring_words.specs.Places.{published, out_row};
+ghost use Rattle.ring_words.specs.Places.{published};
 ghost use Rattle.ring_words.specs.Seats.{wrote};
 ghost use Rattle.ring_words.specs.At.{IsAt, Steps};
 ghost use Rattle.ring_words.specs.Steps.{Shows, MayWriteText};
-ghost use Rattle.ring_words.specs.Finds.{FindsPublished, FindsCopy};
 
 use ring_words::{MarshalSeat, Rings, TextHead, word_at};
-use venue_model::{Logic, Output, OutputType};
-
-/// How many outputs are published: the marshaller may read those from its own word on. Loads published; the marshaller then knows a history that has
-/// so many outputs.
-pub fn outputs_available<L: Logic, const N: usize, const M: usize, const G: usize>(
-    rings: &Rings<L, N, M, G>,
-    seat: &mut MarshalSeat<L>,
-) -> u64
-    requires at { IsAt rings.now seat.old }
-    ensures found { FindsPublished (L.outputs rings.now.logic) seat.old result seat.new }
-{
-    rings.load_published(seat)
-}
-
-/// Reads an output that is published and that the marshaller hasn't released.
-pub fn read_output<L: Logic, const N: usize, const M: usize, const G: usize>(
-    rings: &Rings<L, N, M, G>,
-    seat: &mut MarshalSeat<L>,
-    place: u64,
-) -> Output
-    requires at { IsAt rings.now seat.old }
-    requires from { seat.old.who.sequence ≤ place }
-    requires to { Shows published seat.old.who place }
-    ensures copied { FindsCopy (L.outputs rings.now.logic seat.old.who.seen) seat.old (out_row N M place 0) place result seat.new }
-{
-    rings.load_output(seat, place)
-}
+use venue_model::{Logic, OutputType};
 
 /// Writes the text of an output that is published and not released into its row: MsgType, SendingTime and the body, at most 320 bytes. Rows are
 /// written in order: the first that isn't released, the one under way again, or when that is written whole the next one.

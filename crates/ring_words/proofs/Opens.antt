@@ -203,11 +203,11 @@ module _ {L : Type 0} (terms : Terms L) (boxes : List Boxed) where
       let each : (k : ℕ) → 1 ≤ k → k ≤ 8 → w (taken k) ≡ terms.base_outputs =
       λ k lo hi. is (taken k) (let x : 32 + 8 * k < length ws = omega arith in x)
       ∙ taken_given b terms.base_outputs k lo hi in
-      let gate : (k : ℕ) → IsGateway terms.gateways k → w (taken k)
+      let each_taken : (k : ℕ) → IsGateway terms.gateways k → w (taken k)
       ≡ terms.base_outputs = λ k g. (let lo : 1 ≤ k = g.0 in let hi : k ≤ terms.gateways = g.1 in
       each k lo (omega arith)) in
       let none_left : (k q : ℕ) → IsGateway terms.gateways k → w (taken k) ≤ q → q < terms.base_outputs
-      → ⊥ = λ k q g from to. (let e = gate k g in omega arith) in
+      → ⊥ = λ k q g from to. (let e = each_taken k g in omega arith) in
       record {
         log = start_log terms.base boxes;
         some_row = pos;
@@ -252,8 +252,8 @@ module _ {L : Type 0} (terms : Terms L) (boxes : List Boxed) where
           kept = sym journalled_is;
           front = λ s e at. ap (λ (o : Option Message). entry_of (as_status o)) at;
           marshalled_published = omega arith;
-          taken_marshalled = λ k g. (let e = gate k g in omega arith);
-          free = λ k g. (let e = gate k g in omega arith);
+          taken_marshalled = λ k g. (let e = each_taken k g in omega arith);
+          free = λ k g. (let e = each_taken k g in omega arith);
           least = (let all : take (w 0) terms.base ≡ terms.base = take_all (w 0) terms.base (omega arith) in
               let long : length (outputs_by terms (take (w 0) terms.base))
               ≡ length (outputs_by terms terms.base) = ap (λ (h : List Message). length (outputs_by terms h)) all in

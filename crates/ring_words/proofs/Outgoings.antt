@@ -47,7 +47,7 @@ module _ {L : Type 0} (terms : Terms L) where
   outgoing_stays w w' log log' few same slots_are front zero kept_is control rows r =
       let m : w' 32 ≡ w 32 = control 32 (omega arith) (omega arith) in
       let p : w' 104 ≡ w 104 = control 104 (omega arith) (omega arith) in
-      let gate : (k : ℕ) → IsGateway terms.gateways k → w' (taken k)
+      let taken_stays : (k : ℕ) → IsGateway terms.gateways k → w' (taken k)
       ≡ w (taken k) = λ k g. (let lo : 1 ≤ k = g.0 in let hi : k ≤ terms.gateways = g.1 in
       control (taken k) (omega arith) (omega arith)) in
       let history_is : (q : ℕ) (o : Output) → get_elem? (outputs_by terms log'.history) q ≡ some o
@@ -56,9 +56,9 @@ module _ {L : Type 0} (terms : Terms L) where
         kept = ap length same ∙ r.kept ∙ sym kept_is;
         front = subst (IsFront log'.status) (sym same) front;
         marshalled_published = (let a : w 32 ≤ w 104 = r.marshalled_published in omega arith);
-        taken_marshalled = λ k g. (let e = gate k g in let a : w (taken k) ≤ w 32 = r.taken_marshalled k g in
+        taken_marshalled = λ k g. (let e = taken_stays k g in let a : w (taken k) ≤ w 32 = r.taken_marshalled k g in
             omega arith);
-        free = λ k g. (let e = gate k g in let a : w 104 ≤ w (taken k) + terms.output_rows = r.free k g in omega arith);
+        free = λ k g. (let e = taken_stays k g in let a : w 104 ≤ w (taken k) + terms.output_rows = r.free k g in omega arith);
         least = (let is : length (outputs_by terms (take (w' 0) log'.history))
             ≡ length (outputs_by terms (take (w 0) log.history)) =
             ap (λ (h : List Message). length (outputs_by terms (take (w' 0) h))) same
@@ -69,10 +69,10 @@ module _ {L : Type 0} (terms : Terms L) where
             ap (λ (h : List Message). length (outputs_by terms (take (suc (w' 0)) h))) same
             ∙ ap (λ (x : ℕ). length (outputs_by terms (take (suc x) log.history))) zero in
             let a : w 104 ≤ length (outputs_by terms (take (suc (w 0)) log.history)) = r.most in omega arith);
-        addresses = λ k q o g from to at. (let e = gate k g in let lo : w (taken k) ≤ q = omega arith in
+        addresses = λ k q o g from to at. (let e = taken_stays k g in let lo : w (taken k) ≤ q = omega arith in
             let hi : q < w 104 = omega arith in
             rows.addresses k q g lo hi ∙ r.addresses k q o g lo hi (history_is q o at));
-        reports = λ k q o g from to at. (let e = gate k g in let lo : w (taken k) ≤ q = omega arith in
+        reports = λ k q o g from to at. (let e = taken_stays k g in let lo : w (taken k) ≤ q = omega arith in
             let hi : q < w 104 = omega arith in
             ap (λ (x : Slots). x.reports (q % terms.output_rows)) slots_are
             ∙ r.reports k q o g lo hi (history_is q o at));
@@ -85,12 +85,12 @@ module _ {L : Type 0} (terms : Terms L) where
               (omega arith),
               (omega arith),
             ));
-        texts = λ k q o g from to at i x there. (let e = gate k g in let lo : w (taken k) ≤ q = omega arith in
+        texts = λ k q o g from to at i x there. (let e = taken_stays k g in let lo : w (taken k) ≤ q = omega arith in
             let hi : q < w 32 = omega arith in
             let size = short_text (text_of terms o q) (r.readable k q o g lo hi (history_is q o at)) in
             let few_words = within (text_words (text_of terms o q)) i x there in
             rows.texts k q g lo hi i (omega arith) ∙ r.texts k q o g lo hi (history_is q o at) i x there);
-        readable = λ k q o g from to at. (let e = gate k g in let lo : w (taken k) ≤ q = omega arith in
+        readable = λ k q o g from to at. (let e = taken_stays k g in let lo : w (taken k) ≤ q = omega arith in
             let hi : q < w 32 = omega arith in r.readable k q o g lo hi (history_is q o at));
       }
 
@@ -103,7 +103,7 @@ module _ {L : Type 0} (terms : Terms L) where
   outgoing_grows w w' log h rest few is front low zero kept_is control rows r =
       let m : w' 32 ≡ w 32 = control 32 (omega arith) (omega arith) in
       let p : w' 104 ≡ w 104 = control 104 (omega arith) (omega arith) in
-      let gate : (k : ℕ) → IsGateway terms.gateways k → w' (taken k)
+      let taken_stays : (k : ℕ) → IsGateway terms.gateways k → w' (taken k)
       ≡ w (taken k) = λ k g. (let lo : 1 ≤ k = g.0 in let hi : k ≤ terms.gateways = g.1 in
       control (taken k) (omega arith) (omega arith)) in
       let all : w 104 ≤ length (outputs_by terms log.history) =
@@ -117,9 +117,9 @@ module _ {L : Type 0} (terms : Terms L) where
         kept = sym kept_is;
         front = front;
         marshalled_published = (let a : w 32 ≤ w 104 = r.marshalled_published in omega arith);
-        taken_marshalled = λ k g. (let e = gate k g in let a : w (taken k) ≤ w 32 = r.taken_marshalled k g in
+        taken_marshalled = λ k g. (let e = taken_stays k g in let a : w (taken k) ≤ w 32 = r.taken_marshalled k g in
             omega arith);
-        free = λ k g. (let e = gate k g in let a : w 104 ≤ w (taken k) + terms.output_rows = r.free k g in omega arith);
+        free = λ k g. (let e = taken_stays k g in let a : w 104 ≤ w (taken k) + terms.output_rows = r.free k g in omega arith);
         least = (let same : take (w' 0) h ≡ take (w 0) log.history = ap (λ (x : ℕ). take x h) zero ∙ ap (take (w 0)) is
             ∙ take-append-le (w 0) log.history rest low in
             let is_long : length (outputs_by terms (take (w' 0) h))
@@ -132,19 +132,19 @@ module _ {L : Type 0} (terms : Terms L) where
             ap (λ (x : ℕ). length (outputs_by terms (take (suc x) h))) zero
             ∙ ap (λ (l : List Message). length (outputs_by terms (take (suc (w 0)) l))) is in
             let a : w 104 ≤ length (outputs_by terms (take (suc (w 0)) log.history)) = r.most in omega arith);
-        addresses = λ k q o g from to at. (let e = gate k g in let lo : w (taken k) ≤ q = omega arith in
+        addresses = λ k q o g from to at. (let e = taken_stays k g in let lo : w (taken k) ≤ q = omega arith in
             let hi : q < w 104 = omega arith in
             rows q 0 ∙ r.addresses k q o g lo hi (was_there q o hi at));
-        reports = λ k q o g from to at. (let e = gate k g in let lo : w (taken k) ≤ q = omega arith in
+        reports = λ k q o g from to at. (let e = taken_stays k g in let lo : w (taken k) ≤ q = omega arith in
             let hi : q < w 104 = omega arith in r.reports k q o g lo hi (was_there q o hi at));
         filling = λ f is. (let h = r.filling f is in let a : f.place ≡ w 104 = h.0 in
             let b : w 104 < w 32 + terms.output_rows = h.1 in ((omega arith), (omega arith)));
         reading = λ f is. (let h = r.reading f is in let a : w 32 ≤ f.place = h.1 in let b : f.place < w 104 = h.2 in
             (h.0, (omega arith), (omega arith)));
-        texts = λ k q o g from to at i x there. (let e = gate k g in let lo : w (taken k) ≤ q = omega arith in
+        texts = λ k q o g from to at i x there. (let e = taken_stays k g in let lo : w (taken k) ≤ q = omega arith in
             let hi : q < w 32 = omega arith in let a : w 32 ≤ w 104 = r.marshalled_published in
             rows q (i + 64) ∙ r.texts k q o g lo hi (was_there q o (omega arith) at) i x there);
-        readable = λ k q o g from to at. (let e = gate k g in let lo : w (taken k) ≤ q = omega arith in
+        readable = λ k q o g from to at. (let e = taken_stays k g in let lo : w (taken k) ≤ q = omega arith in
             let hi : q < w 32 = omega arith in let a : w 32 ≤ w 104 = r.marshalled_published in
             r.readable k q o g lo hi (was_there q o (omega arith) at));
       }

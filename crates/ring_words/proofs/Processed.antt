@@ -40,16 +40,16 @@ module _ {L : Type 0} (terms : Terms L) where
   outgoing_processed w w' log x few here up all kept_is control rows r =
       let m : w' 32 ≡ w 32 = control 32 (omega arith) (omega arith) in
       let p : w' 104 ≡ w 104 = control 104 (omega arith) (omega arith) in
-      let gate : (k : ℕ) → IsGateway terms.gateways k → w' (taken k)
+      let taken_stays : (k : ℕ) → IsGateway terms.gateways k → w' (taken k)
       ≡ w (taken k) = λ k g. (let lo : 1 ≤ k = g.0 in let hi : k ≤ terms.gateways = g.1 in
       control (taken k) (omega arith) (omega arith)) in
       record {
         kept = r.kept ∙ sym kept_is;
         front = r.front;
         marshalled_published = (let a : w 32 ≤ w 104 = r.marshalled_published in omega arith);
-        taken_marshalled = λ k g. (let e = gate k g in let a : w (taken k) ≤ w 32 = r.taken_marshalled k g in
+        taken_marshalled = λ k g. (let e = taken_stays k g in let a : w (taken k) ≤ w 32 = r.taken_marshalled k g in
             omega arith);
-        free = λ k g. (let e = gate k g in let a : w 104 ≤ w (taken k) + terms.output_rows = r.free k g in omega arith);
+        free = λ k g. (let e = taken_stays k g in let a : w 104 ≤ w (taken k) + terms.output_rows = r.free k g in omega arith);
         least = (let is : length (outputs_by terms (take (w' 0) log.history))
             ≡ length (outputs_by terms (take x log.history)) =
             ap (λ (y : ℕ). length (outputs_by terms (take y log.history))) here in
@@ -61,16 +61,16 @@ module _ {L : Type 0} (terms : Terms L) where
             let low : w 0 ≤ x = up in
             let b = more_outputs (suc (w 0)) (suc x) log.history (omega arith) in
             omega arith);
-        addresses = λ k q o g from to at. (let e = gate k g in
+        addresses = λ k q o g from to at. (let e = taken_stays k g in
             rows q 0 ∙ r.addresses k q o g (omega arith) (omega arith) at);
-        reports = λ k q o g from to at. (let e = gate k g in r.reports k q o g (omega arith) (omega arith) at);
+        reports = λ k q o g from to at. (let e = taken_stays k g in r.reports k q o g (omega arith) (omega arith) at);
         filling = λ f is. (let h = r.filling f is in let a : f.place ≡ w 104 = h.0 in
             let b : w 104 < w 32 + terms.output_rows = h.1 in ((omega arith), (omega arith)));
         reading = λ f is. (let h = r.reading f is in let a : w 32 ≤ f.place = h.1 in let b : f.place < w 104 = h.2 in
             (h.0, (omega arith), (omega arith)));
-        texts = λ k q o g from to at i y there. (let e = gate k g in
+        texts = λ k q o g from to at i y there. (let e = taken_stays k g in
             rows q (i + 64) ∙ r.texts k q o g (omega arith) (omega arith) at i y there);
-        readable = λ k q o g from to at. (let e = gate k g in r.readable k q o g (omega arith) (omega arith) at);
+        readable = λ k q o g from to at. (let e = taken_stays k g in r.readable k q o g (omega arith) (omega arith) at);
       }
 
 module _ {L : Type 0} (terms : Terms L) where

@@ -64,7 +64,7 @@ module _ {L : Type 0} (terms : Terms L) where
       let h = log.history in
       let zero_is : w' 0 ≡ w 0 = control 0 (omega arith) in
       let m : w' 32 ≡ w 32 = control 32 (omega arith) in
-      let gate : (k : ℕ) → IsGateway terms.gateways k → w' (taken k)
+      let taken_stays : (k : ℕ) → IsGateway terms.gateways k → w' (taken k)
       ≡ w (taken k) = λ k g. (let hi : k ≤ terms.gateways = g.1 in control (taken k) (omega arith)) in
       let below : w 32 ≤ w 104 = r.marshalled_published in
       let whole : get_elem? (outputs_by terms h) (w 104) ≡ some o =
@@ -77,9 +77,9 @@ module _ {L : Type 0} (terms : Terms L) where
         kept = r.kept ∙ sym (control journalled (omega arith));
         front = r.front;
         marshalled_published = omega arith;
-        taken_marshalled = λ k g. (let e = gate k g in let a : w (taken k) ≤ w 32 = r.taken_marshalled k g in
+        taken_marshalled = λ k g. (let e = taken_stays k g in let a : w (taken k) ≤ w 32 = r.taken_marshalled k g in
             omega arith);
-        free = λ k g. (let e = gate k g in let a : w 104 < w (taken k) + terms.output_rows = room k g in omega arith);
+        free = λ k g. (let e = taken_stays k g in let a : w 104 < w (taken k) + terms.output_rows = room k g in omega arith);
         least = (let is : length (outputs_by terms (take (w' 0) h))
             ≡ length (outputs_by terms (take (w 0) h)) = ap (λ (y : ℕ). length (outputs_by terms (take y h)))
             zero_is in
@@ -88,11 +88,11 @@ module _ {L : Type 0} (terms : Terms L) where
             ≡ length (outputs_by terms (take (suc (w 0)) h)) =
             ap (λ (y : ℕ). length (outputs_by terms (take (suc y) h))) zero_is in
             let a = within (outputs_by terms (take (suc (w 0)) h)) (w 104) o at in omega arith);
-        addresses = λ k q d g from to there. (let e = gate k g in rows q 0 ∙ dite (ℕ_discrete q (w 104))
+        addresses = λ k q d g from to there. (let e = taken_stays k g in rows q 0 ∙ dite (ℕ_discrete q (w 104))
             (λ here. ap (λ (j : ℕ). w (out_row terms.rows terms.output_rows j 0)) here ∙ address
             ∙ ap (λ (z : Output). z.to) (is_it q d here there))
             (λ ne. r.addresses k q d g (omega arith) (omega arith) there));
-        reports = λ k q d g from to there. (let e = gate k g in
+        reports = λ k q d g from to there. (let e = taken_stays k g in
             let a : w 104 < w (taken k) + terms.output_rows = room k g in
             let b : w (taken k) ≤ w 32 = r.taken_marshalled k g in dite (ℕ_discrete q (w 104))
             (λ here. ap (λ (j : ℕ). put log.slots.reports (w 104 % terms.output_rows) (some x) (j % terms.output_rows))
@@ -109,9 +109,9 @@ module _ {L : Type 0} (terms : Terms L) where
           (omega arith),
           (omega arith),
         ));
-        texts = λ k q d g from to there i y word. (let e = gate k g in
+        texts = λ k q d g from to there i y word. (let e = taken_stays k g in
             rows q (i + 64) ∙ r.texts k q d g (omega arith) (omega arith) there i y word);
-        readable = λ k q d g from to there. (let e = gate k g in r.readable k q d g (omega arith) (omega arith) there);
+        readable = λ k q d g from to there. (let e = taken_stays k g in r.readable k q d g (omega arith) (omega arith) there);
       }
 
 module _ {L : Type 0} (terms : Terms L) where

@@ -8,7 +8,7 @@ use mathlib.Core.Option.{some}
 use native.Mathlib.Decide.{ℕ_discrete}
 use lib.ListN.{get_elem?}
 use Rattle.venue_model.specs.History.{Message}
-use Rattle.venue_model.specs.ListLaws.{at_longer, at_behind}
+use Rattle.venue_model.specs.ListLaws.{at_behind}
 use Rattle.ring_words.specs.declared.view.Load.{Load}
 use Rattle.ring_words.specs.declared.view.Person.{Person}
 use Rattle.ring_words.specs.Places.{claim, processed, taken}

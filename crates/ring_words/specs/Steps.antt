@@ -61,10 +61,10 @@ Seated S L = Me S (View L)
 pub record Readable : Type 0 where
   pub rows : ℕ
   pub output_rows : ℕ
-  pub gate : ℕ
+  pub how_far : ℕ
 
 abbrev pub readable : ℕ → ℕ → ℕ → Readable
-readable rows output_rows gate = record { rows = rows; output_rows = output_rows; gate = gate }
+readable rows output_rows how_far = record { rows = rows; output_rows = output_rows; how_far = how_far }
 
 -- what a logic means: the outputs of a history, and the text of an output at its place
 pub record Meaning (L : Type 0) : Type 0 where
@@ -181,12 +181,12 @@ module _ {S L : Type 0} where
   abbrev pub publishes : Step S → Seated S L → ℕ → Seated S L → Type 0
   publishes st m r after = after ≡ (alone m.0 (with_out (at_place (person m.0) r) None), rest m.1)
 
-  -- a load of an address, where a value of the gate was loaded above its place and it isn't released: the output is that of the history that is
+  -- a load of an address, where the word that shows how far was loaded above its place and it isn't released: the output is that of the history that is
   -- known
   abbrev pub sees_address : Readable → (L → List Message → List Output) → Step S → Seated S L → ℕ → Seated S L → Type 0
   sees_address ring outputs st m r after = Became m (looked (person m.0) st.word r) after
       × ((logic : L) (q : ℕ) (o : Output) → m.0.logic ≡ Some logic → get_elem? (outputs logic (person m.0).seen) q ≡ some o
-      → (person m.0).sequence ≤ q → Shows ring.gate (person m.0) q → st.word ≡ out_row ring.rows ring.output_rows q 0 → r ≡ o.to)
+      → (person m.0).sequence ≤ q → Shows ring.how_far (person m.0) q → st.word ≡ out_row ring.rows ring.output_rows q 0 → r ≡ o.to)
 
   -- a load of published: the marshaller knows a history that has so many outputs
   abbrev pub sees_published : (L → List Message → List Output) → Step S → Seated S L → ℕ → Seated S L → Type 0
@@ -207,11 +207,11 @@ module _ {S L : Type 0} where
       × IsLegal (length m.0.base) (person m.0) ((person m.0).seen ++ rest) × (length ((person m.0).seen ++ rest) ≤ 2 ^ 48)
       × ((logic : L) → m.0.logic ≡ Some logic → (o : Output) × (get_elem? (outputs logic ((person m.0).seen ++ rest)) (person m.0).sequence ≡ some o)))
 
-  -- a load of a text word, where a value of the gate was loaded above its place and it isn't taken: the text is that of the output there
+  -- a load of a text word, where the word that shows how far was loaded above its place and it isn't taken: the text is that of the output there
   abbrev pub sees_text : Readable → Meaning L → Step S → Seated S L → ℕ → Seated S L → Type 0
   sees_text ring means st m r after = Became m (looked (person m.0) st.word r) after
       × ((logic : L) (q i x : ℕ) (o : Output) → m.0.logic ≡ Some logic → get_elem? (means.outputs logic (person m.0).seen) q ≡ some o
-      → (person m.0).sequence ≤ q → Shows ring.gate (person m.0) q
+      → (person m.0).sequence ≤ q → Shows ring.how_far (person m.0) q
       → get_elem? (text_words (means.text logic o q)) i ≡ some x → st.word ≡ out_row ring.rows ring.output_rows q (i + 64)
       → (r ≡ x) × IsPackableText (means.text logic o q))
 
@@ -219,7 +219,7 @@ module _ {L : Type 0} where
   -- a load of the address of an output that is published and not released, which takes the slot of its row out: its report is that of the output in
   -- the history that is known
   abbrev pub takes_report : Readable → (L → List Message → List Output) → Step Boxed → Seated Boxed L → ℕ → Seated Boxed L → Type 0
-  takes_report ring outputs st m r after = (q : ℕ) → (person m.0).sequence ≤ q → Shows ring.gate (person m.0) q → st.word ≡ out_row ring.rows ring.output_rows q 0
+  takes_report ring outputs st m r after = (q : ℕ) → (person m.0).sequence ≤ q → Shows ring.how_far (person m.0) q → st.word ≡ out_row ring.rows ring.output_rows q 0
       → (b : Boxed) × (b.value.place ≡ q)
       × (after ≡ (alone m.0 (with_out (looked (person m.0) st.word r) (Some b.value)), (q % ring.output_rows, b) ∷ m.1))
       × ((logic : L) (o : Output) → m.0.logic ≡ Some logic → get_elem? (outputs logic (person m.0).seen) q ≡ some o
@@ -229,4 +229,4 @@ module _ {L : Type 0} where
   abbrev pub gives_report : Readable → (L → List Message → List Output) → Step Boxed → Seated Boxed L → ℕ → Seated Boxed L → Type 0
   gives_report ring outputs st m r after = (after ≡ (alone m.0 (with_out (looked (person m.0) st.word r) None), rest m.1))
       × ((logic : L) (q : ℕ) (o : Output) → m.0.logic ≡ Some logic → get_elem? (outputs logic (person m.0).seen) q ≡ some o
-      → (person m.0).sequence ≤ q → Shows ring.gate (person m.0) q → st.word ≡ out_row ring.rows ring.output_rows q 0 → r ≡ o.to)
+      → (person m.0).sequence ≤ q → Shows ring.how_far (person m.0) q → st.word ≡ out_row ring.rows ring.output_rows q 0 → r ≡ o.to)

@@ -32,5 +32,9 @@ pub use seats::reader::{
     JournalSeat, Journalling, Reader, ReaderSeat, UnmarshalSeat, Unmarshalling,
 };
 pub use setup::Setup;
+pub use steps::{
+    outputs_available, put_output, read_output, release, release_kept, release_marshalled,
+    release_written,
+};
 pub use text_head::TextHead;
 pub use view::{Load, Part, Person, Role, Sent, View};

@@ -106,7 +106,7 @@ impl<L: Logic, const N: usize, const M: usize, const G: usize> Rings<L, N, M, G>
             seat: self.split(first),
             known: count,
             sequence: count,
-            gate: 0,
+            last_unmarshalled: 0,
             published: base_outputs,
             taken: no_values(),
             spare,

@@ -9,4 +9,5 @@ mod put;
 
 pub use barrier::{Head, Take, take_output};
 pub use claim::{Claim, ClaimRefusal, try_claim};
-pub use put::{put_output, room};
+pub use put::room;
+pub use ring_words::put_output;

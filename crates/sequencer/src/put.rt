@@ -1,15 +1,11 @@
 //! Outputs on their way into the output ring: the processor looks how many there is room for, and puts one after another.
-ghost use Rattle.std.specs.Prelude.{◌≡◌, ◌↔◌, ℕ, suc, ◌+◌, ◌<◌, ◌≤◌, length, take, IsTrue, IsFalse};
-ghost use mathlib.Core.Option.{some};
-ghost use lib.ListN.{get_elem?};
-ghost use Rattle.ring_words.specs.Places.{journalled};
-ghost use Rattle.ring_words.specs.Rule.{at_place};
-ghost use Rattle.ring_words.specs.At.{IsAt, Steps, SamePlace};
-ghost use Rattle.ring_words.specs.Steps.{HasOutputRoom, Shows};
+ghost use Rattle.std.specs.Prelude.{◌↔◌, ℕ, ◌+◌, ◌<◌, ◌≤◌, IsTrue, IsFalse};
+ghost use Rattle.ring_words.specs.At.{IsAt, SamePlace};
+ghost use Rattle.ring_words.specs.Steps.{HasOutputRoom};
 ghost use Rattle.sequencer.specs.Rooms.{HasLooked, KeepsRoom, KeepsNoRoom, SeesRoomFor};
 
 use ring_words::{ProcessSeat, Rings};
-use venue_model::{Logic, Output};
+use venue_model::Logic;
 
 /// Whether a ring of so many rows has room for all outputs wanted, from the place `published` on, by a taken value.
 fn leaves_room(taken: u64, published: u64, wanted: u64, rows: u64) -> bool
@@ -78,20 +74,4 @@ pub fn room<L: Logic, const N: usize, const M: usize, const G: usize>(
         return wanted;
     }
     look_for_room(rings, seat)
-}
-
-/// Puts the next output whole into the row of its place, and then raises published by one. It is the output at that place of the entries
-/// that the processor has processed and of the next one, which it saw journalled.
-pub fn put_output<L: Logic, const N: usize, const M: usize, const G: usize>(
-    rings: &Rings<L, N, M, G>,
-    seat: &mut ProcessSeat<L>,
-    output: &Output,
-)
-    requires at { IsAt rings.now seat.old }
-    requires room { HasOutputRoom G M seat.old.who seat.old.who.row.sequence }
-    requires synced { Shows journalled seat.old.who seat.old.who.sequence }
-    requires next { get_elem? (L.outputs rings.now.logic (take (suc seat.old.who.sequence) seat.old.who.seen)) seat.old.who.row.sequence ≡ some output.now }
-    ensures step { Steps seat.old (at_place seat.old.who (suc seat.old.who.row.sequence)) seat.new }
-{
-    rings.store_output(seat, output);
 }

@@ -24,7 +24,7 @@ use Rattle.ring_words.specs.Seats.{load_of, looked, last_from}
 use Rattle.ring_words.specs.At.{Opened, At, IsAt, seated}
 use Rattle.ring_words.specs.Steps.{HasOutputRoom, Shows, lesser_of}
 use Rattle.ring_words.specs.SeatLaws.{last_kept, last_loaded}
-use Rattle.barrier.specs.Availability.{Gated}
+use Rattle.barrier.specs.Availability.{BehindBoth}
 use Rattle.barrier.specs.Commands.{command_loads}
 use Rattle.sequencer.specs.Rooms.{taken_loads, SeesRoomFor}
 use Rattle.book.specs.Books.{Book}
@@ -376,25 +376,25 @@ none_left put most len items long within few = let rest = length-drop (put + mos
 -- A POLL
 
 -- the look for commands leaves the own word, and shows the entries that it makes known as journalled
-pub gated_own : (v u : Person) → Gated v u → u.sequence ≡ v.sequence
-gated_own v u gated = ap (λ (p : Person). p.sequence) gated.2.1
+pub behind_own : (v u : Person) → BehindBoth v u → u.sequence ≡ v.sequence
+behind_own v u behind = ap (λ (p : Person). p.sequence) behind.2.1
 
 lesser_low : (a b : ℕ) → lesser_of a b ≤ b
 lesser_low a b = elim (nat_le a b) as (λ t. nat_le a b ≡ t → (if t then a else b) ≤ b)
     [ true ↦ (λ is. let le = leb-true a b is in omega (arith, le)) | false ↦ (λ is. omega arith) ] refl
 
-pub gated_synced : (v u : Person) (s : ℕ) → Gated v u → s < length u.seen → s < last_from journalled 0 u.loads
-gated_synced v u s gated known =
-    let unm = gated.0 in let j = gated.1 in let low = lesser_low unm j in
+pub behind_synced : (v u : Person) (s : ℕ) → BehindBoth v u → s < length u.seen → s < last_from journalled 0 u.loads
+behind_synced v u s behind known =
+    let unm = behind.0 in let j = behind.1 in let low = lesser_low unm j in
     let last : last_from journalled 0 u.loads ≡ j =
-    ap (λ (p : Person). last_from journalled 0 p.loads) gated.2.1
+    ap (λ (p : Person). last_from journalled 0 p.loads) behind.2.1
     ∙ last_loaded journalled 0 j (looked v unmarshalled unm).loads in
-    let long = gated.2.2 in
+    let long = behind.2.2 in
     omega (arith, low, last, long, known)
 
 -- what a command is taken up with leaves the own word
 pub took_own : (n applied : ℕ) (limits : Limits) (v u : Person) → TakesUp n limits applied v u → u.sequence ≡ v.sequence
-took_own n applied limits v u (inl next) = ap (λ (p : Person). p.sequence) next.1.2.2 ∙ gated_own v next.1.0 next.1.1
+took_own n applied limits v u (inl next) = ap (λ (p : Person). p.sequence) next.1.2.2 ∙ behind_own v next.1.0 next.1.1
 took_own n applied limits v u (inr on) = ap (λ (p : Person). p.sequence) on.1
 
 -- a command is under way: it was taken up, or had been
@@ -404,11 +404,11 @@ pub record UnderWay (n : ℕ) (p b : AtBook) : Type 0 where
   pub one : b.applied ≡ suc b.seat.who.sequence
   pub working : IsWorking b
 
-pub took_one : (n next : ℕ) (p b : AtBook) (u : Person) → p.applied ≡ next → next ≡ p.seat.who.sequence → Gated p.seat.who u
+pub took_one : (n next : ℕ) (p b : AtBook) (u : Person) → p.applied ≡ next → next ≡ p.seat.who.sequence → BehindBoth p.seat.who u
     → (e : Message) × (get_elem? u.seen u.sequence ≡ some e) × (b.seat.who ≡ after_reading n p.book.limits u e)
     → (b.applied ≡ suc next) × (b.book.limits ≡ p.book.limits) → IsWorking b → UnderWay n p b
-took_one n next p b u all own gated read applied working =
-    let taken : TakesUp n p.book.limits p.applied p.seat.who b.seat.who = inl (all ∙ own, (u, gated, read)) in
+took_one n next p b u all own behind read applied working =
+    let taken : TakesUp n p.book.limits p.applied p.seat.who b.seat.who = inl (all ∙ own, (u, behind, read)) in
     record {
       taken = taken;
       same = applied.1;

@@ -10,7 +10,7 @@ use Rattle.ring_words.specs.Places.{unmarshalled, journalled}
 use Rattle.ring_words.specs.Rule.{at_place}
 use Rattle.ring_words.specs.Seats.{looked}
 use Rattle.ring_words.specs.Steps.{lesser_of}
-use Rattle.barrier.specs.Availability.{Gated}
+use Rattle.barrier.specs.Availability.{BehindBoth}
 use Rattle.sequencer.specs.Rooms.{HasLooked, KeepsRoom, KeepsNoRoom}
 use Rattle.book.specs.Histories.{outputs_of}
 use Rattle.stages.specs.Turns.{one_done, after_reading}
@@ -30,7 +30,7 @@ to_put limits p = drop p.row.sequence (outputs_of limits (take (suc p.sequence) 
 -- known. Else one is under way.
 abbrev pub TakesUp : ℕ → Limits → ℕ → Person → Person → Type 0
 TakesUp n limits applied v u =
-    ((applied ≡ v.sequence) × ((q : Person) × Gated v q × ((e : Message) × (get_elem? q.seen q.sequence ≡ some e) × (u ≡ after_reading n limits q e))))
+    ((applied ≡ v.sequence) × ((q : Person) × BehindBoth v q × ((e : Message) × (get_elem? q.seen q.sequence ≡ some e) × (u ≡ after_reading n limits q e))))
     ⊎ ((v.sequence < applied) × (u ≡ v))
 
 -- so many outputs more are published, one after another

@@ -15,7 +15,7 @@ fn outcome(turn: Turn) -> Outcome {
     }
 }
 
-/// Polls the stage once, and tells the gate of it.
+/// Polls the stage once, and tells the `Gate` of it.
 fn poll_at<Q: Gate, R, S: Stage<R>>(gate: &Q, rings: &R, station: Station, stage: &mut S) -> Outcome
     requires { S.sits rings.now stage.old }
     ensures sits { S.sits rings.now stage.new }

@@ -34,7 +34,7 @@ pub trait Worker {
         ensures { goes self.old self.new };
 }
 
-/// Lets the worker take a turn behind so many, and tells the gate of it.
+/// Lets the worker take a turn behind so many, and tells the `Gate` of it.
 fn turn_at<Q: Gate, W: Worker>(gate: &Q, station: Station, worker: &mut W, turns: u64) -> Outcome
     ensures { W.goes worker.old worker.new }
 {

@@ -9,18 +9,23 @@ use crate::rings::Rings;
 use crate::seats::reader::JournalSeat;
 use venue_model::{Kept, Logic};
 
-impl<L: Logic, const N: usize, const M: usize, const G: usize> Rings<L, N, M, G> {
-    /// Stores the journaller's word: all sequences below it are kept.
-    pub fn store_journalled<K: Kept>(&self, seat: &mut JournalSeat<L>, upto: u64, kept: &K)
-        requires at { IsAt self.now seat.old }
-        requires from { seat.old.who.sequence ≤ upto }
-        requires to { upto ≤ length seat.old.who.seen }
-        requires kept { K.keeps kept.now (take upto seat.old.who.seen) }
-        ensures step { Steps seat.old (moved seat.old.who upto) seat.new }
-    {
-        self.table
-            .shared
-            .store::<MoveOwn>(&mut seat.seat, JOURNALLED, upto);
-        seat.sequence = upto;
-    }
+/// Hands all sequences below `upto` on to the processor, as far as the journaller is concerned: what a crash now may leave begins with
+/// their entries.
+pub fn release_kept<L: Logic, const N: usize, const M: usize, const G: usize, K: Kept>(
+    rings: &Rings<L, N, M, G>,
+    seat: &mut JournalSeat<L>,
+    upto: u64,
+    kept: &K,
+)
+    requires at { IsAt rings.now seat.old }
+    requires from { seat.old.who.sequence ≤ upto }
+    requires to { upto ≤ length seat.old.who.seen }
+    requires kept { K.keeps kept.now (take upto seat.old.who.seen) }
+    ensures step { Steps seat.old (moved seat.old.who upto) seat.new }
+{
+    rings
+        .table
+        .shared
+        .store::<MoveOwn>(&mut seat.seat, JOURNALLED, upto);
+    seat.sequence = upto;
 }

@@ -14,35 +14,6 @@ use crate::seats::marshaller::MarshalSeat;
 use venue_model::{Logic, Output};
 
 impl<L: Logic, const N: usize, const M: usize, const G: usize> Rings<L, N, M, G> {
-    /// Loads published: the marshaller then knows a history that has so many outputs at least.
-    pub fn load_published(&self, seat: &mut MarshalSeat<L>) -> u64
-        requires at { IsAt self.now seat.old }
-        ensures found { FindsPublished (L.outputs self.now.logic) seat.old result seat.new }
-    {
-        self.table
-            .shared
-            .load::<SeePublished>(&mut seat.seat, PUBLISHED)
-    }
-
-    /// Copies an output that is published and not released out of the slot of its row. The slot is taken out by a load of the address, and brought
-    /// back by another one.
-    pub fn load_output(&self, seat: &mut MarshalSeat<L>, place: u64) -> Output
-        requires at { IsAt self.now seat.old }
-        requires from { seat.old.who.sequence ≤ place }
-        requires to { Shows published seat.old.who place }
-        ensures copied { FindsCopy (L.outputs self.now.logic seat.old.who.seen) seat.old (out_row N M place 0) place result seat.new }
-    {
-        let row = self.output_row(place);
-        let word = self.output_word(place, 0);
-        let shared = &self.table.shared;
-        shared.load::<TakeReport<N, M>>(&mut seat.seat, word);
-        self.exchange_report(&mut seat.seat, row, &mut seat.spare);
-        let output = seat.spare.output;
-        self.exchange_report(&mut seat.seat, row, &mut seat.spare);
-        shared.load::<GiveReport<N, M>>(&mut seat.seat, word);
-        output
-    }
-
     /// Stores a word of the text of an output that is published and not released: the first one, or one behind or among those stored
     /// so far. Of a row behind the one under way that is the first one, when that row's text is written whole.
     pub fn store_text(&self, seat: &mut MarshalSeat<L>, place: u64, word: usize, value: u64)
@@ -59,18 +30,59 @@ impl<L: Logic, const N: usize, const M: usize, const G: usize> Rings<L, N, M, G>
             .shared
             .store::<StoreText<N, M>>(&mut seat.seat, at, value);
     }
+}
 
-    /// Stores the marshaller's word: all outputs below `upto` may be taken. The last of them is that of the row under way, and its text is written,
-    /// as are those before it.
-    pub fn store_marshalled(&self, seat: &mut MarshalSeat<L>, upto: u64)
-        requires at { IsAt self.now seat.old }
-        requires last { upto ≡ suc seat.old.who.row.sequence }
-        requires text { (o : Output) × WroteText (L.outputs self.now.logic) (L.text self.now.logic) seat.old.who o }
-        ensures step { Steps seat.old (moved seat.old.who upto) seat.new }
-    {
-        self.table
-            .shared
-            .store::<MoveOwn>(&mut seat.seat, MARSHALLED, upto);
-        seat.sequence = upto;
-    }
+/// How many outputs are published: the marshaller may read those from its own word on. Loads published; the marshaller then knows a history that has
+/// so many outputs.
+pub fn outputs_available<L: Logic, const N: usize, const M: usize, const G: usize>(
+    rings: &Rings<L, N, M, G>,
+    seat: &mut MarshalSeat<L>,
+) -> u64
+    requires at { IsAt rings.now seat.old }
+    ensures found { FindsPublished (L.outputs rings.now.logic) seat.old result seat.new }
+{
+    rings
+        .table
+        .shared
+        .load::<SeePublished>(&mut seat.seat, PUBLISHED)
+}
+
+/// Reads an output that is published and that the marshaller hasn't released.
+pub fn read_output<L: Logic, const N: usize, const M: usize, const G: usize>(
+    rings: &Rings<L, N, M, G>,
+    seat: &mut MarshalSeat<L>,
+    place: u64,
+) -> Output
+    requires at { IsAt rings.now seat.old }
+    requires from { seat.old.who.sequence ≤ place }
+    requires to { Shows published seat.old.who place }
+    ensures copied { FindsCopy (L.outputs rings.now.logic seat.old.who.seen) seat.old (out_row N M place 0) place result seat.new }
+{
+    let row = rings.output_row(place);
+    let word = rings.output_word(place, 0);
+    let shared = &rings.table.shared;
+    shared.load::<TakeReport<N, M>>(&mut seat.seat, word);
+    rings.exchange_report(&mut seat.seat, row, &mut seat.spare);
+    let output = seat.spare.output;
+    rings.exchange_report(&mut seat.seat, row, &mut seat.spare);
+    shared.load::<GiveReport<N, M>>(&mut seat.seat, word);
+    output
+}
+
+/// Hands all outputs below `upto` on to the gateways, when their texts are written: the last of them is that of the row under way.
+pub fn release_marshalled<L: Logic, const N: usize, const M: usize, const G: usize>(
+    rings: &Rings<L, N, M, G>,
+    seat: &mut MarshalSeat<L>,
+    upto: u64,
+)
+    requires at { IsAt rings.now seat.old }
+    requires last { upto ≡ suc seat.old.who.row.sequence }
+    requires text { (o : Output) × WroteText (L.outputs rings.now.logic) (L.text rings.now.logic) seat.old.who o }
+    ensures step { Steps seat.old (moved seat.old.who upto) seat.new }
+{
+    rings
+        .table
+        .shared
+        .store::<MoveOwn>(&mut seat.seat, MARSHALLED, upto);
+    seat.sequence = upto;
 }

@@ -36,7 +36,7 @@ impl<L: Logic, const N: usize, const M: usize, const G: usize> Rings<L, N, M, G>
             .table
             .shared
             .load::<SeeUnmarshalled>(&mut seat.seat, UNMARSHALLED);
-        seat.gate = found;
+        seat.last_unmarshalled = found;
         found
     }
 
@@ -50,7 +50,7 @@ impl<L: Logic, const N: usize, const M: usize, const G: usize> Rings<L, N, M, G>
             .table
             .shared
             .load::<SeeJournalled>(&mut seat.seat, JOURNALLED);
-        let reach = lesser(seat.gate, found);
+        let reach = lesser(seat.last_unmarshalled, found);
         if seat.known < reach {
             seat.known = reach;
         }
@@ -85,45 +85,55 @@ impl<L: Logic, const N: usize, const M: usize, const G: usize> Rings<L, N, M, G>
         seat.taken[gateway as usize - 1] = Some(found);
         found
     }
+}
 
-    /// Puts the next output, whose row every gateway has passed: its address is stored in the row's word, its report goes into the row's slot, and
-    /// then published is stored. It is one of the entries that the processor has processed, or of the one behind them, which it saw journalled.
-    pub fn store_output(&self, seat: &mut ProcessSeat<L>, output: &Output)
-        requires at { IsAt self.now seat.old }
-        requires room { HasOutputRoom G M seat.old.who seat.old.who.row.sequence }
-        requires synced { Shows journalled seat.old.who seat.old.who.sequence }
-        requires next { get_elem? (L.outputs self.now.logic (take (suc seat.old.who.sequence) seat.old.who.seen)) seat.old.who.row.sequence ≡ some output.now }
-        ensures step { Steps seat.old (at_place seat.old.who (suc seat.old.who.row.sequence)) seat.new }
-    {
-        let place = seat.published;
-        let next = place + 1;
-        let row = self.output_row(place);
-        let word = self.output_word(place, 0);
-        Box::replace(
-            &mut seat.spare,
-            PlacedOutput {
-                output: *output,
-                place,
-            },
-        );
-        let shared = &self.table.shared;
-        shared.store::<PutAddress<N, M>>(&mut seat.seat, word, u64::from(output.to));
-        self.exchange_report(&mut seat.seat, row, &mut seat.spare);
-        shared.store::<PublishOutput>(&mut seat.seat, PUBLISHED, next);
-        seat.published = next;
-    }
+/// Gives the rows of all sequences below `upto` back to the gateways (Disruptor paper, "Sequencing": the sequence by which
+/// a consumer says how far it is), when all their outputs are published. From then on the seat reads none of them.
+pub fn release<L: Logic, const N: usize, const M: usize, const G: usize>(
+    rings: &Rings<L, N, M, G>,
+    seat: &mut ProcessSeat<L>,
+    upto: u64,
+)
+    requires at { IsAt rings.now seat.old }
+    requires from { seat.old.who.sequence ≤ upto }
+    requires to { upto ≤ length seat.old.who.seen }
+    requires outputs { HasPublished (L.outputs rings.now.logic) seat.old.who upto }
+    ensures step { Steps seat.old (moved seat.old.who upto) seat.new }
+{
+    rings
+        .table
+        .shared
+        .store::<MoveOwn>(&mut seat.seat, PROCESSED, upto);
+    seat.sequence = upto;
+}
 
-    /// Stores the processor's word: all sequences below it are done, their outputs are published, and their rows may be claimed again.
-    pub fn store_processed(&self, seat: &mut ProcessSeat<L>, upto: u64)
-        requires at { IsAt self.now seat.old }
-        requires from { seat.old.who.sequence ≤ upto }
-        requires to { upto ≤ length seat.old.who.seen }
-        requires outputs { HasPublished (L.outputs self.now.logic) seat.old.who upto }
-        ensures step { Steps seat.old (moved seat.old.who upto) seat.new }
-    {
-        self.table
-            .shared
-            .store::<MoveOwn>(&mut seat.seat, PROCESSED, upto);
-        seat.sequence = upto;
-    }
+/// Puts the next output whole into the row of its place, and then raises published by one. It is the output at that place of the entries
+/// that the processor has processed and of the next one, which it saw journalled.
+pub fn put_output<L: Logic, const N: usize, const M: usize, const G: usize>(
+    rings: &Rings<L, N, M, G>,
+    seat: &mut ProcessSeat<L>,
+    output: &Output,
+)
+    requires at { IsAt rings.now seat.old }
+    requires room { HasOutputRoom G M seat.old.who seat.old.who.row.sequence }
+    requires synced { Shows journalled seat.old.who seat.old.who.sequence }
+    requires next { get_elem? (L.outputs rings.now.logic (take (suc seat.old.who.sequence) seat.old.who.seen)) seat.old.who.row.sequence ≡ some output.now }
+    ensures step { Steps seat.old (at_place seat.old.who (suc seat.old.who.row.sequence)) seat.new }
+{
+    let place = seat.published;
+    let next = place + 1;
+    let row = rings.output_row(place);
+    let word = rings.output_word(place, 0);
+    Box::replace(
+        &mut seat.spare,
+        PlacedOutput {
+            output: *output,
+            place,
+        },
+    );
+    let shared = &rings.table.shared;
+    shared.store::<PutAddress<N, M>>(&mut seat.seat, word, u64::from(output.to));
+    rings.exchange_report(&mut seat.seat, row, &mut seat.spare);
+    shared.store::<PublishOutput>(&mut seat.seat, PUBLISHED, next);
+    seat.published = next;
 }

@@ -28,18 +28,23 @@ impl<L: Logic, const N: usize, const M: usize, const G: usize> Rings<L, N, M, G>
             .shared
             .store::<StoreCommand<N>>(&mut seat.seat, place, value);
     }
+}
 
-    /// Stores the unmarshaller's word: all sequences below `upto` are done. The last of them is the row under way, and its command is written, as
-    /// are those before it.
-    pub fn store_unmarshalled(&self, seat: &mut UnmarshalSeat<L>, upto: u64)
-        requires at { IsAt self.now seat.old }
-        requires last { upto ≡ suc seat.old.who.row.sequence }
-        requires command { (e : Message) × WroteCommand (L.reads self.now.logic) seat.old.who e }
-        ensures step { Steps seat.old (moved seat.old.who upto) seat.new }
-    {
-        self.table
-            .shared
-            .store::<MoveOwn>(&mut seat.seat, UNMARSHALLED, upto);
-        seat.sequence = upto;
-    }
+/// Hands all sequences below `upto` on to the processor, as far as the unmarshaller is concerned, when their commands are written: the last of
+/// them is the row under way.
+pub fn release_written<L: Logic, const N: usize, const M: usize, const G: usize>(
+    rings: &Rings<L, N, M, G>,
+    seat: &mut UnmarshalSeat<L>,
+    upto: u64,
+)
+    requires at { IsAt rings.now seat.old }
+    requires last { upto ≡ suc seat.old.who.row.sequence }
+    requires command { (e : Message) × WroteCommand (L.reads rings.now.logic) seat.old.who e }
+    ensures step { Steps seat.old (moved seat.old.who upto) seat.new }
+{
+    rings
+        .table
+        .shared
+        .store::<MoveOwn>(&mut seat.seat, UNMARSHALLED, upto);
+    seat.sequence = upto;
 }

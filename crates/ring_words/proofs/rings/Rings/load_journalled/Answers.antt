@@ -33,7 +33,7 @@ invariant_of-seat-inside g c = let seat = c.seat.inside in
     let is = told.2 in
     let r : ℕ = c.load-found.result in
     let x : ℕ = lesser_of (last_from unmarshalled 0 p.loads) r in
-    let reach_is : c.lesser-reach.result ≡ x = c.lesser-reach.ensures ∙ ap (λ (a : ℕ). lesser_of a r) seat.gated in
+    let reach_is : c.lesser-reach.result ≡ x = c.lesser-reach.ensures ∙ ap (λ (a : ℕ). lesser_of a r) seat.loaded in
     let known_is : seat.known ≡ length p.seen = seat.counts.0 in
     let lt : seat.known < c.lesser-reach.result = c.if-seat-reach.true in
     let long : length (p.seen ++ rest) ≡ x = reached x p.seen rest told.1 (omega arith) in
@@ -45,7 +45,7 @@ invariant_of-seat-inside g c = let seat = c.seat.inside in
     still_sits seat.seat.me _ _ is seat.bare _ seat.role (
       (omega arith, search rules, omega arith, omega arith),
       (
-        seat.gated ∙ sym (ap (λ (z : Seated Boxed g.row.L.Denot). last_from 16 0 (person z.0).loads) is
+        seat.loaded ∙ sym (ap (λ (z : Seated Boxed g.row.L.Denot). last_from 16 0 (person z.0).loads) is
             ∙ last_kept 16 24 0 r p.loads (λ (e : 24 ≡ 16). omega arith)),
         (
           search rules,
@@ -66,7 +66,7 @@ invariant_of-seat-inside-else-seat-reach g c = let seat = c.seat.inside in
     let is = told.2 in
     let r : ℕ = c.load-found.result in
     let x : ℕ = lesser_of (last_from unmarshalled 0 p.loads) r in
-    let reach_is : c.lesser-reach.result ≡ x = c.lesser-reach.ensures ∙ ap (λ (a : ℕ). lesser_of a r) seat.gated in
+    let reach_is : c.lesser-reach.result ≡ x = c.lesser-reach.ensures ∙ ap (λ (a : ℕ). lesser_of a r) seat.loaded in
     let known_is : seat.known ≡ length p.seen = seat.counts.0 in
     let ge : c.lesser-reach.result ≤ seat.known = c.if-seat-reach.false in
     let long : length (p.seen ++ rest) ≡ length p.seen = not_reached x p.seen rest told.1 (omega arith) in
@@ -75,7 +75,7 @@ invariant_of-seat-inside-else-seat-reach g c = let seat = c.seat.inside in
     still_sits seat.seat.me _ _ is seat.bare _ seat.role (
       (omega arith, search rules, seat.counts.2, seat.counts.3),
       (
-        seat.gated ∙ sym (ap (λ (z : Seated Boxed g.row.L.Denot). last_from 16 0 (person z.0).loads) is
+        seat.loaded ∙ sym (ap (λ (z : Seated Boxed g.row.L.Denot). last_from 16 0 (person z.0).loads) is
             ∙ last_kept 16 24 0 r p.loads (λ (e : 24 ≡ 16). omega arith)),
         (
           search rules,

@@ -25,7 +25,7 @@ invariant_of-seat-inside g c = let seat = c.seat.inside in
     still_sits seat.seat.me _ _ is seat.bare _ seat.role (
       search rules,
       (
-        seat.gated ∙ sym (ap (λ (z : Seated Boxed g.row.L.Denot). last_from 16 0 (person z.0).loads) is
+        seat.loaded ∙ sym (ap (λ (z : Seated Boxed g.row.L.Denot). last_from 16 0 (person z.0).loads) is
             ∙ last_kept 16 c.taken_word-place.result 0 c.load-found.result (person seat.seat.me.0).loads
             (λ (e : c.taken_word-place.result ≡ 16). omega arith)),
         (

@@ -1,10 +1,10 @@
 use Rattle.std.proofs.Common.{rules}
 use Rattle.ring_words.specs.Terms.{terms_of}
 use Rattle.ring_words.proofs.Marshalling.{loads_published}
-use Rattle.ring_words.proofs.rings.Rings.load_published.Goals as goal
+use Rattle.ring_words.proofs.steps.marshaller.outputs_available.Goals as goal
 
 pub load-requires : goal.load-requires
-load-requires g c = let key = c.self.inside.table.shared.key in (
+load-requires g c = let key = c.rings.inside.table.shared.key in (
   search rules,
   search rules,
   loads_published

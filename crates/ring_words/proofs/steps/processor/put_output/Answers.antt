@@ -15,7 +15,7 @@ use Rattle.ring_words.specs.Steps.{Seated, HasOutputRoom}
 use Rattle.ring_words.proofs.Outputs.{place_small}
 use Rattle.ring_words.proofs.Putting.{puts_output_in}
 use Rattle.ring_words.proofs.Publishing.{publishes_put}
-use Rattle.ring_words.proofs.rings.Rings.store_output.Goals as goal
+use Rattle.ring_words.proofs.steps.processor.put_output.Goals as goal
 
 -- the output is the one at the next place
 abbrev IsNext : (List Message → List Output) → Output → Person → Type 0
@@ -24,7 +24,7 @@ IsNext outputs o p = get_elem? (outputs (take (suc p.sequence) p.seen)) p.row.se
 pub overflow_add-next : goal.overflow_add-next
 overflow_add-next g c = let seat = c.seat.inside in
     let p = person seat.seat.me.0 in
-    let logic = c.args.self.now.logic in
+    let logic = c.args.rings.now.logic in
     let who : p ≡ c.args.seat.now.who = ap (λ (s : At g.row.L.Denot). s.who) c.seat.view_is in
     let known_is : seat.known ≡ length p.seen = seat.counts.0 in
     let most : seat.known ≤ 2 ^ 48 = seat.counts.3 in
@@ -34,8 +34,8 @@ overflow_add-next g c = let seat = c.seat.inside in
     (subst (IsNext (g.L.Logic.outputs logic) c.args.output.now) (sym who) c.requires.next) (omega arith) in search rules
 
 pub store-requires : goal.store-requires
-store-requires g c = let key = c.self.inside.table.shared.key in
-    let rows = c.self.inside.rows in
+store-requires g c = let key = c.rings.inside.table.shared.key in
+    let rows = c.rings.inside.rows in
     let seat = c.seat.inside in
     let who : person seat.seat.me.0 ≡ c.args.seat.now.who = ap (λ (s : At g.row.L.Denot). s.who) c.seat.view_is in (
       search rules,
@@ -48,8 +48,8 @@ store-requires g c = let key = c.self.inside.table.shared.key in
     )
 
 pub store-requires-2 : goal.store-requires-2
-store-requires-2 g c = let key = c.self.inside.table.shared.key in
-    let rows = c.self.inside.rows in
+store-requires-2 g c = let key = c.rings.inside.table.shared.key in
+    let rows = c.rings.inside.rows in
     let seat = c.seat.inside in
     let p = person seat.seat.me.0 in
     let logic = key.logic in

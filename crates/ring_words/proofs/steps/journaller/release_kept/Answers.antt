@@ -1,10 +1,10 @@
 use Rattle.std.proofs.Common.{rules}
 use Rattle.ring_words.specs.Terms.{terms_of}
 use Rattle.ring_words.proofs.Stores.{stores_journalled}
-use Rattle.ring_words.proofs.rings.Rings.store_journalled.Goals as goal
+use Rattle.ring_words.proofs.steps.journaller.release_kept.Goals as goal
 
 pub store-requires : goal.store-requires
-store-requires g c = let key = c.self.inside.table.shared.key in (
+store-requires g c = let key = c.rings.inside.table.shared.key in (
   search rules,
   search rules,
   stores_journalled

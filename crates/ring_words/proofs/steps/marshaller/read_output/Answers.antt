@@ -9,11 +9,11 @@ use Rattle.ring_words.specs.At.{At, seated}
 use Rattle.ring_words.specs.Steps.{Seated}
 use Rattle.ring_words.proofs.Becomes.{steps}
 use Rattle.ring_words.proofs.Marshalling.{loads_taking_in, loads_giving_back, exchanged_twice, copied_output, copied}
-use Rattle.ring_words.proofs.rings.Rings.load_output.Goals as goal
+use Rattle.ring_words.proofs.steps.marshaller.read_output.Goals as goal
 
 pub load-requires : goal.load-requires
-load-requires g c = let key = c.self.inside.table.shared.key in
-    let sizes = c.self.inside.rows in
+load-requires g c = let key = c.rings.inside.table.shared.key in
+    let sizes = c.rings.inside.rows in
     let seat = c.seat.inside in (
       search rules,
       search rules,
@@ -23,8 +23,8 @@ load-requires g c = let key = c.self.inside.table.shared.key in
     )
 
 pub load-requires-2 : goal.load-requires-2
-load-requires-2 g c = let key = c.self.inside.table.shared.key in
-    let sizes = c.self.inside.rows in
+load-requires-2 g c = let key = c.rings.inside.table.shared.key in
+    let sizes = c.rings.inside.rows in
     let seat = c.seat.inside in
     let p = person seat.seat.me.0 in
     let q : ℕ = c.args.place in
@@ -46,7 +46,7 @@ load-requires-2 g c = let key = c.self.inside.table.shared.key in
 
 pub returns : goal.returns
 returns g c = record {
-  copied = λ o at. let key = c.self.inside.table.shared.key in
+  copied = λ o at. let key = c.rings.inside.table.shared.key in
       let seat = c.seat.inside in
       let p = person seat.seat.me.0 in
       let q : ℕ = c.args.place in

@@ -7,7 +7,7 @@ use Rattle.ring_words.specs.Seats.{looked, knowing, last_from}
 use Rattle.ring_words.specs.At.{At, seated}
 use Rattle.ring_words.specs.Steps.{lesser_of, Reaches}
 use Rattle.ring_words.specs.SeatLaws.{last_loaded, not_reached}
-use Rattle.barrier.specs.Availability.{Gated}
+use Rattle.barrier.specs.Availability.{BehindBoth}
 
 one_of_two : (a b : ℕ) → (lesser_of a b ≡ a) ⊎ (lesser_of a b ≡ b)
 one_of_two a b = by_case (leb a b) where
@@ -26,13 +26,13 @@ known_behind seen rest u j below_u below_j (inl near) = let y : ℕ = lesser_of 
     omega arith
 
 module _ {L : Type 0} where
-  pub gated : (v m w : At L) (u j : ℕ) (rest : List Message) → m ≡ seated v (looked v.who unmarshalled u)
+  pub behind : (v m w : At L) (u j : ℕ) (rest : List Message) → m ≡ seated v (looked v.who unmarshalled u)
       → length v.who.seen ≤ u → length m.who.seen ≤ j
       → Reaches (lesser_of (last_from unmarshalled 0 m.who.loads) j) m.who.seen rest
-      → w ≡ seated m (knowing (looked m.who journalled j) rest) → Gated v.who w.who
-  gated v m w u j rest is below_u = subst (λ (z : At L). length z.who.seen ≤ j
+      → w ≡ seated m (knowing (looked m.who journalled j) rest) → BehindBoth v.who w.who
+  behind v m w u j rest is below_u = subst (λ (z : At L). length z.who.seen ≤ j
       → Reaches (lesser_of (last_from unmarshalled 0 z.who.loads) j) z.who.seen rest
-      → w ≡ seated z (knowing (looked z.who journalled j) rest) → Gated v.who w.who) (sym is)
+      → w ≡ seated z (knowing (looked z.who journalled j) rest) → BehindBoth v.who w.who) (sym is)
       (λ below_j reaches w_is. (
         u,
         j,
