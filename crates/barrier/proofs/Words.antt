@@ -14,7 +14,7 @@ use Rattle.ring_words.specs.Log.{IsEntry}
 use Rattle.ring_words.specs.Raw.{eight, raw_word, raw_count}
 use Rattle.ring_words.specs.Seats.{load_of, looked}
 use Rattle.ring_words.specs.At.{At, seated}
-use Rattle.ring_words.specs.declared.raw.Raw.{Raw}
+use Rattle.ring_words.specs.declared.heads.Raw.{Raw}
 use Rattle.ring_words.specs.RawLaws.{word_bytes}
 use Rattle.barrier.specs.Reading.{IsMessageHead, ReadsMessage, word_loads, after_loads}
 

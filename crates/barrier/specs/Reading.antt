@@ -7,7 +7,7 @@ use Rattle.ring_words.specs.Places.{in_row}
 use Rattle.ring_words.specs.Log.{IsEntry}
 use Rattle.ring_words.specs.Raw.{raw_word}
 use Rattle.ring_words.specs.Seats.{load_of}
-use Rattle.ring_words.specs.declared.raw.Raw.{Raw}
+use Rattle.ring_words.specs.declared.heads.Raw.{Raw}
 
 -- the message may stand in the log, and the answer names its gateway and length
 pub record IsMessageHead (e : Message) (answer : Raw) : Type 0 where

@@ -1,12 +1,11 @@
 //! Fields, tag=value and SOH: what a body is made of, read where it lies.
 ghost use Rattle.std.specs.Prelude.{◌≡◌, ◌<◌, ◌+◌, ◌++◌, ◌∷◌, length, take, drop, MatchOption, IsTrue, ◌↔◌};
-ghost use Rattle.fix_frame.specs.Ascii.{soh};
-ghost use Rattle.fix_frame.specs.Cuts.{Lacks, EndsInSoh, BeginsNoField, BeginsField};
+ghost use Rattle.fix_frame.specs.Ascii.{soh, equals_sign};
+ghost use Rattle.fix_frame.specs.Cuts.{Lacks, EndsInSoh, BeginsNoField, BeginsField, IsTag, BeginsNoTag};
 ghost use Rattle.fix_frame.specs.Runs.{IsRun};
 ghost use Rattle.fix_frame.specs.Fields.{as_field};
 ghost use Rattle.fix_frame.specs.OneProof.{IsRun-prop};
-
-use crate::number::read_tag;
+ghost use Rattle.std.specs.Fmt.{decimal};
 
 /// The byte that ends each field.
 pub(crate) const SOH: u8 = 1;
@@ -96,4 +95,51 @@ pub(crate) fn is_run(bytes: &[u8]) -> bool
         rest = behind;
     }
     true
+}
+
+/// The greatest tag that has room for another digit.
+const MOST_FRONT: u32 = 9_999;
+
+/// What the bytes of two digits add up to above their number.
+const TWO_ZEROS: u32 = 528;
+
+/// The tag at the front, 1 to 99,999 and no zero in front, and what stands behind its equals sign. Almost all tags
+/// have two digits, which are read without a loop.
+fn read_tag(bytes: &[u8]) -> Option<(u32, &[u8])>
+    requires { EndsInSoh bytes.now }
+    ensures { MatchOption result (BeginsNoTag bytes.now)
+        (λ p. IsTag p.0 × (bytes.now ≡ decimal p.0 ++ equals_sign ∷ p.1.now)) }
+{
+    match bytes {
+        [tens @ b'1'..=b'9', ones @ b'0'..=b'9', b'=', behind @ ..] => {
+            let tag = u32::from(*tens) * 10 + u32::from(*ones) - TWO_ZEROS;
+            Some((tag, behind))
+        }
+        _ => read_any_tag(bytes),
+    }
+}
+
+/// The same, however many digits there are. The SOH at the end is where the search for the sign ends.
+fn read_any_tag(bytes: &[u8]) -> Option<(u32, &[u8])>
+    requires { EndsInSoh bytes.now }
+    ensures { MatchOption result (BeginsNoTag bytes.now)
+        (λ p. IsTag p.0 × (bytes.now ≡ decimal p.0 ++ equals_sign ∷ p.1.now)) }
+{
+    if bytes[0] < b'1' || b'9' < bytes[0] {
+        return None;
+    }
+    let mut tag = 0;
+    let mut at = 0;
+    while bytes[at] != b'=' {
+        let byte = bytes[at];
+        if !byte.is_ascii_digit() {
+            return None;
+        }
+        if tag > MOST_FRONT {
+            return None;
+        }
+        tag = tag * 10 + u32::from(byte - b'0');
+        at += 1;
+    }
+    Some((tag, &bytes[at + 1..]))
 }

@@ -9,7 +9,6 @@ mod framer;
 mod head;
 mod laws;
 mod message;
-mod number;
 mod stage;
 mod trailer;
 mod write;

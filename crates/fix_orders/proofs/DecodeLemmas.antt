@@ -3,7 +3,7 @@ use Rattle.std.proofs.Common.{◌≡◌, Bool, true, false, ◌&&◌, List, Opti
 use Rattle.fix_frame.specs.Grammar.{Field}
 use Rattle.venue_model.specs.declared.commands.Command.TheVariants.{Void}
 use Rattle.venue_model.specs.declared.commands.RefMsgType.{RefMsgType}
-use Rattle.fix_orders.specs.declared.faults.Fault.{Fault}
+use Rattle.fix_orders.specs.declared.fields.Fault.{Fault}
 use Rattle.fix_orders.specs.declared.tables.Table.{Table}
 use Rattle.fix_orders.specs.Header.{Header, header_of}
 use Rattle.fix_orders.specs.Reading.{ref_type_of, table_of, first_fault, classes, judged_order, judged_by, typed, headed, command_of}

@@ -9,12 +9,12 @@ use Rattle.std.proofs.lemmas.List.Folds.{list_any-append}
 use denote.Enum.Bare.{sameb}
 use Rattle.fix_frame.specs.Grammar.{Field, IsField}
 use Rattle.fix_orders.specs.declared.tables.Table.{Table}
-use Rattle.fix_orders.specs.declared.tags.Need.TheVariants.{Required, Optional, Undefined}
-use Rattle.fix_orders.specs.declared.tags.OrderTag.{OrderTag}
-use Rattle.fix_orders.specs.declared.tags.OrderTag.TheVariants.{ClOrdId, OrderQty, OrdType, OrigClOrdId, Price, Side}
-use Rattle.fix_orders.specs.declared.tags.OrderTag.TheVariants.{Symbol, TimeInForce, TransactTime}
+use Rattle.fix_orders.specs.declared.tables.Need.TheVariants.{Required, Optional, Undefined}
+use Rattle.fix_orders.specs.declared.tables.OrderTag.{OrderTag}
+use Rattle.fix_orders.specs.declared.tables.OrderTag.TheVariants.{ClOrdId, OrderQty, OrdType, OrigClOrdId, Price, Side}
+use Rattle.fix_orders.specs.declared.tables.OrderTag.TheVariants.{Symbol, TimeInForce, TransactTime}
 use Rattle.fix_orders.specs.declared.formats.JudgedValue.TheVariants.{Right, WrongFormat, OutOfRange}
-use Rattle.fix_orders.specs.contracts.tags.Need.{the_type as need_type}
+use Rattle.fix_orders.specs.contracts.tables.Need.{the_type as need_type}
 use Rattle.fix_orders.specs.contracts.formats.JudgedValue.{the_type as judged_type}
 use Rattle.fix_orders.specs.Formats.{Format, has_format, is_in_range}
 use Rattle.fix_orders.specs.OrderTags.{tag_number, tag_place, need_of}

@@ -15,13 +15,13 @@ use Rattle.venue_model.specs.declared.commands.SessionRejectReason.TheVariants.{
 use Rattle.fix_orders.specs.declared.fields.OrderFields.{OrderFields}
 use Rattle.fix_orders.specs.declared.formats.JudgedValue.{JudgedValue}
 use Rattle.fix_orders.specs.declared.formats.JudgedValue.TheVariants.{Right, WrongFormat, OutOfRange}
-use Rattle.fix_orders.specs.declared.tags.Need.TheVariants.{Undefined}
+use Rattle.fix_orders.specs.declared.tables.Need.TheVariants.{Undefined}
 use Rattle.fix_orders.specs.declared.values.Values.{Values}
-use Rattle.fix_orders.specs.declared.tags.OrderTag.{OrderTag}
-use Rattle.fix_orders.specs.declared.tags.OrderTag.TheVariants.{ClOrdId, OrderQty, OrdType, OrigClOrdId, Price, Side}
-use Rattle.fix_orders.specs.declared.tags.OrderTag.TheVariants.{Symbol, TimeInForce, TransactTime}
+use Rattle.fix_orders.specs.declared.tables.OrderTag.{OrderTag}
+use Rattle.fix_orders.specs.declared.tables.OrderTag.TheVariants.{ClOrdId, OrderQty, OrdType, OrigClOrdId, Price, Side}
+use Rattle.fix_orders.specs.declared.tables.OrderTag.TheVariants.{Symbol, TimeInForce, TransactTime}
 use Rattle.fix_orders.specs.contracts.formats.JudgedValue.{the_type as judged_type}
-use Rattle.fix_orders.specs.contracts.tags.Need.{the_type as need_type}
+use Rattle.fix_orders.specs.contracts.tables.Need.{the_type as need_type}
 use Rattle.fix_orders.specs.Formats.{format_of, has_format, is_in_range}
 use Rattle.fix_orders.specs.Formats.Format.{any}
 use Rattle.fix_orders.specs.Judging.{judged_value}

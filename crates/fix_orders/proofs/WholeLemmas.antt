@@ -21,10 +21,10 @@ use Rattle.venue_model.specs.declared.commands.SessionRejectReason.TheVariants.{
 use Rattle.venue_model.specs.declared.commands.SessionRejectReason.TheVariants.{ValueIncorrect, IncorrectFormat}
 use Rattle.venue_model.specs.declared.commands.SessionRejectReason.TheVariants.{TagAppearsMoreThanOnce}
 use Rattle.fix_orders.specs.declared.fields.OrderFields.{OrderFields}
-use Rattle.fix_orders.specs.declared.tags.Need.TheVariants.{Required, Optional, Undefined}
-use Rattle.fix_orders.specs.declared.tags.OrderTag.{OrderTag}
-use Rattle.fix_orders.specs.declared.tags.OrderTag.TheVariants.{ClOrdId, OrderQty, OrdType, OrigClOrdId, Price, Side}
-use Rattle.fix_orders.specs.declared.tags.OrderTag.TheVariants.{Symbol, TimeInForce, TransactTime}
+use Rattle.fix_orders.specs.declared.tables.Need.TheVariants.{Required, Optional, Undefined}
+use Rattle.fix_orders.specs.declared.tables.OrderTag.{OrderTag}
+use Rattle.fix_orders.specs.declared.tables.OrderTag.TheVariants.{ClOrdId, OrderQty, OrdType, OrigClOrdId, Price, Side}
+use Rattle.fix_orders.specs.declared.tables.OrderTag.TheVariants.{Symbol, TimeInForce, TransactTime}
 use Rattle.fix_orders.specs.declared.values.Values.{Values}
 use Rattle.fix_orders.specs.Asking.{AreRight, asked_in}
 use Rattle.fix_orders.specs.Findings.{IsFound, outside, again, least_in, fault_in}

@@ -9,9 +9,9 @@ use Rattle.venue_model.specs.declared.commands.OrdType.{OrdType}
 use Rattle.venue_model.specs.declared.commands.OrdType.TheVariants.{Market, Limit}
 use Rattle.fix_orders.specs.declared.tables.Table.{Table}
 use Rattle.fix_orders.specs.declared.tables.Table.TheVariants.{LimitOrder, MarketOrder, CancelRequest, ReplaceRequest}
-use Rattle.fix_orders.specs.declared.tags.Need.TheVariants.{Required}
-use Rattle.fix_orders.specs.declared.tags.OrderTag.{OrderTag}
-use Rattle.fix_orders.specs.declared.tags.OrderTag.TheVariants.{ClOrdId, OrderQty, OrigClOrdId, Price, Side, Symbol, TimeInForce}
+use Rattle.fix_orders.specs.declared.tables.Need.TheVariants.{Required}
+use Rattle.fix_orders.specs.declared.tables.OrderTag.{OrderTag}
+use Rattle.fix_orders.specs.declared.tables.OrderTag.TheVariants.{ClOrdId, OrderQty, OrigClOrdId, Price, Side, Symbol, TimeInForce}
 use Rattle.fix_orders.specs.declared.values.Values.{Values}
 use Rattle.fix_orders.specs.Formats.{value_of, format_of, has_format, is_in_range}
 use Rattle.fix_orders.specs.OrderTags.{tag_number, need_of}

@@ -12,12 +12,12 @@ use Rattle.venue_model.specs.declared.commands.SessionRejectReason.TheVariants.{
 use Rattle.fix_orders.specs.Formats.{Format, format_of, has_format, is_in_range, is_number, is_short, is_symbol, value_of}
 use Rattle.fix_orders.specs.Formats.Format.{number_to, byte_of, symbol, time, any}
 use Rattle.fix_orders.specs.Reading.{tags, is_among, value_at, required, is_wrong, faulty_tags, least, or_next, first_fault, classes}
-use Rattle.fix_orders.specs.declared.tags.Need.TheVariants.{Required}
-use Rattle.fix_orders.specs.declared.tags.OrderTag.TheVariants as tags_of
+use Rattle.fix_orders.specs.declared.tables.Need.TheVariants.{Required}
+use Rattle.fix_orders.specs.declared.tables.OrderTag.TheVariants as tags_of
 use Rattle.fix_orders.specs.OrderTags.{need_of}
 use Rattle.fix_orders.specs.Findings.{least_in, fault_in}
 use Rattle.fix_orders.specs.Text.{field}
-use Rattle.fix_orders.specs.declared.faults.Fault.{Fault}
+use Rattle.fix_orders.specs.declared.fields.Fault.{Fault}
 
 -- no number is the least of none alone
 least_none : (ns : List ℕ) → least ns ≡ None → ns ≡ []

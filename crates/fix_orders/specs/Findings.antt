@@ -5,10 +5,10 @@ use Rattle.std.specs.List.{AllByRecursion}
 use Rattle.fix_frame.specs.Grammar.{Field, IsField}
 use Rattle.venue_model.specs.declared.commands.SessionRejectReason.{SessionRejectReason}
 use Rattle.venue_model.specs.declared.commands.SessionRejectReason.TheVariants.{RequiredTagMissing, TagNotDefined, ValueIncorrect, IncorrectFormat, TagAppearsMoreThanOnce}
-use Rattle.fix_orders.specs.declared.faults.Fault.{Fault}
+use Rattle.fix_orders.specs.declared.fields.Fault.{Fault}
 use Rattle.fix_orders.specs.declared.fields.OrderFields.{OrderFields}
 use Rattle.fix_orders.specs.declared.tables.Table.{Table}
-use Rattle.fix_orders.specs.declared.tags.OrderTag.{OrderTag}
+use Rattle.fix_orders.specs.declared.tables.OrderTag.{OrderTag}
 use Rattle.fix_orders.specs.declared.values.Values.{Values}
 use Rattle.fix_orders.specs.OrderTags.{tag_number, order_numbers}
 use Rattle.fix_orders.specs.Reading.{frame_tags, header_tags, required, tags, is_among, value_at, faulty_tags, lesser, least, or_next}

@@ -1,10 +1,10 @@
 -- Private: the tags of order messages behind the header, as the code names them.
 use Rattle.std.specs.Prelude.{ℕ, if◌then◌else◌, List, [], ◌∷◌}
 use Rattle.fix_orders.specs.declared.tables.Table.{Table}
-use Rattle.fix_orders.specs.declared.tags.Need.{Need}
-use Rattle.fix_orders.specs.declared.tags.Need.TheVariants.{Required, Optional, Undefined}
-use Rattle.fix_orders.specs.declared.tags.OrderTag.{OrderTag}
-use Rattle.fix_orders.specs.declared.tags.OrderTag.TheVariants.{ClOrdId, OrderQty, OrdType, OrigClOrdId, Price, Side, Symbol, TimeInForce, TransactTime}
+use Rattle.fix_orders.specs.declared.tables.Need.{Need}
+use Rattle.fix_orders.specs.declared.tables.Need.TheVariants.{Required, Optional, Undefined}
+use Rattle.fix_orders.specs.declared.tables.OrderTag.{OrderTag}
+use Rattle.fix_orders.specs.declared.tables.OrderTag.TheVariants.{ClOrdId, OrderQty, OrdType, OrigClOrdId, Price, Side, Symbol, TimeInForce, TransactTime}
 use Rattle.fix_orders.specs.Reading.{is_among, required, optional}
 
 -- the number of a tag

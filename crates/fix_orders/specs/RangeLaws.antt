@@ -13,7 +13,7 @@ use Rattle.venue_model.specs.declared.commands.RefMsgType.TheVariants as types
 use Rattle.venue_model.specs.Orders.{is_market}
 use Rattle.fix_orders.specs.declared.tables.Table.{Table}
 use Rattle.fix_orders.specs.declared.tables.Table.TheVariants.{LimitOrder, MarketOrder, CancelRequest, ReplaceRequest}
-use Rattle.fix_orders.specs.declared.faults.Fault.{Fault}
+use Rattle.fix_orders.specs.declared.fields.Fault.{Fault}
 use Rattle.fix_orders.specs.Formats.{format_of}
 use Rattle.fix_orders.specs.Formats.Format.{number_to}
 use Rattle.fix_orders.specs.Header.{Header, header_of}

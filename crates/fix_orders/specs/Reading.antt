@@ -20,7 +20,7 @@ use Rattle.venue_model.specs.declared.commands.TimeInForce.{TimeInForce}
 use Rattle.venue_model.specs.declared.commands.TimeInForce.TheVariants.{Day, ImmediateOrCancel, FillOrKill}
 use Rattle.venue_model.specs.declared.orders.Side.{Side}
 use Rattle.venue_model.specs.declared.orders.Side.TheVariants.{Buy, Sell}
-use Rattle.fix_orders.specs.declared.faults.Fault.{Fault}
+use Rattle.fix_orders.specs.declared.fields.Fault.{Fault}
 use Rattle.fix_orders.specs.declared.tables.Table.{Table}
 use Rattle.fix_orders.specs.declared.tables.Table.TheVariants.{LimitOrder, MarketOrder, CancelRequest, ReplaceRequest}
 use Rattle.fix_orders.specs.Formats.{value_of, number_of_time, format_of, has_format, is_in_range}

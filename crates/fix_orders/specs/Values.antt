@@ -1,6 +1,6 @@
 -- Private: the values of an order message by tag, as they are kept while its fields are read.
 use Rattle.std.specs.Prelude.{ℕ, Bool, true, false, ◌&&◌, ◌==◌, if◌then◌else◌, List, [], ◌∷◌, map, slice_index_or}
-use Rattle.fix_orders.specs.declared.tags.OrderTag.{OrderTag}
+use Rattle.fix_orders.specs.declared.tables.OrderTag.{OrderTag}
 use Rattle.fix_orders.specs.declared.values.Values.{Values}
 use Rattle.fix_orders.specs.OrderTags.{tag_place}
 

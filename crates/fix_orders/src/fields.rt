@@ -1,18 +1,17 @@
-//! The fields of an order message behind its header, read once: the value of each tag, and the least tag at fault for
-//! each reason.
+//! The fields of an order message behind its header, read once: the value of each tag, the least tag at fault for each
+//! reason, and the first reason that has one.
 ghost use Rattle.std.specs.Prelude.{◌≡◌, ◌<◌, ◌≤◌, ◌++◌, ◌∷◌, [], length, List, ℕ, true};
 ghost use Rattle.fix_frame.specs.Grammar.{Field as FixField, IsField};
 ghost use Rattle.fix_frame.specs.Fields.{as_field};
 ghost use Rattle.fix_frame.specs.Borrowed.{fields_left};
 ghost use Rattle.fix_orders.specs.declared.tables.Table.{Table};
 ghost use Rattle.fix_orders.specs.OrderTags.{tag_number};
-ghost use Rattle.fix_orders.specs.Reading.{is_among, least, missing_tags};
-ghost use Rattle.fix_orders.specs.Findings.{IsFound, outside, is_other, lesser_if, least_in, is_missing};
+ghost use Rattle.fix_orders.specs.Reading.{is_among, least, missing_tags, classes};
+ghost use Rattle.fix_orders.specs.Findings.{IsFound, outside, is_other, lesser_if, least_in, is_missing, fault_in};
 ghost use Rattle.fix_orders.specs.Text.{field};
 
 use crate::formats::{JudgedValue, format_of, judge};
-use crate::tables::Table;
-use crate::tags::{Need, ORDER_TAGS, OrderTag};
+use crate::tables::{Need, ORDER_TAGS, OrderTag, Table};
 use crate::values::Values;
 use arrayvec::ArrayVec;
 use fix_frame::{Field, Fields};
@@ -180,4 +179,35 @@ fn is_among(tags: &[u32], tag: u32) -> bool
     ensures { result ≡ is_among tags.now tag }
 {
     tags.contains(&tag)
+}
+
+/// Why a message is rejected.
+#[derive(Clone, Copy)]
+pub struct Fault {
+    /// SessionRejectReason (373).
+    pub reason: SessionRejectReason,
+    /// RefTagID (371).
+    pub tag: u32,
+}
+
+/// The order in which reasons are chosen: 13, 2, 1, 6, 5.
+const CLASSES: [SessionRejectReason; 5] = [
+    SessionRejectReason::TagAppearsMoreThanOnce,
+    SessionRejectReason::TagNotDefined,
+    SessionRejectReason::RequiredTagMissing,
+    SessionRejectReason::IncorrectFormat,
+    SessionRejectReason::ValueIncorrect,
+];
+
+/// The one fault by this table of a message with these fields behind its header, if it has any.
+pub fn first_fault(table: Table, found: &OrderFields) -> Option<Fault>
+    ensures { (fields : List FixField) → IsFound table fields found.now →
+        result ≡ fault_in classes table fields }
+{
+    for reason in CLASSES {
+        if let Some(tag) = found.least(reason, table) {
+            return Some(Fault { reason, tag });
+        }
+    }
+    None
 }

@@ -6,8 +6,7 @@ ghost use Rattle.fix_orders.specs.OrderTags.{tag_number};
 ghost use Rattle.fix_orders.specs.Judging.{as_format, IsBounded, judged_value};
 
 use crate::number::read_number;
-use crate::tables::Table;
-use crate::tags::OrderTag;
+use crate::tables::{OrderTag, Table};
 use crate::time::is_time;
 use venue_model::Symbol;
 

@@ -4,7 +4,6 @@
 mod body;
 mod codes;
 mod command;
-mod faults;
 mod fields;
 mod formats;
 mod header;
@@ -12,7 +11,6 @@ mod laws;
 mod number;
 mod put;
 mod tables;
-mod tags;
 mod time;
 mod values;
 

@@ -3,7 +3,7 @@ ghost use Rattle.std.specs.Prelude.{◌≡◌, [], not};
 ghost use Rattle.fix_orders.specs.Reading.{asks_market};
 ghost use Rattle.fix_orders.specs.Values.{value_in, with_value, is_nothing};
 
-use crate::tags::OrderTag;
+use crate::tables::OrderTag;
 
 /// The value of the first field of each tag, borrowed from its bytes; nothing where there is none.
 #[derive(Clone, Copy, Debug)]

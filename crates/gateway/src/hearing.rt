@@ -7,7 +7,7 @@ ghost use Rattle.gateway.specs.Verdict.{verdict, header_verdict, first_verdict, 
 ghost use Rattle.gateway.specs.Answers.{time_after};
 ghost use Rattle.gateway.specs.Judging.{verdict_of, CanCount, CanEcho, begins_with};
 
-use crate::names::{client_name, venue_name};
+use crate::message::{client_name, venue_name};
 use crate::refusal::Refusal;
 use arrayvec::ArrayVec;
 use fix_frame::{Fields, Frame};

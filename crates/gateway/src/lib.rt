@@ -10,8 +10,6 @@ mod gateway;
 mod hearing;
 mod held;
 mod message;
-mod moment;
-mod names;
 mod outgoing;
 mod refusal;
 mod seat;

@@ -1,11 +1,14 @@
-//! The fields of a message to the client: what happens to an answer or an output before its frame is written.
+//! The fields of a message to the client, with the two parties' names and its time: what happens to an answer or an output
+//! before its frame is written.
 ghost use Rattle.std.specs.Prelude.{◌≡◌, ◌≤◌, ◌++◌, length, take};
 ghost use Rattle.fix_frame.specs.Grammar.{print_fields};
 ghost use Rattle.fix_orders.specs.Writing.{PutsFields};
 ghost use Rattle.gateway.specs.Messages.{IsTypeText, header_fields};
+ghost use Rattle.fix_orders.specs.Formats.{time_text};
+ghost use Rattle.gateway.specs.Verdict.{client_name, venue_name};
 
-use crate::names::{client_name, venue_name};
-use fix_orders::{put_bytes, put_field, put_number};
+use arrayvec::ArrayVec;
+use fix_orders::{put_bytes, put_field, put_number, time_text};
 
 /// Writes the fields of a message from the gateway to its client at the buffer's front, the header's with this text of SendingTime (52) and
 /// those of the body, and answers how many bytes they have.
@@ -41,4 +44,56 @@ fn put_header(fields: &mut [u8], gateway: u8, number: u64, msg_type: &[u8], mome
     let end = put_field(fields, end, 56, client_name(gateway).as_slice());
     let end = put_number(fields, end, 34, number);
     put_field(fields, end, 52, moment)
+}
+
+/// A time, SendingTime (52), as the number of its 14 digits and as its text. Messages of one second share it, so it is
+/// written out once.
+#[derive(Drop)]
+pub struct Moment {
+    pub time: u64,
+    pub text: [u8; 17],
+    ghost same: { text ≡ time_text time },
+}
+
+impl Moment {
+    /// The time of number 0.
+    pub fn new() -> Moment {
+        Moment {
+            time: 0,
+            text: time_text(0),
+        }
+    }
+
+    /// Turns to this time.
+    pub fn set(&mut self, time: u64)
+        ensures { self.new.time ≡ time }
+    {
+        if time != self.time {
+            self.text = time_text(time);
+            self.time = time;
+        }
+    }
+}
+
+/// The venue's name, as SenderCompID (49) and TargetCompID (56) have it.
+pub fn venue_name() -> &'static [u8]
+    ensures { result.now ≡ venue_name }
+{
+    b"VENUE"
+}
+
+/// The name of a gateway's client: C and the gateway's number.
+pub fn client_name(gateway: u8) -> ArrayVec<u8, 4>
+    ensures { result.items ≡ client_name gateway }
+{
+    let mut name = ArrayVec::new();
+    name.push(b'C');
+    if 100 <= gateway {
+        name.push(b'0' + gateway / 100);
+    }
+    if 10 <= gateway {
+        name.push(b'0' + gateway / 10 % 10);
+    }
+    name.push(b'0' + gateway % 10);
+    name
 }

@@ -5,8 +5,7 @@ ghost use Rattle.fix_orders.specs.Text.{Said};
 ghost use Rattle.gateway.specs.Standing.{message_text};
 ghost use Rattle.gateway.specs.Messages.{IsTypeText, AreFields, Spells};
 
-use crate::message::put_fields;
-use crate::moment::Moment;
+use crate::message::{Moment, put_fields};
 use fix_frame::write_frame;
 use std::marker::Model;
 

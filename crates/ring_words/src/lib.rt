@@ -2,26 +2,23 @@
 //! Every message goes through it: gateways put entries in, the stages read them, and outputs come back.
 #![tactic(auto)]
 
-mod bytes;
 mod close;
+mod heads;
 mod meeting;
 mod open;
 mod places;
 mod plays;
-mod raw;
 mod report;
 mod rings;
 mod seats;
 mod setup;
 mod slots;
 mod steps;
-mod text_head;
 mod view;
 
-pub use bytes::word_at;
 pub use close::Summary;
+pub use heads::{Raw, TextHead, word_at};
 pub use open::OpenError;
-pub use raw::Raw;
 pub use report::PlacedOutput;
 pub use rings::{Ring, Rings};
 pub use seats::Seats;
@@ -36,5 +33,4 @@ pub use steps::{
     outputs_available, put_output, read_output, release, release_kept, release_marshalled,
     release_written,
 };
-pub use text_head::TextHead;
 pub use view::{Load, Part, Person, Role, Sent, View};

@@ -6,7 +6,7 @@ use lib.ListN.{get_elem?}
 use Rattle.venue_model.specs.History.{Message}
 use Rattle.venue_model.specs.Requests.{Limits}
 use Rattle.venue_model.specs.declared.commands.Command.{Command}
-use Rattle.ring_words.specs.declared.raw.Raw.{Raw}
+use Rattle.ring_words.specs.declared.heads.Raw.{Raw}
 use Rattle.ring_words.specs.Raw.{raw_count}
 use Rattle.command_words.specs.Packing.{command_words, IsPackable}
 use Rattle.ring_words.specs.Seats.{wrote}

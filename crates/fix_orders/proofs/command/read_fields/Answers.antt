@@ -2,7 +2,7 @@
 use Rattle.std.proofs.Common.{◌≡◌, Bool, ◌&&◌, ap, sym, ◌∙◌}
 use Rattle.std.proofs.lemmas.Bool.{and_from}
 use Rattle.fix_frame.specs.Borrowed.{fields_left}
-use Rattle.fix_orders.specs.declared.tags.OrderTag.TheVariants.{OrdType}
+use Rattle.fix_orders.specs.declared.tables.OrderTag.TheVariants.{OrdType}
 use Rattle.fix_orders.specs.Reading.{value_at, asks_market, table_for}
 use Rattle.fix_orders.proofs.DecodeLemmas.{not_second, not_first}
 use Rattle.fix_orders.proofs.command.read_fields.Goals as goal

@@ -1,6 +1,6 @@
 use Rattle.std.proofs.Common.{subst, sym}
 use Rattle.venue_model.specs.Spelling.{IsSpelling}
-use Rattle.fix_orders.specs.declared.tags.OrderTag.TheVariants.{Symbol}
+use Rattle.fix_orders.specs.declared.tables.OrderTag.TheVariants.{Symbol}
 use Rattle.fix_orders.specs.FaultLaws.{spelling, symbol_needed}
 use Rattle.fix_orders.proofs.command.symbol_of.Goals as goal
 

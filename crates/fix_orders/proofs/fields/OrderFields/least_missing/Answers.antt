@@ -2,8 +2,8 @@ use Rattle.std.proofs.Common.{◌∙◌, List, ap, sym, refl}
 use Rattle.std.proofs.lemmas.List.{take_all}
 use Rattle.fix_orders.specs.Findings.{lesser_if, missing_among}
 use Rattle.fix_orders.specs.Reading.{least}
-use Rattle.fix_orders.specs.declared.tags.OrderTag.{OrderTag}
-use Rattle.fix_orders.specs.declared.tags.TheConstants.{ORDER_TAGS}
+use Rattle.fix_orders.specs.declared.tables.OrderTag.{OrderTag}
+use Rattle.fix_orders.specs.declared.tables.TheConstants.{ORDER_TAGS}
 use Rattle.fix_orders.proofs.FoundLemmas.{missing_more, missing_is}
 use Rattle.fix_orders.proofs.fields.OrderFields.least_missing.Goals as goal
 

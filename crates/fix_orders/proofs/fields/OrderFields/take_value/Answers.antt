@@ -3,10 +3,10 @@ use Rattle.std.proofs.Common.{◌≡◌, ◌∙◌, ap, sym, refl}
 use denote.Enum.Bare.{sameb}
 use Rattle.fix_orders.specs.declared.formats.JudgedValue.{JudgedValue}
 use Rattle.fix_orders.specs.declared.formats.JudgedValue.TheVariants.{Right, WrongFormat, OutOfRange}
-use Rattle.fix_orders.specs.declared.tags.Need.{Need}
-use Rattle.fix_orders.specs.declared.tags.Need.TheVariants.{Undefined}
+use Rattle.fix_orders.specs.declared.tables.Need.{Need}
+use Rattle.fix_orders.specs.declared.tables.Need.TheVariants.{Undefined}
 use Rattle.fix_orders.specs.contracts.formats.JudgedValue.{the_type as judged_type}
-use Rattle.fix_orders.specs.contracts.tags.Need.{the_type as need_type}
+use Rattle.fix_orders.specs.contracts.tables.Need.{the_type as need_type}
 use Rattle.fix_orders.specs.Formats.{Format}
 use Rattle.fix_orders.specs.Judging.{judged_value}
 use Rattle.fix_orders.proofs.FindingLemmas.{counted, uncounted}

@@ -1,8 +1,8 @@
 use Rattle.std.proofs.Common.{◌∙◌, ◌+◌, ◌/◌, ◌%◌, [], ◌∷◌, ◌++◌, ap, arith}
 use Rattle.gateway.proofs.NameLemmas.{named_by_one, named_by_two, named_by_three}
-use Rattle.gateway.proofs.names.client_name.Goals as goal
-use Rattle.gateway.proofs.names.client_name.Goals.{then-gateway-ge100, else-gateway-ge100, then-gateway-ge10}
-use Rattle.gateway.proofs.names.client_name.Goals.{else-gateway-ge10}
+use Rattle.gateway.proofs.message.client_name.Goals as goal
+use Rattle.gateway.proofs.message.client_name.Goals.{then-gateway-ge100, else-gateway-ge100, then-gateway-ge10}
+use Rattle.gateway.proofs.message.client_name.Goals.{else-gateway-ge10}
 
 pub returns : goal.returns
 returns c =

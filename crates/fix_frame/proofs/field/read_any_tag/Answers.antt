@@ -2,9 +2,9 @@
 use Rattle.std.proofs.Common.{arith}
 use Rattle.fix_frame.proofs.CutLemmas.{ends_later}
 use Rattle.fix_frame.proofs.NumberLemmas.{first_wrong, odd_byte, too_long, one_more}
-use Rattle.fix_frame.proofs.number.read_any_tag.Goals as goal
-use Rattle.fix_frame.proofs.number.read_any_tag.Goals.{then-bytes-lt49-via-then-bytes-lt49}
-use Rattle.fix_frame.proofs.number.read_any_tag.Goals.{then-bytes-lt49-via-else-bytes-lt49+then-bytes-gt57}
+use Rattle.fix_frame.proofs.field.read_any_tag.Goals as goal
+use Rattle.fix_frame.proofs.field.read_any_tag.Goals.{then-bytes-lt49-via-then-bytes-lt49}
+use Rattle.fix_frame.proofs.field.read_any_tag.Goals.{then-bytes-lt49-via-else-bytes-lt49+then-bytes-gt57}
 
 pub returns-then-bytes-lt49 : goal.returns-then-bytes-lt49
 returns-then-bytes-lt49 c =

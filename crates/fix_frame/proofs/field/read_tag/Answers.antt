@@ -2,7 +2,7 @@
 use Rattle.std.proofs.Common.{◌≡◌, ℕ, ◌+◌, ◌-◌, ◌*◌, arith, ◌<◌, ◌≤◌, get_or}
 use Rattle.std.proofs.lemmas.List.{take_rest}
 use Rattle.fix_frame.proofs.NumberLemmas.{two_digits}
-use Rattle.fix_frame.proofs.number.read_tag.Goals as goal
+use Rattle.fix_frame.proofs.field.read_tag.Goals as goal
 
 pub returns-in-49-to-57 : goal.returns-in-49-to-57
 returns-in-49-to-57 c =

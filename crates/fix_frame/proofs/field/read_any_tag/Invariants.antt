@@ -1,7 +1,7 @@
 -- So far the digits spell the tag, and SOH is still to come.
 use Rattle.std.proofs.Common.{◌<◌, ◌-◌, length}
 use Rattle.fix_frame.proofs.NumberLemmas.{SpellsSoFar}
-use Rattle.fix_frame.proofs.number.read_any_tag.Given as goal
+use Rattle.fix_frame.proofs.field.read_any_tag.Given as goal
 
 abbrev pub invariant-loop-at : goal.invariant-loop-at
 invariant-loop-at l = record {

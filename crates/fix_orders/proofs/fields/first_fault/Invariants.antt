@@ -3,7 +3,7 @@ use Rattle.std.proofs.Common.{◌≡◌, drop, List}
 use Rattle.fix_frame.specs.Grammar.{Field}
 use Rattle.fix_orders.specs.Findings.{IsFound, fault_in}
 use Rattle.fix_orders.specs.Reading.{classes}
-use Rattle.fix_orders.proofs.faults.first_fault.Given as goal
+use Rattle.fix_orders.proofs.fields.first_fault.Given as goal
 
 abbrev pub invariant-loop-reason : goal.invariant-loop-reason
 invariant-loop-reason l =

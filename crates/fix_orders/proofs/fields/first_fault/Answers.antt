@@ -4,7 +4,7 @@ use Rattle.venue_model.specs.declared.commands.SessionRejectReason.{SessionRejec
 use Rattle.fix_orders.specs.Findings.{fault_in}
 use Rattle.fix_orders.specs.Reading.{classes}
 use Rattle.fix_orders.specs.FaultLaws.{fault_found, fault_later}
-use Rattle.fix_orders.proofs.faults.first_fault.Goals as goal
+use Rattle.fix_orders.proofs.fields.first_fault.Goals as goal
 
 pub returns-in-Some : goal.returns-in-Some
 returns-in-Some c = λ fields found.
