@@ -59,10 +59,10 @@ pub struct Order {
     pub symbol: Symbol,
     /// Side (54).
     pub side: Side,
-    /// Price (44) in ticks, 1 to 1,000,000; of a market order the one that all prices of the other side meet.
-    pub price: u64,
     /// Whether it came in as a market order (40=1): then its reports have no Price (44), and it never rests.
     pub is_market: bool,
+    /// Price (44) in ticks, 1 to 1,000,000; of a market order the one that all prices of the other side meet.
+    pub price: u64,
     /// OrderQty (38), 1 to 1,000,000.
     pub total: u64,
     /// CumQty (14): how much of it was filled.
