@@ -1,32 +1,21 @@
--- Whole calls, as the code reads and writes: an order comes, leaves or changes.
-use Rattle.std.proofs.Common.{◌≡◌, ℕ, ◌+◌, ◌-◌, ◌^◌, ◌<◌, ◌≤◌, inl, inr, Bool, true, false, List, [], ◌∷◌, ◌++◌, length}
-use Rattle.std.proofs.Common.{get_or, take, drop, Option, Some, None, refl, ap, sym, subst, ◌∙◌, arith, zero-add}
-use Rattle.std.proofs.Common.{length-append, Ok, Err}
-use Rattle.std.specs.Prelude.{◌≢◌, option_map, option_to_list, MatchOption, unwrap_or, slice_set, IsOk, is_ok, Result}
-use Rattle.std.specs.Prelude.{if◌then◌else◌}
-use Rattle.std.specs.List.{AllByRecursion, insert}
-use Rattle.std.proofs.lemmas.Bool.{cases_lt}
-use Rattle.std.proofs.lemmas.List.{get_or_default}
+-- The level of an order, which a search has found, as the order leaves or changes.
+use Rattle.std.proofs.Common.{◌≡◌, ℕ, ◌+◌, ◌-◌, ◌^◌, ◌<◌, ◌≤◌, true, false, List, [], ◌∷◌, length, get_or, take, drop}
+use Rattle.std.proofs.Common.{Option, Some, None, refl, ap, sym, subst, ◌∙◌, arith, Ok, Err}
+use Rattle.std.specs.Prelude.{option_map, MatchOption, unwrap_or, slice_set, IsOk, is_ok, Result, if◌then◌else◌}
+use Rattle.std.specs.List.{AllByRecursion}
 use Rattle.venue_model.specs.declared.orders.Order.{Order}
 use Rattle.venue_model.specs.Orders.{leaves}
 use Rattle.price_levels.specs.declared.keys.Key.{Key}
 use Rattle.price_levels.specs.declared.keys.Level.{Level}
 use Rattle.price_levels.specs.declared.nodes.Node.{Node}
-use Rattle.price_levels.specs.Places.{ComesLater, standing}
 use Rattle.price_levels.specs.Keys.{key_of, key_before, InOrder, level_of}
-use Rattle.price_levels.specs.Arena.{node_at, order_at, first_of, last_of, places_of, left_in, left_of, holds, vacant}
-use Rattle.price_levels.specs.Arena.{IsArena, AreLevels, IsLevels, IsChange, Replaces, nodes_with, nodes_without}
-use Rattle.price_levels.specs.Arena.{level_without, levels_with}
-use Rattle.price_levels.proofs.LevelLists.{IsLevelAt, Changes, found-holds, found-level, found-within, opened, replaced}
-use Rattle.price_levels.proofs.LevelLists.{closed, level-is, none-there}
-use Rattle.price_levels.proofs.NodeLemmas.{Seen, within-nodes, beyond, with-seen, without-seen, changed-seen}
-use Rattle.price_levels.proofs.NodeLemmas.{member-seen}
-use Rattle.price_levels.proofs.ArenaLemmas.{given}
+use Rattle.price_levels.specs.Arena.{node_at, order_at, first_of, last_of, left_in, left_of, IsArena, AreLevels}
+use Rattle.price_levels.specs.Arena.{IsLevels, Replaces, nodes_without, level_without, levels_with}
+use Rattle.price_levels.proofs.LevelLists.{IsLevelAt, Changes, found-level, found-within, replaced, closed, level-is}
+use Rattle.price_levels.proofs.NodeLemmas.{within-nodes, changed-seen, member-seen}
 use Rattle.price_levels.proofs.LeftLemmas.{total-fits, left-own}
-use Rattle.price_levels.proofs.Comings.{last-stands, come}
 use Rattle.price_levels.proofs.Leavings.{has-level, gone}
 use Rattle.price_levels.proofs.Changings.{change}
-use Rattle.price_levels.proofs.Totals.{few}
 use Rattle.price_levels.proofs.ShortenLemmas.{set-with}
 
 -- what a search for a key has found
@@ -34,100 +23,18 @@ pub record Searched (k : Key) (levels : List Level) (at : ℕ) : Type 0 where
   pub before : AllByRecursion (λ l. key_before l.key k ≡ true) (take at levels)
   pub behind : AllByRecursion (λ l. key_before l.key k ≡ false) (drop at levels)
 
--- said of the levels and the key themselves
-pub searched : (s levels : List Level) (k' k : Key) (at : ℕ) → s ≡ levels → k' ≡ k
-    → AllByRecursion (λ l. key_before l.key k' ≡ true)
-    (take at s) →
-    AllByRecursion (λ l. key_before l.key k' ≡ false) (drop at s) → Searched k levels at
-searched s levels k' k at s_is k_is before behind =
-    subst (λ j. Searched j levels at) k_is
-    (subst (λ x. Searched k' x at) s_is (record { before = before; behind = behind }))
-
-pub holds-there : (s levels : List Level) (k' k : Key) (at : ℕ) (b : Bool) → s ≡ levels → k' ≡ k → holds s at k' ≡ b
-    → holds levels at k ≡ b
-holds-there s levels k' k at b s_is k_is h = sym (ap (λ x. holds x at k') s_is ∙ ap (holds levels at) k_is) ∙ h
-
-pub popped : (nodes : List Node) (free free' : List ℕ) (pop : Option ℕ) (place : ℕ) → IsArena nodes free →
-    free ≡ free' ++ option_to_list pop → pop ≡ Some place →
-    IsArena nodes (free' ++ place ∷ [])
-popped nodes free free' pop place arena items is = subst (IsArena nodes)
-    (items ∙ ap (λ x. free' ++ option_to_list x) is) arena
-
 pub left-is : (levels : List Level) (k : Key) (l : Level) → level_of k levels ≡ Some l → left_of levels k ≡ l.left
 left-is levels k l is = ap (λ x. unwrap_or (option_map (λ (m : Level). m.left) x) 0) is
 
--- the order of the levels, where a search found its place
-module _ (nodes : List Node) (levels : List Level) (are : AreLevels nodes levels) (o : Order) (at : ℕ)
-    (search : Searched
-    (key_of o) levels at) where
-  module _ (l : Level) (h : holds levels at (key_of o) ≡ true) (l_is : l ≡ get_or levels at l) where
-    level-at : IsLevelAt levels at (key_of o) l
-    level-at = found-holds levels at (key_of o) are.in_order search.before search.behind l h l_is
-
-    level-found : level_of (key_of o) levels ≡ Some l
-    level-found = level-is levels at (key_of o) l are.in_order level-at
-
-    pub join-last : l.last < length nodes
-    join-last = let last = last-stands nodes levels are (key_of o) l.last
-        (ap (option_map (λ (m : Level). m.last)) level-found)
-        in within-nodes nodes l.last last.order last.is
-
-  -- its level is there: it is behind the last one now
-  module _ (place : ℕ) (within : place < length nodes) (free : order_at nodes place ≡ None) (total : o.total ≤ 1000000)
-      (later : ComesLater (places_of nodes) o) where
-    module _ (l : Level) (h : holds levels at (key_of o) ≡ true) (l_is : l ≡ get_or levels at l) where
-      abbrev longer : Level
-      longer = record { key = l.key; first = l.first; last = place; left = l.left + leaves o }
-
-      longer-changes : Changes levels (levels_with levels at (longer ∷ [])) (key_of o) (Some longer)
-      longer-changes = replaced levels at (key_of o) l are.in_order (level-at l h l_is) longer refl
-
-      longer-come : AreLevels (nodes_with nodes (Some l.last) place o) (levels_with levels at (longer ∷ []))
-      longer-come = come nodes levels (levels_with levels at (longer ∷ [])) are place o (Some l.last) longer within free
-          total later
-          (sym (ap (option_map (λ (m : Level). m.last)) (level-found l h l_is))) longer-changes refl
-          (sym (ap (option_map (λ (m : Level). m.first)) (level-found l h l_is)))
-          (ap (λ n. n + leaves o) (sym (left-is levels
-          (key_of o) l (level-found l h l_is))))
-
-      pub join-fits : l.left + leaves o < 2 ^ 64
-      join-fits =
-          let fits = total-fits (nodes_with nodes (Some l.last) place o) longer-come.bounds (key_of o) in
-          let left = longer-come.left (key_of o) in
-          let is = left-is (levels_with levels at (longer ∷ [])) (key_of o) longer longer-changes.here in
-          omega (arith, fits, left, is)
-
-      pub join-levels : AreLevels (nodes_with nodes (Some l.last) place o) (slice_set levels at longer)
-      join-levels = subst (AreLevels (nodes_with nodes (Some l.last) place o)) (sym (set-with levels at longer
-          (level-at l h l_is).within)) longer-come
-
-      pub join-seen : Seen nodes (nodes_with nodes (Some l.last) place o) place (Some o)
-      join-seen = with-seen nodes (Some l.last) place o (join-last l h l_is) within
-
-    -- it isn't: the order opens one
-    module _ (h : holds levels at (key_of o) ≡ false) where
-      abbrev alone : Level
-      alone = record { key = key_of o; first = place; last = place; left = leaves o }
-
-      no-level : level_of (key_of o) levels ≡ None
-      no-level = none-there levels at (key_of o) are.in_order search.before search.behind h
-
-      pub open-levels : AreLevels (nodes_with nodes None place o) (insert levels at alone)
-      open-levels = come nodes levels (insert levels at alone) are place o None alone within free total later
-          (sym (ap (option_map (λ (m : Level). m.last)) no-level))
-          (opened levels at alone are.in_order search.before search.behind h) refl
-          refl (sym (zero-add (leaves o)) ∙ ap (λ x. unwrap_or (option_map (λ (m : Level). m.left) x) 0 + leaves o)
-          (sym no-level))
-
-      pub open-seen : Seen nodes (nodes_with nodes None place o) place (Some o)
-      open-seen = with-seen nodes None place o tt within
-
--- the node that was read
-pub node-read : (nodes : List Node) (p : ℕ) (n : Node) → p < length nodes → n ≡ get_or nodes p n → node_at nodes p ≡ n
-node-read nodes p n within is = get_or_default nodes p vacant n within ∙ sym is
-
-pub stands-within : (nodes : List Node) (p : ℕ) → order_at nodes p ≢ None → p < length nodes
-stands-within nodes p some = elim (cases_lt p (length nodes)) [ inl lt ↦ lt | inr h ↦ absurd (some (beyond nodes p h)) ]
+-- nodes, free places and levels together
+pub whole : (nodes' nodes : List Node) (free' free : List ℕ) (levels' levels : List Level) → nodes' ≡ nodes
+    → free' ≡ free →
+    levels' ≡ levels →
+    IsArena nodes free → AreLevels nodes levels → IsLevels nodes' free' levels'
+whole nodes' nodes free' free levels' levels n f l arena ordered = record {
+  arena = subst (λ ns. IsArena ns free') (sym n) (subst (IsArena nodes) (sym f) arena);
+  ordered = subst (λ ns. AreLevels ns levels') (sym n) (subst (AreLevels nodes) (sym l) ordered);
+}
 
 -- the level that loses an order, and what is said of it
 record Shorter (levels : List Level) (at : ℕ) (k : Key) (l : Level) (prev next : Option ℕ) (quantity : ℕ) : Type 0 where
@@ -251,40 +158,3 @@ module _ (nodes : List Node) (levels : List Level) (are : AreLevels nodes levels
 pub when-ok : {T F X : Type 0} (r : Result T F) (a b : X) → IsOk r → (if is_ok r then a else b) ≡ a
 when-ok (Ok x) a b ok = refl
 when-ok (Err e) a b ok = absurd (let h : false ≡ true = ok in cc)
-
--- nodes, free places and levels together
-pub whole : (nodes' nodes : List Node) (free' free : List ℕ) (levels' levels : List Level) → nodes' ≡ nodes
-    → free' ≡ free →
-    levels' ≡ levels →
-    IsArena nodes free → AreLevels nodes levels → IsLevels nodes' free' levels'
-whole nodes' nodes free' free levels' levels n f l arena ordered = record {
-  arena = subst (λ ns. IsArena ns free') (sym n) (subst (IsArena nodes) (sym f) arena);
-  ordered = subst (λ ns. AreLevels ns levels') (sym n) (subst (AreLevels nodes) (sym l) ordered);
-}
-
--- there is room for one more level where there is for one more order
-pub room : (nodes : List Node) (levels : List Level) → AreLevels nodes levels
-    → length (standing (places_of nodes)) < length nodes →
-    length levels < length nodes
-room nodes levels are space = let no_more = few nodes levels are in omega (arith, no_more, space)
-
--- and room in the list of free places for that of an order
-pub room-free : (nodes : List Node) (free : List ℕ) (p : ℕ) (o : Order) → IsArena nodes free
-    → order_at nodes p ≡ Some o →
-    length free < length nodes
-room-free nodes free p o arena here =
-    let within = within-nodes nodes p o here in
-    let seen = without-seen nodes p None None tt tt within in
-    let all = (given nodes (nodes_without nodes p None None) free p o arena here seen).all in
-    let long = seen.long in
-    let parts = length-append free (p ∷ []) in
-    omega (arith, all, long, parts)
-
--- the change that is asked for, of the order that stands
-pub replaces-it : (x : Option Order) (o y : Order) → x ≡ Some o → IsChange x y → Replaces o y
-replaces-it x o y is change = subst (λ z. IsChange z y) is change
-
--- where a change is asked for, an order stands
-pub change-stands : (x : Option Order) (y : Order) → IsChange x y → x ≢ None
-change-stands None y change = λ is. change
-change-stands (Some o) y change = λ is. let e : Some o ≡ None = is in cc

@@ -15,6 +15,7 @@ mod Totals
 mod ShortenLemmas
 mod FirstLemmas
 mod Ends
+mod JoinLemmas
 mod Groups
 mod Bests
 mod Nexts
@@ -24,4 +25,5 @@ mod LadderLists
 mod LadderLemmas
 mod LadderCalls
 mod LadderSearches
+mod FoundLemmas
 mod LadderEnds

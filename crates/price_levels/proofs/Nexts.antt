@@ -1,7 +1,7 @@
 -- The next order behind one: the next of its level, or the first of the next level.
 use Rattle.std.proofs.Common.{◌≡◌, ℕ, ◌+◌, ◌<◌, ◌≤◌, ◌⊎◌, inl, inr, true, false, List, [], ◌∷◌, ◌++◌, get_or, take}
 use Rattle.std.proofs.Common.{drop, Option, Some, None, refl, ap, sym, subst, ◌∙◌, arith, append_assoc}
-use Rattle.std.specs.Prelude.{◌≢◌, MatchOption}
+use Rattle.std.specs.Prelude.{MatchOption}
 use Rattle.std.specs.List.{AllByRecursion}
 use Rattle.std.proofs.lemmas.List.{get_or_default}
 use Rattle.std.proofs.Math.Decide.{ℕ_discrete}
@@ -236,9 +236,3 @@ module _ (nodes : List Node) (levels : List Level) (are : AreLevels nodes levels
       let l = get_or levels n some in
       level-next n last search l (at-its-level nodes levels are p o here n search l
       (get_or_default levels n some l within)) r is
-
-pub stands-some : (nodes : List Node) (p : ℕ) → order_at nodes p ≢ None → (o : Order) × (order_at nodes p ≡ Some o)
-stands-some nodes p some = elim (order_at nodes p) as (λ x. x ≢ None → (o : Order) × (x ≡ Some o)) [
-  | None ↦ λ h. absurd (h refl)
-  | Some o ↦ λ h. (o, refl)
-] some

@@ -1,12 +1,12 @@
 -- From orders, neighbours and ends of levels to the points of their rings.
-use Rattle.std.proofs.Common.{◌≡◌, ℕ, inl, inr, Option, Some, None, refl, ap, sym, ◌∙◌}
+use Rattle.std.proofs.Common.{◌≡◌, ℕ, inl, inr, Option, Some, None, ap, sym, ◌∙◌}
 use Rattle.std.specs.Prelude.{◌≢◌, MatchOption}
 use Rattle.venue_model.specs.declared.orders.Order.{Order}
 use Rattle.price_levels.specs.declared.keys.Key.{Key}
 use Rattle.price_levels.specs.Keys.{key_of}
 use Rattle.price_levels.specs.Arena.{Point, At, End, leads_to, end_to, point_by}
 use Rattle.price_levels.proofs.KeyLemmas.{decide_point}
-use Rattle.price_levels.proofs.Rings.{Moves, Sets, at-apart}
+use Rattle.price_levels.proofs.Rings.{Moves, Sets}
 use Rattle.price_levels.proofs.RingLaws.{Stands}
 
 -- where an order leads by its neighbour

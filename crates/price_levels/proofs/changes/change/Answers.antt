@@ -1,138 +1,54 @@
 -- The order's level is where the search says; its sum follows the order.
-use Rattle.std.proofs.Common.{◌≡◌, ◌+◌, ◌-◌, Some, refl, ap, sym, subst, ◌∙◌, arith}
-use Rattle.std.specs.Prelude.{slice_set}
+use Rattle.std.proofs.Common.{◌+◌, ◌-◌, refl, ap, ◌∙◌, arith}
 use Rattle.venue_model.specs.Orders.{leaves}
-use Rattle.price_levels.specs.declared.keys.Key.{Key}
-use Rattle.price_levels.specs.declared.keys.Level.{Level}
-use Rattle.price_levels.specs.declared.nodes.Node.{Node}
-use Rattle.price_levels.specs.Keys.{key_of}
-use Rattle.price_levels.specs.Arena.{order_at, node_at, places_of, IsArena, AreLevels}
-use Rattle.price_levels.specs.Ladders.{IsHome, all, rung_number}
-use Rattle.price_levels.proofs.NodeLemmas.{changed-seen}
-use Rattle.price_levels.proofs.ArenaLemmas.{stays}
-use Rattle.price_levels.proofs.LadderEnds.{on, on-all, same-key}
-use Rattle.price_levels.proofs.Ends.{searched, node-read, stands-within, change-levels, change-fits, replaces-it}
-use Rattle.price_levels.proofs.Ends.{change-stands}
+use Rattle.price_levels.specs.Arena.{Replaces}
+use Rattle.price_levels.proofs.LadderEnds.{same-key}
+use Rattle.price_levels.proofs.FoundLemmas.{Found, found, on, change-stands, replaces-it, changed-places, changed-free}
+use Rattle.price_levels.proofs.FoundLemmas.{changed-fits, changed-levels}
+use Rattle.price_levels.proofs.changes.change.Goals.{After-search-rung}
 use Rattle.price_levels.proofs.changes.change.Goals as goal
 
+replaces : (c : After-search-rung) → Replaces c.unwrap-old.result c.args.order.now
+replaces c = replaces-it c.args.nodes.now.items c.args.place _ _ _ c.index-node.ensures c.unwrap-old.ensures
+    c.requires.change
+
+it : (c : After-search-rung) → Found c.args.nodes.now.items c.args.ladders.now c.args.place c.index-node.result.now
+    c.unwrap-old.result c.search-rung.result
+it c =
+    let search = c.search-rung.ensures in
+    found _ _ _ _ _ _ c.key_of.result (change-stands _ _ c.requires.change) c.index-node.ensures c.unwrap-old.ensures
+    (c.key_of.ensures ∙ (replaces c).key)
+    (record { rung = search.rung; home = search.home; search = record { before = search.before; behind = search.behind } })
+
 pub level-level-requires : goal.level-level-requires
-level-level-requires c =
-    let o = c.unwrap-old.result in
-    let y = c.args.order.now in
-    let nodes = c.args.nodes.now.items in
-    let l = c.args.ladders.now in
-    let p = c.args.place in
-    let rung = c.search-rung in
-    let n = rung_number l rung.result in
-    let is = node-read nodes p c.index-node.result.now
-    (stands-within nodes p (change-stands (order_at nodes p) y c.requires.change))
-    c.index-node.ensures in
-    let here = ap (λ (m : Node). m.order) is ∙ c.unwrap-old.ensures in
-    let replaces = replaces-it (order_at nodes p) o y here c.requires.change in
-    let key = c.key_of.ensures ∙ replaces.key in
-    let search = searched (all l) (all l) c.key_of.result (key_of o) n refl key rung.ensures.before
-    rung.ensures.behind in
-    let home = subst (λ (k : Key). IsHome l rung.result k.symbol k.side) key rung.ensures.home in
-    on nodes l c.requires.levels p o here rung.result search rung.ensures.rung home
+level-level-requires c = on c.requires.levels (it (goal.at.level-level-requires c).After-search-rung)
 
 pub set-requires : goal.set-requires
 set-requires c =
-    let o = c.unwrap-old.result in
-    let y = c.args.order.now in
-    let nodes = c.args.nodes.now.items in
-    let l = c.args.ladders.now in
-    let p = c.args.place in
-    let rung = c.search-rung in
-    let n = rung_number l rung.result in
-    let is = node-read nodes p c.index-node.result.now
-    (stands-within nodes p (change-stands (order_at nodes p) y c.requires.change))
-    c.index-node.ensures in
-    let here = ap (λ (m : Node). m.order) is ∙ c.unwrap-old.ensures in
-    let replaces = replaces-it (order_at nodes p) o y here c.requires.change in
-    let key = c.key_of.ensures ∙ replaces.key in
-    let search = searched (all l) (all l) c.key_of.result (key_of o) n refl key rung.ensures.before
-    rung.ensures.behind in
-    let home = subst (λ (k : Key). IsHome l rung.result k.symbol k.side) key rung.ensures.home in
-    let its = on nodes l c.requires.levels p o here rung.result search rung.ensures.rung home in
     let old = c.level-level.result in
-    let new : Level = record {
-      key = old.key;
-      first = old.first;
-      last = old.last;
-      left = c.saturating_sub.result + c.leaves-2.result;
-    } in
-    record { on = its; key = same-key (all l) n old new (on-all l rung.result its) c.level-level.ensures refl }
+    let on = on c.requires.levels (it (goal.at.set-requires c).After-search-rung) in
+    let new = record old { left = c.saturating_sub.result + c.leaves-2.result } in
+    record { on = on; key = same-key c.args.ladders.now c.search-rung.result old new on c.level-level.ensures refl }
 
 pub overflow_add-level : goal.overflow_add-level
 overflow_add-level c =
-    let o = c.unwrap-old.result in
-    let y = c.args.order.now in
-    let nodes = c.args.nodes.now.items in
-    let l = c.args.ladders.now in
-    let p = c.args.place in
-    let rung = c.search-rung in
-    let n = rung_number l rung.result in
-    let is = node-read nodes p c.index-node.result.now
-    (stands-within nodes p (change-stands (order_at nodes p) y c.requires.change))
-    c.index-node.ensures in
-    let here = ap (λ (m : Node). m.order) is ∙ c.unwrap-old.ensures in
-    let replaces = replaces-it (order_at nodes p) o y here c.requires.change in
-    let key = c.key_of.ensures ∙ replaces.key in
-    let search = searched (all l) (all l) c.key_of.result (key_of o) n refl key rung.ensures.before
-    rung.ensures.behind in
-    let m = c.level-level.result in
-    let fits = change-fits nodes (all l) c.requires.levels p o here n search m c.level-level.ensures y
-    replaces.no_more in
-    let left = c.saturating_sub.ensures ∙ ap (λ x. m.left - x) c.leaves.ensures in
+    let at = (goal.at.overflow_add-level c).After-search-rung in
+    let fits = changed-fits c.requires.levels (it at) (replaces at) c.level-level.result c.level-level.ensures in
+    let left = c.saturating_sub.ensures ∙ ap (λ x. c.level-level.result.left - x) c.leaves.ensures in
     omega (arith, fits, left, c.leaves-2.ensures)
 
 pub returns-clause-free : goal.returns-clause-free
-returns-clause-free c = λ free arena.
-    let nodes = c.args.nodes.now.items in
-    let p = c.args.place in
-    let within = stands-within nodes p (change-stands (order_at nodes p) c.args.order.now c.requires.change) in
-    let is = node-read nodes p c.index-node.result.now within c.index-node.ensures in
-    let here = ap (λ (m : Node). m.order) is ∙ c.unwrap-old.ensures in
-    subst (λ (n : Node). IsArena (slice_set nodes p
-    (record { order = Some c.args.order.now; prev = n.prev; next = n.next })) free) is
-    (stays nodes (slice_set nodes p (record (node_at nodes p) { order = Some c.args.order.now })) free p
-    c.unwrap-old.result
-    c.args.order.now arena here (changed-seen nodes p c.args.order.now within))
+returns-clause-free c = let at = (goal.at.returns-clause-free c).After-search-rung in
+    changed-free c.requires.levels (it at) (replaces at)
 
 pub returns-clause-places : goal.returns-clause-places
-returns-clause-places c =
-    let nodes = c.args.nodes.now.items in
-    let p = c.args.place in
-    let within = stands-within nodes p (change-stands (order_at nodes p) c.args.order.now c.requires.change) in
-    let is = node-read nodes p c.index-node.result.now within c.index-node.ensures in
-    ap (λ (n : Node). places_of (slice_set nodes p
-    (record { order = Some c.args.order.now; prev = n.prev; next = n.next }))) (sym is)
-    ∙ (changed-seen nodes p c.args.order.now within).places
+returns-clause-places c = let at = (goal.at.returns-clause-places c).After-search-rung in
+    changed-places c.requires.levels (it at) (replaces at)
 
 pub returns-clause-levels : goal.returns-clause-levels
 returns-clause-levels c =
-    let o = c.unwrap-old.result in
-    let y = c.args.order.now in
-    let nodes = c.args.nodes.now.items in
-    let l = c.args.ladders.now in
-    let p = c.args.place in
-    let rung = c.search-rung in
-    let n = rung_number l rung.result in
-    let is = node-read nodes p c.index-node.result.now
-    (stands-within nodes p (change-stands (order_at nodes p) y c.requires.change))
-    c.index-node.ensures in
-    let here = ap (λ (m : Node). m.order) is ∙ c.unwrap-old.ensures in
-    let replaces = replaces-it (order_at nodes p) o y here c.requires.change in
-    let key = c.key_of.ensures ∙ replaces.key in
-    let search = searched (all l) (all l) c.key_of.result (key_of o) n refl key rung.ensures.before
-    rung.ensures.behind in
+    let at = (goal.at.returns-clause-levels c).After-search-rung in
     let m = c.level-level.result in
-    let left : c.saturating_sub.result + c.leaves-2.result ≡ m.left - leaves o + leaves y =
-    ap (λ x. x + c.leaves-2.result) (c.saturating_sub.ensures ∙ ap (λ x. m.left - x) c.leaves.ensures) ∙ ap
-    (λ x. m.left - leaves o + x) c.leaves-2.ensures in
-    subst (λ (w : Node). AreLevels (slice_set nodes p (record { order = Some y; prev = w.prev; next = w.next }))
-    (all c.set.new.self)) is
-    (subst (AreLevels (slice_set nodes p (record (node_at nodes p) { order = Some y })))
-    (sym (c.set.ensures.levels ∙ ap (λ x. slice_set (all l) n
-    (record { key = m.key; first = m.first; last = m.last; left = x })) left))
-    (change-levels nodes (all l) c.requires.levels p o here n search m c.level-level.ensures y replaces))
+    changed-levels c.requires.levels (it at) (replaces at) m c.level-level.ensures _ _
+    (ap (λ x. x + c.leaves-2.result) (c.saturating_sub.ensures ∙ ap (λ x. m.left - x) c.leaves.ensures)
+    ∙ ap (λ x. m.left - leaves c.unwrap-old.result + x) c.leaves-2.ensures) c.set.ensures.levels

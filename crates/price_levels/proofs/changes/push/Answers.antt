@@ -1,203 +1,81 @@
 -- The last free place is taken; the order joins its level there, or opens one.
-use Rattle.std.proofs.Common.{◌+◌, true, false, Some, None, refl, ap, sym, ◌∙◌, arith}
-use Rattle.std.specs.Prelude.{slice_set}
-use Rattle.std.specs.List.{insert}
-use Rattle.venue_model.specs.Orders.{leaves}
-use Rattle.price_levels.specs.declared.keys.Key.{Key}
-use Rattle.price_levels.specs.declared.keys.Level.{Level}
-use Rattle.price_levels.specs.Keys.{key_of}
-use Rattle.price_levels.specs.Arena.{places_of, nodes_with}
+use Rattle.std.proofs.Common.{◌+◌, rules, refl, ap, sym, subst, ◌∙◌, arith}
+use Rattle.price_levels.specs.Arena.{places_of, holds}
 use Rattle.price_levels.specs.Ladders.{all, rung_number}
-use Rattle.price_levels.proofs.ArenaLemmas.{taken-vacant, taken}
-use Rattle.price_levels.proofs.LevelLists.{holds-within}
 use Rattle.price_levels.proofs.LadderEnds.{same-key}
-use Rattle.price_levels.proofs.Ends.{searched, holds-there, popped, join-last, join-fits, join-levels, join-seen}
-use Rattle.price_levels.proofs.Ends.{open-levels, open-seen, whole, room}
+use Rattle.price_levels.proofs.Ends.{Searched}
+use Rattle.price_levels.proofs.JoinLemmas.{Comes, popped, vacant-there, join-last, join-fits, join-places, join-levels}
+use Rattle.price_levels.proofs.JoinLemmas.{open-room, open-places, open-levels}
+use Rattle.price_levels.proofs.changes.push.Goals.{After-holds}
 use Rattle.price_levels.proofs.changes.push.Goals as goal
+
+it : (c : After-holds) → Comes c.args.nodes.now.items c.pop.new.self.items (all c.args.ladders.now)
+    c.unwrap-place.result (rung_number c.args.ladders.now c.search-rung.result) c.args.order.now c.holds.result
+it c =
+    let l = all c.args.ladders.now in
+    let n = rung_number c.args.ladders.now c.search-rung.result in
+    let found = c.search-rung.ensures in
+    record {
+      arena = popped _ c.args.free.now.items _ c.pop.result _ c.requires.levels.arena c.pop.ensures.items
+          c.unwrap-place.ensures;
+      ordered = c.requires.levels.ordered;
+      search = subst (λ k. Searched k l n) c.key_of-key.ensures (record { before = found.before; behind = found.behind });
+      holds_is = ap (holds l n) (sym c.key_of-key.ensures) ∙ sym c.holds.ensures.holds;
+      total = c.requires.quantity;
+      later = c.requires.later;
+    }
 
 pub level-level-requires : goal.level-level-requires
 level-level-requires c = c.holds.ensures.on c.if-holds.true
 
 pub seat-requires-clause-last : goal.seat-requires-clause-last
 seat-requires-clause-last c =
-    let o = c.args.order.now in
-    let l = c.args.ladders.now in
-    let rung = c.search-rung in
-    let n = rung_number l rung.result in
-    let search = searched (all l) (all l) c.key_of-key.result (key_of o) n refl c.key_of-key.ensures rung.ensures.before
-    rung.ensures.behind in
-    let h = holds-there (all l) (all l) c.key_of-key.result (key_of o) n true refl c.key_of-key.ensures
-    (sym c.holds.ensures.holds
-    ∙ c.if-holds.true) in
-    join-last c.args.nodes.now.items (all l) c.requires.levels.ordered o n search c.level-level.result h
-    c.level-level.ensures
+    join-last (it (goal.at.seat-requires-clause-last c).After-holds) c.if-holds.true _ c.level-level.ensures
 
 pub seat-requires-clause-place : goal.seat-requires-clause-place
-seat-requires-clause-place c =
-    (taken-vacant c.args.nodes.now.items c.pop.new.self.items c.unwrap-place.result
-    (popped c.args.nodes.now.items c.args.free.now.items c.pop.new.self.items c.pop.result c.unwrap-place.result
-    c.requires.levels.arena c.pop.ensures.items c.unwrap-place.ensures)).0
+seat-requires-clause-place c = (vacant-there (it (goal.at.seat-requires-clause-place c).After-holds)).0
 
 pub seat-requires-else-holds-clause-place : goal.seat-requires-else-holds-clause-place
 seat-requires-else-holds-clause-place c =
-    (taken-vacant c.args.nodes.now.items c.pop.new.self.items c.unwrap-place.result
-    (popped c.args.nodes.now.items c.args.free.now.items c.pop.new.self.items c.pop.result c.unwrap-place.result
-    c.requires.levels.arena c.pop.ensures.items c.unwrap-place.ensures)).0
+    (vacant-there (it (goal.at.seat-requires-else-holds-clause-place c).After-holds)).0
 
 pub overflow_add-longer : goal.overflow_add-longer
 overflow_add-longer c =
-    let o = c.args.order.now in
-    let l = c.args.ladders.now in
-    let rung = c.search-rung in
-    let n = rung_number l rung.result in
-    let search = searched (all l) (all l) c.key_of-key.result (key_of o) n refl c.key_of-key.ensures rung.ensures.before
-    rung.ensures.behind in
-    let h = holds-there (all l) (all l) c.key_of-key.result (key_of o) n true refl c.key_of-key.ensures
-    (sym c.holds.ensures.holds
-    ∙ c.if-holds.true) in
-    let vacant = taken-vacant c.args.nodes.now.items c.pop.new.self.items c.unwrap-place.result
-    (popped c.args.nodes.now.items c.args.free.now.items c.pop.new.self.items c.pop.result c.unwrap-place.result
-    c.requires.levels.arena c.pop.ensures.items c.unwrap-place.ensures) in
-    let fits = join-fits c.args.nodes.now.items (all l) c.requires.levels.ordered o n search c.unwrap-place.result
-    vacant.0 vacant.1
-    c.requires.quantity c.requires.later c.level-level.result h c.level-level.ensures in
+    let fits = join-fits (it (goal.at.overflow_add-longer c).After-holds) c.if-holds.true _ c.level-level.ensures in
     omega (arith, fits, c.leaves.ensures)
 
-pub set-requires : goal.set-requires
-set-requires c =
-    let o = c.args.order.now in
-    let l = c.args.ladders.now in
-    let rung = c.search-rung in
-    let n = rung_number l rung.result in
-    let search = searched (all l) (all l) c.key_of-key.result (key_of o) n refl c.key_of-key.ensures rung.ensures.before
-    rung.ensures.behind in
-    let old = c.level-level.result in
-    let new : Level = record {
-      key = old.key;
-      first = old.first;
+pub set-requires-clause-key : goal.set-requires-clause-key
+set-requires-clause-key c = let old = c.level-level.result in
+    same-key c.args.ladders.now c.search-rung.result old (record old {
       last = c.unwrap-place.result;
-      left = old.left + c.leaves.result;
-    } in
-    let within = holds-within (all l) n c.key_of-key.result (sym c.holds.ensures.holds ∙ c.if-holds.true) in
-    record {
-      on = c.holds.ensures.on c.if-holds.true;
-      key =
-          same-key (all l) n old new within c.level-level.ensures refl;
-    }
+      left =
+          old.left + c.leaves.result;
+    }) (c.holds.ensures.on c.if-holds.true) c.level-level.ensures refl
 
 pub insert-requires-clause-room : goal.insert-requires-clause-room
 insert-requires-clause-room c =
-    let more = room c.args.nodes.now.items (all c.args.ladders.now) c.requires.levels.ordered c.requires.room.0 in
+    let more = open-room (it (goal.at.insert-requires-clause-room c).After-holds) c.if-holds.false c.requires.room.0 in
     omega (arith, more, c.requires.room.1)
 
-pub returns-then-holds-clause-free : goal.returns-then-holds-clause-free
-returns-then-holds-clause-free c =
-    taken-vacant c.args.nodes.now.items c.pop.new.self.items c.unwrap-place.result
-    (popped c.args.nodes.now.items c.args.free.now.items c.pop.new.self.items c.pop.result c.unwrap-place.result
-    c.requires.levels.arena c.pop.ensures.items c.unwrap-place.ensures)
+pub returns-then-holds : goal.returns-then-holds
+returns-then-holds c =
+    let it = it (goal.at.returns-then-holds c).After-holds in
+    let l_is = c.level-level.ensures in
+    record {
+      levels = join-levels it c.if-holds.true _ l_is _ _ _ c.seat.ensures c.leaves.ensures c.set.ensures.levels;
+      free = vacant-there it;
+      places = ap places_of c.seat.ensures ∙ join-places it c.if-holds.true _ l_is;
+      capacity = search rules;
+    }
 
-pub returns-else-holds-clause-free : goal.returns-else-holds-clause-free
-returns-else-holds-clause-free c =
-    taken-vacant c.args.nodes.now.items c.pop.new.self.items c.unwrap-place.result
-    (popped c.args.nodes.now.items c.args.free.now.items c.pop.new.self.items c.pop.result c.unwrap-place.result
-    c.requires.levels.arena c.pop.ensures.items c.unwrap-place.ensures)
-
-pub returns-then-holds-clause-places : goal.returns-then-holds-clause-places
-returns-then-holds-clause-places c =
-    let o = c.args.order.now in
-    let l = c.args.ladders.now in
-    let rung = c.search-rung in
-    let n = rung_number l rung.result in
-    let search = searched (all l) (all l) c.key_of-key.result (key_of o) n refl c.key_of-key.ensures rung.ensures.before
-    rung.ensures.behind in
-    let h = holds-there (all l) (all l) c.key_of-key.result (key_of o) n true refl c.key_of-key.ensures
-    (sym c.holds.ensures.holds
-    ∙ c.if-holds.true) in
-    let vacant = taken-vacant c.args.nodes.now.items c.pop.new.self.items c.unwrap-place.result
-    (popped c.args.nodes.now.items c.args.free.now.items c.pop.new.self.items c.pop.result c.unwrap-place.result
-    c.requires.levels.arena c.pop.ensures.items c.unwrap-place.ensures) in
-    let seen = join-seen c.args.nodes.now.items (all l) c.requires.levels.ordered o n search c.unwrap-place.result
-    vacant.0 vacant.1
-    c.requires.quantity c.requires.later c.level-level.result h c.level-level.ensures in
-    ap places_of c.seat.ensures ∙ seen.places
-
-pub returns-then-holds-clause-levels : goal.returns-then-holds-clause-levels
-returns-then-holds-clause-levels c =
-    let o = c.args.order.now in
-    let l = c.args.ladders.now in
-    let rung = c.search-rung in
-    let n = rung_number l rung.result in
-    let search = searched (all l) (all l) c.key_of-key.result (key_of o) n refl c.key_of-key.ensures rung.ensures.before
-    rung.ensures.behind in
-    let h = holds-there (all l) (all l) c.key_of-key.result (key_of o) n true refl c.key_of-key.ensures
-    (sym c.holds.ensures.holds
-    ∙ c.if-holds.true) in
-    let nodes = c.args.nodes.now.items in
-    let free' = c.pop.new.self.items in
-    let place = c.unwrap-place.result in
-    let m = c.level-level.result in
-    let arena = popped nodes c.args.free.now.items free' c.pop.result place c.requires.levels.arena c.pop.ensures.items
-    c.unwrap-place.ensures in
-    let vacant = taken-vacant nodes free' place arena in
-    let seen = join-seen nodes (all l) c.requires.levels.ordered o n search place vacant.0 vacant.1 c.requires.quantity
-    c.requires.later m h c.level-level.ensures in
-    whole c.seat.new.nodes.items (nodes_with nodes (Some m.last) place o) free' free' (all c.set.new.self)
-    (slice_set (all l) n (record { key = m.key; first = m.first; last = place; left = m.left + leaves o }))
-    c.seat.ensures refl
-    (c.set.ensures.levels ∙ ap (λ x. slice_set (all l) n
-    (record { key = m.key; first = m.first; last = place; left = m.left + x }))
-    c.leaves.ensures)
-    (taken nodes free' place arena (nodes_with nodes (Some m.last) place o) o seen)
-    (join-levels nodes (all l) c.requires.levels.ordered o n search place vacant.0 vacant.1 c.requires.quantity
-    c.requires.later m h
-    c.level-level.ensures)
-
-pub returns-else-holds-clause-places : goal.returns-else-holds-clause-places
-returns-else-holds-clause-places c =
-    let o = c.args.order.now in
-    let l = c.args.ladders.now in
-    let rung = c.search-rung in
-    let n = rung_number l rung.result in
-    let search = searched (all l) (all l) c.key_of-key.result (key_of o) n refl c.key_of-key.ensures rung.ensures.before
-    rung.ensures.behind in
-    let h = holds-there (all l) (all l) c.key_of-key.result (key_of o) n false refl c.key_of-key.ensures
-    (sym c.holds.ensures.holds
-    ∙ c.if-holds.false) in
-    let vacant = taken-vacant c.args.nodes.now.items c.pop.new.self.items c.unwrap-place.result
-    (popped c.args.nodes.now.items c.args.free.now.items c.pop.new.self.items c.pop.result c.unwrap-place.result
-    c.requires.levels.arena c.pop.ensures.items c.unwrap-place.ensures) in
-    let seen = open-seen c.args.nodes.now.items (all l) c.requires.levels.ordered o n search c.unwrap-place.result
-    vacant.0 vacant.1
-    c.requires.quantity c.requires.later h in
-    ap places_of c.seat-else-holds.ensures ∙ seen.places
-
-pub returns-else-holds-clause-levels : goal.returns-else-holds-clause-levels
-returns-else-holds-clause-levels c =
-    let o = c.args.order.now in
-    let l = c.args.ladders.now in
-    let rung = c.search-rung in
-    let n = rung_number l rung.result in
-    let search = searched (all l) (all l) c.key_of-key.result (key_of o) n refl c.key_of-key.ensures rung.ensures.before
-    rung.ensures.behind in
-    let h = holds-there (all l) (all l) c.key_of-key.result (key_of o) n false refl c.key_of-key.ensures
-    (sym c.holds.ensures.holds
-    ∙ c.if-holds.false) in
-    let nodes = c.args.nodes.now.items in
-    let free' = c.pop.new.self.items in
-    let place = c.unwrap-place.result in
-    let arena = popped nodes c.args.free.now.items free' c.pop.result place c.requires.levels.arena c.pop.ensures.items
-    c.unwrap-place.ensures in
-    let vacant = taken-vacant nodes free' place arena in
-    let seen = open-seen nodes (all l) c.requires.levels.ordered o n search place vacant.0 vacant.1 c.requires.quantity
-    c.requires.later h in
-    whole c.seat-else-holds.new.nodes.items (nodes_with nodes None place o) free' free' (all c.insert.new.self)
-    (insert (all l) n (record { key = key_of o; first = place; last = place; left = leaves o }))
-    c.seat-else-holds.ensures refl
-    (c.insert.ensures.levels
-    ∙ ap (λ (k : Key). insert (all l) n
-    (record { key = k; first = place; last = place; left = c.leaves-else-holds.result })) c.key_of-key.ensures
-    ∙ ap (λ x. insert (all l) n (record { key = key_of o; first = place; last = place; left = x }))
-    c.leaves-else-holds.ensures)
-    (taken nodes free' place arena (nodes_with nodes None place o) o seen)
-    (open-levels nodes (all l) c.requires.levels.ordered o n search place vacant.0 vacant.1 c.requires.quantity
-    c.requires.later h)
+pub returns-else-holds : goal.returns-else-holds
+returns-else-holds c =
+    let it = it (goal.at.returns-else-holds c).After-holds in
+    let nodes_are = c.seat-else-holds.ensures in
+    record {
+      levels = open-levels it c.if-holds.false _ _ _ _ nodes_are c.key_of-key.ensures c.leaves-else-holds.ensures
+          c.insert.ensures.levels;
+      free = vacant-there it;
+      places = ap places_of nodes_are ∙ open-places it c.if-holds.false;
+      capacity = search rules;
+    }
