@@ -10,9 +10,7 @@ use Rattle.venue_model.specs.declared.outputs.Cause.{Cause}
 use Rattle.venue_model.specs.declared.commands.OrderCancelReplaceRequest.{OrderCancelReplaceRequest}
 use Rattle.venue_model.specs.Orders.{leaves, is_live, same_side}
 use Rattle.venue_model.specs.Match.{live_alone}
-use Rattle.venue_model.specs.Requests.{Symbols, State, is_named, is_day, replace_fits, amended, restamped, keeps_place}
-use Rattle.venue_model.specs.Requests.{order_replaced}
-use Rattle.venue_model.specs.ReplacedLaws.{in_place, stepped_again}
+use Rattle.venue_model.specs.Requests.{Symbols, is_named, is_day, replace_fits, amended, restamped, keeps_place}
 use Rattle.price_levels.specs.Places.{CanAmend}
 use Rattle.book.specs.Standing.{InRange, Rests, Below}
 use Rattle.book.specs.Books.{Book, NamedApart, Belongs, IsBook, NoneNamed, StandsInBook, StaysInPlace}
@@ -197,7 +195,3 @@ below-amended client name new_name total sequence (o ∷ os) below = (
       [ true ↦ below.0 | false ↦ below.0 ],
   below-amended client name new_name total sequence os below.1,
 )
-
-module _ (s : State) (c : Cause) (r : OrderCancelReplaceRequest) (o : Order) where
-  pub replaced-moved : keeps_place r o ≡ false → order_replaced s c r (Some o) ≡ stepped_again s c r o
-  replaced-moved loses = ap (λ b. if b then in_place s c r o else stepped_again s c r o) loses

@@ -141,112 +141,118 @@ fill-fits o q rests less =
     let cost = mul-le-mul_left q range.price in
     record { some = omega (arith, less); fits = omega (arith, range.notional, cost, range.total, less) }
 
-module _ (places : Places) (entries : List IndexEntry) (count : ℕ) (kept : AreKept places entries count)
-    (view : List Order)
-    (is : by_stamp places ≡ view)
-    (i : Order) (side : Side) (side_is : side ≡ opposite i.side) where
-  none-crossed : ((p : ℕ) (x : Order) → StandsAt places p x → crosses i x ≡ true → ⊥) → FillsNone i view view
-  none-crossed h = record {
-    none = subst (NoneCrossed i) is (each-listed (λ x. crosses i x ≡ false) places
-        (λ p x there. not-true (crosses i x) (h p x there)));
-    same = refl;
-  }
+-- of the orders that stand, none is crossed
+none-crossed : (places : Places) (view : List Order) (i : Order) → by_stamp places ≡ view
+    → ((p : ℕ) (x : Order) → StandsAt places p x → crosses i x ≡ true → ⊥) → FillsNone i view view
+none-crossed places view i is h = record {
+  none = subst (NoneCrossed i) is (each-listed (λ x. crosses i x ≡ false) places
+      (λ p x there. not-true (crosses i x) (h p x there)));
+  same = refl;
+}
 
-  of-side : (x : Order) → crosses i x ≡ true → IsOf i.symbol side x
-  of-side x h = subst (λ s. IsOf i.symbol s x) (sym side_is) (crossed-of i x h)
+-- no order of the other side stands
+pub fills-none-of : (places : Places) (view : List Order) (i : Order) (side : Side) → by_stamp places ≡ view
+    → side ≡ opposite i.side → NoneOf i.symbol side places → FillsNone i view view
+fills-none-of places view i side is side_is none = none-crossed places view i is
+    (λ p x there h. none p x there (subst (λ s. IsOf i.symbol s x) (sym side_is) (crossed-of i x h)))
 
-  -- no order of the other side stands
-  pub fills-none-of : NoneOf i.symbol side places → FillsNone i view view
-  fills-none-of none = none-crossed (λ p x there h. none p x there (of-side x h))
+-- what the code has read: the best order of the other side
+pub record Best (places : Places) (entries : List IndexEntry) (count : ℕ) (view : List Order) (i : Order) (p : ℕ) (o : Order)
+    : Type 0 where
+  pub kept : AreKept places entries count
+  pub view_is : by_stamp places ≡ view
+  pub best : BestOf i.symbol (opposite i.side) places p
+  pub stands : at places p ≡ Some o
 
-  module _ (p : ℕ) (best : BestOf i.symbol side places p) (o : Order) (stands : at places p ≡ Some o) where
-    it-is : best.order ≡ o
-    it-is = some-same (sym best.stands ∙ stands)
+module _ {places : Places} {entries : List IndexEntry} {count : ℕ} {view : List Order} {i : Order} {p : ℕ} {o : Order}
+    (it : Best places entries count view i p o) where
+  it-is : it.best.order ≡ o
+  it-is = some-same (sym it.best.stands ∙ it.stands)
 
-    its-of : IsOf i.symbol (opposite i.side) o
-    its-of = subst (λ s. IsOf i.symbol s o) side_is (subst (IsOf i.symbol side) it-is best.is_of)
+  its-of : IsOf i.symbol (opposite i.side) o
+  its-of = subst (IsOf i.symbol (opposite i.side)) it-is it.best.is_of
 
-    leads : (q : ℕ) (x : Order) → q ≢ p → StandsAt places q x → crosses i x ≡ true → Leads o x
-    leads q x other there h = subst (λ z. Leads z x) it-is (best.leads q x other there (of-side x h))
+  leads : (q : ℕ) (x : Order) → q ≢ p → StandsAt places q x → crosses i x ≡ true → Leads o x
+  leads q x other there h = subst (λ z. Leads z x) it-is (it.best.leads q x other there (crossed-of i x h))
 
-    -- the best one isn't crossed: none is
-    pub fills-not : crosses i o ≡ false → FillsNone i view view
-    fills-not isnt = none-crossed (λ q x there h. elim (same-or-not q p) [
-      | inl same ↦
-          let one : x ≡ o = some-same (sym there ∙ (ap (at places) same ∙ stands)) in
-          let crossed : crosses i o ≡ true = subst (λ z. crosses i z ≡ true) one h in
-          cc
-      | inr other ↦
-          let crossed = crossed-ahead i o x its-of h (leads q x other there h).ahead_of in
-          cc
-    ])
+  -- the best one isn't crossed: none is
+  pub fills-not : crosses i o ≡ false → FillsNone i view view
+  fills-not isnt = none-crossed places view i it.view_is (λ q x there h. elim (same-or-not q p) [
+    | inl same ↦
+        let one : x ≡ o = some-same (sym there ∙ (ap (at places) same ∙ it.stands)) in
+        let crossed : crosses i o ≡ true = subst (λ z. crosses i z ≡ true) one h in
+        cc
+    | inr other ↦
+        let crossed = crossed-ahead i o x its-of h (leads q x other there h).ahead_of in
+        cc
+  ])
 
-    seat : SeatedByStamp places p o
-    seat = seated places p o (is-within places p o stands) stands (kept.apart p o stands)
+  seat : SeatedByStamp places p o
+  seat = seated places p o (is-within places p o it.stands) it.stands (it.kept.apart p o it.stands)
 
-    first : crosses i o ≡ true → First i o seat.before seat.behind
-    first crossed =
-        let both = others (λ x. crosses i x ≡ true → Leads o x) places p o seat
-        (λ q x other there h. leads q x other there h) in
-        record { is_crossed = crossed; leads_before = both.0; leads_behind = both.1 }
+  first : crosses i o ≡ true → First i o seat.before seat.behind
+  first crossed =
+      let both = others (λ x. crosses i x ≡ true → Leads o x) places p o seat
+      (λ q x other there h. leads q x other there h) in
+      record { is_crossed = crossed; leads_before = both.0; leads_behind = both.1 }
 
-    pub can-reduce : (q : ℕ) → q < leaves o → HoldsAt places p (LeavesSome q)
-    can-reduce q less = subst (λ v. MatchOption v ⊥ (LeavesSome q)) (sym stands)
-        (fill-fits o q (kept.each p o stands) less)
+  pub can-reduce : (q : ℕ) → q < leaves o → HoldsAt places p (LeavesSome q)
+  can-reduce q less = subst (λ v. MatchOption v ⊥ (LeavesSome q)) (sym it.stands)
+      (fill-fits o q (it.kept.each p o it.stands) less)
 
-    reduced-is : (q : ℕ) → changed (reduced q) places p ≡ slice_set places p (Some (filled o q o.price))
-    reduced-is q = ap (λ v. slice_set places p (option_map (reduced q) v)) stands
+  reduced-is : (q : ℕ) → changed (reduced q) places p ≡ slice_set places p (Some (filled o q o.price))
+  reduced-is q = ap (λ v. slice_set places p (option_map (reduced q) v)) it.stands
 
-    pub kept-reduced : (q : ℕ) → q < leaves o → (after : Places) → after ≡ changed (reduced q) places p
-        → AreKept after entries count
-    kept-reduced q less after after_is = subst (λ ps. AreKept ps entries count) (sym (after_is ∙ reduced-is q))
-        (kept-change places entries count kept p o (filled o q o.price) stands refl refl refl
-        (fill-rests o q (kept.each p o stands) less))
+  pub kept-reduced : (q : ℕ) → q < leaves o → (after : Places) → after ≡ changed (reduced q) places p
+      → AreKept after entries count
+  kept-reduced q less after after_is = subst (λ ps. AreKept ps entries count) (sym (after_is ∙ reduced-is q))
+      (kept-change places entries count it.kept p o (filled o q o.price) it.stands refl refl refl
+      (fill-rests o q (it.kept.each p o it.stands) less))
 
-    live : (y : Order) → 0 < leaves y → is_live y ≡ true
-    live y some = grind (arith, nat_tests)
+  live : (y : Order) → 0 < leaves y → is_live y ≡ true
+  live y some = grind (arith, nat_tests)
 
-    gone : (y : Order) → leaves y ≡ 0 → is_live y ≡ false
-    gone y none = grind (arith, nat_tests)
+  gone : (y : Order) → leaves y ≡ 0 → is_live y ≡ false
+  gone y none = grind (arith, nat_tests)
 
-    pub fills-part : crosses i o ≡ true → (q : ℕ) → q ≡ leaves i → q < leaves o → (after : Places)
-        → after ≡ changed (reduced q) places p
-        → FillsFirst i view (by_stamp after) o
-    fills-part crossed q q_is less after after_is =
-        let y = filled o q o.price in
-        let quantity : q ≡ traded i o = omega (arith, q_is, less) in
-        let left : is_live y ≡ true = live y (omega (arith, less)) in
-        record {
-          before = seat.before;
-          behind = seat.behind;
-          split = sym is ∙ seat.split;
-          first = first crossed;
-          after =
-              ap by_stamp (after_is ∙ reduced-is q) ∙ seat.changed y refl
-              ∙ ap (λ b. seat.before ++ ((if b then y ∷ [] else []) ++ seat.behind)) (sym left)
-              ∙ ap (λ k. seat.before ++ (live_alone (filled o k o.price) ++ seat.behind)) quantity;
-        }
+  pub fills-part : crosses i o ≡ true → (q : ℕ) → q ≡ leaves i → q < leaves o → (after : Places)
+      → after ≡ changed (reduced q) places p
+      → FillsFirst i view (by_stamp after) o
+  fills-part crossed q q_is less after after_is =
+      let y = filled o q o.price in
+      let quantity : q ≡ traded i o = omega (arith, q_is, less) in
+      let left : is_live y ≡ true = live y (omega (arith, less)) in
+      record {
+        before = seat.before;
+        behind = seat.behind;
+        split = sym it.view_is ∙ seat.split;
+        first = first crossed;
+        after =
+            ap by_stamp (after_is ∙ reduced-is q) ∙ seat.changed y refl
+            ∙ ap (λ b. seat.before ++ ((if b then y ∷ [] else []) ++ seat.behind)) (sym left)
+            ∙ ap (λ k. seat.before ++ (live_alone (filled o k o.price) ++ seat.behind)) quantity;
+      }
 
-    pub fills-whole : crosses i o ≡ true → leaves o ≤ leaves i → (after : Places) → after ≡ slice_set places p None
-        → FillsFirst i view (by_stamp after) o
-    fills-whole crossed more after after_is =
-        let y = filled o (leaves o) o.price in
-        let quantity : leaves o ≡ traded i o = omega (arith, more) in
-        let none : is_live y ≡ false = gone y (omega arith) in
-        record {
-          before = seat.before;
-          behind = seat.behind;
-          split = sym is ∙ seat.split;
-          first = first crossed;
-          after =
-              ap by_stamp after_is ∙ seat.without
-              ∙ ap (λ b. seat.before ++ ((if b then y ∷ [] else []) ++ seat.behind)) (sym none)
-              ∙ ap (λ k. seat.before ++ (live_alone (filled o k o.price) ++ seat.behind)) quantity;
-        }
+  pub fills-whole : crosses i o ≡ true → leaves o ≤ leaves i → (after : Places) → after ≡ slice_set places p None
+      → FillsFirst i view (by_stamp after) o
+  fills-whole crossed more after after_is =
+      let y = filled o (leaves o) o.price in
+      let quantity : leaves o ≡ traded i o = omega (arith, more) in
+      let none : is_live y ≡ false = gone y (omega arith) in
+      record {
+        before = seat.before;
+        behind = seat.behind;
+        split = sym it.view_is ∙ seat.split;
+        first = first crossed;
+        after =
+            ap by_stamp after_is ∙ seat.without
+            ∙ ap (λ b. seat.before ++ ((if b then y ∷ [] else []) ++ seat.behind)) (sym none)
+            ∙ ap (λ k. seat.before ++ (live_alone (filled o k o.price) ++ seat.behind)) quantity;
+      }
 
-    pub kept-whole : (after : Places) → after ≡ slice_set places p None → (new : List IndexEntry)
-        → place_of new ≡ without_name o.client o.cl_ord_id (place_of entries)
-        → length new + 1 ≡ length entries → AreKept after new (count - 1)
-    kept-whole after after_is new places_are entries_are = subst (λ ps. AreKept ps new (count - 1)) (sym after_is)
-        (kept-leave places entries new count kept o.client o.cl_ord_id p (kept.indexed.named p o stands) places_are
-        entries_are)
+  pub kept-whole : (after : Places) → after ≡ slice_set places p None → (new : List IndexEntry)
+      → place_of new ≡ without_name o.client o.cl_ord_id (place_of entries)
+      → length new + 1 ≡ length entries → AreKept after new (count - 1)
+  kept-whole after after_is new places_are entries_are = subst (λ ps. AreKept ps new (count - 1)) (sym after_is)
+      (kept-leave places entries new count it.kept o.client o.cl_ord_id p (it.kept.indexed.named p o it.stands) places_are
+      entries_are)

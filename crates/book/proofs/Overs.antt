@@ -1,14 +1,16 @@
 -- A match that is over: nothing is left of the incoming order, or it crosses none.
-use Rattle.std.proofs.Common.{◌≡◌, inl, inr, ℕ, ◌+◌, ◌*◌, true, false, nat_lt, List, [], length, refl, ap, ◌∙◌, arith}
+use Rattle.std.proofs.Common.{◌≡◌, inl, inr, ℕ, ◌+◌, ◌*◌, true, false, nat_lt, List, [], ◌++◌, length, refl, ap, sym}
+use Rattle.std.proofs.Common.{◌∙◌, arith, append-nil}
 use Rattle.std.specs.Prelude.{sum_by, filter, if◌then◌else◌}
 use Rattle.std.specs.List.{AllByRecursion, flat_map}
 use Rattle.venue_model.specs.declared.orders.Order.{Order}
 use Rattle.venue_model.specs.declared.outputs.Cause.{Cause}
+use Rattle.venue_model.specs.declared.outputs.Output.{Output}
 use Rattle.venue_model.specs.Orders.{leaves, is_live, crosses}
 use Rattle.venue_model.specs.Match.{crossing, fill, after_fill, after_fills, settled, done, rest, by_priority}
 use Rattle.venue_model.specs.Match.{filled_orders, trade, trades}
-use Rattle.book.specs.Standing.{Rests}
-use Rattle.book.specs.Passes.{Over}
+use Rattle.book.specs.Standing.{Rests, IsBookList}
+use Rattle.book.specs.Passes.{Matching, Passed, Over}
 use Rattle.book.specs.Reads.{fills}
 use Rattle.book.proofs.Lists.{same-self, same_map, same_sum, filter-all, filter-none, each-of, each-map}
 use Rattle.book.proofs.Fills.{live-true}
@@ -67,3 +69,18 @@ module _ (i : Order) (orders : List Order) where
       (each-of (λ x. nat_lt 0 (fill (leaves i) (crossing i orders) x) ≡ false)
       (λ x. ap (nat_lt 0) (nothing (leaves i) (crossing i orders) x none)) (crossing i orders)))
   fills-over (inr none) = ap (λ q. length (filled_orders (leaves i) q)) (filter-none (crosses i) orders none)
+
+-- the match is over, behind what has passed of it
+pub record Ended (c : Cause) (first : Matching) (incoming : Order) (orders : List Order) (told : List Output) : Type 0 where
+  pub orders_are : orders ≡ rest first.incoming first.orders
+  pub done_is : incoming ≡ done first.incoming first.orders
+  pub told_is : told ≡ first.told ++ trades c first.incoming first.orders
+
+pub ended : {c : Cause} {first last : Matching} → Passed c first last → Over last.incoming last.orders
+    → IsBookList last.orders → Ended c first last.incoming last.orders last.told
+ended {c} {first} {last} passed over standing = record {
+  orders_are = sym (passed.left ∙ rest-over last.incoming last.orders over standing.each);
+  done_is = sym (passed.filled ∙ done-over last.incoming last.orders over);
+  told_is = sym (passed.said ∙ ap (λ ts. last.told ++ ts) (told-over last.incoming last.orders c over)
+      ∙ append-nil last.told);
+}
