@@ -82,9 +82,9 @@ module _ (symbols : Symbols) (greatest : List ℕ) (client name : ℕ) (os : Lis
   its-client = eqb-true old.client client (and_first (nat_eq old.client client) (nat_eq old.cl_ord_id name) its.is_it)
 
   -- another one of its client, symbol and stamp stands in its place
-  pub book-instead : (o : Order) → o.client ≡ old.client → o.symbol ≡ old.symbol → o.stamp ≡ old.stamp → o.is_market ≡ old.is_market → InRange o →
-      0 < leaves o → o.cl_ord_id ≤ slice_index greatest (client - 1) → NoneNamed client o.cl_ord_id os →
-      IsBook symbols (its.before ++ o ∷ its.behind) greatest
+  pub book-instead : (o : Order) → o.client ≡ old.client → o.symbol ≡ old.symbol → o.stamp ≡ old.stamp
+      → o.is_market ≡ old.is_market → InRange o → 0 < leaves o → o.cl_ord_id ≤ slice_index greatest (client - 1)
+      → NoneNamed client o.cl_ord_id os → IsBook symbols (its.before ++ o ∷ its.behind) greatest
   book-instead o client_is symbol_is stamp market range some named fresh =
       let mine : o.client ≡ client = client_is ∙ its-client in
       let belongs : Belongs symbols greatest o = record {

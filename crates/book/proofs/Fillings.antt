@@ -1,6 +1,6 @@
 -- The first order that an incoming one crosses is the best of its level; a fill of it.
 use Rattle.std.proofs.Common.{◌≡◌, ◌+◌, ◌-◌, ◌<◌, ◌≤◌, ℕ, true, false, ◌&&◌, ◌||◌, nat_eq, nat_lt, List, [], ◌∷◌, ◌++◌}
-use Rattle.std.proofs.Common.{length, refl, ap, sym, subst, ◌∙◌, inl, inr, Some, None, arith, length-append, length-set}
+use Rattle.std.proofs.Common.{length, refl, ap, sym, subst, ◌∙◌, inl, inr, Some, None, arith, length-set}
 use Rattle.std.specs.Prelude.{◌≢◌, slice_set, option_map, MatchOption, if◌then◌else◌}
 use Rattle.std.specs.Str.{bytes_eq}
 use Rattle.std.proofs.lemmas.Slice.Eq.{bytes_eq-Decides}
@@ -13,16 +13,16 @@ use Rattle.venue_model.specs.Orders.{opposite, leaves, crosses, meets, is_better
 use Rattle.venue_model.specs.SideLaws.{met_side}
 use Rattle.venue_model.specs.Match.{filled, live_alone}
 use Rattle.venue_model.specs.Requests.{is_named}
-use Rattle.price_levels.specs.Places.{Places, at, StandsAt, standing, IsOf, Leads, NoneOf, BestOf, HoldsAt, LeavesSome}
-use Rattle.price_levels.specs.Places.{reduced, changed}
+use Rattle.price_levels.specs.Places.{Places, at, StandsAt, IsOf, Leads, NoneOf, BestOf, HoldsAt, LeavesSome, reduced}
+use Rattle.price_levels.specs.Places.{changed}
 use Rattle.price_levels.specs.Stamps.{by_stamp, SeatedByStamp}
-use Rattle.price_levels.specs.StampLaws.{seated, others, is-within, at-set, each-listed, apart-changed, length-listed}
+use Rattle.price_levels.specs.StampLaws.{seated, others, is-within, at-set, each-listed, apart-changed}
 use Rattle.book.specs.declared.order_index.slots.IndexEntry.{IndexEntry}
 use Rattle.book.specs.IndexNames.{place_of, without_name}
 use Rattle.book.specs.Standing.{Rests}
 use Rattle.book.specs.Firsts.{NoneCrossed, First, traded, FillsFirst, FillsNone}
 use Rattle.book.specs.Keeping.{AreKept}
-use Rattle.book.proofs.Keepings.{at-here, at-there, kept-leave}
+use Rattle.book.proofs.Keepings.{Shown, as-many, at-here, at-there, kept-leave}
 use Rattle.book.proofs.Middles.{some-same, and-first, and-last, not-true, same-or-not}
 
 -- what meets a price meets a better one
@@ -62,22 +62,9 @@ module _ (places : Places) (entries : List IndexEntry) (count : ℕ) (kept : Are
     (stands : at places p ≡ Some o)
     (client : y.client ≡ o.client) (name : y.cl_ord_id ≡ o.cl_ord_id) (stamp : y.stamp ≡ o.stamp) (rests : Rests y)
   where
-    its-seat : SeatedByStamp places p o
-    its-seat = seated places p o (is-within places p o stands) stands (kept.apart p o stands)
-
-    as-many : length (standing (slice_set places p (Some y))) ≡ length (standing places)
-    as-many =
-        let all = length-listed (slice_set places p (Some y)) in
-        let before = length-listed places in
-        let one = ap (λ (os : List Order). length os) (its-seat.changed y stamp) in
-        let two = ap (λ (os : List Order). length os) its-seat.split in
-        let three = length-append its-seat.before (y ∷ its-seat.behind) in
-        let four = length-append its-seat.before (o ∷ its-seat.behind) in
-        omega (arith, all, before, one, two, three, four)
-
     pub kept-change : AreKept (slice_set places p (Some y)) entries count
     kept-change =
-        let same = as-many in
+        let same = as-many places p o y stands in
         record {
           size = length-set places p (Some y) ∙ kept.size;
           apart = apart-changed places p o y kept.apart stands stamp;
@@ -157,10 +144,9 @@ fills-none-of places view i side is side_is none = none-crossed places view i is
     (λ p x there h. none p x there (subst (λ s. IsOf i.symbol s x) (sym side_is) (crossed-of i x h)))
 
 -- what the code has read: the best order of the other side
-pub record Best (places : Places) (entries : List IndexEntry) (count : ℕ) (view : List Order) (i : Order) (p : ℕ) (o : Order)
-    : Type 0 where
-  pub kept : AreKept places entries count
-  pub view_is : by_stamp places ≡ view
+pub record Best (places : Places) (entries : List IndexEntry) (count : ℕ) (view : List Order) (i : Order) (p : ℕ)
+    (o : Order) : Type 0 where
+  pub shown : Shown places entries count view
   pub best : BestOf i.symbol (opposite i.side) places p
   pub stands : at places p ≡ Some o
 
@@ -177,7 +163,7 @@ module _ {places : Places} {entries : List IndexEntry} {count : ℕ} {view : Lis
 
   -- the best one isn't crossed: none is
   pub fills-not : crosses i o ≡ false → FillsNone i view view
-  fills-not isnt = none-crossed places view i it.view_is (λ q x there h. elim (same-or-not q p) [
+  fills-not isnt = none-crossed places view i it.shown.list (λ q x there h. elim (same-or-not q p) [
     | inl same ↦
         let one : x ≡ o = some-same (sym there ∙ (ap (at places) same ∙ it.stands)) in
         let crossed : crosses i o ≡ true = subst (λ z. crosses i z ≡ true) one h in
@@ -188,7 +174,7 @@ module _ {places : Places} {entries : List IndexEntry} {count : ℕ} {view : Lis
   ])
 
   seat : SeatedByStamp places p o
-  seat = seated places p o (is-within places p o it.stands) it.stands (it.kept.apart p o it.stands)
+  seat = seated places p o (is-within places p o it.stands) it.stands (it.shown.kept.apart p o it.stands)
 
   first : crosses i o ≡ true → First i o seat.before seat.behind
   first crossed =
@@ -198,7 +184,7 @@ module _ {places : Places} {entries : List IndexEntry} {count : ℕ} {view : Lis
 
   pub can-reduce : (q : ℕ) → q < leaves o → HoldsAt places p (LeavesSome q)
   can-reduce q less = subst (λ v. MatchOption v ⊥ (LeavesSome q)) (sym it.stands)
-      (fill-fits o q (it.kept.each p o it.stands) less)
+      (fill-fits o q (it.shown.kept.each p o it.stands) less)
 
   reduced-is : (q : ℕ) → changed (reduced q) places p ≡ slice_set places p (Some (filled o q o.price))
   reduced-is q = ap (λ v. slice_set places p (option_map (reduced q) v)) it.stands
@@ -206,8 +192,8 @@ module _ {places : Places} {entries : List IndexEntry} {count : ℕ} {view : Lis
   pub kept-reduced : (q : ℕ) → q < leaves o → (after : Places) → after ≡ changed (reduced q) places p
       → AreKept after entries count
   kept-reduced q less after after_is = subst (λ ps. AreKept ps entries count) (sym (after_is ∙ reduced-is q))
-      (kept-change places entries count it.kept p o (filled o q o.price) it.stands refl refl refl
-      (fill-rests o q (it.kept.each p o it.stands) less))
+      (kept-change places entries count it.shown.kept p o (filled o q o.price) it.stands refl refl refl
+      (fill-rests o q (it.shown.kept.each p o it.stands) less))
 
   live : (y : Order) → 0 < leaves y → is_live y ≡ true
   live y some = grind (arith, nat_tests)
@@ -225,7 +211,7 @@ module _ {places : Places} {entries : List IndexEntry} {count : ℕ} {view : Lis
       record {
         before = seat.before;
         behind = seat.behind;
-        split = sym it.view_is ∙ seat.split;
+        split = sym it.shown.list ∙ seat.split;
         first = first crossed;
         after =
             ap by_stamp (after_is ∙ reduced-is q) ∙ seat.changed y refl
@@ -242,7 +228,7 @@ module _ {places : Places} {entries : List IndexEntry} {count : ℕ} {view : Lis
       record {
         before = seat.before;
         behind = seat.behind;
-        split = sym it.view_is ∙ seat.split;
+        split = sym it.shown.list ∙ seat.split;
         first = first crossed;
         after =
             ap by_stamp after_is ∙ seat.without
@@ -254,5 +240,5 @@ module _ {places : Places} {entries : List IndexEntry} {count : ℕ} {view : Lis
       → place_of new ≡ without_name o.client o.cl_ord_id (place_of entries)
       → length new + 1 ≡ length entries → AreKept after new (count - 1)
   kept-whole after after_is new places_are entries_are = subst (λ ps. AreKept ps new (count - 1)) (sym after_is)
-      (kept-leave places entries new count it.kept o.client o.cl_ord_id p (it.kept.indexed.named p o it.stands) places_are
-      entries_are)
+      (kept-leave places entries new count it.shown.kept o.client o.cl_ord_id p
+      (it.shown.kept.indexed.named p o it.stands) places_are entries_are)

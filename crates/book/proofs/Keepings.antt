@@ -17,6 +17,11 @@ use Rattle.book.specs.Keeping.{HasName, AreKept}
 use Rattle.book.proofs.NamedLists.{same-names, indexed-as, Sits, sits}
 use Rattle.book.proofs.Middles.{some-same}
 
+-- what is kept, and the orders as contracts see them
+pub record Shown (places : Places) (entries : List IndexEntry) (count : ℕ) (view : List Order) : Type 0 where
+  pub kept : AreKept places entries count
+  pub list : by_stamp places ≡ view
+
 same-itself : (c n : ℕ) → same_name c n c n ≡ true
 same-itself c n = grind (arith, nat_tests)
 
@@ -31,6 +36,15 @@ at-here places p v within = get_or-set_same places p v None within
 
 pub at-there : (places : Places) (p q : ℕ) (v : Option Order) → q ≢ p → at (slice_set places p v) q ≡ at places q
 at-there places p q v other = get_or-set_other places p q v None other
+
+-- an order in the place of another
+pub as-many : (places : Places) (p : ℕ) (o y : Order) → StandsAt places p o
+    → length (standing (slice_set places p (Some y))) ≡ length (standing places)
+as-many [] p o y stands = refl
+as-many (None ∷ places) zero o y stands = absurd (let e : None ≡ Some o = stands in cc)
+as-many (Some x ∷ places) zero o y stands = refl
+as-many (None ∷ places) (suc p) o y stands = as-many places p o y stands
+as-many (Some x ∷ places) (suc p) o y stands = ap suc (as-many places p o y stands)
 
 -- nothing stands
 pub nothing-listed : (k : ℕ) → by_stamp (replicate k None) ≡ []

@@ -71,7 +71,8 @@ module _ (i : Order) (orders : List Order) where
   fills-over (inr none) = ap (λ q. length (filled_orders (leaves i) q)) (filter-none (crosses i) orders none)
 
 -- the match is over, behind what has passed of it
-pub record Ended (c : Cause) (first : Matching) (incoming : Order) (orders : List Order) (told : List Output) : Type 0 where
+pub record Ended (c : Cause) (first : Matching) (incoming : Order) (orders : List Order) (told : List Output)
+    : Type 0 where
   pub orders_are : orders ≡ rest first.incoming first.orders
   pub done_is : incoming ≡ done first.incoming first.orders
   pub told_is : told ≡ first.told ++ trades c first.incoming first.orders

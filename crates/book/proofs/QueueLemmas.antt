@@ -12,11 +12,11 @@ use Rattle.venue_model.specs.Orders.{same_side, is_better, ahead}
 use Rattle.venue_model.specs.SideLaws.{one_side, side_itself}
 use Rattle.price_levels.specs.Places as levels
 use Rattle.price_levels.specs.Places.{Places, at, StandsAt, IsOf, Leads, BestOf, StandsBehind, NextBehind}
-use Rattle.price_levels.specs.Stamps.{by_stamp, SeatedByStamp}
+use Rattle.price_levels.specs.Stamps.{SeatedByStamp}
 use Rattle.price_levels.specs.StampLaws.{seated, is-within, each-listed}
 use Rattle.book.specs.declared.order_index.slots.IndexEntry.{IndexEntry}
-use Rattle.book.specs.Keeping.{AreKept}
 use Rattle.book.specs.Queues.{is_of, NoneQueuedOf, IsFirst, NoneQueuedBehind, IsNext}
+use Rattle.book.proofs.Keepings.{Shown}
 use Rattle.book.proofs.Middles.{some-same, and-first, and-last, not-true, same-or-not}
 
 of-test : (symbol : List ℕ) (side : Side) (x : Order) → is_of symbol side x ≡ true → IsOf symbol side x
@@ -34,69 +34,69 @@ not-itself : (side : Side) (p s : ℕ) → (is_better side p p || (nat_eq p p &&
 not-itself Buy p s = grind (arith, nat_tests)
 not-itself Sell p s = grind (arith, nat_tests)
 
-module _ (places : Places) (entries : List IndexEntry) (count : ℕ) (kept : AreKept places entries count)
-    (view : List Order)
-    (is : by_stamp places ≡ view) where
+module _ {places : Places} {entries : List IndexEntry} {count : ℕ} {view : List Order}
+    (it : Shown places entries count view) where
   seat : (p : ℕ) (o : Order) → at places p ≡ Some o → SeatedByStamp places p o
-  seat p o stands = seated places p o (is-within places p o stands) stands (kept.apart p o stands)
+  seat p o stands = seated places p o (is-within places p o stands) stands (it.kept.apart p o stands)
 
   one-order : (p q : ℕ) (o x : Order) → at places p ≡ Some o → q ≡ p → at places q ≡ Some x → x ≡ o
   one-order p q o x stands same there = some-same (sym there ∙ (ap (at places) same ∙ stands))
 
   module _ (symbol : List ℕ) (side : Side) where
     pub first-none : levels.NoneOf symbol side places → NoneQueuedOf symbol side view
-    first-none none = subst (NoneQueuedOf symbol side) is
+    first-none none = subst (NoneQueuedOf symbol side) it.list
         (each-listed (λ x. is_of symbol side x ≡ false) places
         (λ q x there. not-true (is_of symbol side x) (λ h. none q x there (of-test symbol side x h))))
 
     pub first-some : (p : ℕ) → BestOf symbol side places p → (o : Order) → at places p ≡ Some o
         → IsFirst symbol side view o
     first-some p best o stands =
-        let it : best.order ≡ o = some-same (sym best.stands ∙ stands) in
+        let same : best.order ≡ o = some-same (sym best.stands ∙ stands) in
         let its_seat = seat p o stands in
         record {
           before = its_seat.before;
           behind = its_seat.behind;
-          split = sym is ∙ its_seat.split;
-          its = test-of symbol side o (subst (IsOf symbol side) it best.is_of);
-          first = subst (AllByRecursion (λ x. is_of symbol side x ≡ true → ahead x o ≡ false)) is
+          split = sym it.list ∙ its_seat.split;
+          its = test-of symbol side o (subst (IsOf symbol side) same best.is_of);
+          first = subst (AllByRecursion (λ x. is_of symbol side x ≡ true → ahead x o ≡ false)) it.list
               (each-listed (λ x. is_of symbol side x ≡ true → ahead x o ≡ false) places
               (λ q x there of. elim (same-or-not q p) [
-                | inl same ↦ ap (λ z. ahead z o) (one-order p q o x stands same there)
+                | inl here ↦ ap (λ z. ahead z o) (one-order p q o x stands here there)
                     ∙ not-itself o.side o.price o.stamp
-                | inr other ↦ (subst (λ z. Leads z x) it
+                | inr other ↦ (subst (λ z. Leads z x) same
                     (best.leads q x other there (of-test symbol side x of))).not_behind
               ]));
         }
 
   module _ (p : ℕ) (o : Order) (stands : at places p ≡ Some o) where
     pub next-none : levels.NoneBehind places p → NoneQueuedBehind view o
-    next-none none = subst (λ os. NoneQueuedBehind os o) is
+    next-none none = subst (λ os. NoneQueuedBehind os o) it.list
         (each-listed (λ x. is_of o.symbol o.side x ≡ true → ahead o x ≡ false) places
         (λ q x there of. not-true (ahead o x)
         (λ h. none o stands q x there (record { is_of = of-test o.symbol o.side x of; ahead = h }))))
 
     pub next-some : (q : ℕ) → NextBehind places p q → (y : Order) → at places q ≡ Some y → IsNext view o y
     next-some q next y there =
-        let it : next.order ≡ o = some-same (sym next.stands ∙ stands) in
+        let same : next.order ≡ o = some-same (sym next.stands ∙ stands) in
         let its : next.next ≡ y = some-same (sym next.next_stands ∙ there) in
-        let behind : StandsBehind o y = subst (λ z. StandsBehind z y) it
+        let behind : StandsBehind o y = subst (λ z. StandsBehind z y) same
         (subst (StandsBehind next.order) its next.behind) in
         let its_seat = seat q y there in
         record {
           before = its_seat.before;
           behind = its_seat.behind;
-          split = sym is ∙ its_seat.split;
+          split = sym it.list ∙ its_seat.split;
           its = test-of o.symbol o.side y behind.is_of;
           stands_behind = behind.ahead;
-          first = subst (AllByRecursion (λ x. is_of o.symbol o.side x ≡ true → ahead o x ≡ true → ahead x y ≡ false)) is
+          first = subst (AllByRecursion (λ x. is_of o.symbol o.side x ≡ true → ahead o x ≡ true → ahead x y ≡ false))
+              it.list
               (each-listed (λ x. is_of o.symbol o.side x ≡ true → ahead o x ≡ true → ahead x y ≡ false) places
               (λ r x x_there of h. elim (same-or-not r q) [
-                | inl same ↦ ap (λ z. ahead z y) (one-order q r y x there same x_there)
+                | inl here ↦ ap (λ z. ahead z y) (one-order q r y x there here x_there)
                     ∙ not-itself y.side y.price y.stamp
                 | inr other ↦
                     let its_behind : StandsBehind o x = record { is_of = of-test o.symbol o.side x of; ahead = h } in
                     (subst (λ z. Leads z x) its (next.leads r x other x_there
-                    (subst (λ z. StandsBehind z x) (sym it) its_behind))).not_behind
+                    (subst (λ z. StandsBehind z x) (sym same) its_behind))).not_behind
               ]));
         }

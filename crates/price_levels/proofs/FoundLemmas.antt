@@ -23,16 +23,12 @@ use Rattle.price_levels.proofs.Totals.{few}
 use Rattle.price_levels.proofs.Ends.{Searched, leave-within, at-its-level, leave-levels, change-fits, change-levels}
 use Rattle.price_levels.proofs.Ends.{whole}
 
--- a search for a key leads to this rung
-pub record Leads (l : Laddered) (r : Rung) (k : Key) : Type 0 where
-  pub rung : IsRung l r
-  pub home : IsHome l r k.symbol k.side
-  pub search : Searched k (all l) (rung_number l r)
-
 pub record Found (nodes : List Node) (l : Laddered) (p : ℕ) (n : Node) (o : Order) (r : Rung) : Type 0 where
   pub read : node_at nodes p ≡ n
   pub here : order_at nodes p ≡ Some o
-  pub leads : Leads l r (key_of o)
+  pub rung : IsRung l r
+  pub home : IsHome l r o.symbol o.side
+  pub search : Searched (key_of o) (all l) (rung_number l r)
 
 pub stands-some : (nodes : List Node) (p : ℕ) → order_at nodes p ≢ None → (o : Order) × (order_at nodes p ≡ Some o)
 stands-some nodes p some = elim (order_at nodes p) as (λ x. x ≢ None → (o : Order) × (x ≡ Some o)) [
@@ -48,11 +44,17 @@ node-read nodes p n some is =
     get_or_default nodes p vacant n (within-nodes nodes p it.0 it.1) ∙ sym is
 
 pub found : (nodes : List Node) (l : Laddered) (p : ℕ) (n : Node) (o : Order) (r : Rung) (k : Key)
-    → order_at nodes p ≢ None → n ≡ get_or nodes p n → n.order ≡ Some o → k ≡ key_of o → Leads l r k
-    → Found nodes l p n o r
-found nodes l p n o r k some n_is o_is k_is leads =
+    → order_at nodes p ≢ None → n ≡ get_or nodes p n → n.order ≡ Some o → k ≡ key_of o
+    → IsRung l r → IsHome l r k.symbol k.side → Searched k (all l) (rung_number l r) → Found nodes l p n o r
+found nodes l p n o r k some n_is o_is k_is rung home search =
     let read = node-read nodes p n some n_is in
-    record { read = read; here = ap (λ (m : Node). m.order) read ∙ o_is; leads = subst (Leads l r) k_is leads }
+    record {
+      read = read;
+      here = ap (λ (m : Node). m.order) read ∙ o_is;
+      rung = rung;
+      home = subst (λ (j : Key). IsHome l r j.symbol j.side) k_is home;
+      search = subst (λ j. Searched j (all l) (rung_number l r)) k_is search;
+    }
 
 standing-few : (ps : Places) → length (standing ps) ≤ length ps
 standing-few [] = omega arith
@@ -62,7 +64,7 @@ standing-few (Some o ∷ ps) = let rest = standing-few ps in omega (arith, rest)
 module _ {nodes : List Node} {l : Laddered} {p : ℕ} {n : Node} {o : Order} {r : Rung} (are : AreLevels nodes (all l))
     (it : Found nodes l p n o r) where
   within : rung_number l r < length (all l)
-  within = leave-within nodes (all l) are p o it.here (rung_number l r) it.leads.search
+  within = leave-within nodes (all l) are p o it.here (rung_number l r) it.search
 
   its-level : (m : Level) × (m ≡ get_or (all l) (rung_number l r) m)
   its-level =
@@ -73,13 +75,13 @@ module _ {nodes : List Node} {l : Laddered} {p : ℕ} {n : Node} {o : Order} {r 
   pub on : IsOn l r
   on =
       let m = its-level.0 in
-      let key = (at-its-level nodes (all l) are p o it.here (rung_number l r) it.leads.search m its-level.1).key in
-      let rung = it.leads.rung in
+      let key = (at-its-level nodes (all l) are p o it.here (rung_number l r) it.search m its-level.1).key in
+      let rung = it.rung in
       let whole = cut l.ladders r.ladder rung.ladder in
       record {
         ladder = rung.ladder;
         on = on-ladder o.symbol o.side (joined (take r.ladder l.ladders)) (around l r) (beyond l r) r.at m rung.within
-            it.leads.home.alone
+            it.home.alone
             (subst (λ levels. rung_number l r < length levels) whole within)
             (its-level.1 ∙ ap (λ levels. get_or levels (rung_number l r) m) whole)
             (ap (λ (k : Key). k.symbol) key) (ap (λ (k : Key). k.side) key);
@@ -87,7 +89,7 @@ module _ {nodes : List Node} {l : Laddered} {p : ℕ} {n : Node} {o : Order} {r 
 
   -- there is a place behind it
   pub next-rung : IsRung l (record { ladder = r.ladder; at = r.at + 1 })
-  next-rung = let lt = on.on in record { ladder = it.leads.rung.ladder; within = omega (arith, lt) }
+  next-rung = let lt = on.on in record { ladder = it.rung.ladder; within = omega (arith, lt) }
 
   pub next-fits : r.at + 1 < 2 ^ 64
   next-fits =
@@ -105,7 +107,7 @@ module _ {nodes : List Node} {l : Laddered} {p : ℕ} {n : Node} {o : Order} {r 
   next-found none q is =
       let next : rung_number l (record { ladder = r.ladder; at = r.at + 1 }) ≡ rung_number l r + 1 = omega arith in
       next-level nodes (all l) are p o it.here (rung_number l r) (ap (λ (m : Node). m.next) it.read ∙ none)
-      it.leads.search q (is ∙ ap (first_in o.symbol o.side (all l)) next)
+      it.search q (is ∙ ap (first_in o.symbol o.side (all l)) next)
 
   -- its neighbours are nodes, and meet when it leaves
   pub prev-within : IsWithinNodes nodes n.prev
@@ -140,7 +142,7 @@ module _ {nodes : List Node} {l : Laddered} {p : ℕ} {n : Node} {o : Order} {r 
       (levels_with (all l) at (level_without m n.prev n.next (leaves o))) nodes_are free_is
       (levels_are m its-level.1 ∙ ap (λ x. levels_with (all l) at (level_without m n.prev n.next x)) left)
       (given nodes (nodes_without nodes p n.prev n.next) free p o arena it.here gone-seen)
-      (leave-levels nodes (all l) are p o it.here at it.leads.search m its-level.1 n.prev n.next
+      (leave-levels nodes (all l) are p o it.here at it.search m its-level.1 n.prev n.next
       (ap (λ (m : Node). m.prev) it.read) (ap (λ (m : Node). m.next) it.read))
 
   -- another order stands in its place
@@ -163,7 +165,8 @@ module _ {nodes : List Node} {l : Laddered} {p : ℕ} {n : Node} {o : Order} {r 
 
     module _ (m : Level) (m_is : m ≡ get_or (all l) (rung_number l r) m) where
       pub changed-fits : m.left - leaves o + leaves y < 2 ^ 64
-      changed-fits = change-fits nodes (all l) are p o it.here (rung_number l r) it.leads.search m m_is y replaces.no_more
+      changed-fits = change-fits nodes (all l) are p o it.here (rung_number l r) it.search m m_is y
+          replaces.no_more
 
       pub changed-levels : (left : ℕ) (levels' : List Level) → left ≡ m.left - leaves o + leaves y
           → levels' ≡ slice_set (all l) (rung_number l r) (record m { left = left })
@@ -171,7 +174,7 @@ module _ {nodes : List Node} {l : Laddered} {p : ℕ} {n : Node} {o : Order} {r 
       changed-levels left levels' left_is is = as-read (λ new. AreLevels new levels')
           (subst (AreLevels (slice_set nodes p (record (node_at nodes p) { order = Some y })))
           (sym (is ∙ ap (λ x. slice_set (all l) (rung_number l r) (record m { left = x })) left_is))
-          (change-levels nodes (all l) are p o it.here (rung_number l r) it.leads.search m m_is y replaces))
+          (change-levels nodes (all l) are p o it.here (rung_number l r) it.search m m_is y replaces))
 
 -- the neighbour that was read is the next order behind it
 pub read-neighbour : (nodes : List Node) (levels : List Level) (p : ℕ) (n : Node) (q : ℕ) → AreLevels nodes levels

@@ -9,9 +9,8 @@ use Rattle.book.proofs.matching.sweep.Goals as goal
 
 one : (c : After-told_fill-incoming) → Filled c.args.cause (matching c.fills.incoming c.fills.orders c.fills.out.items)
     (matching c.told_fill-incoming.result c.next_fill.new.orders c.told_fill-incoming.new.out.items)
-one c = fill-is c.fills.incoming c.in-Some.order c.fills.orders c.next_fill.new.orders c.in-Some.ensures.next.0
-    c.fills.invariant.standing c.args.cause c.in-Some.ensures.next.1 c.fills.out.items c.told_fill-incoming.result
-    c.told_fill-incoming.new.out.items c.told_fill-incoming.ensures.next c.told_fill-incoming.ensures.told
+one c = fill-is _ _ _ _ c.in-Some.ensures.next.0 c.fills.invariant.standing c.args.cause c.in-Some.ensures.next.1 _ _
+    _ c.told_fill-incoming.ensures.next c.told_fill-incoming.ensures.told
 
 over : (c : In_default) → Ended c.args.cause (matching c.args.incoming.now c.args.orders.now c.args.out.now.items)
     c.fills.incoming c.fills.orders c.fills.out.items
@@ -24,8 +23,7 @@ next_fill-requires-clause-reads c =
 
 pub told_fill-incoming-requires-clause-rests : goal.told_fill-incoming-requires-clause-rests
 told_fill-incoming-requires-clause-rests c =
-    first-rests c.fills.incoming c.in-Some.order c.fills.orders c.next_fill.new.orders c.in-Some.ensures.next.0
-    c.fills.invariant.standing
+    first-rests _ _ _ _ c.in-Some.ensures.next.0 c.fills.invariant.standing
 
 pub fills-smaller : goal.fills-smaller
 fills-smaller c = (one (goal.at.fills-smaller c).After-told_fill-incoming).less

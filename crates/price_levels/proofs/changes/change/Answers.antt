@@ -18,7 +18,7 @@ it c =
     let search = c.search-rung.ensures in
     found _ _ _ _ _ _ c.key_of.result (change-stands _ _ c.requires.change) c.index-node.ensures c.unwrap-old.ensures
     (c.key_of.ensures ∙ (replaces c).key)
-    (record { rung = search.rung; home = search.home; search = record { before = search.before; behind = search.behind } })
+    search.rung search.home (record { before = search.before; behind = search.behind })
 
 pub level-level-requires : goal.level-level-requires
 level-level-requires c = on c.requires.levels (it (goal.at.level-level-requires c).After-search-rung)

@@ -19,7 +19,8 @@ it c =
       arena = popped _ c.args.free.now.items _ c.pop.result _ c.requires.levels.arena c.pop.ensures.items
           c.unwrap-place.ensures;
       ordered = c.requires.levels.ordered;
-      search = subst (λ k. Searched k l n) c.key_of-key.ensures (record { before = found.before; behind = found.behind });
+      search = subst (λ k. Searched k l n) c.key_of-key.ensures
+          (record { before = found.before; behind = found.behind });
       holds_is = ap (holds l n) (sym c.key_of-key.ensures) ∙ sym c.holds.ensures.holds;
       total = c.requires.quantity;
       later = c.requires.later;

@@ -11,7 +11,7 @@ it : (c : After-search-rung) → Found c.args.nodes.now.items c.args.ladders.now
 it c =
     let search = c.search-rung.ensures in
     found _ _ _ _ _ _ c.key_of.result c.requires.stands c.index-node.ensures c.unwrap-order.ensures c.key_of.ensures
-    (record { rung = search.rung; home = search.home; search = record { before = search.before; behind = search.behind } })
+    search.rung search.home (record { before = search.before; behind = search.behind })
 
 pub shorten-requires : goal.shorten-requires
 shorten-requires c = record {

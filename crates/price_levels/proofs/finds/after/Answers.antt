@@ -10,7 +10,7 @@ it : (c : After-search-rung) → Found c.args.nodes.now.items c.args.ladders.now
 it c =
     let search = c.search-rung.ensures in
     found _ _ _ _ _ _ c.key_of.result c.requires.stands c.index-node.ensures c.unwrap-order.ensures c.key_of.ensures
-    (record { rung = search.rung; home = search.home; search = record { before = search.before; behind = search.behind } })
+    search.rung search.home (record { before = search.before; behind = search.behind })
 
 pub returns-in-Some : goal.returns-in-Some
 returns-in-Some c = read-neighbour c.args.nodes.now.items (all c.args.ladders.now) c.args.place c.index-node.result.now
@@ -25,7 +25,7 @@ first_in-requires c =
     let it = it (goal.at.first_in-requires c).After-search-rung in
     record {
       rung = next-rung c.requires.levels it;
-      home = record { belongs = it.leads.home.belongs; alone = it.leads.home.alone };
+      home = record { belongs = it.home.belongs; alone = it.home.alone };
     }
 
 pub returns : goal.returns

@@ -11,8 +11,7 @@ use Rattle.book.proofs.resting.RestingOrders.fill_first.Goals as goal
 best : (c : After-get-order) → Best c.self.inside.levels c.self.inside.index c.self.inside.count c.args.self.now
     c.args.incoming.now c.in_ok-place.place.number c.get-order.result
 best c = record {
-  kept = c.self.invariant;
-  view_is = c.self.view_is;
+  shown = record { kept = c.self.invariant; list = c.self.view_is };
   best = subst (λ side. BestOf c.args.incoming.now.symbol side c.self.inside.levels c.in_ok-place.place.number)
       c.opposite.ensures c.in_ok-place.ensures;
   stands = c.get-order.ensures.order;
@@ -27,7 +26,8 @@ returns-in_err-place-clause-first c =
     c.opposite.ensures c.in_err-place.ensures)
 
 pub returns-then-not-crosses-clause-first : goal.returns-then-not-crosses-clause-first
-returns-then-not-crosses-clause-first c = fills-not (best (goal.at.returns-then-not-crosses-clause-first c).After-get-order)
+returns-then-not-crosses-clause-first c =
+    fills-not (best (goal.at.returns-then-not-crosses-clause-first c).After-get-order)
     (sym c.crosses.ensures ∙ c.if-not-crosses.true)
 
 pub reduce-requires : goal.reduce-requires

@@ -10,12 +10,10 @@ returns-in_err-place c =
     subst (λ r. MatchOption r (NoneQueuedOf c.args.symbol.now c.args.side c.args.self.now)
     (IsFirst c.args.symbol.now c.args.side c.args.self.now))
     (sym c.from_residual.ensures)
-    (first-none c.self.inside.levels c.self.inside.index c.self.inside.count c.self.invariant c.args.self.now
-    c.self.view_is
+    (first-none (record { kept = c.self.invariant; list = c.self.view_is })
     c.args.symbol.now c.args.side c.in_err-place.ensures)
 
 pub returns : goal.returns
 returns c =
-    first-some c.self.inside.levels c.self.inside.index c.self.inside.count c.self.invariant c.args.self.now
-    c.self.view_is
+    first-some (record { kept = c.self.invariant; list = c.self.view_is })
     c.args.symbol.now c.args.side c.in_ok-place.place.number c.in_ok-place.ensures c.get.result c.get.ensures.order

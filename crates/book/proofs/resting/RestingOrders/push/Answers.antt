@@ -5,52 +5,35 @@ use Rattle.book.proofs.RestingCalls.{has-room, not-there, pushed-orders, pushed-
 use Rattle.book.proofs.resting.RestingOrders.push.Goals as goal
 
 pub push_back-requires-clause-room : goal.push_back-requires-clause-room
-push_back-requires-clause-room c =
-    has-room c.self.inside.levels c.self.inside.index c.self.inside.count c.self.invariant c.args.self.now
-    c.self.view_is c.requires.room
+push_back-requires-clause-room c = has-room (record { kept = c.self.invariant; list = c.self.view_is }) c.requires.room
 
 pub push_back-requires-clause-later : goal.push_back-requires-clause-later
 push_back-requires-clause-later c = λ p x stands one_level.
     each-stands (λ x. x.stamp < c.args.order.now.stamp) c.self.inside.levels
-    (later-all c.self.inside.levels c.self.inside.index c.self.inside.count c.self.invariant c.args.self.now
-    c.self.view_is
-    c.args.order.now c.requires.behind) p x stands
+    (later-all (record { kept = c.self.invariant; list = c.self.view_is }) c.args.order.now c.requires.behind) p x
+    stands
 
 pub insert-requires-clause-fresh : goal.insert-requires-clause-fresh
 insert-requires-clause-fresh c =
-    not-there c.self.inside.levels c.self.inside.index c.self.inside.count c.self.invariant c.args.self.now
-    c.self.view_is
-    c.args.order.now c.requires.rests c.requires.behind c.requires.fresh
+    not-there (record { kept = c.self.invariant; list = c.self.view_is }) c.args.order.now c.requires.fresh
 
 pub insert-requires-clause-room : goal.insert-requires-clause-room
 insert-requires-clause-room c =
-    let room = has-room c.self.inside.levels c.self.inside.index c.self.inside.count c.self.invariant c.args.self.now
-    c.self.view_is
-    c.requires.room in
+    let room = has-room (record { kept = c.self.invariant; list = c.self.view_is }) c.requires.room in
     omega (arith, room, c.self.invariant.size, c.self.invariant.as_many)
 
 pub overflow_add-self : goal.overflow_add-self
 overflow_add-self c =
-    let room = has-room c.self.inside.levels c.self.inside.index c.self.inside.count c.self.invariant c.args.self.now
-    c.self.view_is
-    c.requires.room in
+    let room = has-room (record { kept = c.self.invariant; list = c.self.view_is }) c.requires.room in
     omega (arith, room, c.self.invariant.size, c.self.invariant.counted)
 
 pub invariant_of-self : goal.invariant_of-self
-invariant_of-self c =
-    pushed-kept c.self.inside.levels c.self.inside.index c.self.inside.count c.self.invariant c.args.self.now
-    c.self.view_is
-    c.args.order.now c.requires.rests c.requires.behind c.requires.fresh c.push_back.result.number
-    c.push_back.ensures.within
-    c.push_back.ensures.free
-    c.push_back.new.self c.push_back.ensures.places c.number-number.result c.number-number.ensures c.insert.new.self
-    c.insert.ensures.places c.insert.ensures.entries
+invariant_of-self c = pushed-kept (record { kept = c.self.invariant; list = c.self.view_is }) c.args.order.now
+    c.requires.behind c.push_back.result.number c.push_back.ensures.within c.push_back.ensures.free
+    c.push_back.new.self c.push_back.ensures.places c.requires.rests c.requires.fresh c.number-number.result
+    c.number-number.ensures c.insert.new.self c.insert.ensures.places c.insert.ensures.entries
 
 pub returns : goal.returns
-returns c =
-    pushed-orders c.self.inside.levels c.self.inside.index c.self.inside.count c.self.invariant c.args.self.now
-    c.self.view_is
-    c.args.order.now c.requires.rests c.requires.behind c.requires.fresh c.push_back.result.number
-    c.push_back.ensures.within
-    c.push_back.ensures.free
-    c.push_back.new.self c.push_back.ensures.places
+returns c = pushed-orders (record { kept = c.self.invariant; list = c.self.view_is }) c.args.order.now c.requires.behind
+    c.push_back.result.number c.push_back.ensures.within c.push_back.ensures.free c.push_back.new.self
+    c.push_back.ensures.places
