@@ -6,7 +6,8 @@
 Citations stand in backquotes, in each item `- **Clauses**:` and in the section "The parts, by crate":
 
     `Type::name`, `crate::name`     a public function of this type, crate or module
-    `name`                          a further one of the type named last, or the one free function of this name
+    `name`                          a further one of the type named last, or the one free function of this name, which a
+                                    crate may name on (`pub use`)
     `Trait for Type`                all functions of the trait as the type keeps it
     `Name`, `name.rt`, `crate`      a type, a trait or a definition; a file; a crate
     (`one`, `two`)                  right behind a function or a trait: clauses of it, or conditions
@@ -33,6 +34,7 @@ import needs_python  # (in front of what an older Python can't read)
 TRAIT = re.compile(r"pub trait (\w+)")
 IMPL = re.compile(r"impl\b(?:<[^{]*?>)? (?:(?:\w+::)*(?P<trait>\w+)(?:<[^{]*>)? for )?(?:\w+::)*(?P<type>\w+)")
 TYPE = re.compile(r"pub (?:struct|enum|type) (\w+)")
+NAMED_ON = re.compile(r"^pub use (\w+)::(?:\{([^}]*)\}|(\w+));$", re.M)
 FUNCTION = re.compile(r"( *)(pub(?:\([a-z ]+\))? )?(?:const )?(?:unsafe )?fn (\w+)")
 CLAUSE = re.compile(r"( +)(?:requires|ensures)\*? (\w+) \{")
 GHOST = re.compile(r"    ghost (\w+)(?: =|:)")
@@ -66,8 +68,12 @@ class Sources:
 
     def __init__(self):
         self.functions, self.kept, self.types, self.fields, self.others = [], {}, set(), {}, set()
+        self.named_on = set()  # A crate, and what it names on: the other crate, the name.
         for crate in sorted(it for it in os.listdir(f"{ROOT}/crates") if it != "bench"):
             self.others.add(crate)
+            root = "\n".join(lines_of(f"{ROOT}/crates/{crate}/src/{root_of(crate)}"))
+            for other, names, name in NAMED_ON.findall(root):
+                self.named_on.update((crate, other, it.strip()) for it in (names or name).split(","))
             for path in sorted(glob.glob(f"{ROOT}/crates/{crate}/src/**/*.rt", recursive=True)):
                 self.others.add(os.path.basename(path))
                 self.add_code((crate, os.path.basename(path).removesuffix(".rt")), lines_of(path))
@@ -120,7 +126,11 @@ class Sources:
         if word:
             return [it for it in named if it.stands_in(word)]
         of_owner = [it for it in named if owner and it.owner == owner]
-        return of_owner or [it for it in named if not it.owner and crate in (None, it.crate)]
+        return of_owner or [it for it in named if not it.owner and self.has(crate, it)]
+
+    def has(self, crate, function):
+        """Whether the free function is one of the crate's, or one that it names on; any is where no crate is given."""
+        return crate in (None, function.crate) or (crate, function.crate, function.name) in self.named_on
 
     def trait(self, name):
         """The clauses of a trait as a type keeps it, or None where it doesn't."""
@@ -173,6 +183,11 @@ class Check:
             for it in names:
                 has = self.sources.is_named(it) or any(it in self.sources.fields.get(record, ()) for record in names)
                 self.count(line, None if has else f"`{name}`: no definition or field `{it}` behind {head.strip()}")
+
+
+def root_of(crate):
+    """The file that a crate begins with."""
+    return "lib.rt" if os.path.exists(f"{ROOT}/crates/{crate}/src/lib.rt") else "main.rt"
 
 
 def lines_of(path):

@@ -26,7 +26,7 @@ use Rattle.venue_model.specs.Requests.{Limits, Symbols, State, is_day, at_once, 
 use Rattle.venue_model.specs.Requests.{entering, is_named, named, others, greatest_of, cancel_refusal, cancel_answered}
 use Rattle.venue_model.specs.Requests.{order_canceled, replace_refusal, replace_answered, restamped, amended, order_replaced}
 use Rattle.venue_model.specs.SideLaws.{market_meets}
-use Rattle.venue_model.specs.Step.{Request, IsCommand, cause, obey, step, empty, state_from, state, requests_from}
+use Rattle.venue_model.specs.Step.{Request, IsCommand, cause, obey, step, empty, state_from, requests_from}
 use Rattle.fix_orders.specs.RangeLaws.{reads_within}
 use Rattle.book.specs.Histories.{reads_at, state_of}
 use Rattle.book.specs.Laws.{HasPrice, CrossesAnyPrice}
