@@ -5,7 +5,7 @@ use Rattle.std.specs.Prelude.{slice_set}
 use Rattle.std.specs.List.{AllByRecursion, insert}
 use Rattle.std.specs.Global.{Vec}
 use Rattle.std.specs.Vec.{vec_capacity}
-use Rattle.std.proofs.lemmas.List.{get_or-map, map-set, length-set, length-map, length-drop}
+use Rattle.std.proofs.lemmas.List.{get_or_default, get_or-map, map-set, length-set, length-map, length-drop}
 use Rattle.venue_model.specs.declared.orders.Side.{Side}
 use Rattle.price_levels.specs.declared.keys.Key.{Key}
 use Rattle.price_levels.specs.declared.keys.Level.{Level}
@@ -15,7 +15,7 @@ use Rattle.price_levels.specs.declared.ladders.Rung.{Rung}
 use Rattle.venue_model.specs.Orders.{opposite}
 use Rattle.price_levels.specs.Arena.{holds, first_in, of_side, crossed_left, levels_with}
 use Rattle.price_levels.specs.Ladders.{Laddered, joined, all, rung_number, around, beyond, items_of, BelongsToHome}
-use Rattle.price_levels.specs.Ladders.{AreParted, AreLadders}
+use Rattle.price_levels.specs.Ladders.{IsRung, IsOn, AreParted, AreLadders}
 use Rattle.price_levels.proofs.LevelLists.{all-append}
 use Rattle.price_levels.proofs.SearchLemmas.{all-at}
 use Rattle.price_levels.proofs.LadderLists.{cut, cut-set, get-at, insert-at, with-at, set-at, drop-at, first-row}
@@ -42,32 +42,57 @@ module _ {X : Type 0} (P : X → Type 0) where
   all-drop-n (x ∷ xs) (suc n) all = all-drop-n xs n all.1
 
 -- one ladder, as it was read
-module _ (l : Laddered) (ladders : List (Vec Level)) (is : l.ladders ≡ items_of ladders) (r : Rung) (one : Vec Level)
-    (within : r.ladder < length l.ladders) (here : one ≡ get_or ladders r.ladder one) where
+pub record OneLadder (l : Laddered) (ladders : List (Vec Level)) (r : Rung) (one : Vec Level) : Type 0 where
+  pub is : l.ladders ≡ items_of ladders
+  pub within : r.ladder < length l.ladders
+  pub here : one ≡ get_or ladders r.ladder one
+
+abbrev pub shown : List Fence → List (Vec Level) → ℕ → Laddered
+shown fences ladders room = record { fences = fences; ladders = items_of ladders; room = room }
+
+pub one-ladder : {fences : List Fence} {room : ℕ} {l : Laddered} {one : Vec Level} (ladders : List (Vec Level))
+    (r : Rung) → shown fences ladders room ≡ l → r.ladder < length l.ladders → one ≡ get_or ladders r.ladder one
+    → OneLadder l ladders r one
+one-ladder ladders r view_is within here = record {
+  is = sym (ap (λ (m : Laddered). m.ladders) view_is);
+  within = within;
+  here = here;
+}
+
+module _ {l : Laddered} {ladders : List (Vec Level)} {r : Rung} {one : Vec Level} (it : OneLadder l ladders r one) where
   abbrev ahead : List Level
   ahead = joined (take r.ladder l.ladders)
 
   pub within-ladders : r.ladder < length ladders
-  within-ladders = let long = ap length is ∙ length-map ladders (λ (v : Vec Level). v.items) in
-      omega (arith, within, long)
+  within-ladders = let long = ap length it.is ∙ length-map ladders (λ (v : Vec Level). v.items) in
+      omega (arith, it.within, long)
 
   pub around-is : around l r ≡ one.items
-  around-is = ap (λ xs. get_or xs r.ladder []) is ∙ get_or-map (λ (v : Vec Level). v.items) ladders r.ladder one []
+  around-is = ap (λ xs. get_or xs r.ladder []) it.is ∙ get_or-map (λ (v : Vec Level). v.items) ladders r.ladder one []
       within-ladders
-      ∙ ap (λ (v : Vec Level). v.items) (sym here)
+      ∙ ap (λ (v : Vec Level). v.items) (sym it.here)
 
   pub whole : all l ≡ ahead ++ (one.items ++ beyond l r)
-  whole = cut l.ladders r.ladder within ∙ ap (λ g. ahead ++ (g ++ beyond l r)) around-is
+  whole = cut l.ladders r.ladder it.within ∙ ap (λ g. ahead ++ (g ++ beyond l r)) around-is
 
-  pub long-is : length (around l r) ≡ length one.items
+  long-is : length (around l r) ≡ length one.items
   long-is = ap length around-is
+
+  pub rung-here : IsRung l r → r.at ≤ length one.items
+  rung-here rung = subst (λ n. r.at ≤ n) long-is rung.within
+
+  pub on-here : IsOn l r → r.at < length one.items
+  on-here on = subst (λ n. r.at < n) long-is on.on
+
+  pub on-there : r.at < length one.items → IsOn l r
+  on-there lt = record { ladder = it.within; on = subst (λ n. r.at < n) (sym long-is) lt }
 
   pub level-is : (m : Level) → r.at < length one.items → m ≡ get_or one.items r.at m
       → m ≡ get_or (all l) (rung_number l r) m
   level-is m lt m_is = m_is ∙ sym (get-at ahead one.items (beyond l r) r.at m lt)
       ∙ ap (λ ys. get_or ys (rung_number l r) m) (sym whole)
 
-  pub key-there : (m : Level) → r.at < length one.items → (get_or (all l) (rung_number l r) m).key
+  key-there : (m : Level) → r.at < length one.items → (get_or (all l) (rung_number l r) m).key
       ≡ (get_or one.items r.at m).key
   key-there m lt = ap (λ ys. (get_or ys (rung_number l r) m).key) whole
       ∙ ap (λ (x : Level). x.key) (get-at ahead one.items (beyond l r) r.at m lt)
@@ -109,8 +134,8 @@ module _ (l : Laddered) (ladders : List (Vec Level)) (is : l.ladders ≡ items_o
   module _ (other : Vec Level) where
     pub replaced-is : joined (items_of (slice_set ladders r.ladder other)) ≡ ahead ++ (other.items ++ beyond l r)
     replaced-is = ap joined (map-set (λ (v : Vec Level). v.items) ladders r.ladder other
-        ∙ ap (λ xs. slice_set xs r.ladder other.items) (sym is))
-        ∙ cut-set l.ladders r.ladder other.items within
+        ∙ ap (λ xs. slice_set xs r.ladder other.items) (sym it.is))
+        ∙ cut-set l.ladders r.ladder other.items it.within
 
     pub set-is : (m : Level) → r.at < length one.items → other.items ≡ slice_set one.items r.at m →
         joined (items_of (slice_set ladders r.ladder other)) ≡ slice_set (all l) (rung_number l r) m
@@ -131,38 +156,40 @@ module _ (l : Laddered) (ladders : List (Vec Level)) (is : l.ladders ≡ items_o
         ∙ ap (λ ys. levels_with ys (rung_number l r) []) (sym whole)
 
     -- the ladders are right with it
-    pub ladders-with : (fences : List Fence) (homes : List Home) (room : ℕ) → AreLadders fences homes ladders room →
+    pub ladders-with : {fences : List Fence} {homes : List Home} {room : ℕ} → AreLadders fences homes ladders room →
         AllByRecursion (λ (m : Level). BelongsToHome fences r.ladder m.key.symbol m.key.side) other.items
         → room ≤ vec_capacity other →
         AreLadders fences homes (slice_set ladders r.ladder other) room
-    ladders-with fences homes room are belong roomy = record {
+    ladders-with {fences} {homes} {room} are belong roomy = record {
       count = length-set ladders r.ladder other ∙ are.count;
       parted = subst (AreParted fences) (sym (map-set (λ (v : Vec Level). v.items) ladders r.ladder other))
           (parted-set fences (items_of ladders) r.ladder other.items are.parted
-          (let long = ap length is in omega (arith, within, long)) belong);
+          (let long = ap length it.is in omega (arith, it.within, long)) belong);
       roomy = all-set (λ (v : Vec Level). room ≤ vec_capacity v) ladders r.ladder other are.roomy roomy;
       known = are.known;
     }
 
   -- what holds of the levels of a ladder
-  module _ (fences : List Fence) (homes : List Home) (room : ℕ) (are : AreLadders fences homes ladders room) where
+  module _ {fences : List Fence} {homes : List Home} {room : ℕ} (are : AreLadders fences homes ladders room) where
     abbrev Belong : List Level → Type 0
     Belong levels = AllByRecursion (λ (m : Level). BelongsToHome fences r.ladder m.key.symbol m.key.side) levels
 
     pub belong-there : Belong one.items
-    belong-there = subst Belong (ap (λ xs. get_or xs r.ladder []) (sym is) ∙ around-is) (are.parted r.ladder)
+    belong-there = subst Belong (ap (λ xs. get_or xs r.ladder []) (sym it.is) ∙ around-is) (are.parted r.ladder)
 
     pub roomy-there : room ≤ vec_capacity one
-    roomy-there = subst (λ v. room ≤ vec_capacity v) (sym here)
+    roomy-there = subst (λ v. room ≤ vec_capacity v) (sym it.here)
         (all-at (λ (v : Vec Level). room ≤ vec_capacity v) ladders r.ladder one
         within-ladders are.roomy)
 
-    pub belong-set : (m old : Level) → r.at < length one.items → old ≡ get_or one.items r.at old → m.key ≡ old.key
+    pub belong-set : (m : Level) → r.at < length one.items → m.key ≡ (get_or (all l) (rung_number l r) m).key
         → Belong (slice_set one.items r.at m)
-    belong-set m old lt old_is same = all-set (λ (x : Level). BelongsToHome fences r.ladder x.key.symbol x.key.side)
-        one.items r.at m belong-there
-        (subst (λ (k : Key). BelongsToHome fences r.ladder k.symbol k.side) (sym same)
-        (subst (λ (x : Level). BelongsToHome fences r.ladder x.key.symbol x.key.side) (sym old_is)
+    belong-set m lt same =
+        let old = get_or one.items r.at m in
+        all-set (λ (x : Level). BelongsToHome fences r.ladder x.key.symbol x.key.side) one.items r.at m belong-there
+        (subst (λ (k : Key). BelongsToHome fences r.ladder k.symbol k.side) (sym (same ∙ key-there m lt))
+        (subst (λ (x : Level). BelongsToHome fences r.ladder x.key.symbol x.key.side)
+        (sym (get_or_default one.items r.at m old lt))
         (all-at (λ (x : Level). BelongsToHome fences r.ladder x.key.symbol x.key.side) one.items r.at old lt
         belong-there)))
 
@@ -170,7 +197,8 @@ module _ (l : Laddered) (ladders : List (Vec Level)) (is : l.ladders ≡ items_o
         → Belong (insert one.items r.at m)
     belong-insert m its = all-append (λ (x : Level). BelongsToHome fences r.ladder x.key.symbol x.key.side)
         (take r.at one.items) (m ∷ drop r.at one.items)
-        (all-take-n (λ (x : Level). BelongsToHome fences r.ladder x.key.symbol x.key.side) one.items r.at belong-there) (
+        (all-take-n (λ (x : Level). BelongsToHome fences r.ladder x.key.symbol x.key.side) one.items r.at
+        belong-there) (
           its,
           all-drop-n (λ (x : Level). BelongsToHome fences r.ladder x.key.symbol x.key.side) one.items r.at
               belong-there,

@@ -1,59 +1,29 @@
 -- Ladders ahead stand before the symbol and side, ladders behind them don't.
-use Rattle.std.proofs.Common.{◌≡◌, ◌≤◌, true, false, List, length, take, drop, sym, ap, subst, arith}
-use Rattle.std.specs.List.{AllByRecursion}
-use Rattle.price_levels.specs.declared.keys.Key.{Key}
-use Rattle.price_levels.specs.declared.keys.Level.{Level}
-use Rattle.price_levels.specs.Keys.{before_side, InOrder}
-use Rattle.price_levels.specs.Ladders.{Laddered}
-use Rattle.price_levels.proofs.LadderSearches.{there, its-order, is-rung, is-home, side-before, side-behind}
+use Rattle.std.proofs.Common.{arith}
+use Rattle.price_levels.proofs.LadderSearches.{key-ladder, there, its-order, is-rung, is-home, side-before, side-behind}
 use Rattle.price_levels.proofs.ladders.Ladders.search_side.Goals as goal
 
 pub index-requires : goal.index-requires
 index-requires c =
-    let own = c.self.inside in
-    let within = there c.args.self.now own.fences.items own.homes.items own.ladders.items own.room c.self.invariant
-    (sym (ap (λ
-    (l : Laddered). l.fences) c.self.view_is)) (sym (ap (λ (l : Laddered). l.ladders) c.self.view_is))
-    (record { symbol = c.args.symbol.now; side = c.args.side; price = 0 })
-    c.ladder_of-ladder.result c.ladder_of-ladder.ensures in
-    omega (arith, within, own.ladders.ok.0)
+    let within = there (key-ladder (record { symbol = c.args.symbol.now; side = c.args.side; price = 0 })
+    c.ladder_of-ladder.result c.self.invariant c.self.view_is c.ladder_of-ladder.ensures) in
+    omega (arith, within, c.self.inside.ladders.ok.0)
 
 pub start_of-at-requires : goal.start_of-at-requires
-start_of-at-requires c =
-    let own = c.self.inside in
-    subst InOrder (sym c.deref.ensures.value)
-    (its-order c.args.self.now own.fences.items own.homes.items own.ladders.items own.room
-    c.self.invariant (sym (ap (λ (l : Laddered). l.fences) c.self.view_is))
-    (sym (ap (λ (l : Laddered). l.ladders) c.self.view_is))
-    (record { symbol = c.args.symbol.now; side = c.args.side; price = 0 }) c.ladder_of-ladder.result
-    c.ladder_of-ladder.ensures c.index.result.now c.index.ensures c.requires)
+start_of-at-requires c = its-order (key-ladder (record { symbol = c.args.symbol.now; side = c.args.side; price = 0 })
+    c.ladder_of-ladder.result c.self.invariant c.self.view_is c.ladder_of-ladder.ensures) c.index.ensures
+    c.deref.ensures.value c.requires
 
 pub returns : goal.returns
 returns c =
-    let l = c.args.self.now in
-    let own = c.self.inside in
-    let fences = sym (ap (λ (l : Laddered). l.fences) c.self.view_is) in
-    let is = sym (ap (λ (l : Laddered). l.ladders) c.self.view_is) in
-    let k : Key = record { symbol = c.args.symbol.now; side = c.args.side; price = 0 } in
-    let i = c.ladder_of-ladder.result in
-    let belongs = c.ladder_of-ladder.ensures in
-    let one = c.index.result.now in
-    let j = c.start_of-at.result in
+    let its = key-ladder (record { symbol = c.args.symbol.now; side = c.args.side; price = 0 })
+    c.ladder_of-ladder.result c.self.invariant c.self.view_is c.ladder_of-ladder.ensures in
+    let here = c.index.ensures in
     let read = c.deref.ensures.value in
-    let le = subst (λ (levels : List Level). j ≤ length levels) read c.start_of-at.ensures.within in
+    let found = c.start_of-at.ensures in
     record {
-      rung = is-rung l own.fences.items own.homes.items own.ladders.items own.room c.self.invariant fences is k i
-          belongs one c.index.ensures j le;
-      home = is-home l own.fences.items own.homes.items own.ladders.items own.room c.self.invariant fences is k i
-          belongs one c.index.ensures j le;
-      before = side-before l own.fences.items own.homes.items own.ladders.items own.room c.self.invariant fences is k i
-          belongs one c.index.ensures
-          j le (subst (λ (levels : List Level). AllByRecursion (λ (m : Level). before_side k.symbol k.side m.key ≡ true)
-          (take j levels)) read
-          c.start_of-at.ensures.before);
-      behind = side-behind l own.fences.items own.homes.items own.ladders.items own.room c.self.invariant fences is k i
-          belongs one c.index.ensures
-          j le (subst (λ (levels : List Level). AllByRecursion
-          (λ (m : Level). before_side k.symbol k.side m.key ≡ false) (drop j levels)) read
-          c.start_of-at.ensures.behind);
+      rung = is-rung its here read _ found.within;
+      home = is-home its here read _ found.within;
+      before = side-before its here read _ found.within found.before;
+      behind = side-behind its here read _ found.within found.behind;
     }
