@@ -1,6 +1,5 @@
 -- The table while a gap is closed: its entries stay the same.
-use Rattle.std.proofs.Common.{◌≡◌, ◌+◌, ◌<◌, ◌≤◌, ℕ, length, get_or, Option, Some, None, refl, ap, sym, subst, ◌∙◌}
-use Rattle.std.proofs.Common.{arith}
+use Rattle.std.proofs.Common.{◌≡◌, ◌+◌, ◌<◌, ◌≤◌, ℕ, length, get_or, Option, Some, None, ap, sym, subst, ◌∙◌, arith}
 use Rattle.std.specs.Prelude.{◌≢◌, slice_set}
 use Rattle.std.proofs.Math.Path.{fun_ext}
 use Rattle.std.proofs.lemmas.List.{get_or_read, length-set}
@@ -24,10 +23,7 @@ pub record IsClosed (first now : Slots) : Type 0 where
   pub places : place_of (entries_of now) ≡ place_of (entries_of first)
   pub entries : length (entries_of now) ≡ length (entries_of first)
 
-pub begins : (first : Slots) (start : ℕ) → HasGap first start start 1 → Closes first first start start 1
-begins first start has_gap = record { has_gap = has_gap; places = λ c n o h. h; entries = refl }
-
-module _ (first now : Slots) (start gap step : ℕ) (closes : Closes first now start gap step) where
+module _ {first now : Slots} {start gap step : ℕ} (closes : Closes first now start gap step) where
   pub ends : step < 8192 → at now (slot_from start step) ≡ None → IsClosed first now
   ends few free = record {
     table = record {
@@ -41,9 +37,6 @@ module _ (first now : Slots) (start gap step : ℕ) (closes : Closes first now s
         (closes.places c n (place_of (entries_of first) c n) (found first c n))));
     entries = closes.entries;
   }
-
-  pub ends-before : 8192 ≤ step → ⊥
-  ends-before all = omega (arith, closes.has_gap.closing.ahead_far, closes.has_gap.closing.ahead_few)
 
   pub gap-within : gap < length now
   gap-within = subst (λ s. s < length now) (sym closes.has_gap.closing.gap_is)
@@ -123,16 +116,16 @@ pub record Next (now : Slots) (start gap step slot : ℕ) (e : IndexEntry) (from
   pub home_steps : from_home ≡ steps_to (home_of e) slot
   pub gap_steps : from_gap ≡ steps_to gap slot
 
-module _ (first now : Slots) (start gap step : ℕ) (closes : Closes first now start gap step) (slot : ℕ) (e : IndexEntry)
-    (from_home from_gap : ℕ)
-    (next : Next now start gap step slot e from_home from_gap) (items : Slots) (its_gap : ℕ) where
+module _ {first now : Slots} {start gap step slot : ℕ} {e : IndexEntry} {from_home from_gap : ℕ}
+    (closes : Closes first now start gap step) (next : Next now start gap step slot e from_home from_gap)
+    (items : Slots) (its_gap : ℕ) where
   pub step-stays : from_home < from_gap → items ≡ now → its_gap ≡ gap → Closes first items start its_gap (step + 1)
   step-stays short same same_gap =
       let home_steps = next.home_steps ∙ ap (λ s. steps_to (home_of e) s) next.is in
       let gap_steps = next.gap_steps ∙ ap (λ s. steps_to gap s) next.is in
       subst (λ xs. Closes first xs start its_gap (step + 1)) (sym same)
       (subst (λ g. Closes first now start g (step + 1)) (sym same_gap)
-      (stays first now start gap step closes next.few e next.stands (omega (arith, short, home_steps, gap_steps))))
+      (stays closes next.few e next.stands (omega (arith, short, home_steps, gap_steps))))
 
   pub step-moves : from_gap ≤ from_home → items ≡ slice_set (slice_set now gap (Some e)) slot None → its_gap ≡ slot
       → Closes first items start its_gap (step + 1)
@@ -143,4 +136,4 @@ module _ (first now : Slots) (start gap step : ℕ) (closes : Closes first now s
       (sym (same ∙ ap (λ s. slice_set (slice_set now gap (Some e)) s None) next.is))
       (subst (λ g. Closes first (slice_set (slice_set now gap (Some e)) (slot_from start step) None) start g (step + 1))
       (sym (same_gap ∙ next.is))
-      (moves-back first now start gap step closes next.few e next.stands (omega (arith, long, home_steps, gap_steps))))
+      (moves-back closes next.few e next.stands (omega (arith, long, home_steps, gap_steps))))
