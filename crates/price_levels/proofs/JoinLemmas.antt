@@ -20,13 +20,6 @@ use Rattle.price_levels.proofs.Totals.{few}
 use Rattle.price_levels.proofs.ShortenLemmas.{set-with}
 use Rattle.price_levels.proofs.Ends.{Searched, left-is, whole}
 
--- the places that are free once one is taken
-pub popped : (nodes : List Node) (free free' : List ℕ) (pop : Option ℕ) (place : ℕ) → IsArena nodes free →
-    free ≡ free' ++ option_to_list pop → pop ≡ Some place →
-    IsArena nodes (free' ++ place ∷ [])
-popped nodes free free' pop place arena items is = subst (IsArena nodes)
-    (items ∙ ap (λ x. free' ++ option_to_list x) is) arena
-
 -- an order comes to the last of the free places: a search found where its level is or would be
 pub record Comes (nodes : List Node) (free : List ℕ) (levels : List Level) (place at : ℕ) (o : Order) (there : Bool)
     : Type 0 where
@@ -36,6 +29,20 @@ pub record Comes (nodes : List Node) (free : List ℕ) (levels : List Level) (pl
   pub holds_is : holds levels at (key_of o) ≡ there
   pub total : o.total ≤ 1000000
   pub later : ComesLater (places_of nodes) o
+
+-- as the code has taken the place, and searched for the level
+pub comes : {nodes : List Node} {before after : List ℕ} {levels : List Level} {pop : Option ℕ} {place at : ℕ}
+    {o : Order} {k : Key} {there : Bool} → IsLevels nodes before levels → before ≡ after ++ option_to_list pop
+    → pop ≡ Some place → k ≡ key_of o → Searched k levels at → there ≡ holds levels at k → o.total ≤ 1000000
+    → ComesLater (places_of nodes) o → Comes nodes after levels place at o there
+comes {nodes} {before} {after} {levels} {at = at} are free_is pop_is k_is search holds_is total later = record {
+  arena = subst (IsArena nodes) (free_is ∙ ap (λ x. after ++ option_to_list x) pop_is) are.arena;
+  ordered = are.ordered;
+  search = subst (λ j. Searched j levels at) k_is search;
+  holds_is = ap (holds levels at) (sym k_is) ∙ sym holds_is;
+  total = total;
+  later = later;
+}
 
 module _ {nodes : List Node} {free : List ℕ} {levels : List Level} {place at : ℕ} {o : Order} {there : Bool}
     (it : Comes nodes free levels place at o there) where
@@ -80,8 +87,9 @@ module _ {nodes : List Node} {free : List ℕ} {levels : List Level} {place at :
     join-seen : Seen nodes (nodes_with nodes (Some l.last) place o) place (Some o)
     join-seen = with-seen nodes (Some l.last) place o join-last vacant-there.0
 
-    pub join-places : places_of (nodes_with nodes (Some l.last) place o) ≡ slice_set (places_of nodes) place (Some o)
-    join-places = join-seen.places
+    pub join-places : (nodes' : List Node) → nodes' ≡ nodes_with nodes (Some l.last) place o
+        → places_of nodes' ≡ slice_set (places_of nodes) place (Some o)
+    join-places nodes' nodes_are = ap places_of nodes_are ∙ join-seen.places
 
     pub join-levels : (nodes' : List Node) (levels' : List Level) (left : ℕ)
         → nodes' ≡ nodes_with nodes (Some l.last) place o → left ≡ leaves o
@@ -107,8 +115,9 @@ module _ {nodes : List Node} {free : List ℕ} {levels : List Level} {place at :
     open-seen : Seen nodes (nodes_with nodes None place o) place (Some o)
     open-seen = with-seen nodes None place o tt vacant-there.0
 
-    pub open-places : places_of (nodes_with nodes None place o) ≡ slice_set (places_of nodes) place (Some o)
-    open-places = open-seen.places
+    pub open-places : (nodes' : List Node) → nodes' ≡ nodes_with nodes None place o
+        → places_of nodes' ≡ slice_set (places_of nodes) place (Some o)
+    open-places nodes' nodes_are = ap places_of nodes_are ∙ open-seen.places
 
     pub open-levels : (nodes' : List Node) (levels' : List Level) (k : Key) (left : ℕ)
         → nodes' ≡ nodes_with nodes None place o → k ≡ key_of o → left ≡ leaves o

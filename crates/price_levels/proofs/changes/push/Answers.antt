@@ -1,30 +1,17 @@
 -- The last free place is taken; the order joins its level there, or opens one.
-use Rattle.std.proofs.Common.{◌+◌, rules, refl, ap, sym, subst, ◌∙◌, arith}
-use Rattle.price_levels.specs.Arena.{places_of, holds}
+use Rattle.std.proofs.Common.{◌+◌, rules, refl, arith}
 use Rattle.price_levels.specs.Ladders.{all, rung_number}
 use Rattle.price_levels.proofs.LadderEnds.{same-key}
-use Rattle.price_levels.proofs.Ends.{Searched}
-use Rattle.price_levels.proofs.JoinLemmas.{Comes, popped, vacant-there, join-last, join-fits, join-places, join-levels}
+use Rattle.price_levels.proofs.JoinLemmas.{Comes, comes, vacant-there, join-last, join-fits, join-places, join-levels}
 use Rattle.price_levels.proofs.JoinLemmas.{open-room, open-places, open-levels}
 use Rattle.price_levels.proofs.changes.push.Goals.{After-holds}
 use Rattle.price_levels.proofs.changes.push.Goals as goal
 
 it : (c : After-holds) → Comes c.args.nodes.now.items c.pop.new.self.items (all c.args.ladders.now)
     c.unwrap-place.result (rung_number c.args.ladders.now c.search-rung.result) c.args.order.now c.holds.result
-it c =
-    let l = all c.args.ladders.now in
-    let n = rung_number c.args.ladders.now c.search-rung.result in
-    let found = c.search-rung.ensures in
-    record {
-      arena = popped _ c.args.free.now.items _ c.pop.result _ c.requires.levels.arena c.pop.ensures.items
-          c.unwrap-place.ensures;
-      ordered = c.requires.levels.ordered;
-      search = subst (λ k. Searched k l n) c.key_of-key.ensures
-          (record { before = found.before; behind = found.behind });
-      holds_is = ap (holds l n) (sym c.key_of-key.ensures) ∙ sym c.holds.ensures.holds;
-      total = c.requires.quantity;
-      later = c.requires.later;
-    }
+it c = comes c.requires.levels c.pop.ensures.items c.unwrap-place.ensures c.key_of-key.ensures
+    (record { before = c.search-rung.ensures.before; behind = c.search-rung.ensures.behind }) c.holds.ensures.holds
+    c.requires.quantity c.requires.later
 
 pub level-level-requires : goal.level-level-requires
 level-level-requires c = c.holds.ensures.on c.if-holds.true
@@ -46,12 +33,10 @@ overflow_add-longer c =
     omega (arith, fits, c.leaves.ensures)
 
 pub set-requires-clause-key : goal.set-requires-clause-key
-set-requires-clause-key c = let old = c.level-level.result in
-    same-key c.args.ladders.now c.search-rung.result old (record old {
-      last = c.unwrap-place.result;
-      left =
-          old.left + c.leaves.result;
-    }) (c.holds.ensures.on c.if-holds.true) c.level-level.ensures refl
+set-requires-clause-key c =
+    let old = c.level-level.result in
+    let longer = record old { last = c.unwrap-place.result; left = old.left + c.leaves.result } in
+    same-key _ _ old longer (c.holds.ensures.on c.if-holds.true) c.level-level.ensures refl
 
 pub insert-requires-clause-room : goal.insert-requires-clause-room
 insert-requires-clause-room c =
@@ -65,7 +50,7 @@ returns-then-holds c =
     record {
       levels = join-levels it c.if-holds.true _ l_is _ _ _ c.seat.ensures c.leaves.ensures c.set.ensures.levels;
       free = vacant-there it;
-      places = ap places_of c.seat.ensures ∙ join-places it c.if-holds.true _ l_is;
+      places = join-places it c.if-holds.true _ l_is _ c.seat.ensures;
       capacity = search rules;
     }
 
@@ -77,6 +62,6 @@ returns-else-holds c =
       levels = open-levels it c.if-holds.false _ _ _ _ nodes_are c.key_of-key.ensures c.leaves-else-holds.ensures
           c.insert.ensures.levels;
       free = vacant-there it;
-      places = ap places_of nodes_are ∙ open-places it c.if-holds.false;
+      places = open-places it c.if-holds.false _ nodes_are;
       capacity = search rules;
     }
