@@ -18,7 +18,7 @@ use Rattle.book.proofs.Lists.{each-back}
 use Rattle.book.proofs.Fills.{live-true}
 use Rattle.book.proofs.NameLemmas.{IsAmong, found, amended-are, amended-kept}
 use Rattle.book.proofs.BookLemmas.{not-mutual}
-use Rattle.book.proofs.StandingLemmas.{each-instead, standing-instead}
+use Rattle.book.proofs.StandingLemmas.{SamePlace, each-instead, standing-instead}
 
 and_first : (a b : Bool) → (a && b) ≡ true → a ≡ true
 and_first true b h = refl
@@ -81,23 +81,23 @@ module _ (symbols : Symbols) (greatest : List ℕ) (client name : ℕ) (os : Lis
   pub its-client : old.client ≡ client
   its-client = eqb-true old.client client (and_first (nat_eq old.client client) (nat_eq old.cl_ord_id name) its.is_it)
 
-  -- another one of its client, symbol and stamp stands in its place
-  pub book-instead : (o : Order) → o.client ≡ old.client → o.symbol ≡ old.symbol → o.stamp ≡ old.stamp
-      → o.is_market ≡ old.is_market → InRange o → 0 < leaves o → o.cl_ord_id ≤ slice_index greatest (client - 1)
-      → NoneNamed client o.cl_ord_id os → IsBook symbols (its.before ++ o ∷ its.behind) greatest
-  book-instead o client_is symbol_is stamp market range some named fresh =
+  -- another one of its client stands in its place
+  pub book-instead : (o : Order) → o.client ≡ old.client → SamePlace old o → InRange o → 0 < leaves o
+      → o.cl_ord_id ≤ slice_index greatest (client - 1) → NoneNamed client o.cl_ord_id os
+      → IsBook symbols (its.before ++ o ∷ its.behind) greatest
+  book-instead o client_is same range some named fresh =
       let mine : o.client ≡ client = client_is ∙ its-client in
       let belongs : Belongs symbols greatest o = record {
         from = let from = its-belongs.from in omega (arith, from, client_is);
         to = let to = its-belongs.to in omega (arith, to, client_is);
         name = rw mine named;
-        symbol = rw symbol_is its-belongs.symbol;
+        symbol = rw same.level.symbol its-belongs.symbol;
       } in
       let its_fresh : NoneNamed o.client o.cl_ord_id (its.before ++ old ∷ its.behind) =
       rw mine (subst (NoneNamed client o.cl_ord_id) its.split fresh) in
       let alone : live_alone o ≡ o ∷ [] = ap (λ b. if b then o ∷ [] else []) (live-true o some) in
       subst (λ zs. IsBook symbols (its.before ++ (zs ++ its.behind)) greatest) alone (record {
-        standing = standing-instead old o its.before its.behind stamp market range whole.standing;
+        standing = standing-instead old o its.before its.behind same range whole.standing;
         apart = apart-instead old o its.before its.behind its_fresh whole.apart;
         each = each-instead old o (Belongs symbols greatest) its.before its.behind (λ live b. belongs) whole.each;
         clients = whole.clients;
@@ -161,7 +161,8 @@ module _ (symbols : Symbols) (greatest : List ℕ) (client : ℕ) (r : OrderCanc
         let asks = can.some in
         subst (λ zs. IsBook symbols zs greatest)
         (sym (one-amended ∙ amended-are client r.orig_cl_ord_id os o its (amended r)))
-        (book-instead symbols greatest client r.orig_cl_ord_id os o its book (amended r o) refl refl refl refl
+        (book-instead symbols greatest client r.orig_cl_ord_id os o its book (amended r o) refl
+        (record { level = record { symbol = refl; side = refl; price = price }; stamp = refl; market = refl })
         (amended-range r o range asks (omega (arith, total, no_more)) (rw price range.price)) (omega (arith, asks))
         named fresh)
 

@@ -7,7 +7,7 @@ use Rattle.venue_model.specs.declared.orders.Order.{Order}
 use Rattle.venue_model.specs.Requests.{is_named}
 use Rattle.price_levels.specs.Places.{Places, at, StandsAt, standing, HoldsAt, CanAmend, renamed_to, changed}
 use Rattle.price_levels.specs.Stamps.{by_stamp}
-use Rattle.price_levels.specs.StampLaws.{at-set, is-within, apart-changed, each-stands}
+use Rattle.price_levels.specs.StampLaws.{at-set, is-within, each-stands}
 use Rattle.book.specs.declared.order_index.slots.IndexEntry.{IndexEntry}
 use Rattle.book.specs.IndexNames.{PlaceOf, place_of, with_name, without_name, same_name, most_entries}
 use Rattle.book.specs.Standing.{Rests, NoneNamed}
@@ -113,7 +113,6 @@ module _ {places : Places} {entries : List IndexEntry} {count : ℕ} {view : Lis
       kept-amend q q_is after after_is = subst (λ ps. AreKept ps new count) (sym (after_is ∙ amended-is q q_is))
           (record {
             size = length-set places p (Some order) ∙ kept.size;
-            apart = apart-changed places p its.order order kept.apart its.stands refl;
             each = λ k x there. elim (at-set places p k (Some order) x there) [
               | inl here ↦ subst Rests (some-same here.1) rests
               | inr was ↦ kept.each k x was.1

@@ -91,7 +91,8 @@ module _ (i o : Order) (orders new : List Order) (fill : FillsFirst i orders new
     its-fill = record {
       passed = its-passed;
       less = let after = leaves-filled i (traded i o) o.price in omega (arith, after, some, some-resting);
-      standing = standing-instead o (resting_after i o) fill.before fill.behind refl refl
+      standing = standing-instead o (resting_after i o) fill.before fill.behind
+          (record { level = record { symbol = refl; side = refl; price = refl }; stamp = refl; market = refl })
           (filled-range o (traded i o) first-rests.in_range (omega arith)) whole;
       below = λ sequence below. below-instead o (resting_after i o) fill.before fill.behind sequence refl
           (subst (Below sequence) fill.split below);

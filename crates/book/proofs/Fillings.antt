@@ -16,7 +16,7 @@ use Rattle.venue_model.specs.Requests.{is_named}
 use Rattle.price_levels.specs.Places.{Places, at, StandsAt, IsOf, Leads, NoneOf, BestOf, HoldsAt, LeavesSome, reduced}
 use Rattle.price_levels.specs.Places.{changed}
 use Rattle.price_levels.specs.Stamps.{by_stamp, SeatedByStamp}
-use Rattle.price_levels.specs.StampLaws.{seated, others, is-within, at-set, each-listed, apart-changed}
+use Rattle.price_levels.specs.StampLaws.{seated, others, is-within, at-set, each-listed}
 use Rattle.book.specs.declared.order_index.slots.IndexEntry.{IndexEntry}
 use Rattle.book.specs.IndexNames.{place_of, without_name}
 use Rattle.book.specs.Standing.{Rests}
@@ -56,18 +56,17 @@ crossed-ahead i o x of h leads =
     ap (λ t. t && meets i.side i.price o.side o.price) ((bytes_eq-Decides i.symbol o.symbol).1 (sym of.symbol_is))
     ∙ ap (λ s. meets i.side i.price s o.price) of.side_is ∙ o_met
 
--- an order in the place of another, of its name and stamp
+-- an order in the place of another, of its name
 module _ (places : Places) (entries : List IndexEntry) (count : ℕ) (kept : AreKept places entries count) (p : ℕ)
     (o y : Order)
     (stands : at places p ≡ Some o)
-    (client : y.client ≡ o.client) (name : y.cl_ord_id ≡ o.cl_ord_id) (stamp : y.stamp ≡ o.stamp) (rests : Rests y)
+    (client : y.client ≡ o.client) (name : y.cl_ord_id ≡ o.cl_ord_id) (rests : Rests y)
   where
     pub kept-change : AreKept (slice_set places p (Some y)) entries count
     kept-change =
         let same = as-many places p o y stands in
         record {
           size = length-set places p (Some y) ∙ kept.size;
-          apart = apart-changed places p o y kept.apart stands stamp;
           each = λ q x there. elim (at-set places p q (Some y) x there) [
             | inl here ↦ subst Rests (some-same here.1) rests
             | inr was ↦ kept.each q x was.1
@@ -174,7 +173,7 @@ module _ {places : Places} {entries : List IndexEntry} {count : ℕ} {view : Lis
   ])
 
   seat : SeatedByStamp places p o
-  seat = seated places p o (is-within places p o it.stands) it.stands (it.shown.kept.apart p o it.stands)
+  seat = seated places p o (is-within places p o it.stands) it.stands
 
   first : crosses i o ≡ true → First i o seat.before seat.behind
   first crossed =
@@ -192,7 +191,7 @@ module _ {places : Places} {entries : List IndexEntry} {count : ℕ} {view : Lis
   pub kept-reduced : (q : ℕ) → q < leaves o → (after : Places) → after ≡ changed (reduced q) places p
       → AreKept after entries count
   kept-reduced q less after after_is = subst (λ ps. AreKept ps entries count) (sym (after_is ∙ reduced-is q))
-      (kept-change places entries count it.shown.kept p o (filled o q o.price) it.stands refl refl refl
+      (kept-change places entries count it.shown.kept p o (filled o q o.price) it.stands refl refl
       (fill-rests o q (it.shown.kept.each p o it.stands) less))
 
   live : (y : Order) → 0 < leaves y → is_live y ≡ true

@@ -1,5 +1,5 @@
 -- Levels and index keep the orders, as one comes and as one leaves.
-use Rattle.std.proofs.Common.{◌≡◌, ◌+◌, ◌-◌, ◌<◌, ℕ, zero, suc, Bool, true, false, List, [], ◌∷◌, ◌++◌, length, refl}
+use Rattle.std.proofs.Common.{◌≡◌, ◌+◌, ◌-◌, ◌<◌, ℕ, zero, suc, Bool, true, false, List, [], ◌∷◌, length, refl}
 use Rattle.std.proofs.Common.{ap, sym, subst, ◌∙◌, inl, inr, Option, Some, None, arith, length-append, length-set}
 use Rattle.std.proofs.Common.{replicate, get_or-set_same, get_or-set_other}
 use Rattle.std.proofs.lemmas.Bool.Decides.{nat_tests}
@@ -8,11 +8,11 @@ use Rattle.std.proofs.lemmas.List.{length-replicate}
 use Rattle.venue_model.specs.declared.orders.Order.{Order}
 use Rattle.venue_model.specs.Requests.{is_named, most_resting}
 use Rattle.price_levels.specs.Places.{Places, at, StandsAt, standing}
-use Rattle.price_levels.specs.Stamps.{by_stamp}
-use Rattle.price_levels.specs.StampLaws.{pushed, at-set, apart-unset, apart-pushed, each-stands, length-listed}
+use Rattle.price_levels.specs.Stamps.{by_stamp, Comes}
+use Rattle.price_levels.specs.StampLaws.{comes, at-set, each-stands, length-listed}
 use Rattle.book.specs.declared.order_index.slots.IndexEntry.{IndexEntry}
 use Rattle.book.specs.IndexNames.{PlaceOf, place_of, with_name, without_name, same_name}
-use Rattle.book.specs.Standing.{Rests, Below, NoneNamed}
+use Rattle.book.specs.Standing.{Rests, NoneNamed}
 use Rattle.book.specs.Keeping.{HasName, AreKept}
 use Rattle.book.proofs.NamedLists.{same-names, indexed-as, Sits, sits}
 use Rattle.book.proofs.Middles.{some-same}
@@ -61,7 +61,6 @@ kept-nothing k is =
     let none = sym (length-listed (replicate k None)) ∙ ap length (nothing-listed k) in
     record {
       size = length-replicate k None ∙ is;
-      apart = λ p o stands. absurd (nothing-at k p o stands);
       each = λ p o stands. absurd (nothing-at k p o stands);
       indexed = record {
         named = λ p o stands. absurd (nothing-at k p o stands);
@@ -76,33 +75,30 @@ kept-nothing k is =
 module _ (places : Places) (entries new : List IndexEntry) (count : ℕ) (kept : AreKept places entries count) (p : ℕ)
     (o : Order)
     (within : p < length places) (free : at places p ≡ None) (rests : Rests o)
-    (behind : Below o.stamp (by_stamp places))
     (fresh : NoneNamed o.client o.cl_ord_id (by_stamp places))
     (places_are : place_of new ≡ with_name o.client o.cl_ord_id p (place_of entries))
     (entries_are : length new ≡ length entries + 1) where
-  later : (q : ℕ) (x : Order) → StandsAt places q x → x.stamp < o.stamp
-  later = each-stands (λ x. x.stamp < o.stamp) places behind
-
-  pub comes-last : by_stamp (slice_set places p (Some o)) ≡ by_stamp places ++ o ∷ []
-  comes-last = pushed places p o within free later
-
   other : (q : ℕ) (x : Order) → StandsAt places q x → q ≢ p
   other q x stands same = let there : at places p ≡ Some x = ap (at places) (sym same) ∙ stands in cc
 
   by_name : (c n : ℕ) → place_of new c n ≡ (if same_name o.client o.cl_ord_id c n then Some p else place_of entries c n)
   by_name c n = ap (λ (f : PlaceOf). f c n) places_are
 
-  pub kept-push : AreKept (slice_set places p (Some o)) new (count + 1)
-  kept-push =
-      let more : length (standing (slice_set places p (Some o))) ≡ length (standing places) + 1 =
-      (let all = length-listed (slice_set places p (Some o)) in
-      let one = ap length comes-last in
-      let both = length-append (by_stamp places) (o ∷ []) in
+  one-more : length (standing (slice_set places p (Some o))) ≡ length (standing places) + 1
+  one-more =
+      let all = length-listed (slice_set places p (Some o)) in
       let before = length-listed places in
-      omega (arith, all, one, both, before)) in
+      let it : Comes o (by_stamp places) (by_stamp (slice_set places p (Some o))) = comes places p o within free in
+      let old = ap length it.split in
+      let new = ap length it.put in
+      let apart = length-append it.before it.behind in
+      let around = length-append it.before (o ∷ it.behind) in
+      omega (arith, all, before, old, new, apart, around)
+
+  pub kept-insert : AreKept (slice_set places p (Some o)) new (count + 1)
+  kept-insert =
       record {
         size = length-set places p (Some o) ∙ kept.size;
-        apart = apart-pushed places p o kept.apart later;
         each = λ q x stands. elim (at-set places p q (Some o) x stands) [
           | inl here ↦ subst Rests (some-same here.1) rests
           | inr there ↦ kept.each q x there.1
@@ -124,8 +120,8 @@ module _ (places : Places) (entries new : List IndexEntry) (count : ℕ) (kept :
           ];
           stands = λ c n q is. by_test c n q (same_name o.client o.cl_ord_id c n) refl (sym (by_name c n) ∙ is);
         };
-        counted = ap (λ k. k + 1) kept.counted ∙ sym more;
-        as_many = entries_are ∙ ap (λ k. k + 1) kept.as_many ∙ sym more;
+        counted = ap (λ k. k + 1) kept.counted ∙ sym one-more;
+        as_many = entries_are ∙ ap (λ k. k + 1) kept.as_many ∙ sym one-more;
       }
     where
       by_test : (c n q : ℕ) (b : Bool) → same_name o.client o.cl_ord_id c n ≡ b
@@ -170,7 +166,6 @@ module _ (places : Places) (entries new : List IndexEntry) (count : ℕ) (kept :
         let less = fewer in
         record {
           size = length-set places p None ∙ kept.size;
-          apart = apart-unset places p kept.apart;
           each = λ q x stands. elim (at-set places p q None x stands) [
             | inl here ↦ absurd (let e : None ≡ Some x = here.1 in cc)
             | inr there ↦ kept.each q x there.1

@@ -24,21 +24,21 @@ use Rattle.book.proofs.LawSums.{IsOf, rising-filter}
 abbrev pub Ahead : Order → Order → Type 0
 Ahead a b = ahead a b ≡ true
 
-prior-later : (side : Side) (p s q t : ℕ) → s < t → (is_better side p q || (nat_eq p q && nat_lt s t)) ≡ false
+prior-later : (side : Side) (p s q t : ℕ) → (p ≡ q → s < t) → (is_better side p q || (nat_eq p q && nat_lt s t)) ≡ false
     → (is_better side q p || (nat_eq q p && nat_lt t s)) ≡ true
 prior-later Buy p s q t earlier h = grind (arith, nat_tests)
 prior-later Sell p s q t earlier h = grind (arith, nat_tests)
 
--- an earlier order that isn't ahead of a later one of its side stands behind it
-ahead-later : (a b : Order) → a.side ≡ b.side → a.stamp < b.stamp → ahead a b ≡ false → ahead b a ≡ true
-ahead-later a b same earlier h =
-    ap (λ s. is_better s b.price a.price || (nat_eq b.price a.price && nat_lt b.stamp a.stamp)) (sym same)
-    ∙ prior-later a.side a.price a.stamp b.price b.stamp earlier h
+-- an order of its side, which is later where their prices are one
+pub record Later (o x : Order) : Type 0 where
+  pub side : o.side ≡ x.side
+  pub stamp : o.price ≡ x.price → o.stamp < x.stamp
 
--- a later order of its side
-record Later (o x : Order) : Type 0 where
-  side : o.side ≡ x.side
-  stamp : o.stamp < x.stamp
+-- an order that isn't ahead of a later one of its side stands behind it
+ahead-later : (a b : Order) → Later a b → ahead a b ≡ false → ahead b a ≡ true
+ahead-later a b later h =
+    ap (λ s. is_better s b.price a.price || (nat_eq b.price a.price && nat_lt b.stamp a.stamp)) (sym later.side)
+    ∙ prior-later a.side a.price a.stamp b.price b.stamp later.stamp h
 
 insert-in_order : (o : Order) (xs : List Order) → AllByRecursion (Later o) xs → Pairwise Ahead xs
     → Pairwise Ahead (insert_by_priority o xs)
@@ -56,31 +56,36 @@ insert-in_order o (x ∷ xs) later pairs = elim (ahead o x) as (λ b. ahead o x 
         pairs,
       )
       | false ↦ λ h. (
-        each-insert (Ahead x) o xs (ahead-later o x later.0.side later.0.stamp h) pairs.0,
+        each-insert (Ahead x) o xs (ahead-later o x later.0 h) pairs.0,
         insert-in_order o xs later.1 pairs.1,
       )
     ] refl
 
-pub in_order : (side : Side) (xs : List Order) → Rising xs → AllByRecursion (IsOf side) xs
-    → Pairwise Ahead (by_priority xs)
-in_order side [] rising sides = tt
-in_order side (x ∷ xs) rising sides = insert-in_order x (by_priority xs)
-    (each-by_priority (Later x) xs
-    (each-map (λ y. (x.stamp < y.stamp) × IsOf side y) (Later x)
-    (λ y h. record { side = sides.0 ∙ sym h.1; stamp = h.0 }) xs
-    (each-both (λ y. x.stamp < y.stamp) (IsOf side) xs rising.0 sides.1)))
-    (in_order side xs rising.1 sides.1)
+pub in_order : (xs : List Order) → Pairwise Later xs → Pairwise Ahead (by_priority xs)
+in_order [] pairs = tt
+in_order (x ∷ xs) pairs = insert-in_order x (by_priority xs) (each-by_priority (Later x) xs pairs.0)
+    (in_order xs pairs.1)
+
+-- orders of one side with rising stamps
+rising-later : (side : Side) (xs : List Order) → Rising xs → AllByRecursion (IsOf side) xs → Pairwise Later xs
+rising-later side [] rising sides = tt
+rising-later side (x ∷ xs) rising sides = (
+  each-map (λ y. (x.stamp < y.stamp) × IsOf side y) (Later x)
+      (λ y h. record { side = sides.0 ∙ sym h.1; stamp = λ same. h.0 }) xs
+      (each-both (λ y. x.stamp < y.stamp) (IsOf side) xs rising.0 sides.1),
+  rising-later side xs rising.1 sides.1,
+)
 
 -- the orders that get something in a match stand in the order of priority
 pub filled-in_order : (i : Order) (orders : List Order) (q : ℕ) → Rising orders
     → Pairwise (λ a b. ahead a b ≡ true) (filled_orders q (crossing i orders))
 filled-in_order i orders q rising =
     let gets : Order → Bool = λ o. nat_lt 0 (fill q (crossing i orders) o) in
-    in_order (opposite i.side) (filter gets (crossing i orders))
+    in_order (filter gets (crossing i orders)) (rising-later (opposite i.side) (filter gets (crossing i orders))
     (rising-filter gets (crossing i orders) (rising-filter (crosses i) orders rising))
     (each-filter (IsOf (opposite i.side)) gets (crossing i orders)
     (each-passes (IsOf (opposite i.side)) (crosses i) orders
-    (each-of (λ x. crosses i x ≡ true → IsOf (opposite i.side) x) (crossed-side i) orders)))
+    (each-of (λ x. crosses i x ≡ true → IsOf (opposite i.side) x) (crossed-side i) orders))))
 
 -- and they are all that get something
 pub insert-same : (o : Order) (xs : List Order) → IsPermutation (o ∷ xs) (insert_by_priority o xs)

@@ -3,7 +3,7 @@ use Rattle.std.proofs.Common.{◌≡◌, Bool, true, false, List, [], ◌∷◌,
 use Rattle.std.specs.Prelude.{filter, if◌then◌else◌}
 use Rattle.std.specs.List.{AllByRecursion}
 use Rattle.venue_model.specs.declared.orders.Order.{Order}
-use Rattle.book.specs.Laws.{Pairwise}
+use Rattle.book.specs.Standing.{Pairwise}
 use Rattle.book.proofs.Lists.{each-append, each-filter}
 
 module _ {X : Type 0} where

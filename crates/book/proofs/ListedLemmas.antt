@@ -188,7 +188,7 @@ module _ (symbols : Symbols) (orders : List Order) (greatest : List ℕ) (table 
       book.each)
 
   in_order : Pairwise (Before symbols) (listing symbols orders)
-  in_order = listing-in_order orders book.standing.rising symbols table.differ
+  in_order = listing-in_order orders book.standing.in_time symbols table.differ
 
   -- from none the next is the first order of the listing
   pub first-listed : (next : Option Order) → NextOf symbols None orders next

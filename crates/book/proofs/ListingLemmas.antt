@@ -12,15 +12,13 @@ use Rattle.venue_model.specs.declared.orders.Order.{Order}
 use Rattle.venue_model.specs.Orders.{ahead}
 use Rattle.venue_model.specs.Requests.{Symbols}
 use Rattle.venue_model.specs.Spelling.{all_differ}
-use Rattle.book.specs.Standing.{Rising}
-use Rattle.book.specs.Laws.{Pairwise}
+use Rattle.book.specs.Standing.{Pairwise, IsEarlier, InTime}
 use Rattle.book.specs.Listing.{is_of, queue, listing}
 use Rattle.book.specs.Next.{side_order, group_of, comes_before}
 use Rattle.book.proofs.Lists.{each-append, each-map, each-of, each-passes}
 use Rattle.book.proofs.Priority.{each-by_priority}
-use Rattle.book.proofs.LawPairs.{each-both}
-use Rattle.book.proofs.LawSums.{IsOf, rising-filter}
-use Rattle.book.proofs.LawOrder.{Ahead, in_order}
+use Rattle.book.proofs.LawPairs.{each-both, pairs-filter}
+use Rattle.book.proofs.LawOrder.{Ahead, Later, in_order}
 use Rattle.book.proofs.GroupLemmas.{Of, of-test, differ-parts, side-below, group-first, group-later}
 use Rattle.book.proofs.NextLemmas.{listed-less, listed-tie}
 
@@ -63,11 +61,21 @@ module _ (orders : List Order) where
   each-queue : (symbol : List ℕ) (side : Side) → AllByRecursion (Of symbol side) (queue symbol side orders)
   each-queue symbol side = each-by_priority (Of symbol side) (filter (is_of symbol side) orders) (each-test symbol side)
 
-  queue-in_order : Rising orders → (symbol : List ℕ) (side : Side) → Pairwise Ahead (queue symbol side orders)
-  queue-in_order rising symbol side = in_order side (filter (is_of symbol side) orders)
-      (rising-filter (is_of symbol side) orders rising)
-      (each-map (Of symbol side) (IsOf side) (λ x h. h.side) (filter (is_of symbol side) orders)
-      (each-test symbol side))
+  one-queue : (symbol : List ℕ) (side : Side) (a b : Order) → Of symbol side a → Of symbol side b → IsEarlier a b
+      → Later a b
+  one-queue symbol side a b p q earlier = record {
+    side = p.side ∙ sym q.side;
+    stamp = λ same. earlier (record {
+      symbol = (bytes_eq-Decides b.symbol symbol).0 q.symbol ∙ sym ((bytes_eq-Decides a.symbol symbol).0 p.symbol);
+      side = q.side ∙ sym p.side;
+      price = sym same;
+    });
+  }
+
+  queue-in_order : InTime orders → (symbol : List ℕ) (side : Side) → Pairwise Ahead (queue symbol side orders)
+  queue-in_order in_time symbol side = in_order (filter (is_of symbol side) orders)
+      (pairs-weaker IsEarlier Later (Of symbol side) (one-queue symbol side) (filter (is_of symbol side) orders)
+      (each-test symbol side) (pairs-filter IsEarlier (is_of symbol side) orders in_time))
 
   -- what holds of each order of the listing
   each-listing : (P : Order → Type 0) (ss : Symbols) → AllByRecursion
@@ -132,17 +140,17 @@ module _ (s : List ℕ) (ss : Symbols) where
       (group-later s ss a p) (group-later s ss b q) h
 
 -- each order comes before all that follow
-pub listing-in_order : (orders : List Order) → Rising orders → (ss : Symbols) → all_differ ss ≡ true →
+pub listing-in_order : (orders : List Order) → InTime orders → (ss : Symbols) → all_differ ss ≡ true →
     Pairwise (λ a b. comes_before ss a b ≡ true) (listing ss orders)
-listing-in_order orders rising [] differ = tt
-listing-in_order orders rising (s ∷ ss) differ =
+listing-in_order orders in_time [] differ = tt
+listing-in_order orders in_time (s ∷ ss) differ =
     let apart = differ-parts s ss differ in
     let later : AllByRecursion (λ x. bytes_eq x.symbol s ≡ false) (listing ss orders) =
     each-listing orders (λ x. bytes_eq x.symbol s ≡ false) ss (each-other orders s ss apart.0) in
     let ranked : (side : Side) → Pairwise (Before (s ∷ ss)) (queue s side orders) =
     λ side. pairs-weaker Ahead (Before (s ∷ ss)) (Of s side) (before-ahead s ss side) (queue s side orders)
     (each-queue orders s side)
-    (queue-in_order orders rising s side) in
+    (queue-in_order orders in_time s side) in
     let of_first : (side : Side) → AllByRecursion (λ x. AllByRecursion (Before (s ∷ ss) x) (listing ss orders))
     (queue s side orders) =
     λ side. each-each (Before (s ∷ ss)) (Of s side) (λ x. bytes_eq x.symbol s ≡ false)
@@ -154,7 +162,7 @@ listing-in_order orders rising (s ∷ ss) differ =
     (each-queue orders s Buy) (each-queue orders s Sell)))
     (pairs-weaker (Before ss) (Before (s ∷ ss)) (λ x. bytes_eq x.symbol s ≡ false) (before-more s ss)
     (listing ss orders) later
-    (listing-in_order orders rising ss apart.1))
+    (listing-in_order orders in_time ss apart.1))
     (each-append (λ x. AllByRecursion (Before (s ∷ ss) x) (listing ss orders)) (queue s Buy orders)
     (queue s Sell orders)
     (of_first Buy) (of_first Sell))

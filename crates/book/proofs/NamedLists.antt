@@ -59,8 +59,7 @@ pub sits : (places : Places) (entries : List IndexEntry) (count : ℕ) → AreKe
     → place_of entries c n ≡ Some p → Sits places entries c n p
 sits places entries count kept c n p is =
     let there = kept.indexed.stands c n p is in
-    let seat = seated places p there.order (is-within places p there.order there.stands) there.stands
-    (kept.apart p there.order there.stands) in
+    let seat = seated places p there.order (is-within places p there.order there.stands) there.stands in
     let rest = others (λ x. is_named c n x ≡ false) places p there.order seat
     (λ q x other stands. differs q x other stands) in
     record {

@@ -37,7 +37,7 @@ not-itself Sell p s = grind (arith, nat_tests)
 module _ {places : Places} {entries : List IndexEntry} {count : ℕ} {view : List Order}
     (it : Shown places entries count view) where
   seat : (p : ℕ) (o : Order) → at places p ≡ Some o → SeatedByStamp places p o
-  seat p o stands = seated places p o (is-within places p o stands) stands (it.kept.apart p o stands)
+  seat p o stands = seated places p o (is-within places p o stands) stands
 
   one-order : (p q : ℕ) (o x : Order) → at places p ≡ Some o → q ≡ p → at places q ≡ Some x → x ≡ o
   one-order p q o x stands same there = some-same (sym there ∙ (ap (at places) same ∙ stands))

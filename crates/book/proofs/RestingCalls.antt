@@ -1,21 +1,21 @@
 -- The calls, as the code makes them.
-use Rattle.std.proofs.Common.{◌≡◌, ◌+◌, ◌-◌, ◌<◌, ℕ, not, List, [], ◌∷◌, ◌++◌, length, refl, ap, sym, subst, ◌∙◌}
+use Rattle.std.proofs.Common.{◌≡◌, ◌+◌, ◌-◌, ◌<◌, ℕ, not, List, length, refl, ap, sym, subst, ◌∙◌}
 use Rattle.std.proofs.Common.{Option, Some, None, arith}
 use Rattle.std.specs.Prelude.{◌≢◌, filter, find, slice_set, sum_by, IsSome}
 use Rattle.venue_model.specs.declared.orders.Order.{Order}
 use Rattle.venue_model.specs.Orders.{leaves, crosses}
 use Rattle.venue_model.specs.Match.{crossing}
 use Rattle.venue_model.specs.Requests.{is_named, most_resting}
-use Rattle.price_levels.specs.Places.{Places, at, standing, crossing_leaves}
-use Rattle.price_levels.specs.Stamps.{by_stamp}
-use Rattle.price_levels.specs.StampLaws.{left-listed, length-listed, pushed, each-stands}
+use Rattle.price_levels.specs.Places.{Places, at, standing, ComesLater, InOneLevel, crossing_leaves}
+use Rattle.price_levels.specs.Stamps.{by_stamp, Comes}
+use Rattle.price_levels.specs.StampLaws.{left-listed, length-listed, comes, each-stands}
 use Rattle.book.specs.declared.order_index.slots.IndexEntry.{IndexEntry}
 use Rattle.book.specs.IndexNames.{place_of, with_name, without_name}
-use Rattle.book.specs.Standing.{Rests, Below, NoneNamed}
+use Rattle.book.specs.Standing.{Rests, BehindLevel, NoneNamed}
 use Rattle.book.specs.Keeping.{AreKept}
 use Rattle.book.proofs.NamedLists.{Sits, sits, finds-it, leaves-others, none-named, not-indexed}
 use Rattle.book.proofs.Middles.{find-none}
-use Rattle.book.proofs.Keepings.{Shown, kept-push, kept-leave}
+use Rattle.book.proofs.Keepings.{Shown, kept-insert, kept-leave}
 
 module _ {places : Places} {entries : List IndexEntry} {count : ℕ} {view : List Order}
     (it : Shown places entries count view) where
@@ -41,8 +41,9 @@ module _ {places : Places} {entries : List IndexEntry} {count : ℕ} {view : Lis
   is-there c n there (Some p) same = refl
 
   -- an order comes
-  pub later-all : (o : Order) → Below o.stamp view → Below o.stamp (by_stamp places)
-  later-all o below = subst (Below o.stamp) (sym it.list) below
+  pub later-all : (o : Order) → BehindLevel o view → ComesLater places o
+  later-all o later = each-stands (λ x. InOneLevel o x → x.stamp < o.stamp) places
+      (subst (BehindLevel o) (sym it.list) later)
 
   fresh-all : (o : Order) → NoneNamed o.client o.cl_ord_id view → NoneNamed o.client o.cl_ord_id (by_stamp places)
   fresh-all o none = subst (NoneNamed o.client o.cl_ord_id) (sym it.list) none
@@ -53,18 +54,18 @@ module _ {places : Places} {entries : List IndexEntry} {count : ℕ} {view : Lis
   pub not-there : (o : Order) → NoneNamed o.client o.cl_ord_id view → place_of entries o.client o.cl_ord_id ≡ None
   not-there o none = not-indexed places entries it.kept.indexed o.client o.cl_ord_id (fresh-all o none)
 
-  module _ (o : Order) (below : Below o.stamp view) (p : ℕ) (within : p < length places) (free : at places p ≡ None)
+  module _ (o : Order) (p : ℕ) (within : p < length places) (free : at places p ≡ None)
       (after : Places) (after_is : after ≡ slice_set places p (Some o)) where
-    pub pushed-orders : by_stamp after ≡ view ++ o ∷ []
-    pushed-orders = ap by_stamp after_is ∙ pushed places p o within free
-        (each-stands (λ x. x.stamp < o.stamp) places (later-all o below)) ∙ ap (λ os. os ++ o ∷ []) it.list
+    pub inserted-orders : Comes o view (by_stamp after)
+    inserted-orders = subst (λ old. Comes o old (by_stamp after)) it.list
+        (subst (λ ps. Comes o (by_stamp places) (by_stamp ps)) (sym after_is) (comes places p o within free))
 
-    pub pushed-kept : Rests o → NoneNamed o.client o.cl_ord_id view → (q : ℕ) → q ≡ p → (new : List IndexEntry)
+    pub inserted-kept : Rests o → NoneNamed o.client o.cl_ord_id view → (q : ℕ) → q ≡ p → (new : List IndexEntry)
         → place_of new ≡ with_name o.client o.cl_ord_id q (place_of entries)
         → length new ≡ length entries + 1 → AreKept after new (count + 1)
-    pushed-kept rests none q same new places_are entries_are =
+    inserted-kept rests none q same new places_are entries_are =
         subst (λ ps. AreKept ps new (count + 1)) (sym after_is)
-        (kept-push places entries new count it.kept p o within free rests (later-all o below) (fresh-all o none)
+        (kept-insert places entries new count it.kept p o within free rests (fresh-all o none)
         (places_are ∙ ap (λ k. with_name o.client o.cl_ord_id k (place_of entries)) same) entries_are)
 
 -- the place that the index has for a client's name

@@ -8,15 +8,10 @@ use Rattle.venue_model.specs.declared.orders.Order.{Order}
 use Rattle.venue_model.specs.Orders.{leaves, is_live}
 use Rattle.venue_model.specs.Match.{live_alone}
 use Rattle.venue_model.specs.Requests.{most_resting}
-use Rattle.book.specs.Standing.{InRange, Rests, Rising, Below, IsBookList}
+use Rattle.price_levels.specs.Places.{InOneLevel}
+use Rattle.book.specs.Standing.{InRange, Rests, Below, IsEarlier, InTime, IsBookList}
 use Rattle.book.proofs.Lists.{each-append, each-map, each-filter}
-
--- rising stamps, in two parts
-pub rising-append : (xs ys : List Order) → Rising xs → Rising ys
-    → AllByRecursion (λ x. AllByRecursion (λ y. x.stamp < y.stamp) ys) xs → Rising (xs ++ ys)
-rising-append [] ys front back apart = back
-rising-append (x ∷ xs) ys front back apart =
-    (each-append (λ y. x.stamp < y.stamp) xs ys front.0 apart.0, rising-append xs ys front.1 back apart.1)
+use Rattle.book.proofs.LawPairs.{pairs-filter, pairs-push}
 
 -- of an order of which something is left
 rests-live : (o : Order) → is_live o ≡ true → o.is_market ≡ false → InRange o → Rests o
@@ -25,6 +20,12 @@ rests-live o live limit in_range = record { live = grind (arith, nat_tests); lim
 length-alone : (o : Order) → length (live_alone o) ≤ 1
 length-alone o = elim (is_live o) as (λ b. length (if b then o ∷ [] else []) ≤ 1)
     [ true ↦ omega arith | false ↦ omega arith ]
+
+-- one order may take another's place: it is of its level and stamp, and has a price where that one has
+pub record SamePlace (old new : Order) : Type 0 where
+  pub level : InOneLevel old new
+  pub stamp : new.stamp ≡ old.stamp
+  pub market : new.is_market ≡ old.is_market
 
 -- one order instead of another, where something is left of it: what holds of each still holds, if it holds of that one
 module _ (o o' : Order) where
@@ -35,13 +36,28 @@ module _ (o o' : Order) where
       [ true ↦ λ live. (keeps live all.0, all.1) | false ↦ λ gone. all.1 ] refl
   each-instead P (x ∷ xs) ys keeps all = (all.0, each-instead P xs ys keeps all.1)
 
-  rising-instead : (xs ys : List Order) → o'.stamp ≡ o.stamp → Rising (xs ++ o ∷ ys)
-      → Rising (xs ++ (live_alone o' ++ ys))
-  rising-instead [] ys stamp rising = elim (is_live o') as (λ b. Rising ((if b then o' ∷ [] else []) ++ ys))
-      [ true ↦ (subst (λ s. AllByRecursion (λ y. s < y.stamp) ys) (sym stamp) rising.0, rising.1) | false ↦ rising.1 ]
-  rising-instead (x ∷ xs) ys stamp rising = (
-    each-instead (λ y. x.stamp < y.stamp) xs ys (λ live h. subst (λ s. x.stamp < s) (sym stamp) h) rising.0,
-    rising-instead xs ys stamp rising.1,
+  earlier-instead : SamePlace o o' → (x : Order) → IsEarlier o x → IsEarlier o' x
+  earlier-instead same x earlier = λ its. subst (λ s. s < x.stamp) (sym same.stamp) (earlier (record {
+    symbol = its.symbol ∙ same.level.symbol;
+    side = its.side ∙ same.level.side;
+    price = its.price ∙ same.level.price;
+  }))
+
+  instead-later : SamePlace o o' → (x : Order) → IsEarlier x o → IsEarlier x o'
+  instead-later same x earlier = λ its. subst (λ s. x.stamp < s) (sym same.stamp) (earlier (record {
+    symbol = sym same.level.symbol ∙ its.symbol;
+    side = sym same.level.side ∙ its.side;
+    price = sym same.level.price ∙ its.price;
+  }))
+
+  in_time-instead : (xs ys : List Order) → SamePlace o o' → InTime (xs ++ o ∷ ys) → InTime (xs ++ (live_alone o' ++ ys))
+  in_time-instead [] ys same in_time = elim (is_live o') as (λ b. InTime ((if b then o' ∷ [] else []) ++ ys)) [
+    | true ↦ (each-map (IsEarlier o) (IsEarlier o') (earlier-instead same) ys in_time.0, in_time.1)
+    | false ↦ in_time.1
+  ]
+  in_time-instead (x ∷ xs) ys same in_time = (
+    each-instead (IsEarlier x) xs ys (λ live earlier. instead-later same x earlier) in_time.0,
+    in_time-instead xs ys same in_time.1,
   )
 
   pub length-instead : (xs ys : List Order) → length (xs ++ (live_alone o' ++ ys)) ≤ length (xs ++ o ∷ ys)
@@ -52,11 +68,11 @@ module _ (o o' : Order) where
       let one = length-alone o' in
       omega (arith, whole, after, rest, one)
 
-  pub standing-instead : (xs ys : List Order) → o'.stamp ≡ o.stamp → o'.is_market ≡ o.is_market → InRange o' → IsBookList (xs ++ o ∷ ys)
+  pub standing-instead : (xs ys : List Order) → SamePlace o o' → InRange o' → IsBookList (xs ++ o ∷ ys)
       → IsBookList (xs ++ (live_alone o' ++ ys))
-  standing-instead xs ys stamp market in_range standing = record {
-    rising = rising-instead xs ys stamp standing.rising;
-    each = each-instead Rests xs ys (λ live r. rests-live o' live (market ∙ r.limit) in_range) standing.each;
+  standing-instead xs ys same in_range standing = record {
+    in_time = in_time-instead xs ys same standing.in_time;
+    each = each-instead Rests xs ys (λ live r. rests-live o' live (same.market ∙ r.limit) in_range) standing.each;
     few = let shorter = length-instead xs ys in let few = standing.few in omega (arith, shorter, few);
   }
 
@@ -69,9 +85,8 @@ module _ (o o' : Order) where
 pub standing-push : (xs : List Order) (o : Order) → Rests o → Below o.stamp xs → length xs < most_resting
     → IsBookList xs → IsBookList (xs ++ o ∷ [])
 standing-push xs o rests behind few standing = record {
-  rising = rising-append xs (o ∷ []) standing.rising (tt, tt)
-      (each-map (λ x. x.stamp < o.stamp) (λ x. AllByRecursion (λ y. x.stamp < y.stamp) (o ∷ [])) (λ x h. (h, tt)) xs
-      behind);
+  in_time = pairs-push IsEarlier xs o standing.in_time
+      (each-map (λ x. x.stamp < o.stamp) (λ x. IsEarlier x o) (λ x earlier one_level. earlier) xs behind);
   each = each-append Rests xs (o ∷ []) standing.each (rests, tt);
   few = let more = length-append xs (o ∷ []) in omega (arith, more, few);
 }
@@ -85,15 +100,6 @@ pub rests-left : (o : Order) → InRange o → o.is_market ≡ false → (leaves
 rests-left o in_range limit some = record { live = omega (arith, some); limit = limit; in_range = in_range }
 
 -- some of the list
-below-filter : (n : ℕ) (p : Order → Bool) (xs : List Order) → AllByRecursion (λ y. n < y.stamp) xs
-    → AllByRecursion (λ y. n < y.stamp) (filter p xs)
-below-filter n p xs all = each-filter (λ y. n < y.stamp) p xs all
-
-rising-filter : (p : Order → Bool) (xs : List Order) → Rising xs → Rising (filter p xs)
-rising-filter p [] rising = tt
-rising-filter p (x ∷ xs) rising = elim (p x) as (λ b. Rising (if b then x ∷ filter p xs else filter p xs))
-    [ true ↦ (below-filter x.stamp p xs rising.0, rising-filter p xs rising.1) | false ↦ rising-filter p xs rising.1 ]
-
 pub length-filter-le : (p : Order → Bool) (xs : List Order) → length (filter p xs) ≤ length xs
 length-filter-le p [] = omega arith
 length-filter-le p (x ∷ xs) =
@@ -103,7 +109,7 @@ length-filter-le p (x ∷ xs) =
 
 pub standing-filter : (p : Order → Bool) (xs : List Order) → IsBookList xs → IsBookList (filter p xs)
 standing-filter p xs standing = record {
-  rising = rising-filter p xs standing.rising;
+  in_time = pairs-filter IsEarlier p xs standing.in_time;
   each = each-filter Rests p xs standing.each;
   few = let shorter = length-filter-le p xs in let few = standing.few in omega (arith, shorter, few);
 }

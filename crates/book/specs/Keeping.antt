@@ -3,7 +3,6 @@ use Rattle.std.specs.Prelude.{◌≡◌, ℕ, true, List, length, Some}
 use Rattle.venue_model.specs.declared.orders.Order.{Order}
 use Rattle.venue_model.specs.Requests.{is_named, most_resting}
 use Rattle.price_levels.specs.Places.{Places, StandsAt, standing}
-use Rattle.price_levels.specs.Stamps.{StampsApart}
 use Rattle.book.specs.declared.order_index.slots.IndexEntry.{IndexEntry}
 use Rattle.book.specs.IndexNames.{place_of}
 use Rattle.book.specs.Standing.{Rests}
@@ -22,7 +21,6 @@ pub record IsIndexed (places : Places) (entries : List IndexEntry) : Type 0 wher
 -- levels, index and number of orders at any time
 pub record AreKept (places : Places) (entries : List IndexEntry) (count : ℕ) : Type 0 where
   pub size : length places ≡ most_resting
-  pub apart : StampsApart places
   pub each : (p : ℕ) (o : Order) → StandsAt places p o → Rests o
   pub indexed : IsIndexed places entries
   pub counted : count ≡ length (standing places)

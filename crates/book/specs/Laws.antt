@@ -1,5 +1,5 @@
 -- Words of the laws of matching.
-use Rattle.std.specs.Prelude.{◌≡◌, ◌⊎◌, ⊤, ℕ, ◌-◌, ◌*◌, ◌<◌, ◌≤◌, true, false, not, List, [], ◌∷◌, length, slice_index, MatchOption, sum_by, ◌&&◌, if◌then◌else◌}
+use Rattle.std.specs.Prelude.{◌≡◌, ◌⊎◌, ⊤, ℕ, ◌-◌, ◌*◌, ◌<◌, ◌≤◌, true, false, not, List, length, slice_index, MatchOption, sum_by, ◌&&◌, if◌then◌else◌}
 use Rattle.std.specs.List.{AllByRecursion, Contains}
 use Rattle.std.specs.Str.{bytes_eq}
 use Rattle.fix_frame.specs.Grammar.{IsField}
@@ -16,6 +16,7 @@ use Rattle.venue_model.specs.Match.{fill}
 use Rattle.venue_model.specs.Orders.{same_side, crosses, ahead, leaves}
 use Rattle.venue_model.specs.Requests.{State, is_named}
 use Rattle.venue_model.specs.Step.{Request}
+pub use Rattle.book.specs.Standing.{Pairwise}
 
 -- a price is no worse than a limit: for a buy no higher, for a sell no lower
 abbrev pub IsWithin : Side → ℕ → ℕ → Type 0
@@ -65,11 +66,6 @@ CrossesAnyPrice incoming o =
 pub record IsFromGateway (r : Request) : Type 0 where
   pub from : 1 ≤ r.gateway
   pub to : r.gateway ≤ 8
-
--- it holds of each order and each later one
-abbrev pub Pairwise : (Order → Order → Type 0) → List Order → Type 0
-Pairwise R [] = ⊤
-Pairwise R (o ∷ os) = AllByRecursion (R o) os × Pairwise R os
 
 -- two orders can rest side by side: the first has the earlier stamp, they don't cross, and no client has both under one name
 pub record RestBeside (a b : Order) : Type 0 where

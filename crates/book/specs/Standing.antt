@@ -3,6 +3,7 @@ use Rattle.std.specs.Prelude.{◌≡◌, ⊤, ℕ, ◌*◌, ◌≤◌, ◌<◌, 
 use Rattle.std.specs.List.{AllByRecursion}
 use Rattle.venue_model.specs.declared.orders.Order.{Order}
 use Rattle.venue_model.specs.Requests.{is_named, most_resting}
+use Rattle.price_levels.specs.Places.{InOneLevel}
 
 -- an order whose numbers are in the ranges of the venue, so that no sum of its fills passes 10 ^ 12
 pub record InRange (o : Order) : Type 0 where
@@ -30,8 +31,26 @@ abbrev pub Rising : List Order → Type 0
 Rising [] = ⊤
 Rising (o ∷ os) = AllByRecursion (λ x. o.stamp < x.stamp) os × Rising os
 
+-- it holds of each order and each later one
+abbrev pub Pairwise : (Order → Order → Type 0) → List Order → Type 0
+Pairwise R [] = ⊤
+Pairwise R (o ∷ os) = AllByRecursion (R o) os × Pairwise R os
+
+-- where both rest in one level, the first has the earlier stamp
+abbrev pub IsEarlier : Order → Order → Type 0
+IsEarlier o x = InOneLevel o x → o.stamp < x.stamp
+
+-- Within a price level each stamp is below those behind it. Orders at different prices, of different symbols or sides may
+-- have one stamp: so may those of a snapshot.
+abbrev pub InTime : List Order → Type 0
+InTime orders = Pairwise IsEarlier orders
+
+-- the order may rest behind the others of its level: all of these came before it
+abbrev pub BehindLevel : Order → List Order → Type 0
+BehindLevel o orders = AllByRecursion (λ x. InOneLevel o x → x.stamp < o.stamp) orders
+
 -- the book's list
 pub record IsBookList (orders : List Order) : Type 0 where
-  pub rising : Rising orders
+  pub in_time : InTime orders
   pub each : AllByRecursion Rests orders
   pub few : length orders ≤ most_resting

@@ -5,7 +5,8 @@ ghost use Rattle.venue_model.specs.Orders.{leaves};
 ghost use Rattle.venue_model.specs.Match.{crossing};
 ghost use Rattle.venue_model.specs.Requests.{is_named, most_resting};
 ghost use Rattle.price_levels.specs.Places.{CanAmend, renamed_to};
-ghost use Rattle.book.specs.Standing.{InRange, Rests, Below, NoneNamed};
+ghost use Rattle.price_levels.specs.Stamps.{InStamps, Comes};
+ghost use Rattle.book.specs.Standing.{InRange, Rests, Below, BehindLevel, NoneNamed};
 ghost use Rattle.venue_model.specs.declared.orders.Order.{Order};
 ghost use Rattle.book.specs.Firsts.{FillsFirst, FillsNone};
 ghost use Rattle.book.specs.Queues.{NoneQueuedOf, IsFirst, NoneQueuedBehind, IsNext};
@@ -77,6 +78,18 @@ impl RestingOrders {
         requires behind { Below order.now.stamp self.old }
         requires fresh { NoneNamed order.now.client order.now.cl_ord_id self.old }
         ensures { self.new ≡ self.old ++ order.now ∷ [] }
+    {
+        self.insert(order);
+    }
+
+    /// An order of any stamp comes to where its stamp belongs, behind the others of its level.
+    pub(crate) fn insert(&mut self, order: &Order)
+        requires room { length self.old < most_resting }
+        requires rests { Rests order.now }
+        requires later { BehindLevel order.now self.old }
+        requires fresh { NoneNamed order.now.client order.now.cl_ord_id self.old }
+        ensures comes { Comes order.now self.old self.new }
+        ensures stamps { InStamps self.new }
     {
         let number = self.levels.push_back(*order).number();
         self.index

@@ -1,14 +1,13 @@
 -- Laws on the list by stamps, for a book that keeps its orders at places.
-use Rattle.std.proofs.Common.{◌≡◌, ℕ, zero, suc, ◌+◌, ◌<◌, ◌≤◌, ◌⊎◌, inl, inr, Bool, true, false, List, [], ◌∷◌, ◌++◌, length, Option, Some, None, refl, ap, sym, subst, ◌∙◌, arith}
-use Rattle.std.specs.Prelude.{◌≢◌, ⊤, nat_lt, slice_set, sum_by, filter, if◌then◌else◌}
+use Rattle.std.proofs.Common.{◌≡◌, ℕ, zero, suc, ◌+◌, ◌<◌, ◌≤◌, ◌⊎◌, inl, inr, Bool, true, false, List, [], ◌∷◌, ◌++◌, length, Option, Some, None, refl, ap, sym, subst, ◌∙◌, arith, append-nil}
+use Rattle.std.specs.Prelude.{◌≢◌, nat_lt, slice_set, sum_by, filter, if◌then◌else◌}
 use Rattle.std.specs.List.{AllByRecursion}
 use Rattle.std.proofs.lemmas.Bool.Decides.{nat_tests}
 use Rattle.std.proofs.lemmas.List.Sums.{sum_by-cons}
 use Rattle.venue_model.specs.declared.orders.Order.{Order}
-use Rattle.venue_model.specs.declared.orders.Side.{Side}
 use Rattle.venue_model.specs.Orders.{leaves}
-use Rattle.price_levels.specs.Places.{Places, at, StandsAt, standing, IsOf, Leads, BestOf}
-use Rattle.price_levels.specs.Stamps.{insert_by_stamp, by_stamp, Alone, StampsApart, SeatedByStamp, AreRising}
+use Rattle.price_levels.specs.Places.{Places, at, StandsAt, standing}
+use Rattle.price_levels.specs.Stamps.{insert_by_stamp, by_stamp, SeatedByStamp, InStamps, Comes}
 
 -- it is earlier, or not
 earlier : (a b : ℕ) → nat_lt a b ≡ true → a < b
@@ -65,11 +64,6 @@ module _ (P : Order → Type 0) where
   each-last [] ys all = all
   each-last (x ∷ xs) ys all = each-last xs ys all.1
 
--- no stamp is above those behind it
-abbrev InStamps : List Order → Type 0
-InStamps [] = ⊤
-InStamps (o ∷ os) = AllByRecursion (λ x. o.stamp ≤ x.stamp) os × InStamps os
-
 each-weaker : (m n : ℕ) (xs : List Order) → m ≤ n → AllByRecursion (λ x. n ≤ x.stamp) xs → AllByRecursion (λ x. m ≤ x.stamp) xs
 each-weaker m n [] le all = tt
 each-weaker m n (x ∷ xs) le all = (let here = all.0 in omega (arith, le, here), each-weaker m n xs le all.1)
@@ -83,10 +77,10 @@ put-in-stamps o (x ∷ xs) order = elim (nat_lt o.stamp x.stamp) as (λ t. nat_l
       | false ↦ λ h. (each-put (λ y. x.stamp ≤ y.stamp) o xs (not-earlier o.stamp x.stamp h) order.0, put-in-stamps o xs order.1)
     ] refl
 
-in-stamps : (places : Places) → InStamps (by_stamp places)
-in-stamps [] = tt
-in-stamps (None ∷ places) = in-stamps places
-in-stamps (Some o ∷ places) = put-in-stamps o (by_stamp places) (in-stamps places)
+pub listed-in_stamps : (places : Places) → InStamps (by_stamp places)
+listed-in_stamps [] = tt
+listed-in_stamps (None ∷ places) = listed-in_stamps places
+listed-in_stamps (Some o ∷ places) = put-in-stamps o (by_stamp places) (listed-in_stamps places)
 
 -- a place in a list: those behind it aren't earlier
 record Put (o : Order) (xs : List Order) : Type 0 where
@@ -133,9 +127,8 @@ ahead-of : (x : Order) (n : ℕ) (xs : List Order) → x.stamp < n → AllByRecu
 ahead-of x n [] lt all = refl
 ahead-of x n (z ∷ xs) lt all = let le = all.0 in put-first x z xs (omega (arith, lt, le))
 
-around : (x o : Order) (before behind : List Order) → x.stamp ≢ o.stamp → AllByRecursion (λ z. o.stamp ≤ z.stamp) behind →
-    Around x o before behind
-around x o [] behind other later = elim (nat_lt x.stamp o.stamp) as (λ t. nat_lt x.stamp o.stamp ≡ t → Around x o [] behind) [
+around : (x o : Order) (before behind : List Order) → AllByRecursion (λ z. o.stamp ≤ z.stamp) behind → Around x o before behind
+around x o [] behind later = elim (nat_lt x.stamp o.stamp) as (λ t. nat_lt x.stamp o.stamp ≡ t → Around x o [] behind) [
   | true ↦ λ h.
       let lt = earlier x.stamp o.stamp h in
       record {
@@ -155,7 +148,7 @@ around x o [] behind other later = elim (nat_lt x.stamp o.stamp) as (λ t. nat_l
         with = λ y same. put-later x y behind (omega (arith, le, same));
       }
 ] refl
-around x o (z ∷ before) behind other later = elim (nat_lt x.stamp z.stamp) as (λ t. nat_lt x.stamp z.stamp ≡ t → Around x o
+around x o (z ∷ before) behind later = elim (nat_lt x.stamp z.stamp) as (λ t. nat_lt x.stamp z.stamp ≡ t → Around x o
     (z ∷ before) behind) [
       | true ↦ λ h.
           let lt = earlier x.stamp z.stamp h in
@@ -169,7 +162,7 @@ around x o (z ∷ before) behind other later = elim (nat_lt x.stamp z.stamp) as 
           }
       | false ↦ λ h.
           let le = not-earlier x.stamp z.stamp h in
-          let rest = around x o before behind other later in
+          let rest = around x o before behind later in
           record {
             front = z ∷ rest.front;
             back = rest.back;
@@ -187,23 +180,20 @@ record Sits (places : Places) (p : ℕ) (o : Order) : Type 0 where
   pub without : by_stamp (slice_set places p None) ≡ before ++ behind
   pub with : (y : Order) → y.stamp ≡ o.stamp → by_stamp (slice_set places p (Some y)) ≡ before ++ y ∷ behind
 
-sits : (places : Places) (p : ℕ) (o : Order) → p < length places → Alone places p o.stamp → Sits places p o
-sits [] p o within alone = absurd (omega (arith, within))
-sits (None ∷ places) zero o within alone =
-    let here = put o (by_stamp places) (in-stamps places) in
+sits : (places : Places) (p : ℕ) (o : Order) → p < length places → Sits places p o
+sits [] p o within = absurd (omega (arith, within))
+sits (None ∷ places) zero o within =
+    let here = put o (by_stamp places) (listed-in_stamps places) in
     record { before = here.before; behind = here.behind; later = here.later; without = here.split; with = here.put }
-sits (Some x ∷ places) zero o within alone =
-    let here = put o (by_stamp places) (in-stamps places) in
+sits (Some x ∷ places) zero o within =
+    let here = put o (by_stamp places) (listed-in_stamps places) in
     record { before = here.before; behind = here.behind; later = here.later; without = here.split; with = here.put }
-sits (None ∷ places) (suc p) o within alone =
-    let rest = sits places p o (omega (arith, within)) (λ q x other is. alone (suc q) x (λ same. other (let e : suc q ≡ suc p = same
-    in omega (arith, e))) is) in
+sits (None ∷ places) (suc p) o within =
+    let rest = sits places p o (omega (arith, within)) in
     record { before = rest.before; behind = rest.behind; later = rest.later; without = rest.without; with = rest.with }
-sits (Some x ∷ places) (suc p) o within alone =
-    let rest = sits places p o (omega (arith, within)) (λ q y other is. alone (suc q) y (λ same. other (let e : suc q ≡ suc p = same
-    in omega (arith, e))) is) in
-    let differ : x.stamp ≢ o.stamp = alone 0 x (λ same. let e : 0 ≡ suc p = same in omega (arith, e)) refl in
-    let put = around x o rest.before rest.behind differ rest.later in
+sits (Some x ∷ places) (suc p) o within =
+    let rest = sits places p o (omega (arith, within)) in
+    let put = around x o rest.before rest.behind rest.later in
     record {
       before = put.front;
       behind = put.back;
@@ -212,19 +202,19 @@ sits (Some x ∷ places) (suc p) o within alone =
       with = λ y same. ap (insert_by_stamp x) (rest.with y same) ∙ put.with y same;
     }
 
-set-itself : (places : Places) (p : ℕ) (o : Order) → StandsAt places p o → slice_set places p (Some o) ≡ places
-set-itself [] p o is = refl
-set-itself (x ∷ places) zero o is = ap (λ y. y ∷ places) (sym is)
-set-itself (x ∷ places) (suc p) o is = ap (λ ys. x ∷ ys) (set-itself places p o is)
+set-itself : (places : Places) (p : ℕ) (v : Option Order) → at places p ≡ v → slice_set places p v ≡ places
+set-itself [] p v is = refl
+set-itself (x ∷ places) zero v is = ap (λ y. y ∷ places) (sym is)
+set-itself (x ∷ places) (suc p) v is = ap (λ ys. x ∷ ys) (set-itself places p v is)
 
--- the order of a place, whose stamp no other has, in the list
-pub seated : (places : Places) (p : ℕ) (o : Order) → p < length places → StandsAt places p o → Alone places p o.stamp → SeatedByStamp places p o
-seated places p o within is alone =
-    let here = sits places p o within alone in
+-- the order of a place, in the list
+pub seated : (places : Places) (p : ℕ) (o : Order) → p < length places → StandsAt places p o → SeatedByStamp places p o
+seated places p o within is =
+    let here = sits places p o within in
     record {
       before = here.before;
       behind = here.behind;
-      split = ap by_stamp (sym (set-itself places p o is)) ∙ here.with o refl;
+      split = ap by_stamp (sym (set-itself places p (Some o) is)) ∙ here.with o refl;
       without = here.without;
       changed = here.with;
     }
@@ -249,28 +239,30 @@ others P places p o seat all =
     (λ q x is. let there = unset places p q x is in all q x there.0 there.1)) in
     (each-first P seat.before seat.behind rest, each-last P seat.before seat.behind rest)
 
--- an order with the latest stamp comes to a free place: it is the last in the list
-put-last : (o : Order) (xs : List Order) → AllByRecursion (λ x. x.stamp < o.stamp) xs → insert_by_stamp o xs ≡ xs ++ o ∷ []
-put-last o [] all = refl
-put-last o (x ∷ xs) all = let lt = all.0 in put-later o x xs (omega (arith, lt)) ∙ ap (λ zs. x ∷ zs) (put-last o xs all.1)
+-- an order comes to a free place
+pub comes : (places : Places) (p : ℕ) (o : Order) → p < length places → at places p ≡ None →
+    Comes o (by_stamp places) (by_stamp (slice_set places p (Some o)))
+comes places p o within free =
+    let here = sits places p o within in
+    record {
+      before = here.before;
+      behind = here.behind;
+      split = ap by_stamp (sym (set-itself places p None free)) ∙ here.without;
+      put = here.with o refl;
+      later = here.later;
+    }
 
-put-ahead : (x o : Order) (xs : List Order) → x.stamp < o.stamp → insert_by_stamp x (xs ++ o ∷ []) ≡ insert_by_stamp x xs ++ o ∷ []
-put-ahead x o [] lt = put-first x o [] lt
-put-ahead x o (z ∷ xs) lt = elim (nat_lt x.stamp z.stamp) as (λ t. (if t then x ∷ z ∷ (xs ++ o ∷ []) else z ∷ insert_by_stamp x
-    (xs ++ o ∷ []))
-    ≡ (if t then x ∷ z ∷ xs else z ∷ insert_by_stamp x xs) ++ o ∷ []) [ true ↦ refl | false ↦ ap (λ zs. z ∷ zs) (put-ahead x o xs lt) ]
+-- the latest one is the last in the list
+none-behind : (o : Order) (xs : List Order) → AllByRecursion (λ x. o.stamp ≤ x.stamp) xs → AllByRecursion (λ x. x.stamp < o.stamp) xs → xs ≡ []
+none-behind o [] later earlier = refl
+none-behind o (x ∷ xs) later earlier = let le = later.0 in let lt = earlier.0 in absurd (omega (arith, le, lt))
 
-pub pushed : (places : Places) (p : ℕ) (o : Order) → p < length places → at places p ≡ None → ((q : ℕ) (x : Order) → StandsAt places q x →
-    x.stamp < o.stamp) →
-    by_stamp (slice_set places p (Some o)) ≡ by_stamp places ++ o ∷ []
-pushed [] p o within free last = absurd (omega (arith, within))
-pushed (None ∷ places) zero o within free last = put-last o (by_stamp places) (each-listed (λ x. x.stamp < o.stamp) places
-    (λ q x is. last (suc q) x is))
-pushed (Some x ∷ places) zero o within free last = absurd (let e : Some x ≡ None = free in cc)
-pushed (None ∷ places) (suc p) o within free last = pushed places p o (omega (arith, within)) free (λ q x is. last (suc q) x is)
-pushed (Some x ∷ places) (suc p) o within free last =
-    ap (insert_by_stamp x) (pushed places p o (omega (arith, within)) free (λ q y is. last (suc q) y is)) ∙ put-ahead x o
-    (by_stamp places) (last 0 x refl)
+pub comes-last : (o : Order) (old new : List Order) → Comes o old new → AllByRecursion (λ x. x.stamp < o.stamp) old → new ≡ old ++ o ∷ []
+comes-last o old new it earlier =
+    let none = none-behind o it.behind it.later (each-last (λ x. x.stamp < o.stamp) it.before it.behind
+    (subst (AllByRecursion (λ x. x.stamp < o.stamp)) it.split earlier)) in
+    let all : old ≡ it.before = it.split ∙ ap (λ xs. it.before ++ xs) none ∙ append-nil it.before in
+    it.put ∙ ap (λ xs. it.before ++ o ∷ xs) none ∙ ap (λ xs. xs ++ o ∷ []) (sym all)
 
 -- the list has the orders that stand
 length-put : (o : Order) (xs : List Order) → length (insert_by_stamp o xs) ≡ suc (length xs)
@@ -331,36 +323,3 @@ at-set (y ∷ places) (suc p) (suc q) v x is = elim (at-set places p q v x is) [
   | inl here ↦ inl (ap suc here.0, here.1)
   | inr there ↦ inr ((λ e. there.0 (let f : suc q ≡ suc p = e in omega (arith, f))), there.1)
 ]
-
--- stamps stay apart where what is put at a place has a stamp that no other has
-apart-set : (places : Places) (p : ℕ) (v : Option Order) → StampsApart places → ((x : Order) → v ≡ Some x → Alone places p x.stamp) →
-    StampsApart (slice_set places p v)
-apart-set places p v apart alone = λ a o at_a q x other at_q. elim (at-set places p a v o at_a) [
-  | inl put ↦ elim (at-set places p q v x at_q) [
-    | inl also ↦ absurd (other (also.0 ∙ sym put.0))
-    | inr stood ↦ alone o put.1 q x stood.0 stood.1
-  ]
-  | inr was ↦ elim (at-set places p q v x at_q) [
-    | inl put ↦ λ same. alone x put.1 a o was.0 was.1 (sym same)
-    | inr stood ↦ apart a o was.1 q x other stood.1
-  ]
-]
-
--- so when an order leaves, changes under its stamp, or comes later than all others
-pub apart-unset : (places : Places) (p : ℕ) → StampsApart places → StampsApart (slice_set places p None)
-apart-unset places p apart = apart-set places p None apart (λ x e. absurd (let f : None ≡ Some x = e in cc))
-
-pub apart-changed : (places : Places) (p : ℕ) (o y : Order) → StampsApart places → StandsAt places p o → y.stamp ≡ o.stamp →
-    StampsApart (slice_set places p (Some y))
-apart-changed places p o y apart is same = apart-set places p (Some y) apart (λ x e q z other at_q equal.
-    let f : y ≡ x = cc in
-    let stamp : y.stamp ≡ x.stamp = ap (λ (w : Order). w.stamp) f in
-    apart p o is q z other at_q (equal ∙ sym stamp ∙ same))
-
-pub apart-pushed : (places : Places) (p : ℕ) (o : Order) → StampsApart places → ((q : ℕ) (x : Order) → StandsAt places q x → x.stamp < o.stamp) →
-    StampsApart (slice_set places p (Some o))
-apart-pushed places p o apart last = apart-set places p (Some o) apart (λ x e q z other at_q equal.
-    let f : o ≡ x = cc in
-    let stamp : o.stamp ≡ x.stamp = ap (λ (w : Order). w.stamp) f in
-    let earlier = last q z at_q in
-    omega (arith, stamp, equal, earlier))

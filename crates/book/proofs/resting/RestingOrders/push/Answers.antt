@@ -1,39 +1,15 @@
--- The order takes a free place, and its name is put into the index.
-use Rattle.std.proofs.Common.{◌<◌, arith}
-use Rattle.price_levels.specs.StampLaws.{each-stands}
-use Rattle.book.proofs.RestingCalls.{has-room, not-there, pushed-orders, pushed-kept, later-all}
+-- Its stamp is the latest, so it is put behind all others.
+use Rattle.std.proofs.Common.{◌<◌}
+use Rattle.price_levels.specs.Places.{InOneLevel}
+use Rattle.price_levels.specs.StampLaws.{comes-last}
+use Rattle.book.proofs.Lists.{each-map}
 use Rattle.book.proofs.resting.RestingOrders.push.Goals as goal
 
-pub push_back-requires-clause-room : goal.push_back-requires-clause-room
-push_back-requires-clause-room c = has-room (record { kept = c.self.invariant; list = c.self.view_is }) c.requires.room
-
-pub push_back-requires-clause-later : goal.push_back-requires-clause-later
-push_back-requires-clause-later c = λ p x stands one_level.
-    each-stands (λ x. x.stamp < c.args.order.now.stamp) c.self.inside.levels
-    (later-all (record { kept = c.self.invariant; list = c.self.view_is }) c.args.order.now c.requires.behind) p x
-    stands
-
-pub insert-requires-clause-fresh : goal.insert-requires-clause-fresh
-insert-requires-clause-fresh c =
-    not-there (record { kept = c.self.invariant; list = c.self.view_is }) c.args.order.now c.requires.fresh
-
-pub insert-requires-clause-room : goal.insert-requires-clause-room
-insert-requires-clause-room c =
-    let room = has-room (record { kept = c.self.invariant; list = c.self.view_is }) c.requires.room in
-    omega (arith, room, c.self.invariant.size, c.self.invariant.as_many)
-
-pub overflow_add-self : goal.overflow_add-self
-overflow_add-self c =
-    let room = has-room (record { kept = c.self.invariant; list = c.self.view_is }) c.requires.room in
-    omega (arith, room, c.self.invariant.size, c.self.invariant.counted)
-
-pub invariant_of-self : goal.invariant_of-self
-invariant_of-self c = pushed-kept (record { kept = c.self.invariant; list = c.self.view_is }) c.args.order.now
-    c.requires.behind c.push_back.result.number c.push_back.ensures.within c.push_back.ensures.free
-    c.push_back.new.self c.push_back.ensures.places c.requires.rests c.requires.fresh c.number-number.result
-    c.number-number.ensures c.insert.new.self c.insert.ensures.places c.insert.ensures.entries
+pub insert-requires-clause-later : goal.insert-requires-clause-later
+insert-requires-clause-later c =
+    each-map (λ x. x.stamp < c.args.order.now.stamp)
+    (λ x. InOneLevel c.args.order.now x → x.stamp < c.args.order.now.stamp)
+    (λ x earlier one_level. earlier) c.args.self.now c.requires.behind
 
 pub returns : goal.returns
-returns c = pushed-orders (record { kept = c.self.invariant; list = c.self.view_is }) c.args.order.now c.requires.behind
-    c.push_back.result.number c.push_back.ensures.within c.push_back.ensures.free c.push_back.new.self
-    c.push_back.ensures.places
+returns c = comes-last c.args.order.now c.args.self.now c.insert.new.self c.insert.ensures.comes c.requires.behind
