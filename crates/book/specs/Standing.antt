@@ -40,8 +40,8 @@ Pairwise R (o ∷ os) = AllByRecursion (R o) os × Pairwise R os
 abbrev pub IsEarlier : Order → Order → Type 0
 IsEarlier o x = InOneLevel o x → o.stamp < x.stamp
 
--- Within a price level each stamp is below those behind it. Orders at different prices, of different symbols or sides may
--- have one stamp: so may those of a snapshot.
+-- Within a price level each stamp is below those behind it. Orders at different prices, of different symbols or of two
+-- sides may have one stamp: a book may begin with such.
 abbrev pub InTime : List Order → Type 0
 InTime orders = Pairwise IsEarlier orders
 

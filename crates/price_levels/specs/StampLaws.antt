@@ -127,7 +127,8 @@ ahead-of : (x : Order) (n : ℕ) (xs : List Order) → x.stamp < n → AllByRecu
 ahead-of x n [] lt all = refl
 ahead-of x n (z ∷ xs) lt all = let le = all.0 in put-first x z xs (omega (arith, lt, le))
 
-around : (x o : Order) (before behind : List Order) → AllByRecursion (λ z. o.stamp ≤ z.stamp) behind → Around x o before behind
+around : (x o : Order) (before behind : List Order) → AllByRecursion (λ z. o.stamp ≤ z.stamp) behind →
+    Around x o before behind
 around x o [] behind later = elim (nat_lt x.stamp o.stamp) as (λ t. nat_lt x.stamp o.stamp ≡ t → Around x o [] behind) [
   | true ↦ λ h.
       let lt = earlier x.stamp o.stamp h in
@@ -253,11 +254,13 @@ comes places p o within free =
     }
 
 -- the latest one is the last in the list
-none-behind : (o : Order) (xs : List Order) → AllByRecursion (λ x. o.stamp ≤ x.stamp) xs → AllByRecursion (λ x. x.stamp < o.stamp) xs → xs ≡ []
+none-behind : (o : Order) (xs : List Order) → AllByRecursion (λ x. o.stamp ≤ x.stamp) xs →
+    AllByRecursion (λ x. x.stamp < o.stamp) xs → xs ≡ []
 none-behind o [] later earlier = refl
 none-behind o (x ∷ xs) later earlier = let le = later.0 in let lt = earlier.0 in absurd (omega (arith, le, lt))
 
-pub comes-last : (o : Order) (old new : List Order) → Comes o old new → AllByRecursion (λ x. x.stamp < o.stamp) old → new ≡ old ++ o ∷ []
+pub comes-last : (o : Order) (old new : List Order) → Comes o old new → AllByRecursion (λ x. x.stamp < o.stamp) old →
+    new ≡ old ++ o ∷ []
 comes-last o old new it earlier =
     let none = none-behind o it.behind it.later (each-last (λ x. x.stamp < o.stamp) it.before it.behind
     (subst (AllByRecursion (λ x. x.stamp < o.stamp)) it.split earlier)) in
