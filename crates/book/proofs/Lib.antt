@@ -45,3 +45,4 @@ mod GroupLemmas
 mod NextLemmas
 mod ListingLemmas
 mod ListedLemmas
+mod Examples

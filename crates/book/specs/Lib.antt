@@ -13,3 +13,5 @@ pub mod Laws
 pub mod Listing
 pub mod Next
 pub mod Histories
+pub mod Rows
+pub mod Snapshots

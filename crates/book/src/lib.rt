@@ -12,6 +12,7 @@ mod refusals;
 mod reports;
 mod requests;
 mod resting;
+mod snapshot;
 
 pub use book::Book;
 pub use laws::{
