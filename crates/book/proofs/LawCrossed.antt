@@ -117,7 +117,7 @@ live o h = grind (arith, nat_tests)
 
 module _ (i : Order) (orders : List Order) where
   -- what holds of an order whatever is filled of it
-  rest-keeps : (P Q : Order → Type 0)
+  pub rest-keeps : (P Q : Order → Type 0)
       → ((x : Order) (n : ℕ) → P x → is_live (filled x n x.price) ≡ true → Q (filled x n x.price)) →
       AllByRecursion P orders → AllByRecursion Q (rest i orders)
   rest-keeps P Q keeps all = subst (AllByRecursion Q) (sym (rest-after i orders))

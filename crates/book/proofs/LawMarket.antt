@@ -58,6 +58,15 @@ module _ (i : Order) (orders : List Order) (all : AllByRecursion HasPrice orders
 
 -- ONE COMMAND
 
+-- what is found is one of them
+pub found-each : (P : Order → Type 0) (p : Order → Bool) (xs : List Order) (o : Order) → AllByRecursion P xs
+    → find p xs ≡ Some o → P o
+found-each P p [] o h found = cc
+found-each P p (x ∷ xs) o h found = elim (p x) as (λ b. (if b then Some x else find p xs) ≡ Some o → P o) [
+  | true ↦ λ is. let same : x ≡ o = cc in subst P same h.0
+  | false ↦ λ is. found-each P p xs o h.1 is
+] found
+
 module _ (s : State) (c : Cause) (all : AllByRecursion HasPrice s.orders) where
   new-priced : (n : NewOrderSingle) (refusal : Option OrdRejReason) → IsCommand (New c.sending_time n)
       → AllByRecursion HasPrice (new_answered s c n refusal).state.orders
@@ -83,14 +92,6 @@ module _ (s : State) (c : Cause) (all : AllByRecursion HasPrice s.orders) where
   amended-priced r most o h = elim (is_named c.gateway r.orig_cl_ord_id o) as (λ b. HasPrice (if b then amended r o else o))
       [ true ↦ (h.0, most) | false ↦ h ]
 
-  -- what is found is one of them
-  found-priced : (p : Order → Bool) (xs : List Order) (o : Order) → AllByRecursion HasPrice xs → find p xs ≡ Some o → HasPrice o
-  found-priced p [] o h found = cc
-  found-priced p (x ∷ xs) o h found = elim (p x) as (λ b. (if b then Some x else find p xs) ≡ Some o → HasPrice o) [
-    | true ↦ λ is. let same : x ≡ o = cc in subst HasPrice same h.0
-    | false ↦ λ is. found-priced p xs o h.1 is
-  ] found
-
   replace-priced : (r : OrderCancelReplaceRequest) (refusal : Option CxlRejReason) → r.price ≤ 1000000
       → AllByRecursion HasPrice (replace_answered s c r refusal).state.orders
   replace-priced r (Some reason) most = all
@@ -104,7 +105,7 @@ module _ (s : State) (c : Cause) (all : AllByRecursion HasPrice s.orders) where
           (amended-priced r most) s.orders all)
           (matched-priced (restamped c (amended r o)) (others s c.gateway r.orig_cl_ord_id)
           (others-priced c.gateway r.orig_cl_ord_id) Day
-          (λ day. ((found-priced (is_named c.gateway r.orig_cl_ord_id) s.orders o all found).0, most)))
+          (λ day. ((found-each HasPrice (is_named c.gateway r.orig_cl_ord_id) s.orders o all found).0, most)))
 
 step-priced : (symbols : Symbols) (sequence : ℕ) (s : State) (r : Request) → IsCommand r.command
     → AllByRecursion HasPrice s.orders → AllByRecursion HasPrice (step symbols s sequence r).state.orders

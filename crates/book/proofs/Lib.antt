@@ -38,6 +38,7 @@ mod LawCrossed
 mod LawOrderly
 mod LawTotals
 mod LawMarket
+mod LawNumbers
 mod LawTraded
 pub mod LawStamps
 pub mod LawTexts
@@ -46,3 +47,4 @@ mod NextLemmas
 mod ListingLemmas
 mod ListedLemmas
 mod Examples
+mod LawSnapshots

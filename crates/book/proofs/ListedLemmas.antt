@@ -120,7 +120,7 @@ listing-nothing [] = refl
 listing-nothing (s ∷ ss) = listing-nothing ss
 
 -- orders of the table's symbols are listed, each once
-listed-once : (ss : Symbols) → all_differ ss ≡ true → (os : List Order)
+pub listed-once : (ss : Symbols) → all_differ ss ≡ true → (os : List Order)
     → AllByRecursion (λ o. list_any (bytes_eq o.symbol) ss ≡ true) os →
     IsPermutation os (listing ss os)
 listed-once ss differ [] all = subst (λ xs. IsPermutation [] xs) (sym (listing-nothing ss)) (IsPermutation-refl [])

@@ -37,7 +37,7 @@ module _ (R : Order → Order → Type 0) where
   )
 
   -- what follows for each pair of a list, of whose elements P holds
-  pairs-weaker : (Q : Order → Order → Type 0) (P : Order → Type 0) → ((a b : Order) → P a → P b → R a b → Q a b) →
+  pub pairs-weaker : (Q : Order → Order → Type 0) (P : Order → Type 0) → ((a b : Order) → P a → P b → R a b → Q a b) →
       (xs : List Order) → AllByRecursion P xs → Pairwise R xs → Pairwise Q xs
   pairs-weaker Q P f [] all pairs = tt
   pairs-weaker Q P f (x ∷ xs) all pairs = (

@@ -90,7 +90,7 @@ each-two P Q R f [] all also = tt
 each-two P Q R f (x ∷ xs) all also = (f x all.0 also.0, each-two P Q R f xs all.1 also.1)
 
 -- an order has its own name, and one that is named otherwise hasn't
-named-self : (o : Order) → is_named o.client o.cl_ord_id o ≡ true
+pub named-self : (o : Order) → is_named o.client o.cl_ord_id o ≡ true
 named-self o = grind (arith, nat_tests)
 
 named-other : (o x : Order) → is_named x.client x.cl_ord_id o ≡ false → is_named o.client o.cl_ord_id x ≡ false

@@ -15,3 +15,4 @@ pub mod Next
 pub mod Histories
 pub mod Rows
 pub mod Snapshots
+pub mod TrueSnapshots

@@ -1,6 +1,6 @@
 //! Laws of matching, in the words of those who trade and audit: functions that do nothing, whose contracts are the laws.
 //! They speak of the definitions that the book is proved to follow, so they hold of the book.
-ghost use Rattle.std.specs.Prelude.{◌≡◌, ◌≢◌, ℕ, ◌+◌, ◌≤◌, min, nat_lt, true, false, List, [], ◌∷◌, ◌++◌, Some, length, map, filter, sum_by};
+ghost use Rattle.std.specs.Prelude.{◌≡◌, ◌≢◌, ℕ, ◌+◌, ◌≤◌, ◌^◌, min, nat_lt, true, false, List, [], ◌∷◌, ◌++◌, Some, length, map, filter, sum_by};
 ghost use Rattle.std.specs.List.{AllByRecursion};
 ghost use Rattle.std.specs.List.Sorted.{IsPermutation};
 ghost use Rattle.venue_model.specs.History.{History, IsMessage};
@@ -17,6 +17,8 @@ ghost use Rattle.venue_model.specs.Requests.{Limits, Symbols, State, is_day, ter
 ghost use Rattle.venue_model.specs.Step.{Request, step, state, outputs_from, outputs};
 ghost use Rattle.book.specs.Histories.{state_of, outputs_of};
 ghost use Rattle.book.specs.Standing.{Rising, Below};
+ghost use Rattle.book.specs.TrueSnapshots.{SpellsItsState};
+ghost use Rattle.venue_model.specs.Spelling.{AreSymbols};
 ghost use Rattle.book.specs.Laws.{AreCrossed, GoesFirst, IsAheadOf, HasPrice, CrossesAnyPrice, KeepsLimit, KeepsPrice, KeepsTotal, IsFromGateway, Pairwise, IsOrderly, IsUncrossed, TellsFields, quantity_traded, money_traded};
 
 /// What was told stays told: a history's outputs begin with the outputs of each of its beginnings, and each command
@@ -146,6 +148,14 @@ pub fn market_orders_take_what_there_is()
 pub fn stamps_are_sequences()
     ensures commands { (symbols : Symbols) (rs : List Request) → Below (length rs) (state symbols rs).orders }
     ensures history { (limits : Limits) (h : History) → Below (length h) (state_of limits h).orders }
+{}
+
+/// The state after any history of at most 2^48 messages can be a snapshot, with the counts of its commands and outputs:
+/// each number of each resting order, and each greatest ClOrdID, is one that a snapshot may have. So the snapshot of a
+/// venue's own state is never refused.
+pub fn a_state_can_be_a_snapshot()
+    ensures { (limits : Limits) (h : History) → AreSymbols limits.symbols → AllByRecursion IsMessage h
+        → length h ≤ 2 ^ 48 → SpellsItsState limits h }
 {}
 
 /// Each output's text is fields, whatever messages the history has: so who takes an output can write it as a frame.
