@@ -26,8 +26,9 @@ use Rattle.venue_model.specs.Orders.{leaves, is_live, is_market, price_of, cross
 use Rattle.venue_model.specs.Match.{crossing, fill, done, rest, live_alone, can_fill, matched}
 use Rattle.venue_model.specs.ReplacedLaws.{either_way}
 use Rattle.venue_model.specs.Requests.{Symbols, State, Limits, is_day, terms_of, accepted, new_refusal, new_answered}
-use Rattle.venue_model.specs.Requests.{entering, is_named, named, others, cancel_refusal, cancel_answered, order_canceled}
-use Rattle.venue_model.specs.Requests.{replace_refusal, replace_answered, restamped, amended, order_replaced}
+use Rattle.venue_model.specs.Requests.{entering, is_named, named, others, cancel_refusal, cancel_answered}
+use Rattle.venue_model.specs.Requests.{order_canceled, replace_refusal, replace_answered, restamped, amended}
+use Rattle.venue_model.specs.Requests.{order_replaced}
 use Rattle.venue_model.specs.Step.{Request, IsName, IsAmount, IsPriced, IsCommand, cause, obey, step, empty, state_from}
 use Rattle.venue_model.specs.Step.{requests_from}
 use Rattle.fix_orders.specs.RangeLaws.{reads_within}
