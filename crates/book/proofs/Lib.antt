@@ -48,3 +48,5 @@ mod ListingLemmas
 mod ListedLemmas
 mod Examples
 mod LawSnapshots
+pub mod OneByOne
+mod RowLemmas

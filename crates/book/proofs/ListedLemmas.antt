@@ -129,7 +129,7 @@ listed-once ss differ (o ∷ os) all = IsPermutation-trans (o ∷ os) (o ∷ lis
 
 -- WHAT FOLLOWS
 
-each-at : (P : Order → Type 0) (xs : List Order) (x : Order) → Contains xs x → AllByRecursion P xs → P x
+pub each-at : (P : Order → Type 0) (xs : List Order) (x : Order) → Contains xs x → AllByRecursion P xs → P x
 each-at P xs x there all =
     let split : Split xs x = split-at xs x there in
     (each-back P split.before (x ∷ split.behind) (subst (AllByRecursion P) split.whole all)).0

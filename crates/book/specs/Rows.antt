@@ -1,7 +1,7 @@
 -- Numbers in bytes, and the row of a resting order in a snapshot (docs/JOURNAL.md, "Snapshots").
 use Rattle.std.specs.Prelude.{ℕ, List, ◌++◌}
 use Rattle.std.specs.List.{flat_map}
-use Rattle.byteorder.specs.Endian.{big_bytes}
+use Rattle.std.specs.Int.{bytes_high_first}
 use Rattle.venue_model.specs.declared.orders.Order.{Order}
 use Rattle.venue_model.specs.declared.orders.Side.{Side}
 use Rattle.venue_model.specs.declared.orders.Side.TheVariants.{Buy, Sell}
@@ -11,7 +11,7 @@ use Rattle.book.specs.Next.{symbol_number}
 
 -- a number in so many bytes, the highest of them first
 unfoldable pub number_bytes : ℕ → ℕ → List ℕ
-number_bytes count n = big_bytes count n
+number_bytes count n = bytes_high_first count n
 
 -- Side (54) as a number
 abbrev pub side_number : Side → ℕ

@@ -104,7 +104,7 @@ fn group_of(symbols: &[Symbol], order: &Order) -> usize
 }
 
 /// The number of a symbol: its place in the table, or the table's length.
-fn number_of(symbols: &[Symbol], symbol: &Symbol) -> usize
+pub(crate) fn number_of(symbols: &[Symbol], symbol: &Symbol) -> usize
     ensures value { result ≡ symbol_number symbols.now symbol.now }
     ensures within { result ≤ length symbols.now }
 {

@@ -1,2 +1,4 @@
-//! The snapshot of a book: its state as bytes, with the counts of the commands and outputs behind it.
+//! The snapshot of a book: its state as bytes, with the counts of the commands and outputs that led to it.
+mod numbers;
 mod row;
+mod writing;

@@ -1,4 +1,13 @@
 //! The row of a resting order in a snapshot.
+ghost use Rattle.std.specs.Prelude.{◌≡◌, ◌+◌, ◌≤◌, length};
+ghost use Rattle.venue_model.specs.Spelling.{AreSymbols};
+ghost use Rattle.fix_orders.specs.Writing.{Puts};
+ghost use Rattle.book.specs.Rows.{side_number, row_of, row_bytes};
+ghost use Rattle.book.specs.Standing.{InRange};
+
+use crate::listing::number_of;
+use crate::snapshot::numbers::{eight, four, one, put_eight, put_four, put_one};
+use venue_model::{Order, Side, Symbol};
 
 /// The numbers of a resting order as its 47 bytes spell them, each big-endian. Any 47 bytes are those of one row.
 #[derive(Clone, Copy)]
@@ -23,4 +32,73 @@ pub(crate) struct Row {
     pub(crate) notional: u64,
     /// Its place in time, 8 bytes.
     pub(crate) stamp: u64,
+}
+
+impl Row {
+    /// The row of an order.
+    pub(crate) fn of(symbols: &[Symbol], order: &Order) -> Row
+        requires table { AreSymbols symbols.now }
+        requires range { InRange order.now }
+        ensures { result ≡ row_of symbols.now order.now }
+    {
+        Row {
+            id: order.id,
+            client: order.client,
+            cl_ord_id: order.cl_ord_id,
+            symbol: number_of(symbols, &order.symbol) as u8,
+            side: side_number(order.side),
+            price: order.price as u32,
+            total: order.total as u32,
+            cum: order.cum as u32,
+            notional: order.notional,
+            stamp: order.stamp,
+        }
+    }
+
+    /// The row that 47 bytes spell.
+    pub(crate) fn read(bytes: &[u8]) -> Row
+        requires { length bytes.now ≡ 47 }
+        ensures { row_bytes result ≡ bytes.now }
+    {
+        Row {
+            id: eight(&bytes[..8]),
+            client: one(&bytes[8..9]),
+            cl_ord_id: eight(&bytes[9..17]),
+            symbol: one(&bytes[17..18]),
+            side: one(&bytes[18..19]),
+            price: four(&bytes[19..23]),
+            total: four(&bytes[23..27]),
+            cum: four(&bytes[27..31]),
+            notional: eight(&bytes[31..39]),
+            stamp: eight(&bytes[39..47]),
+        }
+    }
+
+    /// Writes its 47 bytes from `at` on, and answers where they end.
+    pub(crate) fn put(&self, buf: &mut [u8], at: usize) -> usize
+        requires { at + 47 ≤ length buf.old }
+        ensures puts { Puts buf.old buf.new at result (row_bytes self.now) }
+        ensures long { result ≡ at + 47 }
+    {
+        let end = put_eight(buf, at, self.id);
+        let end = put_one(buf, end, self.client);
+        let end = put_eight(buf, end, self.cl_ord_id);
+        let end = put_one(buf, end, self.symbol);
+        let end = put_one(buf, end, self.side);
+        let end = put_four(buf, end, self.price);
+        let end = put_four(buf, end, self.total);
+        let end = put_four(buf, end, self.cum);
+        let end = put_eight(buf, end, self.notional);
+        put_eight(buf, end, self.stamp)
+    }
+}
+
+/// Side (54) as a number.
+fn side_number(side: Side) -> u8
+    ensures { result ≡ side_number side }
+{
+    match side {
+        Side::Buy => 1,
+        Side::Sell => 2,
+    }
 }
