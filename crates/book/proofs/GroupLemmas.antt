@@ -44,7 +44,7 @@ module _ (s : List ℕ) (ss : Symbols) (symbol : List ℕ) where
   number-later h = ap (λ b. cond (not b) (1 + symbol_number ss symbol) 0) h
 
 -- a symbol of the table has a number within it
-number-below : (ss : Symbols) (symbol : List ℕ) → list_any (bytes_eq symbol) ss ≡ true
+pub number-below : (ss : Symbols) (symbol : List ℕ) → list_any (bytes_eq symbol) ss ≡ true
     → symbol_number ss symbol < length ss
 number-below [] symbol among = cc
 number-below (s ∷ ss) symbol among = elim (bytes_eq symbol s)
@@ -72,7 +72,7 @@ none-at p ss k s none within at = elim (p s) as (λ b. p s ≡ b → b ≡ false
 ] refl
 
 -- the symbol at a place of the table has this number
-number-is : (ss : Symbols) → all_differ ss ≡ true → (k : ℕ) (s : List ℕ) → k < length ss → s ≡ get_or ss k s →
+pub number-is : (ss : Symbols) → all_differ ss ≡ true → (k : ℕ) (s : List ℕ) → k < length ss → s ≡ get_or ss k s →
     symbol_number ss s ≡ k
 number-is [] differ k s within at = absurd (omega (arith, within))
 number-is (other ∷ ss) differ zero s within at = number-first other ss s ((bytes_eq-Decides s other).1 at)

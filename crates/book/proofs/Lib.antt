@@ -50,3 +50,6 @@ mod Examples
 mod LawSnapshots
 pub mod OneByOne
 mod RowLemmas
+mod SpelledRows
+mod RestoredOrders
+mod SpelledBooks

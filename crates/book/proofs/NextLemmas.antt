@@ -40,7 +40,7 @@ listed-by : (n m : ℕ) (b : Bool) → (nat_lt n m || (nat_eq n m && b)) ≡ tru
 listed-by n m b h same = grind (arith, nat_tests)
 
 -- of one side, one that is ahead of another isn't behind it
-abbrev leads : Side → ℕ → ℕ → ℕ → ℕ → Bool
+abbrev pub leads : Side → ℕ → ℕ → ℕ → ℕ → Bool
 leads a p s q t = is_better a p q || (nat_eq p q && nat_lt s t)
 
 leads-self : (a : Side) (p s : ℕ) → leads a p s p s ≡ false
@@ -56,10 +56,10 @@ module _ (ss : Symbols) (a b : Order) where
       comes_before ss a b ≡ false
   not-before = listed-not (group_of ss a) (group_of ss b) (ahead a b)
 
-  from-group : comes_before ss a b ≡ true → group_of ss a ≤ group_of ss b
+  pub from-group : comes_before ss a b ≡ true → group_of ss a ≤ group_of ss b
   from-group = listed-from (group_of ss a) (group_of ss b) (ahead a b)
 
-  by-priority : comes_before ss a b ≡ true → group_of ss a ≡ group_of ss b → ahead a b ≡ true
+  pub by-priority : comes_before ss a b ≡ true → group_of ss a ≡ group_of ss b → ahead a b ≡ true
   by-priority = listed-by (group_of ss a) (group_of ss b) (ahead a b)
 
 module _ (ss : Symbols) where
@@ -93,7 +93,7 @@ each-two P Q R f (x ∷ xs) all also = (f x all.0 also.0, each-two P Q R f xs al
 pub named-self : (o : Order) → is_named o.client o.cl_ord_id o ≡ true
 named-self o = grind (arith, nat_tests)
 
-named-other : (o x : Order) → is_named x.client x.cl_ord_id o ≡ false → is_named o.client o.cl_ord_id x ≡ false
+pub named-other : (o x : Order) → is_named x.client x.cl_ord_id o ≡ false → is_named o.client o.cl_ord_id x ≡ false
 named-other o x h = grind (arith, nat_tests)
 
 named-in : (before behind : List Order) (o : Order) → NamedApart (before ++ o ∷ behind) →

@@ -37,3 +37,8 @@ pub one_further : {X : Type 0} (f : X → List ℕ) (xs : List X) (i : ℕ) (d :
     flat_map f (take i xs) ++ f (get_or xs i d) ≡ flat_map f (take (i + 1) xs)
 one_further f xs i d within =
     flat_map_more f [] (take i xs) (get_or xs i d) ∙ ap (flat_map f) (sym (take_more xs i d within))
+
+-- the 82 bytes in front in four pieces
+pub four_pieces : (xs : List ℕ) → length xs ≡ 82 →
+    take 8 xs ++ take 8 (drop 8 xs) ++ take 64 (drop 16 xs) ++ take 2 (drop 80 xs) ≡ xs
+four_pieces xs long = rw (more 8 8 xs, more 16 64 xs, more 80 2 xs) (take_all 82 xs (omega arith))

@@ -16,3 +16,4 @@ pub mod Histories
 pub mod Rows
 pub mod Snapshots
 pub mod TrueSnapshots
+pub mod Spelled

@@ -23,4 +23,5 @@ pub use laws::{
 };
 pub use listing::every_order_is_listed_once;
 pub use logic::BookLogic;
+pub use snapshot::{RestoreFault, Restored};
 pub use venue_model::{MOST_OUTPUTS, MOST_RESTING};

@@ -4,11 +4,12 @@ ghost use Rattle.std.specs.List.{Contains};
 ghost use Rattle.std.specs.List.Sorted.{IsPermutation};
 ghost use Rattle.std.specs.Str.{bytes_eq};
 ghost use Rattle.venue_model.specs.declared.orders.Order.{Order};
+ghost use Rattle.venue_model.specs.Orders.{is_better, ahead};
 ghost use Rattle.venue_model.specs.Requests.{Symbols, is_named};
 ghost use Rattle.venue_model.specs.Spelling.{AreSymbols};
 ghost use Rattle.book.specs.Books.{NamedApart, IsBook};
 ghost use Rattle.book.specs.Listing.{listing};
-ghost use Rattle.book.specs.Next.{symbol_number, side_order, group_of, InTable, NextOf, FirstFrom};
+ghost use Rattle.book.specs.Next.{symbol_number, side_order, group_of, comes_before, InTable, NextOf, FirstFrom};
 
 use crate::book::Book;
 use crate::resting::RestingOrders;
@@ -88,6 +89,34 @@ fn side_of(group: usize) -> Side
         Side::Buy
     } else {
         Side::Sell
+    }
+}
+
+/// Whether an order is listed before another: in an earlier group, or ahead of it in one.
+pub(crate) fn comes_before(symbols: &[Symbol], order: &Order, other: &Order) -> bool
+    requires { AreSymbols symbols.now }
+    ensures { result ≡ comes_before symbols.now order.now other.now }
+{
+    let group = group_of(symbols, order);
+    let its_group = group_of(symbols, other);
+    group < its_group || (group == its_group && is_ahead(order, other))
+}
+
+/// Whether an order is ahead of another of its side: at a better price, or at the same one and earlier.
+fn is_ahead(order: &Order, other: &Order) -> bool
+    ensures { result ≡ ahead order.now other.now }
+{
+    is_better(order.side, order.price, other.price)
+        || (order.price == other.price && order.stamp < other.stamp)
+}
+
+/// Whether a price is better for the other side: a higher bid, a lower offer.
+fn is_better(side: Side, price: u64, other: u64) -> bool
+    ensures { result ≡ is_better side price other }
+{
+    match side {
+        Side::Buy => other < price,
+        Side::Sell => price < other,
     }
 }
 

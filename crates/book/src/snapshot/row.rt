@@ -1,8 +1,13 @@
 //! The row of a resting order in a snapshot.
-ghost use Rattle.std.specs.Prelude.{◌≡◌, ◌+◌, ◌≤◌, length};
+ghost use Rattle.std.specs.Prelude.{◌≡◌, ◌≢◌, ◌+◌, ◌≤◌, true, false, IfSome, IfNone, length};
+ghost use Rattle.std.specs.List.{list_any};
+ghost use Rattle.std.specs.Str.{bytes_eq};
+ghost use Rattle.venue_model.specs.declared.orders.Order.{Order};
+ghost use Rattle.venue_model.specs.declared.orders.Side.{Side};
 ghost use Rattle.venue_model.specs.Spelling.{AreSymbols};
 ghost use Rattle.fix_orders.specs.Writing.{Puts};
 ghost use Rattle.book.specs.Rows.{side_number, row_of, row_bytes};
+ghost use Rattle.book.specs.Spelled.{FitsRow};
 ghost use Rattle.book.specs.Standing.{InRange};
 
 use crate::listing::number_of;
@@ -58,7 +63,8 @@ impl Row {
     /// The row that 47 bytes spell.
     pub(crate) fn read(bytes: &[u8]) -> Row
         requires { length bytes.now ≡ 47 }
-        ensures { row_bytes result ≡ bytes.now }
+        ensures spelled { row_bytes result ≡ bytes.now }
+        ensures small { FitsRow result }
     {
         Row {
             id: eight(&bytes[..8]),
@@ -72,6 +78,31 @@ impl Row {
             notional: eight(&bytes[31..39]),
             stamp: eight(&bytes[39..47]),
         }
+    }
+
+    /// The order that has this row, of one of these symbols. `None` where no order has it.
+    pub(crate) fn order(&self, symbols: &[Symbol]) -> Option<Order>
+        requires { AreSymbols symbols.now }
+        ensures row { IfSome result (λ o. row_of symbols.now o ≡ self.now) }
+        ensures known { IfSome result (λ o. list_any (bytes_eq o.symbol) symbols.now ≡ true) }
+        ensures limit { IfSome result (λ o. o.is_market ≡ false) }
+        ensures none { IfNone result ((o : Order) → list_any (bytes_eq o.symbol) symbols.now ≡ true → row_of symbols.now o ≢ self.now) }
+    {
+        let symbol = *symbols.get(self.symbol as usize)?;
+        let side = side_of(self.side)?;
+        Some(Order {
+            id: self.id,
+            client: self.client,
+            cl_ord_id: self.cl_ord_id,
+            symbol,
+            side,
+            is_market: false,
+            price: self.price as u64,
+            total: self.total as u64,
+            cum: self.cum as u64,
+            notional: self.notional,
+            stamp: self.stamp,
+        })
     }
 
     /// Writes its 47 bytes from `at` on, and answers where they end.
@@ -100,5 +131,17 @@ fn side_number(side: Side) -> u8
     match side {
         Side::Buy => 1,
         Side::Sell => 2,
+    }
+}
+
+/// The side of this number.
+fn side_of(number: u8) -> Option<Side>
+    ensures some { IfSome result (λ side. side_number side ≡ number) }
+    ensures none { IfNone result ((side : Side) → side_number side ≢ number) }
+{
+    match number {
+        1 => Some(Side::Buy),
+        2 => Some(Side::Sell),
+        _ => None,
     }
 }

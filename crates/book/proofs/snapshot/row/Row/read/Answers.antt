@@ -2,9 +2,9 @@ use Rattle.book.specs.Rows.{row_bytes}
 use Rattle.book.proofs.RowLemmas.{ten_pieces}
 use Rattle.book.proofs.snapshot.row.Row.read.Goals as goal
 
-pub returns : goal.returns
+pub returns-clause-spelled : goal.returns-clause-spelled
 unfolding row_bytes
-returns c =
+returns-clause-spelled c =
     rw (
       c.eight.ensures,
       c.one.ensures,
