@@ -53,3 +53,4 @@ mod RowLemmas
 mod SpelledRows
 mod RestoredOrders
 mod SpelledBooks
+mod OneState

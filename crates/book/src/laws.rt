@@ -16,7 +16,10 @@ ghost use Rattle.venue_model.specs.Match.{crossing, fill, settled, done, filled_
 ghost use Rattle.venue_model.specs.Requests.{Limits, Symbols, State, is_day, terms_of, new_refusal, entering};
 ghost use Rattle.venue_model.specs.Step.{Request, step, state, outputs_from, outputs};
 ghost use Rattle.book.specs.Histories.{state_of, outputs_of};
-ghost use Rattle.book.specs.Standing.{Rising, Below};
+ghost use Rattle.price_levels.specs.Stamps.{InStamps};
+ghost use Rattle.book.specs.Listing.{listing};
+ghost use Rattle.book.specs.Snapshots.{SnapshotOf, snapshot_bytes};
+ghost use Rattle.book.specs.Standing.{Rising, Below, InTime};
 ghost use Rattle.book.specs.TrueSnapshots.{SpellsItsState};
 ghost use Rattle.venue_model.specs.Spelling.{AreSymbols};
 ghost use Rattle.book.specs.Laws.{AreCrossed, GoesFirst, IsAheadOf, HasPrice, CrossesAnyPrice, KeepsLimit, KeepsPrice, KeepsTotal, IsFromGateway, Pairwise, IsOrderly, IsUncrossed, TellsFields, quantity_traded, money_traded};
@@ -156,6 +159,25 @@ pub fn stamps_are_sequences()
 pub fn a_state_can_be_a_snapshot()
     ensures { (limits : Limits) (h : History) → AreSymbols limits.symbols → AllByRecursion IsMessage h
         → length h ≤ 2 ^ 48 → SpellsItsState limits h }
+{}
+
+/// A snapshot spells one state. The counts and the greatest ClOrdIDs of any two states that it is the snapshot of are the
+/// same, and so are their orders, which may stand in another order where some have one stamp; where stamps rise in the one
+/// and don't fall in the other, both are one. And a state has one snapshot with these counts, if stamps rise within each of
+/// its price levels: the one that the book writes.
+pub fn a_snapshot_spells_one_state()
+    ensures counts { (symbols : Symbols) (s r : State) (commands told its_commands its_told : ℕ) (bytes : List ℕ) → AreSymbols symbols
+        → SnapshotOf symbols s commands told bytes → SnapshotOf symbols r its_commands its_told bytes
+        → (its_commands ≡ commands) × (its_told ≡ told) }
+    ensures orders { (symbols : Symbols) (s r : State) (commands told its_commands its_told : ℕ) (bytes : List ℕ) → AreSymbols symbols
+        → SnapshotOf symbols s commands told bytes → SnapshotOf symbols r its_commands its_told bytes
+        → (r.greatest ≡ s.greatest) × IsPermutation s.orders r.orders }
+    ensures state { (symbols : Symbols) (s r : State) (commands told its_commands its_told : ℕ) (bytes : List ℕ) → AreSymbols symbols
+        → SnapshotOf symbols s commands told bytes → SnapshotOf symbols r its_commands its_told bytes
+        → Rising s.orders → InStamps r.orders → r ≡ s }
+    ensures bytes { (symbols : Symbols) (s : State) (commands told : ℕ) (bytes : List ℕ) → AreSymbols symbols → InTime s.orders
+        → SnapshotOf symbols s commands told bytes
+        → bytes ≡ snapshot_bytes symbols commands told s.greatest (listing symbols s.orders) }
 {}
 
 /// Each output's text is fields, whatever messages the history has: so who takes an output can write it as a frame.

@@ -1,7 +1,8 @@
 //! The book that a snapshot spells.
 ghost use Rattle.std.specs.Prelude.{◌≡◌, ℕ, IfOk, IsErrOf};
 ghost use Rattle.price_levels.specs.Stamps.{InStamps};
-ghost use Rattle.book.specs.Snapshots.{SnapshotOf, NoSnapshot};
+ghost use Rattle.book.specs.Listing.{listing};
+ghost use Rattle.book.specs.Snapshots.{SnapshotOf, NoSnapshot, snapshot_bytes};
 
 use crate::book::Book;
 use crate::logic::BookLogic;
@@ -39,11 +40,13 @@ impl Book {
 }
 
 impl Restored {
-    /// The book of a venue with this logic that the bytes of a snapshot spell, and the counts behind it. `Memory` says
-    /// nothing of the bytes.
+    /// The book of a venue with this logic that the bytes of a snapshot spell, and the counts behind it: its own snapshot
+    /// with these counts has the same bytes. `Memory` says nothing of the bytes.
     pub fn of(alloc: Global, bytes: &[u8], logic: BookLogic) -> Result<Restored, RestoreFault>
         ensures limits { IfOk result (λ r. r.book.limits ≡ logic) }
         ensures spelled { IfOk result (λ r. SnapshotOf logic.symbols r.book.state r.commands r.outputs bytes.now) }
+        ensures written { IfOk result (λ r. bytes.now ≡ snapshot_bytes logic.symbols r.commands r.outputs r.book.state.greatest
+            (listing logic.symbols r.book.state.orders)) }
         ensures stamps { IfOk result (λ r. InStamps r.book.state.orders) }
         ensures reads { IfOk result (λ r. r.book.reads ≡ 0) }
         ensures bad { IsErrOf result RestoreFault.BadSnapshot → NoSnapshot logic.symbols bytes.now }

@@ -1,7 +1,5 @@
-use Rattle.std.proofs.Common.{ℕ, List, drop, subst}
-use Rattle.venue_model.specs.Requests.{Symbols}
-use Rattle.book.specs.Spelled.{Restores, SpellsNone}
-use Rattle.book.proofs.SpelledBooks.{behind_it, has-head, spells-some, spells, makes-book}
+use Rattle.book.proofs.OneState.{one-snapshot}
+use Rattle.book.proofs.SpelledBooks.{rows-restore, rows-spell_none, has-head, spells-some, spells, makes-book}
 use Rattle.book.proofs.snapshot.restoring.Restored.of.Goals as goal
 
 pub returns-in_default-clause-bad : goal.returns-in_default-clause-bad
@@ -11,28 +9,27 @@ returns-in_default-clause-bad c _ s commands told is =
 pub returns-then-not-put_rows-clause-bad : goal.returns-then-not-put_rows-clause-bad
 returns-then-not-put_rows-clause-bad c _ s commands told is =
     let h = c.in-Some.head in
-    let bytes = c.args.bytes.now in
-    let none = subst (λ (rows : List ℕ). SpellsNone c.symbols-symbols.result.now h.greatest h.commands rows)
-    (behind_it 82 bytes) (c.put_rows.ensures.none c.if-not-put_rows.true) in
-    spells-some c.args.logic.symbols s commands told bytes is h c.in-Some.ensures.some
-    (subst (λ (ss : Symbols). SpellsNone ss h.greatest h.commands (drop 82 bytes)) c.symbols-symbols.ensures.value none)
+    spells-some c.args.logic.symbols s commands told c.args.bytes.now is h c.in-Some.ensures.some
+    (rows-spell_none c.symbols-symbols.result.now c.args.logic.symbols h.greatest h.commands c.args.bytes.now
+    c.symbols-symbols.ensures.value (c.put_rows.ensures.none c.if-not-put_rows.true))
 
 pub invariant_of-book : goal.invariant_of-book
 invariant_of-book c =
     let h = c.in-Some.head in
-    let bytes = c.args.bytes.now in
-    let restores = subst (λ (rows : List ℕ). Restores c.symbols-symbols.result.now h.greatest h.commands rows c.put_rows.new.orders)
-    (behind_it 82 bytes) (c.put_rows.ensures.restored c.if-not-put_rows.false) in
-    makes-book c.args.logic.symbols bytes h c.in-Some.ensures.some c.put_rows.new.orders
-    (subst (λ (ss : Symbols). Restores ss h.greatest h.commands (drop 82 bytes) c.put_rows.new.orders)
-    c.symbols-symbols.ensures.value restores)
+    makes-book c.args.logic.symbols c.args.bytes.now h c.in-Some.ensures.some c.put_rows.new.orders
+    (rows-restore c.symbols-symbols.result.now c.args.logic.symbols h.greatest h.commands c.args.bytes.now
+    c.symbols-symbols.ensures.value c.put_rows.new.orders (c.put_rows.ensures.restored c.if-not-put_rows.false))
 
 pub returns-clause-spelled : goal.returns-clause-spelled
 returns-clause-spelled c =
     let h = c.in-Some.head in
-    let bytes = c.args.bytes.now in
-    let restores = subst (λ (rows : List ℕ). Restores c.symbols-symbols.result.now h.greatest h.commands rows c.put_rows.new.orders)
-    (behind_it 82 bytes) (c.put_rows.ensures.restored c.if-not-put_rows.false) in
-    spells c.args.logic.symbols bytes h c.in-Some.ensures.some c.put_rows.new.orders
-    (subst (λ (ss : Symbols). Restores ss h.greatest h.commands (drop 82 bytes) c.put_rows.new.orders)
-    c.symbols-symbols.ensures.value restores)
+    spells c.args.logic.symbols c.args.bytes.now h c.in-Some.ensures.some c.put_rows.new.orders
+    (rows-restore c.symbols-symbols.result.now c.args.logic.symbols h.greatest h.commands c.args.bytes.now
+    c.symbols-symbols.ensures.value c.put_rows.new.orders (c.put_rows.ensures.restored c.if-not-put_rows.false))
+
+pub returns-clause-written : goal.returns-clause-written
+returns-clause-written c =
+    let h = c.in-Some.head in
+    one-snapshot c.args.logic.symbols (record { orders = c.put_rows.new.orders; greatest = h.greatest }) h.commands h.outputs
+    c.args.bytes.now c.symbols-symbols.ensures.table (c.put_rows.ensures.restored c.if-not-put_rows.false).in_time
+    (returns-clause-spelled c)
