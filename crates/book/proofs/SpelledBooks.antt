@@ -11,7 +11,7 @@ use Rattle.book.specs.Books.{Belongs, IsBook}
 use Rattle.book.specs.Rows.{number_bytes, row_of, row_bytes, orders_bytes}
 use Rattle.book.specs.Snapshots.{HasRanges, AreListed, CountsFit, SnapshotOf, head_bytes}
 use Rattle.book.specs.Spelled.{bytes_of_head, FitsBytes, HasHead, Restores, SpellsNone}
-use Rattle.book.specs.Standing.{Rests}
+use Rattle.book.specs.Standing.{Rests, Below}
 use Rattle.book.proofs.Lists.{each-map}
 use Rattle.book.proofs.RestoredOrders.{each-permuted, can-rest}
 use Rattle.book.proofs.RowLemmas.{length-number, length-row}
@@ -130,6 +130,11 @@ module _ (symbols : Symbols) (bytes : List ℕ) (h : Head) (has : HasHead bytes 
     are = restores.are;
   }
 
+  -- what holds of each order in range holds of each of these
+  every : (P : Order → Type 0) → ((o : Order) → HasRanges symbols h.greatest h.commands o → P o) → AllByRecursion P orders
+  every P f = each-permuted P restores.listed orders (IsPermutation-sym orders restores.listed restores.same)
+      (each-map (HasRanges symbols h.greatest h.commands) P f restores.listed restores.are.each)
+
   pub makes-book : IsBook symbols orders h.greatest
   makes-book = record {
     standing = record {
@@ -150,7 +155,7 @@ module _ (symbols : Symbols) (bytes : List ℕ) (h : Head) (has : HasHead bytes 
     });
     clients = has.clients;
   }
-    where
-      every : (P : Order → Type 0) → ((o : Order) → HasRanges symbols h.greatest h.commands o → P o) → AllByRecursion P orders
-      every P f = each-permuted P restores.listed orders (IsPermutation-sym orders restores.listed restores.same)
-          (each-map (HasRanges symbols h.greatest h.commands) P f restores.listed restores.are.each)
+
+  -- the next command comes behind them all
+  pub comes-next : Below h.commands orders
+  comes-next = every (λ o. o.stamp < h.commands) (λ o its. its.stamp)

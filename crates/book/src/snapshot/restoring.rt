@@ -2,6 +2,7 @@
 ghost use Rattle.std.specs.Prelude.{◌≡◌, ℕ, IfOk, IsErrOf};
 ghost use Rattle.price_levels.specs.Stamps.{InStamps};
 ghost use Rattle.book.specs.Listing.{listing};
+ghost use Rattle.book.specs.Standing.{Below};
 ghost use Rattle.book.specs.Snapshots.{SnapshotOf, NoSnapshot, snapshot_bytes};
 
 use crate::book::Book;
@@ -48,6 +49,7 @@ impl Restored {
         ensures written { IfOk result (λ r. bytes.now ≡ snapshot_bytes logic.symbols r.commands r.outputs r.book.state.greatest
             (listing logic.symbols r.book.state.orders)) }
         ensures stamps { IfOk result (λ r. InStamps r.book.state.orders) }
+        ensures below { IfOk result (λ r. Below r.commands r.book.state.orders) }
         ensures reads { IfOk result (λ r. r.book.reads ≡ 0) }
         ensures bad { IsErrOf result RestoreFault.BadSnapshot → NoSnapshot logic.symbols bytes.now }
     {

@@ -1,5 +1,5 @@
 use Rattle.book.proofs.OneState.{one-snapshot}
-use Rattle.book.proofs.SpelledBooks.{rows-restore, rows-spell_none, has-head, spells-some, spells, makes-book}
+use Rattle.book.proofs.SpelledBooks.{rows-restore, rows-spell_none, has-head, spells-some, spells, makes-book, comes-next}
 use Rattle.book.proofs.snapshot.restoring.Restored.of.Goals as goal
 
 pub returns-in_default-clause-bad : goal.returns-in_default-clause-bad
@@ -33,3 +33,10 @@ returns-clause-written c =
     one-snapshot c.args.logic.symbols (record { orders = c.put_rows.new.orders; greatest = h.greatest }) h.commands h.outputs
     c.args.bytes.now c.symbols-symbols.ensures.table (c.put_rows.ensures.restored c.if-not-put_rows.false).in_time
     (returns-clause-spelled c)
+
+pub returns-clause-below : goal.returns-clause-below
+returns-clause-below c =
+    let h = c.in-Some.head in
+    comes-next c.args.logic.symbols c.args.bytes.now h c.in-Some.ensures.some c.put_rows.new.orders
+    (rows-restore c.symbols-symbols.result.now c.args.logic.symbols h.greatest h.commands c.args.bytes.now
+    c.symbols-symbols.ensures.value c.put_rows.new.orders (c.put_rows.ensures.restored c.if-not-put_rows.false))
