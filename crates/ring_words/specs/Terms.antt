@@ -37,7 +37,7 @@ module _ {L : Type 0} where
     reads = reads;
     outputs = outputs;
     text = text;
-    base = k.base.value.items;
+    base = k.base.entries;
     base_outputs = k.base_outputs;
     nothing = nothing k.logic;
     grows = grows k.logic;

@@ -21,9 +21,8 @@ use crate::view::View;
 use atomic_table::{Seat, Table};
 use std::alloc::{AllocError, Global};
 use std::marker::PhantomData;
-use std::snapshot::Snapshot;
 use thiserror::Error;
-use venue_model::{Entry, Logic};
+use venue_model::{Entry, Logic, Past};
 
 /// Why rings can't be opened.
 #[derive(Clone, Copy, Debug, PartialEq, Eq, Error)]
@@ -230,10 +229,29 @@ impl<L: Logic + Drop, const N: usize, const M: usize, const G: usize> Rings<L, N
         ensures opened { IfOk result (λ r. (r.0.logic ≡ logic) × (r.0.base ≡ base.now.items) × (r.0.base_outputs ≡ given)) }
         ensures seats { IfOk result (λ r. AreNew G r.0 r.1) }
     {
+        Self::open_behind(alloc, logic, Past::of(base), base.len() as u64, given)
+    }
+
+    /// The same behind a history whose entries are gone: there were `count` of them, at most 2^48, and `given` outputs.
+    pub fn open_behind(
+        alloc: Global,
+        logic: L,
+        past: Past,
+        count: u64,
+        given: u64,
+    ) -> Result<(Rings<L, N, M, G>, Seats<L>), OpenError>
+        requires gateways { (1 ≤ G) × (G ≤ 8) }
+        requires long { (count ≡ length past.entries) × (count ≤ 2 ^ 48) }
+        requires given { given ≡ length (L.outputs logic past.entries) }
+        ensures sizes { IsOk result → IsTrue (ring_size N && ring_size M) }
+        ensures bad { IsErrOf result OpenError.NotPowerOfTwo → IsFalse (ring_size N && ring_size M) }
+        ensures memory { IsErrOf result OpenError.Memory → IsTrue (ring_size N && ring_size M) }
+        ensures opened { IfOk result (λ r. (r.0.logic ≡ logic) × (r.0.base ≡ past.entries) × (r.0.base_outputs ≡ given)) }
+        ensures seats { IfOk result (λ r. AreNew G r.0 r.1) }
+    {
         if !is_ring_size(N) || !is_ring_size(M) {
             return Err(OpenError::NotPowerOfTwo);
         }
-        let count = base.len() as u64;
         let places = FIRST_ROW + ROW_WORDS * N + OUTPUT_ROW_WORDS * M;
         let Ok(words) = words_at_start(alloc, places, count, given) else {
             return Err(OpenError::Memory);
@@ -243,7 +261,7 @@ impl<L: Logic + Drop, const N: usize, const M: usize, const G: usize> Rings<L, N
             output_rows: M,
             gateways: G,
             logic,
-            base: Snapshot::of(base),
+            base: past,
             base_outputs: given,
         };
         let Ok(boxes) = blank_boxes(alloc, M) else {

@@ -42,7 +42,7 @@ impl<L: Logic, const N: usize, const M: usize, const G: usize> Model for Rings<L
     ghost view = { λ r. record {
       table = r.table.shared.table_id;
       logic = r.table.shared.key.logic;
-      base = r.table.shared.key.base.value.items;
+      base = r.table.shared.key.base.entries;
       base_outputs = r.table.shared.key.base_outputs;
     } };
 }

@@ -1,6 +1,5 @@
 //! What the rings were opened with: the key of the table, which never changes.
-use std::snapshot::Snapshot;
-use venue_model::Entry;
+use venue_model::Past;
 
 /// What the rings were opened with.
 #[derive(Drop)]
@@ -14,7 +13,7 @@ pub struct Setup<L> {
     /// What histories mean.
     pub logic: L,
     /// The history at the start; contracts alone read it.
-    pub base: Snapshot<Vec<Entry>>,
+    pub base: Past,
     /// How many outputs that history has.
     pub base_outputs: u64,
 }

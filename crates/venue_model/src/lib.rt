@@ -8,6 +8,7 @@ mod entries;
 mod logic;
 mod orders;
 mod outputs;
+mod past;
 mod symbol;
 mod symbols;
 
@@ -26,5 +27,6 @@ pub use outputs::{
     Cause, CxlRejReason, CxlRejResponseTo, ExecType, ExecutionReport, OrdRejReason,
     OrderCancelReject, Output, OutputType, Report,
 };
+pub use past::Past;
 pub use symbol::Symbol;
 pub use symbols::{Limits, LimitsFault};
