@@ -7,25 +7,26 @@ ghost use Rattle.venue.specs.Opened.{AreBehind};
 use book::BookLogic;
 use ring_words::{OpenError, Rings, Seats};
 use std::alloc::{AllocError, Global};
-use venue_model::{Entry, Limits};
+use venue_model::{Limits, Past};
 
 /// Rings of 1,024 rows each for so many gateways.
 pub type VenueRings<const G: usize> = Rings<BookLogic, 1024, 1024, G>;
 
-/// The rings of the venue of these symbols behind this history, whose number of outputs is given, with all seats.
+/// The rings of the venue of these symbols behind a history of so many commands and outputs, with all seats.
 pub fn open<const G: usize>(
     alloc: Global,
     limits: &Limits,
-    base: &Vec<Entry>,
-    given: u64,
+    past: Past,
+    commands: u64,
+    outputs: u64,
 ) -> Result<(VenueRings<G>, Seats<BookLogic>), AllocError>
     requires gateways { (1 ≤ G) × (G ≤ 8) }
-    requires few { length base.now.items ≤ 2 ^ 48 }
-    requires given { given ≡ length (outputs_of limits.now base.now.items) }
-    ensures rings { IfOk result (λ r. AreBehind limits.now base.now.items r.0) }
+    requires commands { (commands ≡ length past.entries) × (commands ≤ 2 ^ 48) }
+    requires outputs { outputs ≡ length (outputs_of limits.now past.entries) }
+    ensures rings { IfOk result (λ r. AreBehind limits.now past.entries r.0) }
     ensures seats { IfOk result (λ r. AreNew G r.0 r.1) }
 {
-    match VenueRings::open(alloc, BookLogic::of(limits), base, given) {
+    match VenueRings::open_behind(alloc, BookLogic::of(limits), past, commands, outputs) {
         Ok(opened) => Ok(opened),
         Err(OpenError::Memory) => Err(AllocError),
         Err(OpenError::NotPowerOfTwo) => unreachable!(),
