@@ -1,2 +1,5 @@
 mod LineLemmas
 pub mod Taking
+mod Asking
+mod Telling
+mod Starting

@@ -3,3 +3,7 @@ pub mod Words
 pub mod Faults
 pub mod Lines
 pub mod Running
+pub mod Steps
+pub mod Truth
+pub mod Checking
+pub mod Starts

@@ -2,16 +2,21 @@
 //! it as the processor did. The program `venue-replay` is `run`.
 #![tactic(auto)]
 
+mod checking;
 mod fault;
 mod job;
 mod lines;
 mod replayed;
 mod reporting;
 mod running;
+mod steps;
 mod taker;
+mod taking_up;
 
+pub use checking::check;
 pub use fault::{ReplayFault, refuse};
 pub use job::{Job, Subject};
-pub use replayed::{Rebuilt, Replayed, rebuild, replay};
+pub use replayed::{Replayed, replay_whole};
 pub use reporting::report;
 pub use running::run;
+pub use taking_up::{StartFault, TakenUp, take_up};

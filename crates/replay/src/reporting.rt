@@ -9,7 +9,7 @@ ghost use Rattle.replay.specs.Replays.{IsReplay};
 use crate::fault::refuse;
 use crate::job::{Job, Subject};
 use crate::lines::{write_counts, write_orders, write_outputs};
-use crate::replayed::{Replayed, replay};
+use crate::replayed::{Replayed, replay_whole};
 use journal::JournalDisk;
 use std::alloc::Global;
 use std::io;
@@ -34,7 +34,7 @@ pub fn report<D: JournalDisk, O: Write, E: Write>(
     ensures durable { result.0 ≡ 0 → D.honest disk → Only (D.tells result.1).file (D.tells result.1).may_leave }
 {
     let mut disk = disk;
-    let status = match replay(alloc, &mut disk, &job.limits) {
+    let status = match replay_whole(alloc, &mut disk, &job.limits) {
         Ok(replayed) => print(out, job.subject, &replayed),
         Err(fault) => refuse(fault.into(), err),
     };
