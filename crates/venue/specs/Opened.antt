@@ -1,5 +1,5 @@
 -- What holds of the venue's rings, seats and stages as they are opened behind a history.
-use Rattle.std.specs.Prelude.{◌≡◌, ◌^◌, ◌≤◌, false, length}
+use Rattle.std.specs.Prelude.{◌≡◌, false, length}
 use Rattle.venue_model.specs.History.{History}
 use Rattle.venue_model.specs.Requests.{Limits}
 use Rattle.disks.specs.Disk.{Told}
@@ -9,7 +9,6 @@ use Rattle.book.specs.Books.{Book}
 use Rattle.book.specs.Histories.{state_of, outputs_of}
 use Rattle.stages.specs.Stations.{OneCrew}
 use Rattle.stages.specs.Crews.{new_crew}
-use Rattle.venue.specs.declared.opening.TakenUp.{TakenUp}
 
 -- the rings are those of this logic behind this history, whose outputs are given
 pub record AreBehind (limits : Limits) (base : History) (rings : Opened Limits) : Type 0 where
@@ -25,15 +24,6 @@ ReadsByCut honest disk rings = honest → HasCut disk.file rings.logic.cut
 pub record IsBookOf (rings : Opened Limits) (book : Book) : Type 0 where
   pub limits : book.limits ≡ rings.logic
   pub state : book.state ≡ state_of rings.logic rings.base
-
--- the history of a journal was taken up for a venue with these symbols: the book behind it, and how many entries and outputs it has
-pub record IsTakenUp (limits : Limits) (taken : TakenUp) : Type 0 where
-  pub limits_are : taken.limits ≡ record limits { cut = taken.limits.cut }
-  pub logic : taken.book.limits ≡ taken.limits
-  pub state : taken.book.state ≡ state_of taken.limits taken.past.entries
-  pub commands : taken.commands ≡ length taken.past.entries
-  pub few : taken.commands ≤ 2 ^ 48
-  pub outputs : taken.outputs ≡ length (outputs_of taken.limits taken.past.entries)
 
 -- the stages at these rings, as they are at the start, with a journal that hasn't failed
 pub record IsNewCrew {D : Type 0} (rings : Opened Limits) (crew : OneCrew D) : Type 0 where

@@ -2,6 +2,7 @@
 ghost use Rattle.std.specs.Prelude.{◌≡◌};
 
 use journal::JournalFault;
+use replay::StartFault;
 use std::io::Write;
 use thiserror::Error;
 
@@ -11,6 +12,9 @@ pub enum ServeFault {
     /// 41 to 43: the journal can't be opened.
     #[error("venued: {0}")]
     Journal(JournalFault),
+    /// A snapshot in the journal isn't the one of the entries before it: the first of these stands at this offset.
+    #[error("venued: false snapshot at {0}")]
+    FalseSnapshot(u64),
     /// The venue can't listen on this port: another process does, or the system refuses it.
     #[error("venued: cannot listen on {0}")]
     CannotListen(u16),
@@ -31,6 +35,19 @@ impl From<JournalFault> for ServeFault {
         match fault {
             JournalFault::Memory => ServeFault::Memory,
             _ => ServeFault::Journal(fault),
+        }
+    }
+}
+
+impl From<StartFault> for ServeFault {
+    ghost use Rattle.venue.specs.Faults.{of_start};
+
+    ghost from_gives = { λ fault e. e ≡ of_start fault };
+
+    fn from(fault: StartFault) -> ServeFault {
+        match fault {
+            StartFault::Journal(fault) => fault.into(),
+            StartFault::FalseSnapshot(offset) => ServeFault::FalseSnapshot(offset),
         }
     }
 }
