@@ -38,7 +38,9 @@ ROOT = os.path.dirname(os.path.dirname(os.path.abspath(__file__)))
 sys.path.insert(0, os.path.join(ROOT, "scripts"))
 
 import needs_python  # (in front of what an older Python can't read)
-from rules import Book, Judged, Session, asks_for_market, sealed
+import journals
+from book_rules import Book
+from rules import Judged, Session, asks_for_market, sealed
 from venues import PATIENCE, REPLAY, TIME, VENUED, Trouble, message, need_programs, order, printed
 
 SYMBOLS = ("ABC", "XYZ")
@@ -46,6 +48,7 @@ FIRST = message(1, 1, "A", "98=0|108=0|141=Y|") + message(1, 2, "D", order(1, 1,
 OTHERS = b"\x00\x01\x30\x7f\x80\xff"
 SESSIONS = 16      # Sessions of one journal.
 VERSIONS = (1, 2)  # Of journals, by turns.
+CUTS = {it: journals.begun(journals.empty(it)).cut for it in VERSIONS}
 WITHOUT_PRICE = r"\|38=\d+\|(?:32|151)="  # In a report: behind the quantity comes what stands behind a Price.
 WANTED = [*(f"58={it}" for it in ("bad begin", "bad length", "bad checksum", "too long", "bad field", "bad header",
                                   "wrong party", "wrong number", "no logon", "bad logon", "bad test", "bad type")),
@@ -323,7 +326,7 @@ def check_kept(journal, version, lines):
 def batch(number, seed, journal):
     """Sessions on one journal: how many messages, what they met, and what differed."""
     version = VERSIONS[number % len(VERSIONS)]
-    writer, book = Writer(random.Random(f"{seed} {number}")), Book(SYMBOLS, version)
+    writer, book = Writer(random.Random(f"{seed} {number}")), Book(SYMBOLS, CUTS[version])
     met, messages, lines = collections.Counter(), 0, []
     begun(journal, version)
     for at in range(SESSIONS):

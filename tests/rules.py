@@ -1,5 +1,6 @@
-"""The rules of docs/PROFILE.md for one member in plain Python: from its bytes to the venue's answers. Not a test: those of
-bytes import it. It was written from that page alone, and shares nothing with the venue's own code."""
+"""The rules of docs/PROFILE.md for one member in plain Python: from its bytes to the venue's answers. The reports of its
+orders are those of book_rules.py. Not a test: those of bytes import it. It was written from that page alone, and shares
+nothing with the venue's own code."""
 import itertools
 import re
 
@@ -13,7 +14,6 @@ HEAD = re.compile(rb"8=FIX\.4\.4\x019=(\d+)\x01")
 NO_TIME = b"00000000-00:00:00"
 HEADER = [8, 9, 35, 49, 56, 34, 52]
 LOGON = [(98, b"0"), (108, b"0"), (141, b"Y")]
-MOST_RESTING = 4096
 UNITS = range(1, 1_000_001)
 NAMES = range(1, 10 ** 15)
 
@@ -25,6 +25,8 @@ NEEDED = {b"D": {11, 38, 40, 44, 54, 55, 60}, b"F": {11, 38, 41, 54, 55, 60}, b"
 ALLOWED = {b"D": {59}, b"F": set(), b"G": {59}}
 MARKET_FIELDS = {**FIELDS, 40: (BYTE, (b"1",))}
 MARKET_NEEDED = NEEDED[b"D"] - {44}
+
+Field = tuple[int, bytes]  # A tag and its value.
 
 
 def body(text):
@@ -113,149 +115,22 @@ def is_in_range(kept, value):
     return kept is None or value in kept
 
 
-class Order:
-    """An order. A market order has no price."""
-
-    def __init__(self, number, name, symbol, side, total, price, stamp):
-        self.number, self.name, self.symbol, self.side = number, name, symbol, side
-        self.total, self.price, self.stamp, self.cum, self.paid = total, price, stamp, 0, 0
-
-    @property
-    def left(self):
-        return self.total - self.cum
-
-    def average(self):
-        return self.paid // self.cum if self.cum else 0
-
-    def fill(self, quantity, price):
-        self.cum, self.paid = self.cum + quantity, self.paid + quantity * price
-
-    def crosses(self, other):
-        """Whether it trades with an order of the other side."""
-        return self.symbol == other.symbol and self.side != other.side and self.takes(other.price)
-
-    def takes(self, price):
-        """Whether it trades at this price: a market order does at any."""
-        if self.price is None:
-            return True
-        return self.price >= price if self.side == b"1" else self.price <= price
+def has_header(found: list[Field]) -> bool:
+    """Whether the fields of a frame begin with the header, each of it right in itself."""
+    told = dict(found[:7])
+    return ([tag for tag, _ in found[:7]] == HEADER and bool(NUMBER.fullmatch(told[34]) and TIME.fullmatch(told[52]))
+            and 1 <= int(told[34]) <= 999_999_999)
 
 
-class Book:
-    """The book of a venue with one member: what rests, and each report in its order. Where the journal is of version 1
-    market orders aren't read."""
-
-    def __init__(self, symbols=("ABC",), version=2):
-        self.symbols, self.resting, self.greatest = [it.encode() for it in symbols], [], 0
-        self.reads_market = version > 1
-        self.commands, self.outputs, self.stamps = 0, 0, 0
-
-    def apply(self, kind, found):
-        """The reports of an order message, each its type and body."""
-        self.commands += 1
-        told, is_market = dict(found), self.reads_market and asks_for_market(kind, found)
-        if fault := order_fault(kind, found, is_market):
-            self.outputs += 1
-            number = found[5][1].decode()
-            return [("3", body(f"45={number}|371={fault[1]}|372={kind.decode()}|373={fault[0]}|"))]
-        self.reports = []
-        {b"D": self.enter, b"F": self.cancel, b"G": self.replace}[kind](told)
-        return [(kind, body(text)) for kind, text in self.reports]
-
-    def report(self, event, status, order, left, name=None, was=None, fill=None, more=""):
-        """Adds an ExecutionReport of this order."""
-        self.outputs += 1
-        was = f"41={was}|" if was else ""
-        fill = f"32={fill[0]}|31={fill[1]}|" if fill else ""
-        price = "" if order.price is None else f"44={order.price}|"
-        self.reports.append(("8", f"37={order.number}|17={self.outputs}|150={event}|39={status}|11={name or order.name}|{was}"
-                             f"55={order.symbol.decode()}|54={order.side.decode()}|38={order.total}|{price}{fill}"
-                             f"151={left}|14={order.cum}|6={order.average()}|{more}"))
-
-    def enter(self, told):
-        price = int(told[44]) if 44 in told else None
-        order = Order(self.commands, int(told[11]), told[55], told[54], int(told[38]), price, 0)
-        term = told.get(59, b"0")
-        if price is None and term == b"0":
-            term = b"3"  # What is left of a market order never rests.
-        if order.name <= self.greatest:
-            return self.report("8", "8", order, 0, more="103=6|")
-        if order.symbol not in self.symbols:
-            return self.report("8", "8", order, 0, more="103=1|")
-        if term == b"0" and len(self.resting) == MOST_RESTING:
-            return self.report("8", "8", order, 0, more="103=0|58=book full|")
-        self.greatest = order.name
-        self.report("0", "0", order, order.left)
-        if term != b"4" or sum(it.left for it in self.crossed(order)) >= order.left:
-            self.match(order)
-        if order.left and term != b"0":
-            return self.report("4", "4", order, 0)
-        return self.rest(order)
-
-    def crossed(self, order):
-        """The resting orders that this one crosses, each ahead of the next."""
-        sign = 1 if order.side == b"1" else -1
-        return sorted((it for it in self.resting if order.crosses(it)), key=lambda it: (sign * it.price, it.stamp))
-
-    def match(self, order):
-        """Fills what the order crosses, as long as it has something left."""
-        for other in self.crossed(order):
-            if not order.left:
-                break
-            quantity = min(order.left, other.left)
-            for it in (other, order):
-                it.fill(quantity, other.price)
-                self.report("F", "1" if it.left else "2", it, it.left, fill=(quantity, other.price))
-        self.resting = [it for it in self.resting if it.left]
-
-    def rest(self, order):
-        """Lets what is left of an order rest behind all that came before."""
-        if order.left:
-            self.stamps += 1
-            order.stamp = self.stamps
-            self.resting.append(order)
-
-    def refusal(self, told, order, is_wrong):
-        """The reason for which a cancel or replace is refused, or None."""
-        if int(told[11]) <= self.greatest:
-            return 6
-        if not order:
-            return 1
-        return 2 if (order.symbol, order.side) != (told[55], told[54]) or is_wrong else None
-
-    def is_refused(self, told, order, answered, is_wrong=False):
-        """Whether a request is refused, with the report that says so."""
-        reason = self.refusal(told, order, is_wrong)
-        if reason:
-            self.outputs += 1
-            number, status = (order.number, 1 if order.cum else 0) if order else ("NONE", 8)
-            self.reports.append(("9", f"37={number}|11={int(told[11])}|41={int(told[41])}|39={status}|434={answered}|"
-                                 f"102={reason}|"))
-        return bool(reason)
-
-    def named(self, told):
-        return next((it for it in self.resting if it.name == int(told[41])), None)
-
-    def cancel(self, told):
-        order = self.named(told)
-        if not self.is_refused(told, order, 1):
-            self.greatest = int(told[11])
-            self.resting.remove(order)
-            self.report("4", "4", order, 0, name=int(told[11]), was=order.name)
-
-    def replace(self, told):
-        order, total, price = self.named(told), int(told[38]), int(told[44])
-        is_wrong = bool(order) and (told.get(59, b"0") != b"0" or total <= order.cum)
-        if self.is_refused(told, order, 2, is_wrong):
-            return
-        keeps_place = price == order.price and total <= order.total
-        was, self.greatest = order.name, int(told[11])
-        order.name, order.total, order.price = self.greatest, total, price
-        self.report("5", "1" if order.cum else "0", order, order.left, was=was)
-        if not keeps_place:
-            self.resting.remove(order)
-            self.match(order)
-            self.rest(order)
+def read_order(data: bytes) -> tuple[bytes, bytes, list[Field]] | None:
+    """The type, the time and the fields of these bytes, or None where they aren't exactly one message with an order."""
+    if next_frame(data) != (data, None):
+        return None
+    found = fields(data)
+    if not has_header(found):
+        return None
+    told = dict(found[:7])
+    return (told[35], told[52], found) if told[35] in NEEDED else None
 
 
 class Session:
@@ -287,10 +162,9 @@ class Session:
 
     def judge(self, frame, found):
         """Answers a whole frame."""
-        told, kind = dict(found[:7]), found[2][1]
-        if ([tag for tag, _ in found[:7]] != HEADER or not NUMBER.fullmatch(told[34]) or not 1 <= int(told[34]) <= 999_999_999
-                or not TIME.fullmatch(told[52])):
+        if not has_header(found):
             return self.end("bad header")
+        told, kind = dict(found[:7]), found[2][1]
         self.time = told[52]
         if told[49] != b"C1" or told[56] != b"VENUE":
             return self.end("wrong party")
@@ -342,8 +216,8 @@ class Judged:
     def __init__(self, data, book):
         self.session = Session()
         self.session.feed(data)
-        self.reports = [(kind, when, own, place) for place, (_, type_, when, found) in enumerate(self.session.orders)
-                        for kind, own in book.apply(type_, found)]
+        self.reports = [(it.kind, it.when, it.body, place) for place, (_, kind, when, found) in enumerate(self.session.orders)
+                        for it in book.apply(kind, when, found)]
 
     def difference(self, out):
         """How these bytes differ from what may come, in words, or None."""
