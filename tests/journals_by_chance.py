@@ -1,0 +1,294 @@
+#!/usr/bin/env python3
+"""Runs venue-replay on journals that are chosen by chance, and compares what it does with the rules in plain Python.
+
+    tests/journals_by_chance.py                     the sample that the full check takes
+    tests/journals_by_chance.py --journals 100000   as many journals, however long that takes
+    tests/journals_by_chance.py --seed N            the same journals again; --only NUMBER, one of them
+    tests/journals_by_chance.py --rules-alone       no program is run: only the wrong rules are tried
+
+The journals are of all versions, with limit and market orders, cancels, replaces and messages with faults; those of version
+3 have snapshots at any places, true ones and such as have one byte or one field changed; some journals are damaged. On each
+the words book, Cn, check, carry and snapshot are run, one after the other, and then some again, on what was carried over
+too. Status, standard output, standard error and the files have to be those of tests/replay_rules.py. Of a file that a failed
+carry leaves nothing is asked; it is deleted.
+
+`wrong_rules` shows that these journals tell: each of the wrong rules of tests/wrong_replays.py has to differ on one of them.
+`journals` compares the program.
+
+What differs is shown with the number of its journal, which is kept as a file of that name where --keep says a folder. The
+last line is `N passed, M failed`, and the status is 1 where one failed. Build the program first, by scripts/build; another is
+taken by the environment's VENUE_REPLAY, and tests/replay_rules.py is one.
+"""
+import argparse
+import collections
+import concurrent.futures
+import functools
+import os
+import random
+import re
+import subprocess
+import sys
+import tempfile
+import time
+from collections.abc import Iterator
+from typing import NamedTuple
+
+from replay_rules import USAGE, WRONG_WORDS, Outcome, Replayer, Symbols  # (it finds the scripts' modules)
+import snapshot_rules
+from book_rules import Book
+from journal_writer import Chosen, chosen
+from journals import Journal, Snapshot
+from snapshot_rules import BadSnapshot
+from venues import PATIENCE, REPLAY
+from wrong_replays import CONDITIONS, WRONG, Wrong
+
+SAMPLE = 2_000       # Journals of the full check,
+MOST_TO_TELL = 10_000  # and those among which one has to tell a wrong rule.
+AT_HAND = 2_000       # Journals whose runs are kept, for the next wrong rule.
+A_BATCH = 50
+MEMORY = "/dev/shm"
+MET = {"book": r"J book 0", "reports": r"J Cn 0", "true snapshots": r"J check 0", "false snapshot": r"J check 1 .*false snapshot",
+       "snapshot added": r"J snapshot 0", "carried over": r"J carry 0", "no carry": r"J carry 1 .*fault 45",
+       "no snapshot": r"J snapshot 1 .*fault 45", "NEW exists": r".*NEW exists", "no journal": r"J .*fault 43",
+       "damaged": r"J check 1 .*fault 42 at", "new book": r"N book 0", "new reports": r"N Cn 0", "new checked": r"N check 0",
+       "new snapshot": r"N snapshot 0", "missing": r"N .*fault 41"}
+SHOWN = {name: re.compile(form) for name, form in MET.items()}
+
+
+class Step(NamedTuple):
+    """A run that the rules know of: its words, how it ends, and the files then."""
+    words: list[str]
+    outcome: Outcome
+    files: dict[str, bytes]
+
+
+class Telling(Replayer):
+    """The rules, which tell why a snapshot was none."""
+
+    def __init__(self, files: dict[str, bytes]) -> None:
+        super().__init__(files)
+        self.met: list[str] = []
+
+    def restore(self, it: Snapshot, journal: Journal, symbols: Symbols) -> Book:
+        try:
+            snapshot_rules.restore(it.data, symbols, journal.cut)
+        except BadSnapshot as why:
+            self.met.append(f"refused for its {why}")
+        return super().restore(it, journal, symbols)
+
+
+class Program:
+    """The built program, in a folder with the files of one journal."""
+
+    def __init__(self, folder: str) -> None:
+        self.folder, self.path = folder, os.path.abspath(REPLAY)
+
+    def place(self, name: str) -> str:
+        return os.path.join(self.folder, name)
+
+    def begin(self, data: bytes) -> None:
+        """Makes J a file of these bytes, and N none."""
+        with open(self.place("J"), "wb") as file:
+            file.write(data)
+        self.drop()
+
+    def drop(self) -> None:
+        """Deletes what a carry that failed may have left."""
+        if os.path.lexists(self.place("N")):
+            os.remove(self.place("N"))
+
+    def run(self, words: list[str]) -> Outcome:
+        try:
+            ran = subprocess.run([self.path, *words], cwd=self.folder, capture_output=True, timeout=PATIENCE)
+        except subprocess.TimeoutExpired:
+            return Outcome(-1, "", f"expected an end came none within {PATIENCE} seconds")
+        return Outcome(ran.returncode, ran.stdout.decode("latin-1"), ran.stderr.decode("latin-1"))
+
+    def files(self) -> dict[str, bytes]:
+        """What stands in the folder."""
+        found = {}
+        for name in sorted(os.listdir(self.folder)):
+            with open(self.place(name), "rb") as file:
+                found[name] = file.read()
+        return found
+
+
+class WrongRules:
+    """A program that goes by a wrong rule."""
+
+    def __init__(self, wrong: Wrong) -> None:
+        self.wrong, self.stored = wrong, {}
+
+    def begin(self, data: bytes) -> None:
+        self.stored = {"J": data}
+
+    def drop(self) -> None:
+        self.stored.pop("N", None)
+
+    def run(self, words: list[str]) -> Outcome:
+        with self.wrong.put():
+            try:
+                return Replayer(self.stored).run(words)
+            except (LookupError, ValueError, TypeError) as why:
+                return Outcome(-1, "", f"{why!r}")
+
+    def files(self) -> dict[str, bytes]:
+        return self.stored
+
+
+@functools.lru_cache(AT_HAND)
+def asked(seed: str, number: int) -> tuple[Chosen, list[Step]]:
+    """A journal, and the runs on it as the rules know them. Many wrong rules are tried on the same ones."""
+    it = chosen(seed, number)
+    return it, judged(it)[0]
+
+
+def judged(it: Chosen) -> tuple[list[Step], list[str]]:
+    """The runs on this journal as the rules know them, and why snapshots were refused in them."""
+    rules, steps = Telling({"J": it.data}), []
+    for words in it.runs:
+        outcome = rules.run(words)
+        steps.append(Step(words, outcome, dict(rules.files)))
+    return steps, rules.met
+
+
+def short(it: object) -> str:
+    """This in words that fit into a line or two."""
+    text = it.hex() if isinstance(it, bytes) else repr(it)
+    return text if len(text) < 400 else f"{text[:200]}..{text[-200:]} ({len(text)} characters)"
+
+
+def files_difference(wanted: dict[str, bytes], came: dict[str, bytes]) -> str | None:
+    for name in sorted({*wanted, *came}):
+        if wanted.get(name) != came.get(name):
+            return f"expected {name} {short(wanted.get(name))} came {short(came.get(name))}"
+    return None
+
+
+def difference(it: Chosen, steps: list[Step], tried: Program | WrongRules) -> str | None:
+    """How what is tried differs from the rules on this journal, or None."""
+    tried.begin(it.data)
+    for at, (words, wanted, files) in enumerate(steps):
+        came = tried.run(words)
+        if came != wanted:
+            return f"run {at}, {' '.join(words)}: expected {short(wanted)} came {short(came)}"
+        if "N" not in files:
+            tried.drop()
+        if why := files_difference(files, tried.files()):
+            return f"run {at}, {' '.join(words)}: {why}"
+    return None
+
+
+def seen(steps: list[Step]) -> Iterator[str]:
+    """What these runs met."""
+    for words, outcome, _ in steps:
+        line = f"{words[0]} {re.sub('C[1-8]', 'Cn', words[1])} {outcome.status} {outcome.err}"
+        yield from (name for name, form in SHOWN.items() if form.match(line))
+
+
+def batch(seed: str, numbers: list[int], keep: str | None) -> tuple[collections.Counter, int, list[str]]:
+    """Compares the program on these journals: what they met, how often it ran, and what differs."""
+    met, runs, faults = collections.Counter(), 0, []
+    with tempfile.TemporaryDirectory(prefix="journals-", dir=MEMORY if os.path.isdir(MEMORY) else None) as folder:
+        program = Program(folder)
+        for number in numbers:
+            it = chosen(seed, number)
+            steps, refused = judged(it)
+            met.update([*seen(steps), *refused])
+            runs += len(steps)
+            if why := difference(it, steps, program):
+                faults.append(f"journal {number}: {why}{kept(keep, number, it.data)}")
+    return met, runs, faults
+
+
+def kept(folder: str | None, number: int, data: bytes) -> str:
+    """Keeps a journal that shows a difference, and says where; a short one is shown."""
+    if folder is None:
+        return f"; its bytes: {short(data)}"
+    os.makedirs(folder, exist_ok=True)
+    path = os.path.join(folder, f"{number}.journal")
+    with open(path, "wb") as file:
+        file.write(data)
+    return f"; kept as {path}"
+
+
+def journals(given: argparse.Namespace) -> tuple[str, list[str]]:
+    """The program on journals by chance."""
+    numbers = [given.only] if given.only is not None else list(range(given.journals))
+    batches = [numbers[at:at + A_BATCH] for at in range(0, len(numbers), A_BATCH)]
+    met, runs, faults = collections.Counter(), 0, []
+    with concurrent.futures.ProcessPoolExecutor(given.together) as pool:
+        for some, count, differ in pool.map(batch, [given.seed] * len(batches), batches, [given.keep] * len(batches)):
+            met, runs, faults = met + some, runs + count, faults + differ
+    wanted = [*MET, *(f"refused for its {it}" for it in CONDITIONS)]
+    print("    " + ", ".join(f"{it}: {met[it]}" for it in wanted))
+    if len(numbers) >= 10_000:
+        faults += [f"no journal met {it}" for it in wanted if not met[it]]
+    return f"{len(numbers)} journals, {runs} runs", faults
+
+
+def told(seed: str, name: str) -> int | None:
+    """The first journal on which a wrong rule differs, or None."""
+    tried = WrongRules(WRONG[name])
+    for number in range(MOST_TO_TELL):
+        if difference(*asked(seed, number), tried):
+            return number
+    return None
+
+
+def wrong_rules(given: argparse.Namespace) -> tuple[str, list[str]]:
+    """Each wrong rule differs on one of the journals."""
+    with concurrent.futures.ProcessPoolExecutor(given.together) as pool:
+        found = dict(zip(WRONG, pool.map(told, [given.seed] * len(WRONG), WRONG)))
+    last = max((it for it in found.values() if it is not None), default=0)
+    faults = [f"not told from the rules by {MOST_TO_TELL} journals: {name}" for name, it in found.items() if it is None]
+    return f"{len(found)} wrong rules, the last one by journal {last}", faults
+
+
+def wrong_words(_given: argparse.Namespace) -> tuple[str, list[str]]:
+    """Words that are none get the usage line, and nothing is made."""
+    with tempfile.TemporaryDirectory(prefix="journals-") as folder:
+        program = Program(folder)
+        came = {tuple(words): program.run(words) for words in WRONG_WORDS}
+        faults = [f"{list(words)}: came {it}" for words, it in came.items() if it != Outcome(1, "", f"{USAGE}\n")]
+        return f"{len(came)} runs", faults + [f"made {it}" for it in os.listdir(folder)]
+
+
+def positive(word: str) -> int:
+    if not word.isdecimal() or not int(word):
+        raise argparse.ArgumentTypeError(f"not a number above 0: {word}")
+    return int(word)
+
+
+def read_words() -> argparse.Namespace:
+    parser = argparse.ArgumentParser(description=__doc__, formatter_class=argparse.RawDescriptionHelpFormatter)
+    parser.add_argument("--journals", type=positive, default=SAMPLE, metavar="N", help=f"so many; {SAMPLE:,}, if left out")
+    parser.add_argument("--only", type=int, metavar="NUMBER", help="the journal of this number alone")
+    parser.add_argument("--seed", default=str(random.randrange(10 ** 9)), help="what the choice begins with")
+    parser.add_argument("--together", type=positive, default=os.cpu_count(), metavar="N", help="processes side by side")
+    parser.add_argument("--keep", metavar="FOLDER", help="keep the journals on which something differs")
+    parser.add_argument("--rules-alone", action="store_true", help="run no program")
+    return parser.parse_args()
+
+
+def main() -> None:
+    given = read_words()
+    if not given.rules_alone and not os.access(REPLAY, os.X_OK):
+        sys.exit(f"journals_by_chance: {os.path.relpath(REPLAY)} isn't built: scripts/build proves and builds it")
+    tests = [wrong_rules] if given.rules_alone else [wrong_rules, wrong_words, journals]
+    tests = [journals] if given.only is not None else tests
+    print(f"journals_by_chance: seed {given.seed}", flush=True)
+    failed = 0
+    for test in tests:
+        begun = time.monotonic()
+        what, faults = test(given)
+        for it in faults[:5]:
+            print(f"{test.__name__}: {it}")
+        print(f"{test.__name__}: {what} in {time.monotonic() - begun:.0f} s, {len(faults)} differ", flush=True)
+        failed += bool(faults)
+    print(f"{len(tests) - failed} passed, {failed} failed")
+    sys.exit(1 if failed else 0)
+
+
+if __name__ == "__main__":
+    main()
