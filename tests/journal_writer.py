@@ -104,19 +104,27 @@ class Orders:
         return it
 
 
-def edges(name: str, told: dict[str, int], row: dict[str, int], other: dict[str, int]) -> list[int]:
-    """Values round the bounds of a field of a snapshot, and those of another row."""
+def inside(name: str, told: dict[str, int], row: dict[str, int]) -> list[int]:
+    """Values of a field of a snapshot that may stand there: those at the bounds, and the neighbours of what stands there."""
     commands, now = told["commands"], {**told, **row}[name]
-    found = {"commands": [], "outputs": [0, MOST_OUTPUTS * commands, MOST_OUTPUTS * commands + 1], "resting": [0],
-             "number": [0, 1, commands, commands + 1], "client": [0, 1, 8, 9], "symbol": [0, 1, 2, 255], "side": [0, 1, 2, 3],
-             "name": [0, 0, 1, MOST_NAME, MOST_NAME + 1], "price": [0, 1, MILLION, MILLION + 1],
-             "stamp": [0, commands - 1, commands, commands]}
+    found = {"outputs": [0, MOST_OUTPUTS * commands], "number": [1, commands], "client": [1, 8], "symbol": [0, 1], "side": [1, 2],
+             "name": [1, MOST_NAME], "price": [1, MILLION], "stamp": [0, commands - 1]}
     if row:
-        cum, total = row["cum"], row["total"]
-        found["name"].append(told.get(f"greatest {row['client']}", 0) + 1)
-        found |= {"total": [0, cum, cum + 1, MILLION, MILLION + 1], "cum": [0, total - 1, total, total + 1],
-                  "paid": [0, cum * MILLION, cum * MILLION + 1]}
-    return [*found.get(name, [0, MOST_NAME, MOST_NAME + 1]), now - 1, now + 1, *([other[name]] * 3 if name in other else [])]
+        found |= {"total": [row["cum"] + 1, MILLION], "cum": [0, row["total"] - 1], "paid": [0, row["cum"] * MILLION]}
+    return [*found.get(name, [0, MOST_NAME]), now - 1, now + 1]
+
+
+def outside(name: str, told: dict[str, int], row: dict[str, int], other: dict[str, int]) -> list[int]:
+    """Values that may not stand there, nearest to the bounds, and what stands in another row."""
+    commands = told["commands"]
+    found = {"commands": [commands + 1], "resting": [told["resting"] + 1], "outputs": [MOST_OUTPUTS * commands + 1],
+             "number": [0, commands + 1], "client": [0, 9], "symbol": [2, 3, 255], "side": [0, 3], "price": [0, MILLION + 1],
+             "stamp": [commands]}
+    if row:
+        greatest = told.get(f"greatest {row['client']}", MOST_NAME)
+        found |= {"name": [0, MOST_NAME + 1, greatest + 1], "total": [0, row["cum"], MILLION + 1],
+                  "cum": [row["total"], row["total"] + 1], "paid": [row["cum"] * MILLION + 1]}
+    return found.get(name, [MOST_NAME + 1]) + ([other[name]] if name in other else [])
 
 
 def with_a_field_changed(chance: random.Random, data: bytes) -> bytes:
@@ -127,7 +135,8 @@ def with_a_field_changed(chance: random.Random, data: bytes) -> bytes:
     changed = told if row is None else row
     name = chance.choice(tuple(changed))
     other = chance.choice([it for it in rows if it["client"] == row["client"]]) if row else {}
-    changed[name] = chance.choice(edges(name, told, row or {}, other)) % TOP[name]
+    values = outside(name, told, row or {}, other) if chance.random() < 0.6 else inside(name, told, row or {})
+    changed[name] = chance.choice(values) % TOP[name]
     return HEAD.pack(*told.values()) + b"".join(ORDER.pack(*it.values()) for it in rows)
 
 
@@ -216,7 +225,7 @@ class Writer:
             self.add_void(chance.choice(LONG))
         has_snapshots = self.version >= journals.WITH_SNAPSHOTS
         share = chance.choice((0, 0.2, 0.5)) if has_snapshots else 0
-        for _ in range(chance.choice((0, 1, 2, 3, 5, 8, 13))):
+        for _ in range(chance.choice((0, 1, 2, 3, 5, 8))):
             if chance.random() < share:
                 self.add_snapshot(0.3)
             else:
