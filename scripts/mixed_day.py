@@ -1,12 +1,12 @@
 """A journal of a day by chance, for the scripts that measure: so many entries, with about so many orders resting. It has
-limit orders alone, and version 1, so that the programs of two releases can be measured on the same day."""
+limit orders alone, and version 1 where no other is asked for, so that the programs of two releases can be measured on the
+same day."""
 import random
-import struct
 
+import journals
+from journals import Entry
 from venues import message
 
-HEADER = b"VNJL" + struct.pack(">I", 1)
-OPEN, CLOSED = b"\x01", b"\x00"
 A_BLOCK = 64
 MIDDLE, PRICES = 10_000, 32
 LOTS = 900_000           # The least that a resting order asks for: so much that trades of one never fill it.
@@ -75,13 +75,12 @@ class Day:
         return self.replace() if kind < 75 else self.cancel()
 
 
-def write_journal(path, entries, resting):
-    """Writes the journal of such a day, in blocks of 64 entries."""
+def write_journal(path, entries, resting, version=1):
+    """Writes the journal of such a day, in blocks of 64 entries, without a snapshot."""
     day = Day(resting)
     with open(path, "wb") as file:
-        file.write(HEADER)
+        file.write(journals.header(version))
         for first in range(0, entries, A_BLOCK):
             said = (day.next() for _ in range(min(A_BLOCK, entries - first)))
-            records = b"".join(struct.pack(">BH", member + 1, len(text)) + text for member, text in said)
-            file.write(OPEN + struct.pack(">I", len(records)) + records)
-        file.write(CLOSED)
+            file.write(journals.block_of(version, [Entry(member + 1, text) for member, text in said]))
+        file.write(journals.CLOSED)

@@ -11,7 +11,7 @@ moves half of its bytes, which is no failure; or the program is killed in its pl
   as it was; one that served says `venued: journal failed` with status 2, or, killed, nothing;
 - what came out is a beginning of what the member is to be told;
 - venue-replay finds a beginning of the orders that has each of which anything was told;
-- the journal has the version that it had, 1 or 2, or 2 where the program made it;
+- the journal has the version and the cut that it had, or those with which the program makes one;
 - a new start on that journal goes on behind it, with the next OrderID and ExecID.
 
 The same for a venue that listens, and for venue-replay. Calls are refused by tests/refusals.c, which cc compiles into a
@@ -24,8 +24,9 @@ import collections
 import signal
 import sys
 
-from refusals import FRESH, LOGON, OLD, answered, answers, check_history, contents, journal_of, listens, orders
+from refusals import FRESH, LOGON, answered, answers, check_history, contents, journal_of, listens, orders
 from refusals import printed_report, put, ran, run_tests, standard
+import journals
 from venues import REPLAY, Client, Trouble, printed
 
 ORDERS = 4
@@ -45,9 +46,10 @@ def check_goes_on(journal, kept):
 
 def check_version(journal, before):
     """A journal has the header that it had, or that of an empty one which venued makes."""
-    came, wanted = (contents(journal) or FRESH)[:8], (before or FRESH)[:8]
-    if came != wanted:
-        raise Trouble(f"expected a journal that begins with {wanted.hex()} came {came.hex()}")
+    came, before = contents(journal) or FRESH, before or FRESH
+    wanted = before[:len(journals.header(journals.version_of(before)))]
+    if not came.startswith(wanted):
+        raise Trouble(f"expected a journal that begins with {wanted.hex()} came {came[:16].hex()}")
 
 
 def check_ended(how, came, journal, before, first):
@@ -86,7 +88,7 @@ def check_session(refusal, before):
 def standard_session(sweeps):
     """`venued -`, on a missing journal, and on one of each version with an order in it."""
     statuses = collections.Counter()
-    for before in (None, journal_of(orders(1, 1), OLD), journal_of(orders(1, 1))):
+    for before in (None, *(journal_of(orders(1, 1), it) for it in journals.VERSIONS)):
         for how in ("once", "on", "short", "before", "after"):
             sweeps.sweep(lambda it: statuses.update([check_session(it, before)]), "device", how)
     if not all(statuses[it] for it in (0, 1, 2, KILLED)):

@@ -9,8 +9,8 @@
 Three tests. `cuts`: the bytes of the first order in two pieces, cut at each place, are answered as in one.
 `replaced_bytes`: each of them is replaced by 00 and by other values. `mutated_sessions`: sessions of up to a hundred
 messages, right ones and wrong ones, many on one journal, so that later ones find a book. A tenth of the messages are
-market orders, or were before they were changed; of the journals each second one is of version 1, on which the venue
-refuses these. tests/rules.py says which bytes may come out: the venue's own answers in their order, the reports in
+market orders, or were before they were changed; the journals are of all versions by turns, and on those of version 1 the
+venue refuses these. tests/rules.py says which bytes may come out: the venue's own answers in their order, the reports in
 theirs, numbered together, nothing behind a Logout; where a Logout ended the session, reports that were due may be missing
 at the end. Behind every journal venue-replay has to print each report that the rules know of, and the journal has to have
 the version that it had.
@@ -47,8 +47,7 @@ SYMBOLS = ("ABC", "XYZ")
 FIRST = message(1, 1, "A", "98=0|108=0|141=Y|") + message(1, 2, "D", order(1, 1, 100, 50))
 OTHERS = b"\x00\x01\x30\x7f\x80\xff"
 SESSIONS = 16      # Sessions of one journal.
-VERSIONS = (1, 2)  # Of journals, by turns.
-CUTS = {it: journals.begun(journals.empty(it)).cut for it in VERSIONS}
+CUTS = {it: journals.begun(journals.empty(it)).cut for it in journals.VERSIONS}
 WITHOUT_PRICE = r"\|38=\d+\|(?:32|151)="  # In a report: behind the quantity comes what stands behind a Price.
 WANTED = [*(f"58={it}" for it in ("bad begin", "bad length", "bad checksum", "too long", "bad field", "bad header",
                                   "wrong party", "wrong number", "no logon", "bad logon", "bad test", "bad type")),
@@ -300,16 +299,11 @@ def kept(journal):
     return ran_.stdout.decode("latin-1").splitlines()
 
 
-def header(version):
-    """How a journal of this version begins: the header, and a closed gate behind it is an empty one."""
-    return b"VNJL" + struct.pack(">I", version)
-
-
 def begun(journal, version):
-    """A journal of this version for sessions to come. The venue makes one of the newest version by itself."""
-    if version == 1:
+    """A journal of this version for sessions to come. The venue makes one by itself, of the version that it makes."""
+    if version != journals.MADE:
         with open(journal, "wb") as file:
-            file.write(header(version) + b"\0")
+            file.write(journals.empty(version))
 
 
 def check_kept(journal, version, lines):
@@ -317,15 +311,16 @@ def check_kept(journal, version, lines):
     if (came := kept(journal)) != lines:
         at = next(at for at, (one, two) in enumerate(itertools.zip_longest(lines, came)) if one != two)
         return f"venue-replay, line {at + 1}: expected {lines[at:at + 1]} came {came[at:at + 1]}"
+    wanted = journals.header(version)
     with open(journal, "rb") as file:
-        if (came := file.read(8)) != header(version):
-            return f"expected a journal that begins with {header(version).hex()} came {came.hex()}"
+        if (came := file.read(len(wanted))) != wanted:
+            return f"expected a journal that begins with {wanted.hex()} came {came.hex()}"
     return None
 
 
 def batch(number, seed, journal):
     """Sessions on one journal: how many messages, what they met, and what differed."""
-    version = VERSIONS[number % len(VERSIONS)]
+    version = journals.VERSIONS[number % len(journals.VERSIONS)]
     writer, book = Writer(random.Random(f"{seed} {number}")), Book(SYMBOLS, CUTS[version])
     met, messages, lines = collections.Counter(), 0, []
     begun(journal, version)

@@ -20,6 +20,7 @@ ROOT = os.path.dirname(os.path.dirname(os.path.abspath(__file__)))
 sys.path.insert(0, os.path.join(ROOT, "scripts"))
 
 import needs_python  # (in front of what an older Python can't read)
+import journals
 from venues import HOST, PATIENCE, VENUED, Client, Trouble, Venue, framed, free_port, kill_all, market_order, message
 from venues import need_programs, order, replay, started, value
 
@@ -27,7 +28,7 @@ UNPRINTED = re.compile(r"\|(?:8|9|34|49|56|10)=[^|]*(?=\|)")
 DAYS = ["first_trade", "time_priority", "sweep_two_levels", "fill_or_kill", "replace_and_place_in_queue",
         "replace_crosses", "replace_below_filled", "market_order_without_match", "market_sweep"]
 JOURNAL = "venue.journal"
-EMPTY, OLD_EMPTY = b"VNJL\0\0\0\2\0", b"VNJL\0\0\0\1\0"  # Journals without entries, as venued makes one and as it did before.
+EMPTY, OLD_EMPTY = journals.empty(), journals.empty(1)  # Without entries, as venued makes one and as it did at first.
 PROFILE = os.path.join(ROOT, "docs", "PROFILE.md")
 USAGE = "usage: venued PORT JOURNAL GATEWAYS SYMBOL..."
 LOGON = "8=FIX.4.4|9=63|35=A|49=C1|56=VENUE|34=1|52=20250102-09:30:00|98=0|108=0|141=Y|10=026|"

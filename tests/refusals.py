@@ -11,13 +11,14 @@ ROOT = os.path.dirname(os.path.dirname(os.path.abspath(__file__)))
 sys.path.insert(0, os.path.join(ROOT, "scripts"))
 
 import needs_python  # (in front of what an older Python can't read)
+import journals
 from book_rules import Book
+from journals import Entry
 from rules import Judged, told
 from venues import COUNTS, PATIENCE, TRIES, VENUED, Trouble, Venue, free_port, kill_all, message, need_programs, order
 from venues import printed, replay
 
-FRESH = b"VNJL\0\0\0\2\0"  # An empty journal, as venued makes one; an old one has version 1.
-OLD = b"VNJL\0\0\0\1\0"
+FRESH = journals.empty()  # As venued makes one.
 LOGON = message(1, 1, "A", "98=0|108=0|141=Y|")
 LONG = 4 * PATIENCE  # A venue tries for ten seconds to start a thread, and for longer where others keep the cores busy.
 MOST_CALLS = 10_000  # A bound for a test that goes wrong.
@@ -148,12 +149,9 @@ def put(name, data):
             file.write(data)
 
 
-def journal_of(messages, empty=FRESH):
-    """The bytes of a journal of these messages of C1, each in a block of its own, behind the header of an empty one."""
-    data = empty[:-1]
-    for it in messages:
-        data += b"\1" + (len(it) + 3).to_bytes(4, "big") + b"\1" + len(it).to_bytes(2, "big") + it
-    return data + b"\0"
+def journal_of(messages, version=journals.MADE):
+    """The bytes of a journal of these messages of C1, each in a block of its own."""
+    return journals.header(version) + journals.in_blocks(version, [Entry(1, it) for it in messages], 1) + journals.CLOSED
 
 
 def after(count):
