@@ -107,8 +107,8 @@ class Orders:
 def inside(name: str, told: dict[str, int], row: dict[str, int]) -> list[int]:
     """Values of a field of a snapshot that may stand there: those at the bounds, and the neighbours of what stands there."""
     commands, now = told["commands"], {**told, **row}[name]
-    found = {"outputs": [0, MOST_OUTPUTS * commands], "number": [1, commands], "client": [1, 8], "symbol": [0, 1], "side": [1, 2],
-             "name": [1, MOST_NAME], "price": [1, MILLION], "stamp": [0, commands - 1]}
+    found = {"outputs": [0, MOST_OUTPUTS * commands], "number": [1, commands], "client": [1, 8], "symbol": [0, 1],
+             "side": [1, 2], "name": [1, MOST_NAME], "price": [1, MILLION], "stamp": [0, commands - 1]}
     if row:
         found |= {"total": [row["cum"] + 1, MILLION], "cum": [0, row["total"] - 1], "paid": [0, row["cum"] * MILLION]}
     return [*found.get(name, [0, MOST_NAME]), now - 1, now + 1]

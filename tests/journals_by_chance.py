@@ -33,7 +33,7 @@ import time
 from collections.abc import Iterator
 from typing import NamedTuple
 
-from replay_rules import USAGE, WRONG_WORDS, Outcome, Replayer, Symbols  # (it finds the scripts' modules)
+from replay_rules import USAGE, WRONG_WORDS, Outcome, Replayer, Symbols  # (first: it finds the scripts' modules)
 import snapshot_rules
 from book_rules import Book
 from journal_writer import Chosen, chosen
@@ -47,8 +47,9 @@ MOST_TO_TELL = 10_000  # and those among which one has to tell a wrong rule.
 AT_HAND = 2_000       # Journals whose runs are kept, for the next wrong rule.
 A_BATCH = 50
 MEMORY = "/dev/shm"
-MET = {"book": r"J book 0", "reports": r"J Cn 0", "true snapshots": r"J check 0", "false snapshot": r"J check 1 .*false snapshot",
-       "snapshot added": r"J snapshot 0", "carried over": r"J carry 0", "no carry": r"J carry 1 .*fault 45",
+MET = {"book": r"J book 0", "reports": r"J Cn 0", "true snapshots": r"J check 0",
+       "false snapshot": r"J check 1 .*false snapshot", "snapshot added": r"J snapshot 0",
+       "carried over": r"J carry 0", "no carry": r"J carry 1 .*fault 45",
        "no snapshot": r"J snapshot 1 .*fault 45", "NEW exists": r".*NEW exists", "no journal": r"J .*fault 43",
        "damaged": r"J check 1 .*fault 42 at", "new book": r"N book 0", "new reports": r"N Cn 0", "new checked": r"N check 0",
        "new snapshot": r"N snapshot 0", "missing": r"N .*fault 41"}

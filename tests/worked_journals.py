@@ -10,7 +10,7 @@ snapshot, beside the nearest that are one. The last line is `N passed, M failed`
 import sys
 from collections.abc import Iterator
 
-from replay_rules import USAGE, WRONG_WORDS, Outcome, Replayer  # (it finds the scripts' modules, and looks at the version of Python)
+from replay_rules import USAGE, WRONG_WORDS, Outcome, Replayer  # (first: it finds the scripts' modules)
 import journals
 from book_rules import Book
 from journals import Damaged, Entry, NotAJournal, Snapshot
@@ -161,6 +161,21 @@ def second_version_carried() -> None:
     expect(Replayer(files).run(["OLD", "carry", "NEW"]), Outcome(0, "carried 4098 commands\n", ""))
     full, rest = 4096 * "08000178", 2 * "08000178"
     expect(files["NEW"], of(f"{HEADER} 01 00004001 01 {full} 01 00000009 01 {rest} 00"))
+
+
+def which_fault_comes_first() -> None:
+    """A journal that can't be opened, then the new file, then what the journal holds: damage, and last its version."""
+    broken = {"FIRST": of("564e4a4c 00000001"), "THIRD": of(HEADER), "NEW": b"", "NONE": b"x", "WHOLE": journals.empty(3)}
+    for words, line in ((["MISSING", "carry", "NEW"], "journal fault 41"), (["NONE", "carry", "NEW"], "NEW exists"),
+                        (["WHOLE", "carry", "WHOLE"], "NEW exists"), (["NONE", "carry", "OTHER"], "journal fault 43"),
+                        (["FIRST", "carry", "OTHER"], "journal fault 42 at 8"),
+                        (["THIRD", "carry", "OTHER"], "journal fault 42 at 16"),
+                        (["WHOLE", "carry", "OTHER"], "journal fault 45"),
+                        (["FIRST", "snapshot", "ABC"], "journal fault 42 at 8")):
+        files = dict(broken)
+        expect((words, Replayer(files).run(words), files), (words, refused(line), broken))
+    behind = of(WITH_SNAPSHOT.replace(ROW, ROW.replace("00000032", "00000000"))[:-2])
+    expect(ran(behind, "book", "ABC")[0], refused("journal fault 42 at 285"))
 
 
 def false_snapshot() -> None:
@@ -324,8 +339,8 @@ def entries_that_are_no_orders() -> None:
 
 
 TESTS = [empty_journals, blocks, snapshot_of_one_order, snapshot_of_nothing, entries_behind_a_snapshot, crash_in_a_snapshot,
-         old_journal_carried, second_version_carried, false_snapshot, snapshot_that_is_none, damage, snapshots,
-         crossed_books_go_on, wrong_words, entries_that_are_no_orders]
+         old_journal_carried, second_version_carried, which_fault_comes_first, false_snapshot, snapshot_that_is_none, damage,
+         snapshots, crossed_books_go_on, wrong_words, entries_that_are_no_orders]
 
 
 def passes(test) -> bool:
