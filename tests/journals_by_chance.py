@@ -22,7 +22,6 @@ taken by the environment's VENUE_REPLAY, and tests/replay_rules.py is one.
 import argparse
 import collections
 import concurrent.futures
-import functools
 import os
 import random
 import re
@@ -44,7 +43,6 @@ from wrong_replays import CONDITIONS, WRONG, Wrong
 
 SAMPLE = 2_000       # Journals of the full check,
 MOST_TO_TELL = 10_000  # and those among which one has to tell a wrong rule.
-AT_HAND = 2_000       # Journals whose runs are kept, for the next wrong rule.
 A_BATCH = 50
 MEMORY = "/dev/shm"
 MET = {"book": r"J book 0", "reports": r"J Cn 0", "true snapshots": r"J check 0",
@@ -137,13 +135,6 @@ class WrongRules:
         return self.stored
 
 
-@functools.lru_cache(AT_HAND)
-def asked(seed: str, number: int) -> tuple[Chosen, list[Step]]:
-    """A journal, and the runs on it as the rules know them. Many wrong rules are tried on the same ones."""
-    it = chosen(seed, number)
-    return it, judged(it)[0]
-
-
 def judged(it: Chosen) -> tuple[list[Step], list[str]]:
     """The runs on this journal as the rules know them, and why snapshots were refused in them."""
     rules, steps = Telling({"J": it.data}), []
@@ -228,22 +219,30 @@ def journals(given: argparse.Namespace) -> tuple[str, list[str]]:
     return f"{len(numbers)} journals, {runs} runs", faults
 
 
-def told(seed: str, name: str) -> int | None:
-    """The first journal on which a wrong rule differs, or None."""
-    tried = WrongRules(WRONG[name])
-    for number in range(MOST_TO_TELL):
-        if difference(*asked(seed, number), tried):
-            return number
-    return None
+def told(seed: str, numbers: range, names: list[str]) -> dict[str, int]:
+    """Which of these wrong rules differ on some of these journals, and on which one first."""
+    found: dict[str, int] = {}
+    for number in numbers:
+        it = chosen(seed, number)
+        steps, _ = judged(it)
+        for name in names:
+            if name not in found and difference(it, steps, WrongRules(WRONG[name])):
+                found[name] = number
+    return found
 
 
 def wrong_rules(given: argparse.Namespace) -> tuple[str, list[str]]:
-    """Each wrong rule differs on one of the journals."""
+    """Each wrong rule differs on one of the journals. Those that are told are tried no more."""
+    found: dict[str, int] = {}
+    first, left = 0, list(WRONG)
     with concurrent.futures.ProcessPoolExecutor(given.together) as pool:
-        found = dict(zip(WRONG, pool.map(told, [given.seed] * len(WRONG), WRONG)))
-    last = max((it for it in found.values() if it is not None), default=0)
-    faults = [f"not told from the rules by {MOST_TO_TELL} journals: {name}" for name, it in found.items() if it is None]
-    return f"{len(found)} wrong rules, the last one by journal {last}", faults
+        while left and first < MOST_TO_TELL:
+            ranges = [range(at, at + A_BATCH) for at in range(first, first + A_BATCH * given.together, A_BATCH)]
+            for some in pool.map(told, [given.seed] * len(ranges), ranges, [left] * len(ranges)):
+                found = {**some, **found}
+            first, left = ranges[-1].stop, [it for it in WRONG if it not in found]
+    faults = [f"not told from the rules by {first} journals: {it}" for it in left]
+    return f"{len(found)} wrong rules, the last one by journal {max(found.values(), default=0)}", faults
 
 
 def wrong_words(_given: argparse.Namespace) -> tuple[str, list[str]]:
