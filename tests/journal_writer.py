@@ -122,7 +122,7 @@ def outside(name: str, told: dict[str, int], row: dict[str, int], other: dict[st
              "stamp": [commands]}
     if row:
         greatest = told.get(f"greatest {row['client']}", MOST_NAME)
-        found |= {"name": [0, MOST_NAME + 1, greatest + 1], "total": [0, row["cum"], MILLION + 1],
+        found |= {"name": [0, 0, 0, MOST_NAME + 1, greatest + 1], "total": [0, row["cum"], MILLION + 1],
                   "cum": [row["total"], row["total"] + 1], "paid": [row["cum"] * MILLION + 1]}
     return found.get(name, [MOST_NAME + 1]) + ([other[name]] if name in other else [])
 
@@ -165,9 +165,15 @@ def without_names(data: bytes) -> bytes:
     return data[:16] + b"".join(kept) + data[80:]
 
 
+def highest_buy(data: bytes) -> bytes:
+    """A snapshot whose first order, where it buys, does so at the highest price, so that it may cross a sell that rests."""
+    price = ROWS + 8 + 1 + 8 + 1 + 1
+    return data[:price] + struct.pack(">I", MILLION) + data[price + 4:] if data[price - 1:price] == b"\1" else data + b"\0"
+
+
 def changed(chance: random.Random, data: bytes, before: bytes) -> bytes:
     """A snapshot that isn't quite this one. `before` is an earlier one."""
-    form = chance.choices("fbrnse", (16, 2, 3, 1, 1, 1))[0]
+    form = chance.choices("fbrnsec", (16, 2, 6, 1, 1, 1, 1))[0]
     if form == "f":
         return with_a_field_changed(chance, data)
     if form == "b":
@@ -177,6 +183,8 @@ def changed(chance: random.Random, data: bytes, before: bytes) -> bytes:
         return with_other_rows(chance, data)
     if form == "n":
         return without_names(data)
+    if form == "c":
+        return highest_buy(data)
     if form == "s":
         return chance.choice((data[:-1], data + b"\0", b"", data[:82]))
     return data[:8] + before[8:]
@@ -184,7 +192,7 @@ def changed(chance: random.Random, data: bytes, before: bytes) -> bytes:
 
 def full_snapshot(chance: random.Random, commands: int) -> bytes:
     """A snapshot with as many orders as can rest, or one more: at prices of their own, and behind no matter what."""
-    count = chance.choice((4096, 4097))
+    count = chance.choice((4096, 4097, 4097))
     rows = (ORDER.pack(1, 1, it + 1, 0, 2, it + 1, 10, 0, 0, 0) for it in range(count))
     return HEAD.pack(commands, commands, count, *[0] * 7, count) + b"".join(rows)
 
@@ -234,7 +242,7 @@ class Writer:
             self.add_snapshot(0.85)
             for _ in range(chance.choice((0, 0, 1, 2))):
                 self.add_entries(chance.choice((1, 2)))
-        if chance.random() < 0.04:
+        if chance.random() < 0.06:
             self.data += journals.block_of(self.version, chance.choice(WRONG_BLOCKS))
 
 
