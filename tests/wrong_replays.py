@@ -1,5 +1,5 @@
-"""Wrong rules for journals and snapshots, each of which a test that compares has to tell from the right ones. Not a test: tests
-import it. A wrong rule is a function, a method or a constant of the right ones that is another one."""
+"""Wrong rules for journals and snapshots, each of which a test that compares has to tell from the right ones. Not a test:
+tests import it. A wrong rule is a function, a method or a constant of the right ones that is another one."""
 from contextlib import AbstractContextManager
 from typing import NamedTuple
 from unittest import mock
