@@ -1,4 +1,4 @@
--- Numbers in bytes, and the row of a resting order in a snapshot (docs/JOURNAL.md, "Snapshots").
+-- Numbers in bytes, and the row of a resting order in a snapshot (docs/JOURNAL.md, "The bytes of a snapshot").
 use Rattle.std.specs.Prelude.{ℕ, List, ◌++◌}
 use Rattle.std.specs.List.{flat_map}
 use Rattle.std.specs.Int.{bytes_high_first}

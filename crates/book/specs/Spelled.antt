@@ -50,15 +50,17 @@ pub record FitsRow (r : Row) : Type 0 where
   pub notional : r.notional < 2 ^ 64
   pub stamp : r.stamp < 2 ^ 64
 
--- An order can be the next one of a list: its numbers are in range, it comes behind the last one, and its client has none
--- under its name among those before it.
-pub record CanCome (symbols : Symbols) (greatest : List ℕ) (commands : ℕ) (last : Option Order) (orders : List Order) (o : Order) : Type 0 where
+-- An order can be the next one of a list: its numbers are in range, it comes behind the last one, and its client has
+-- none under its name among those before it.
+pub record CanCome (symbols : Symbols) (greatest : List ℕ) (commands : ℕ) (last : Option Order) (orders : List Order)
+    (o : Order) : Type 0 where
   pub ranges : HasRanges symbols greatest commands o
   pub behind : comes_behind symbols last o ≡ true
   pub fresh : NoneNamed o.client o.cl_ord_id orders
 
 -- the rows spell these orders, in the order of their stamps
-pub record Restores (symbols : Symbols) (greatest : List ℕ) (commands : ℕ) (rows : List ℕ) (orders : List Order) : Type 0 where
+pub record Restores (symbols : Symbols) (greatest : List ℕ) (commands : ℕ) (rows : List ℕ)
+    (orders : List Order) : Type 0 where
   pub listed : List Order
   pub spelled : rows ≡ orders_bytes symbols listed
   pub are : AreListed symbols greatest commands listed

@@ -1,5 +1,5 @@
 //! The book: what rests, and each client's greatest accepted ClOrdID.
-ghost use Rattle.std.specs.Prelude.{◌≡◌, ◌+◌, ◌*◌, ◌^◌, ◌<◌, ◌≤◌, [], ◌∷◌, ◌++◌, IfOk, IsOk};
+ghost use Rattle.std.specs.Prelude.{◌≡◌, ◌+◌, ◌*◌, ◌^◌, ◌<◌, ◌≤◌, [], ◌∷◌, ◌++◌, length, IfOk, IsOk};
 ghost use Rattle.std.specs.Vec.{vec_len, vec_capacity};
 ghost use Rattle.venue_model.specs.Match.{output};
 ghost use Rattle.venue_model.specs.Step.{empty, cause, step, IsCommand};
@@ -54,6 +54,14 @@ impl Book {
             greatest: [0; MOST_GATEWAYS],
             reads: 0,
         })
+    }
+
+    /// How many orders rest.
+    pub fn resting(&self) -> usize
+        ensures value { result ≡ length self.now.state.orders }
+        ensures most { result ≤ 4096 }
+    {
+        self.orders.len()
     }
 
     /// How many resting orders the last command read, of those that it matched or named. Prices and sums that the levels

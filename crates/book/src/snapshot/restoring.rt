@@ -28,7 +28,8 @@ impl Book {
     /// The book of a venue with these limits that the bytes of a snapshot spell. `Memory` says nothing of the bytes.
     pub fn restore(alloc: Global, bytes: &[u8], limits: &Limits) -> Result<Book, RestoreFault>
         ensures limits { IfOk result (λ b. b.limits ≡ limits.now) }
-        ensures spelled { IfOk result (λ b. (commands told : ℕ) × SnapshotOf limits.now.symbols b.state commands told bytes.now) }
+        ensures spelled { IfOk result (λ b. (commands told : ℕ)
+            × SnapshotOf limits.now.symbols b.state commands told bytes.now) }
         ensures stamps { IfOk result (λ b. InStamps b.state.orders) }
         ensures reads { IfOk result (λ b. b.reads ≡ 0) }
         ensures bad { IsErrOf result RestoreFault.BadSnapshot → NoSnapshot limits.now.symbols bytes.now }
@@ -46,8 +47,8 @@ impl Restored {
     pub fn of(alloc: Global, bytes: &[u8], logic: BookLogic) -> Result<Restored, RestoreFault>
         ensures limits { IfOk result (λ r. r.book.limits ≡ logic) }
         ensures spelled { IfOk result (λ r. SnapshotOf logic.symbols r.book.state r.commands r.outputs bytes.now) }
-        ensures written { IfOk result (λ r. bytes.now ≡ snapshot_bytes logic.symbols r.commands r.outputs r.book.state.greatest
-            (listing logic.symbols r.book.state.orders)) }
+        ensures written { IfOk result (λ r. bytes.now ≡ snapshot_bytes logic.symbols r.commands r.outputs
+            r.book.state.greatest (listing logic.symbols r.book.state.orders)) }
         ensures stamps { IfOk result (λ r. InStamps r.book.state.orders) }
         ensures below { IfOk result (λ r. Below r.commands r.book.state.orders) }
         ensures reads { IfOk result (λ r. r.book.reads ≡ 0) }
@@ -63,22 +64,16 @@ impl Restored {
         if !put_rows(&bytes[82..], &head, symbols, &mut orders) {
             return Err(RestoreFault::BadSnapshot);
         }
-        let Head {
-            commands,
-            outputs,
-            greatest,
-            ..
-        } = head;
         let book = Book {
             logic,
             orders,
-            greatest,
+            greatest: head.greatest,
             reads: 0,
         };
         Ok(Restored {
             book,
-            commands,
-            outputs,
+            commands: head.commands,
+            outputs: head.outputs,
         })
     }
 }

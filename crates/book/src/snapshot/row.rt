@@ -86,7 +86,8 @@ impl Row {
         ensures row { IfSome result (λ o. row_of symbols.now o ≡ self.now) }
         ensures known { IfSome result (λ o. list_any (bytes_eq o.symbol) symbols.now ≡ true) }
         ensures limit { IfSome result (λ o. o.is_market ≡ false) }
-        ensures none { IfNone result ((o : Order) → list_any (bytes_eq o.symbol) symbols.now ≡ true → row_of symbols.now o ≢ self.now) }
+        ensures none { IfNone result ((o : Order) → list_any (bytes_eq o.symbol) symbols.now ≡ true
+            → row_of symbols.now o ≢ self.now) }
     {
         let symbol = *symbols.get(self.symbol as usize)?;
         let side = side_of(self.side)?;

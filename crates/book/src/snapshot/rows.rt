@@ -15,8 +15,8 @@ use crate::snapshot::ranges::has_ranges;
 use crate::snapshot::row::Row;
 use venue_model::{Order, Symbol};
 
-/// Puts the orders of these rows in, where none rests yet. False where the rows spell no orders that could be listed; what
-/// rests then is of no matter.
+/// Puts the orders of these rows in, where none rests yet. False where the rows spell no orders that could be listed;
+/// what rests then is of no matter.
 pub(crate) fn put_rows(
     bytes: &[u8],
     head: &Head,
@@ -55,8 +55,8 @@ fn next_order(
     requires { AreSymbols symbols.now }
     ensures row { IfSome result (λ o. row_of symbols.now o ≡ row.now) }
     ensures can { IfSome result (CanCome symbols.now head.now.greatest head.now.commands last.now orders.now) }
-    ensures none { IfNone result ((o : Order) → CanCome symbols.now head.now.greatest head.now.commands last.now orders.now o
-        → row_of symbols.now o ≢ row.now) }
+    ensures none { IfNone result ((o : Order) →
+        CanCome symbols.now head.now.greatest head.now.commands last.now orders.now o → row_of symbols.now o ≢ row.now) }
 {
     let order = row.order(symbols)?;
     if has_ranges(&order, &head.greatest, head.commands)

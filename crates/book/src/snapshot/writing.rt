@@ -27,7 +27,8 @@ impl Book {
     /// Writes the numbers in front.
     fn put_head(&self, commands: u64, outputs: u64, buf: &mut [u8]) -> usize
         requires { 82 ≤ length buf.old }
-        ensures puts { Puts buf.old buf.new 0 result (head_bytes commands outputs self.now.state.greatest (length self.now.state.orders)) }
+        ensures puts { Puts buf.old buf.new 0 result
+            (head_bytes commands outputs self.now.state.greatest (length self.now.state.orders)) }
         ensures long { result ≡ 82 }
     {
         let end = put_eight(buf, 0, commands);
