@@ -164,12 +164,13 @@ def second_version_carried() -> None:
 
 
 def which_fault_comes_first() -> None:
-    """A journal that can't be opened, then the new file, then what the journal holds: damage, and last its version."""
+    """A journal that can't be opened, then the new file, then what the journal holds: its version, and last damage. A
+    snapshot is asked of a journal that is open, so there damage comes first."""
     broken = {"FIRST": of("564e4a4c 00000001"), "THIRD": of(HEADER), "NEW": b"", "NONE": b"x", "WHOLE": journals.empty(3)}
     for words, line in ((["MISSING", "carry", "NEW"], "journal fault 41"), (["NONE", "carry", "NEW"], "NEW exists"),
                         (["WHOLE", "carry", "WHOLE"], "NEW exists"), (["NONE", "carry", "OTHER"], "journal fault 43"),
                         (["FIRST", "carry", "OTHER"], "journal fault 42 at 8"),
-                        (["THIRD", "carry", "OTHER"], "journal fault 42 at 16"),
+                        (["THIRD", "carry", "OTHER"], "journal fault 45"),
                         (["WHOLE", "carry", "OTHER"], "journal fault 45"),
                         (["FIRST", "snapshot", "ABC"], "journal fault 42 at 8")):
         files = dict(broken)
