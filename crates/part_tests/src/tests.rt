@@ -5,5 +5,6 @@ mod carried;
 mod failing_disks;
 mod journals;
 mod plain_book;
+mod snapshots;
 mod two_books;
 mod worked_days;
