@@ -3,3 +3,6 @@ pub mod Taking
 mod Asking
 mod Telling
 mod Starting
+mod NewestLemmas
+mod Recovery
+mod Whole

@@ -7,3 +7,5 @@ pub mod Steps
 pub mod Truth
 pub mod Checking
 pub mod Starts
+pub mod Newest
+pub mod Recovering
