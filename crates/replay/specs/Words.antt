@@ -14,5 +14,5 @@ pub record AreReportWords (words : List (List ℕ)) (journal : List ℕ) (subjec
   pub word : List ℕ
   pub spelled : words ≡ journal ∷ word ∷ symbols
   pub named : 1 ≤ length journal
-  pub asked_from : IsNamed word subject
+  pub asked : IsNamed word subject
   pub traded : AreSymbols symbols
