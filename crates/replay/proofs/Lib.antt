@@ -6,3 +6,8 @@ mod Starting
 mod NewestLemmas
 mod Recovery
 mod Whole
+pub mod Looking
+mod Naming
+mod Clients
+mod Shaping
+mod Added

@@ -2,6 +2,9 @@ pub mod Replays
 pub mod Words
 pub mod Faults
 pub mod Lines
+pub mod Answers
+pub mod Carrying
+pub mod Adding
 pub mod Running
 pub mod Steps
 pub mod Truth

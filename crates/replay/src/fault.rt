@@ -1,4 +1,4 @@
-//! Why there is no report, and the line that says so.
+//! Why there is no report or other answer, and the line that says so.
 ghost use Rattle.std.specs.Prelude.{◌≡◌};
 
 use journal::JournalFault;
@@ -7,18 +7,24 @@ use std::io::Write;
 use thiserror::Error;
 use venue_model::LimitsFault;
 
-/// Why there is no report. The text is the line that the program prints.
+/// Why there is no report or other answer. The text is the line that the program prints.
 #[derive(Clone, Copy, Debug, PartialEq, Eq, Error)]
 pub enum ReplayFault {
     /// A word is missing or wrong, or the symbols are none that a venue can have (11).
-    #[error("usage: venue-replay JOURNAL book|Cn SYMBOL...")]
+    #[error("usage: venue-replay JOURNAL book|Cn|snapshot|check SYMBOL... or venue-replay JOURNAL carry NEW")]
     Usage,
-    /// 41 to 43: the journal can't be read.
+    /// 41 to 43: the journal can't be read, 45 and 46: it takes no snapshot or isn't carried over.
     #[error("venue-replay: {0}")]
     Journal(JournalFault),
     /// 12 or 44: memory was refused.
     #[error("venue-replay: no memory")]
     Memory,
+    /// The first snapshot that isn't the one of the entries before it stands at this offset.
+    #[error("venue-replay: false snapshot at {0}")]
+    FalseSnapshot(u64),
+    /// A file has the name to which the journal was to be carried over.
+    #[error("venue-replay: NEW exists")]
+    NewExists,
 }
 
 impl From<LimitsFault> for ReplayFault {

@@ -1,7 +1,10 @@
 //! Replay: the book and all outputs out of a journal, and a report of them in text. It stands on what the journaller has kept, and reads
-//! it as the processor did. The program `venue-replay` is `run`.
+//! it as the processor did. The program `venue-replay` is `report_file` and what stands beside it.
 #![tactic(auto)]
 
+mod adding;
+mod answer;
+mod carrying;
 mod checking;
 mod fault;
 mod job;
@@ -16,12 +19,15 @@ mod steps;
 mod taker;
 mod taking_up;
 
-pub use checking::check;
+pub use adding::snapshot_file;
+pub use answer::{Answer, tell};
+pub use carrying::carry_file;
+pub use checking::{check, check_file};
 pub use fault::{ReplayFault, refuse};
-pub use job::{Job, Subject};
+pub use job::{Job, Subject, Task};
 pub use laws::true_snapshots_recover_the_whole;
 pub use recovered::{Recovered, replay};
 pub use replayed::{Replayed, replay_whole};
 pub use reporting::report;
-pub use running::run;
+pub use running::report_file;
 pub use taking_up::{StartFault, TakenUp, take_up};

@@ -7,35 +7,37 @@ ghost use Rattle.replay.specs.Lines.{report_text, Reports};
 ghost use Rattle.replay.specs.Replays.{IsReplay};
 
 use crate::fault::refuse;
-use crate::job::{Job, Subject};
+use crate::job::Subject;
 use crate::lines::{write_counts, write_orders, write_outputs};
 use crate::replayed::{Replayed, replay_whole};
 use journal::JournalDisk;
 use std::alloc::Global;
 use std::io;
 use std::io::Write;
+use venue_model::Limits;
 
-/// Replays the disk's journal, prints to `out` what the job asks for, and answers the program's status, and the disk. The status is 0
+/// Replays the disk's journal, prints to `out` the report of the subject, and answers the program's status, and the disk. The status is 0
 /// once the whole report is printed and flushed. It is 1 where the journal can't be replayed, with the fault's line on `err`, and where
 /// a write to `out` or its flush fails, without a line. A line on `err` that can't be printed is let go.
 pub fn report<D: JournalDisk, O: Write, E: Write>(
     alloc: Global,
-    job: &Job,
+    subject: Subject,
+    limits: &Limits,
     disk: D,
     out: &mut O,
     err: &mut E,
 ) -> (u8, D)
     ensures status { (result.0 ≡ 0) ⊎ (result.0 ≡ 1) }
     ensures printed { result.0 ≡ 0 →
-        Reports (D.honest disk) (D.tells disk).file job.now.limits job.now.subject (O.contents out.old) (O.contents out.new) }
+        Reports (D.honest disk) (D.tells disk).file limits.now subject (O.contents out.old) (O.contents out.new) }
     ensures one_stream { ((result.0 ≡ 1) × (out.new ≡ out.old)) ⊎ (err.new ≡ err.old) }
     ensures counts { result.0 ≡ 0 → D.failed result.1 ≡ D.failed disk }
     ensures read { OnlyRead (D.honest disk) (D.honest result.1) (D.tells disk) (D.tells result.1) }
     ensures durable { result.0 ≡ 0 → D.honest disk → Only (D.tells result.1).file (D.tells result.1).may_leave }
 {
     let mut disk = disk;
-    let status = match replay_whole(alloc, &mut disk, &job.limits) {
-        Ok(replayed) => print(out, job.subject, &replayed),
+    let status = match replay_whole(alloc, &mut disk, limits) {
+        Ok(replayed) => print(out, subject, &replayed),
         Err(fault) => refuse(fault.into(), err),
     };
     (status, disk)

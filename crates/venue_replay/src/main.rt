@@ -1,5 +1,5 @@
-//! The program `venue-replay`: it reads its words, and runs over the folder of its journal, standard output and
-//! standard error.
+//! The program `venue-replay`: it reads its words, and does what they ask over the folder of its journal, standard output
+//! and standard error.
 #![tactic(auto)]
 
 ghost use Rattle.std.specs.Prelude.{◌≡◌, ◌↔◌};
@@ -7,7 +7,9 @@ ghost use Rattle.std.specs.IoError.{error_kind};
 
 use disks::{StandardStreams, SystemFolder};
 use journal::JournalFault;
-use replay::{Job, ReplayFault, refuse, run};
+use replay::{
+    Job, ReplayFault, Task, carry_file, check_file, refuse, report_file, snapshot_file, tell,
+};
 use std::io::{BufWriter, ErrorKind, Stderr};
 use std::process::ExitCode;
 use std::rt::Env;
@@ -30,7 +32,7 @@ fn unread(error: &io::Error) -> ReplayFault
     }
 }
 
-/// Runs over the folder of the journal's name and standard output: the program's status.
+/// Does what is asked over the folder of the journal's name and standard output: the program's status.
 fn start(rt: &HostRuntime, job: &Job, err: &mut Stderr) -> u8 {
     let Ok(mut out) = BufWriter::new(rt.alloc(), rt.stdout()) else {
         return refuse(ReplayFault::Memory, err);
@@ -42,8 +44,27 @@ fn start(rt: &HostRuntime, job: &Job, err: &mut Stderr) -> u8 {
     let Ok(mut folder) = SystemFolder::new(rt, job.journal.as_str()) else {
         return refuse(ReplayFault::Memory, err);
     };
-    let (status, _) = run(rt.alloc(), job, &mut folder, &mut out, err);
-    status
+    match &job.task {
+        Task::Report { subject, limits } => {
+            let (status, _) = report_file(rt.alloc(), *subject, limits, &mut folder, &mut out, err);
+            status
+        }
+        Task::Check { limits } => {
+            let (answer, _) = check_file(rt.alloc(), limits, &mut folder);
+            tell(answer, &mut out, err)
+        }
+        Task::Snapshot { limits } => {
+            let (answer, _) = snapshot_file(rt.alloc(), limits, &mut folder);
+            tell(answer, &mut out, err)
+        }
+        Task::Carry { new } => {
+            let Ok(mut new) = SystemFolder::fresh(rt, new.as_str()) else {
+                return refuse(ReplayFault::Memory, err);
+            };
+            let (answer, _) = carry_file(rt.alloc(), &mut folder, &mut new);
+            tell(answer, &mut out, err)
+        }
+    }
 }
 
 fn main(rt: HostRuntime) -> ExitCode {
