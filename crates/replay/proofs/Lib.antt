@@ -11,3 +11,4 @@ mod Naming
 mod Clients
 mod Shaping
 mod Added
+mod Reported

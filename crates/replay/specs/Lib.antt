@@ -12,3 +12,4 @@ pub mod Checking
 pub mod Starts
 pub mod Newest
 pub mod Recovering
+pub mod Reports

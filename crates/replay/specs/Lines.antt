@@ -1,7 +1,5 @@
 -- The text of a report, for those who read it at a terminal.
-use Rattle.std.specs.Prelude.{ℕ, ◌+◌, ◌^◌, ◌≤◌, ◌==◌, if◌then◌else◌, List, [], ◌∷◌, ◌++◌, codes, length, map, Option}
-use Rattle.std.specs.Io.KnownBytes.{Appends}
-use Rattle.journal.specs.Format.{HasCut, IsJournal}
+use Rattle.std.specs.Prelude.{ℕ, ◌+◌, ◌==◌, if◌then◌else◌, List, [], ◌∷◌, ◌++◌, codes, length, map}
 use Rattle.std.specs.List.{flat_map}
 use Rattle.std.specs.Fmt.{decimal}
 use Rattle.fix_frame.specs.Grammar.{Field, print_fields}
@@ -10,11 +8,10 @@ use Rattle.venue_model.specs.History.{History}
 use Rattle.venue_model.specs.declared.orders.Order.{Order}
 use Rattle.venue_model.specs.declared.outputs.Output.{Output}
 use Rattle.venue_model.specs.Orders.{leaves}
-use Rattle.venue_model.specs.Requests.{Limits}
+use Rattle.venue_model.specs.Requests.{Symbols, Limits, State}
 use Rattle.book.specs.Listing.{listing}
-use Rattle.replay.specs.declared.job.Subject.{Subject}
-use Rattle.replay.specs.declared.job.Subject.TheVariants.{Book, Client}
-use Rattle.book.specs.Histories.{state_of, outputs_of}
+use Rattle.replay.specs.declared.recovered.Recovered.{Recovered}
+use Rattle.book.specs.Histories.{outputs_of}
 
 abbrev pub newline : List ℕ
 newline = 10 ∷ []
@@ -55,21 +52,15 @@ client_lines client place (o ∷ os) = line_to client place o ++ client_lines cl
 abbrev pub counts_line : ℕ → ℕ → List ℕ
 counts_line commands outputs = codes "commands " ++ decimal commands ++ codes " outputs " ++ decimal outputs ++ newline
 
--- the lines about the subject, of a history and a venue with these limits
-abbrev pub subject_lines : Limits → History → Subject → List ℕ
-subject_lines limits h Book = flat_map order_line (listing limits.symbols (state_of limits h).orders)
-subject_lines limits h (Client n) = client_lines n 0 (outputs_of limits h)
+-- the report of the outputs to a client, of a history and a venue with these limits
+abbrev pub client_text : Limits → History → ℕ → List ℕ
+client_text limits h client =
+    client_lines client 0 (outputs_of limits h) ++ counts_line (length h) (length (outputs_of limits h))
 
--- the whole report
-abbrev pub report_text : Limits → History → Subject → List ℕ
-report_text limits h subject = subject_lines limits h subject ++ counts_line (length h) (length (outputs_of limits h))
+-- the lines of the resting orders, and these counts
+abbrev pub orders_text : Symbols → State → ℕ → ℕ → List ℕ
+orders_text symbols s commands outputs = flat_map order_line (listing symbols s.orders) ++ counts_line commands outputs
 
--- One history, of at most 2^48 entries, and the report of it stands behind what `out` held, where that is known. Where the disk is honest,
--- its file is the journal of that history, and market orders are read from the file's cut on.
-pub record Reports (honest : Type 0) (file : List ℕ) (limits : Limits) (subject : Subject) (old new : Option (List ℕ)) : Type 0 where
-  pub history : History
-  pub few : length history ≤ 2 ^ 48
-  pub journal : honest → IsJournal file history
-  pub cut : ℕ
-  pub by_cut : honest → HasCut file cut
-  pub printed : Appends old new (report_text (record limits { cut = cut }) history subject)
+-- the report of the book, of what a journal comes to from its newest snapshot on
+abbrev pub book_text : Recovered → List ℕ
+book_text r = orders_text r.book.limits.symbols r.book.state r.commands (r.told + length r.outputs.items)

@@ -14,7 +14,7 @@ use std::io::Write;
 use venue_model::{LONGEST_MESSAGE, Order, Output, Side};
 
 /// Writes the counts of all commands and outputs.
-pub(crate) fn write_counts<W: Write>(out: &mut W, commands: u64, outputs: usize) -> io::Result<()>
+pub(crate) fn write_counts<W: Write>(out: &mut W, commands: u64, outputs: u64) -> io::Result<()>
     ensures { OnOk result (Appends (W.contents out.old) (W.contents out.new) (counts_line commands outputs)) }
 {
     writeln!(out, "commands {commands} outputs {outputs}")
