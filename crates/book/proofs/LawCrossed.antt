@@ -181,7 +181,8 @@ module _ (i : Order) (orders : List Order) (pairs : Pairwise RestBeside orders) 
   pub matched-pairs : (t : TimeInForce) → AllByRecursion (ComesBehind i) orders
       → Pairwise RestBeside (matched t i orders)
   matched-pairs Day behind = elim (is_live (done i orders)) as
-      (λ b. is_live (done i orders) ≡ b → Pairwise RestBeside (rest i orders ++ (if b then done i orders ∷ [] else []))) [
+      (λ b. is_live (done i orders) ≡ b
+      → Pairwise RestBeside (rest i orders ++ (if b then done i orders ∷ [] else []))) [
         | true ↦ λ some. pairs-push RestBeside (rest i orders) (done i orders) (rest-pairs i orders pairs)
             (beside-done some behind)
         | false ↦ λ none. rw append-nil (rest-pairs i orders pairs)

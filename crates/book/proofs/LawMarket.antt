@@ -1,6 +1,7 @@
--- What rests has a price that is in range: commands let limit orders rest alone. So a market order crosses each that rests of its
--- symbol and of the other side.
-use Rattle.std.proofs.Common.{◌≡◌, ◌≢◌, ℕ, ◌+◌, ◌≤◌, Bool, true, false, not, ◌&&◌, nat_le, List, [], ◌∷◌, length, ap, ◌∙◌}
+-- What rests has a price that is in range: commands let limit orders rest alone. So a market order crosses each that
+-- rests of its symbol and of the other side.
+use Rattle.std.proofs.Common.{◌≡◌, ◌≢◌, ℕ, ◌+◌, ◌≤◌, Bool, true, false, not, ◌&&◌, nat_le, List, [], ◌∷◌, length, ap}
+use Rattle.std.proofs.Common.{◌∙◌}
 use Rattle.std.proofs.Common.{subst, refl, Option, Some, None}
 use Rattle.std.specs.Prelude.{if◌then◌else◌, find}
 use Rattle.std.specs.List.{AllByRecursion, list_any}
@@ -22,9 +23,11 @@ use Rattle.venue_model.specs.History.{History, Message}
 use Rattle.venue_model.specs.Orders.{leaves, is_live, crosses, is_market, price_of, meets}
 use Rattle.venue_model.specs.Match.{crossing, after_fill, settled, done, rest, live_alone, can_fill, matched}
 use Rattle.venue_model.specs.ReplacedLaws.{either_way}
-use Rattle.venue_model.specs.Requests.{Limits, Symbols, State, is_day, at_once, terms_of, most_resting, new_refusal, new_answered}
+use Rattle.venue_model.specs.Requests.{Limits, Symbols, State, is_day, at_once, terms_of, most_resting, new_refusal}
+use Rattle.venue_model.specs.Requests.{new_answered}
 use Rattle.venue_model.specs.Requests.{entering, is_named, named, others, greatest_of, cancel_refusal, cancel_answered}
-use Rattle.venue_model.specs.Requests.{order_canceled, replace_refusal, replace_answered, restamped, amended, order_replaced}
+use Rattle.venue_model.specs.Requests.{order_canceled, replace_refusal, replace_answered, restamped, amended}
+use Rattle.venue_model.specs.Requests.{order_replaced}
 use Rattle.venue_model.specs.SideLaws.{market_meets}
 use Rattle.venue_model.specs.Step.{Request, IsCommand, cause, obey, step, empty, state_from, requests_from}
 use Rattle.fix_orders.specs.RangeLaws.{reads_within}
@@ -47,13 +50,15 @@ module _ (i : Order) (orders : List Order) (all : AllByRecursion HasPrice orders
       (each-mapped HasPrice HasPrice (settled i (crossing i orders)) (settled-priced (crossing i orders)) orders all)
 
   alone-priced : (o : Order) → HasPrice o → AllByRecursion HasPrice (live_alone o)
-  alone-priced o h = elim (is_live o) as (λ b. AllByRecursion HasPrice (if b then o ∷ [] else [])) [ true ↦ (h, tt) | false ↦ tt ]
+  alone-priced o h = elim (is_live o) as (λ b. AllByRecursion HasPrice (if b then o ∷ [] else []))
+      [ true ↦ (h, tt) | false ↦ tt ]
 
   matched-priced : (t : TimeInForce) → (is_day t ≡ true → HasPrice i) → AllByRecursion HasPrice (matched t i orders)
   matched-priced Day h = each-append HasPrice (rest i orders) (live_alone (done i orders)) rest-priced
       (alone-priced (done i orders) (h refl))
   matched-priced ImmediateOrCancel h = rest-priced
-  matched-priced FillOrKill h = elim (can_fill i orders) as (λ b. AllByRecursion HasPrice (if b then rest i orders else orders))
+  matched-priced FillOrKill h = elim (can_fill i orders) as
+      (λ b. AllByRecursion HasPrice (if b then rest i orders else orders))
       [ true ↦ rest-priced | false ↦ all ]
 
 -- ONE COMMAND
@@ -89,7 +94,8 @@ module _ (s : State) (c : Cause) (all : AllByRecursion HasPrice s.orders) where
   -- an order amended in its place is still one with a price
   amended-priced : (r : OrderCancelReplaceRequest) → r.price ≤ 1000000 → (o : Order) → HasPrice o
       → HasPrice (if is_named c.gateway r.orig_cl_ord_id o then amended r o else o)
-  amended-priced r most o h = elim (is_named c.gateway r.orig_cl_ord_id o) as (λ b. HasPrice (if b then amended r o else o))
+  amended-priced r most o h = elim (is_named c.gateway r.orig_cl_ord_id o) as
+      (λ b. HasPrice (if b then amended r o else o))
       [ true ↦ (h.0, most) | false ↦ h ]
 
   replace-priced : (r : OrderCancelReplaceRequest) (refusal : Option CxlRejReason) → r.price ≤ 1000000
@@ -101,7 +107,8 @@ module _ (s : State) (c : Cause) (all : AllByRecursion HasPrice s.orders) where
           → AllByRecursion HasPrice (order_replaced s c r o).state.orders
       by None found = all
       by (Some o) found = either_way s c r o (λ after. AllByRecursion HasPrice after.state.orders)
-          (λ keeps. each-mapped HasPrice HasPrice (λ x. if is_named c.gateway r.orig_cl_ord_id x then amended r x else x)
+          (λ keeps. each-mapped HasPrice HasPrice
+          (λ x. if is_named c.gateway r.orig_cl_ord_id x then amended r x else x)
           (amended-priced r most) s.orders all)
           (matched-priced (restamped c (amended r o)) (others s c.gateway r.orig_cl_ord_id)
           (others-priced c.gateway r.orig_cl_ord_id) Day
@@ -162,7 +169,8 @@ not-day n market = ap (λ t. is_day (if is_market t then at_once n.time_in_force
 -- so it is never refused because the book is full
 pub market-has-room : (symbols : Symbols) (s : State) (client : ℕ) (n : NewOrderSingle) → n.ord_type ≡ Market
     → new_refusal symbols s client n ≢ Some BookFull
-market-has-room symbols s client n market = by (nat_le n.cl_ord_id (greatest_of s client)) (not (list_any (bytes_eq n.symbol) symbols))
+market-has-room symbols s client n market =
+    by (nat_le n.cl_ord_id (greatest_of s client)) (not (list_any (bytes_eq n.symbol) symbols))
     (is_day (terms_of n)) (nat_le most_resting (length s.orders)) (not-day n market)
   where
     by : (stale unknown day full : Bool) → day ≡ false

@@ -22,7 +22,8 @@ use Rattle.venue_model.specs.declared.outputs.CxlRejReason.{CxlRejReason}
 use Rattle.venue_model.specs.declared.outputs.CxlRejReason.TheVariants.{BrokerOption, DuplicateClOrdId}
 use Rattle.venue_model.specs.Orders.{meets, same_side}
 use Rattle.venue_model.specs.Match.{matched}
-use Rattle.venue_model.specs.Requests.{Limits, Symbols, State, is_day, greatest_of, accepted, new_refusal, new_answered, terms_of}
+use Rattle.venue_model.specs.Requests.{Limits, Symbols, State, is_day, greatest_of, accepted, new_refusal, new_answered}
+use Rattle.venue_model.specs.Requests.{terms_of}
 use Rattle.venue_model.specs.Requests.{entering, is_named, named, others, unfit, cancel_refusal, cancel_answered}
 use Rattle.venue_model.specs.Requests.{order_canceled, replace_fits, replace_refusal, replace_answered, keeps_place}
 use Rattle.venue_model.specs.Requests.{amended_in_place, restamped, amended, order_replaced}
@@ -251,7 +252,8 @@ module _ (sequence : ℕ) (s : State) (orderly : IsOrderly sequence s) where
                   (omega (arith, its-greatest sequence s.greatest c.gateway r.cl_ord_id from to orderly.clients above));
               live = stays.live h;
             }
-            | false ↦ λ h. still-rests sequence s.greatest c.gateway r.cl_ord_id from to orderly.clients above x stays.can
+            | false ↦ λ h. still-rests sequence s.greatest c.gateway r.cl_ord_id from to orderly.clients above x
+                stays.can
           ] refl
 
       -- the new name is no other order's

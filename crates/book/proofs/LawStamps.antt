@@ -16,7 +16,8 @@ use Rattle.venue_model.specs.declared.outputs.OrdRejReason.{OrdRejReason}
 use Rattle.venue_model.specs.declared.outputs.CxlRejReason.{CxlRejReason}
 use Rattle.venue_model.specs.Orders.{leaves, is_live, crosses}
 use Rattle.venue_model.specs.Match.{crossing, after_fill, settled, done, rest, live_alone, can_fill, matched}
-use Rattle.venue_model.specs.Requests.{Symbols, State, new_refusal, new_answered, entering, is_named, named, others, terms_of}
+use Rattle.venue_model.specs.Requests.{Symbols, State, new_refusal, new_answered, entering, is_named, named, others}
+use Rattle.venue_model.specs.Requests.{terms_of}
 use Rattle.venue_model.specs.Requests.{cancel_refusal, cancel_answered, order_canceled, replace_refusal}
 use Rattle.venue_model.specs.Requests.{replace_answered, restamped, amended, order_replaced}
 use Rattle.venue_model.specs.Step.{Request, cause, obey, step, empty, state_from, state, requests_from, requests}

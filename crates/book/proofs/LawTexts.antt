@@ -1,5 +1,6 @@
 -- Each output's text is fields: an order keeps its symbol, which was spelled as one where it came in.
-use Rattle.std.proofs.Common.{◌≡◌, ℕ, nat_le, zero, suc, ◌+◌, Bool, true, false, not, List, [], ◌∷◌, map, subst, sym, Option}
+use Rattle.std.proofs.Common.{◌≡◌, ℕ, nat_le, zero, suc, ◌+◌, Bool, true, false, not, List, [], ◌∷◌, map, subst, sym}
+use Rattle.std.proofs.Common.{Option}
 use Rattle.std.proofs.Common.{Some, None}
 use Rattle.std.specs.Prelude.{⊤, MatchOption, if◌then◌else◌}
 use Rattle.std.specs.List.{AllByRecursion}
@@ -25,7 +26,8 @@ use Rattle.venue_model.specs.declared.outputs.Output.{Output}
 use Rattle.venue_model.specs.Orders.{leaves, is_live, crosses}
 use Rattle.venue_model.specs.Match.{crossing, after_fill, done, settled, rest, exec, trade, trades, can_fill}
 use Rattle.venue_model.specs.Match.{live_alone, matched, canceled_rest, match_outputs}
-use Rattle.venue_model.specs.Requests.{Limits, Symbols, State, Stepped, new_refusal, new_answered, entering, is_named, terms_of}
+use Rattle.venue_model.specs.Requests.{Limits, Symbols, State, Stepped, new_refusal, new_answered, entering, is_named}
+use Rattle.venue_model.specs.Requests.{terms_of}
 use Rattle.venue_model.specs.Requests.{named, others, cancel_refusal, cancel_answered, order_canceled, amended}
 use Rattle.venue_model.specs.Requests.{restamped, replace_refusal, replace_answered, order_replaced}
 use Rattle.venue_model.specs.Step.{Request, cause, obey, step, empty, outputs_from, requests_from}

@@ -21,7 +21,8 @@ use Rattle.venue_model.specs.declared.outputs.ExecType.TheVariants as exec_type
 use Rattle.venue_model.specs.Orders.{leaves, is_live, crosses, ahead}
 use Rattle.venue_model.specs.Match.{crossing, fill, done, rest, exec, trade, trades, can_fill, matched, canceled_rest}
 use Rattle.venue_model.specs.Match.{match_outputs}
-use Rattle.venue_model.specs.Requests.{Symbols, State, greatest_of, new_refusal, new_answered, entering, is_named, terms_of}
+use Rattle.venue_model.specs.Requests.{Symbols, State, greatest_of, new_refusal, new_answered, entering, is_named}
+use Rattle.venue_model.specs.Requests.{terms_of}
 use Rattle.venue_model.specs.Requests.{named, others, unfit, cancel_refusal, cancel_answered, order_canceled}
 use Rattle.venue_model.specs.Requests.{replace_fits, replace_refusal, replace_answered, restamped, amended}
 use Rattle.venue_model.specs.Requests.{order_replaced}

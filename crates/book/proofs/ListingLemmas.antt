@@ -93,7 +93,8 @@ module _ (orders : List Order) where
   each-other s [] none = tt
   each-other s (other ∷ ss) none = elim (bytes_eq other s) as (λ b. bytes_eq other s ≡ b
       → (b || list_any (λ other. bytes_eq other s) ss) ≡ false →
-      AllByRecursion (λ other. (x : Order) → bytes_eq x.symbol other ≡ true → bytes_eq x.symbol s ≡ false) (other ∷ ss)) [
+      AllByRecursion (λ other. (x : Order) → bytes_eq x.symbol other ≡ true
+      → bytes_eq x.symbol s ≡ false) (other ∷ ss)) [
         | true ↦ λ h k. cc
         | false ↦ λ h k. ((λ x is. same-bytes x.symbol other s is h), each-other s ss k)
       ] refl none

@@ -13,7 +13,7 @@ use Rattle.venue_model.specs.declared.orders.Order.{Order}
 use Rattle.venue_model.specs.Orders.{is_better, ahead}
 use Rattle.venue_model.specs.Requests.{Symbols, is_named}
 use Rattle.venue_model.specs.Spelling.{all_differ}
-use Rattle.book.specs.Queues.{is_of, NoneQueuedOf, IsFirst, NoneQueuedBehind, IsNext}
+use Rattle.book.specs.Queues.{is_of, NoneQueuedOf, IsFirst, NoneQueuedBehind, IsQueuedNext}
 use Rattle.book.specs.Books.{NamedApart}
 use Rattle.book.specs.Next.{side_order, symbol_number, group_of, comes_before, comes_behind, InTable, IsListedNext}
 use Rattle.book.specs.Next.{NextOf, IsFirstFrom, FirstFrom}
@@ -199,7 +199,7 @@ module _ (ss : Symbols) (orders : List Order) where
     found-below = group-below ss o in_table
 
     -- the one behind it in its group
-    pub next-in-group : (n : Order) → IsNext orders o n → IsListedNext ss (Some o) orders n
+    pub next-in-group : (n : Order) → IsQueuedNext orders o n → IsListedNext ss (Some o) orders n
     next-in-group n next =
         let same = own.has n next.its in
         record {

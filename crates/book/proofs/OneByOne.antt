@@ -1,5 +1,6 @@
 -- A list that is gone through one element behind the other, each asked for by the one before it.
-use Rattle.std.proofs.Common.{◌≡◌, ℕ, zero, suc, ◌<◌, Option, Some, None, List, [], ◌∷◌, ◌++◌, length, take, drop, slice_get, take-append-drop}
+use Rattle.std.proofs.Common.{◌≡◌, ℕ, zero, suc, ◌<◌, Option, Some, None, List, [], ◌∷◌, ◌++◌, length, take, drop}
+use Rattle.std.proofs.Common.{slice_get, take-append-drop}
 use Rattle.std.proofs.Common.{refl, ap, sym, ◌∙◌, subst, arith}
 use Rattle.std.specs.List.{flat_map}
 use Rattle.std.proofs.lemmas.Grind.{flat_map-append}
@@ -32,7 +33,8 @@ module _ {X : Type 0} where
   first_left (y ∷ ys) zero x is = cc
   first_left (y ∷ ys) (suc i) x is = first_left ys i x is
 
-  take_first : (all : List X) (i : ℕ) (x : X) → Some x ≡ slice_get (drop i all) 0 → take (suc i) all ≡ take i all ++ x ∷ []
+  take_first : (all : List X) (i : ℕ) (x : X) → Some x ≡ slice_get (drop i all) 0
+      → take (suc i) all ≡ take i all ++ x ∷ []
   take_first [] zero x is = cc
   take_first [] (suc i) x is = cc
   take_first (y ∷ ys) zero x is = cc

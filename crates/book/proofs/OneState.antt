@@ -13,7 +13,7 @@ use Rattle.book.specs.declared.snapshot.head.Head.{Head}
 use Rattle.book.specs.Books.{NamedApart}
 use Rattle.book.specs.Listing.{listing}
 use Rattle.book.specs.Rows.{row_of, row_bytes, orders_bytes}
-use Rattle.book.specs.Snapshots.{HasRanges, SnapshotOf, snapshot_bytes}
+use Rattle.book.specs.Snapshots.{HasRanges, SnapshotOf, SpellsBoth, snapshot_bytes}
 use Rattle.book.specs.Standing.{Rising, Pairwise, InTime}
 use Rattle.book.proofs.LawSnapshots.{apart-permuted}
 use Rattle.book.proofs.ListedLemmas.{each-at, listed-once}
@@ -45,7 +45,8 @@ module _ (R : Order → Order → Type 0) (one_way : (a b : Order) → R a b →
   same-sorted [] (y ∷ ys) first second to from = absurd (nothing-in y (from y (stands-in [] ys y)))
   same-sorted (x ∷ xs) [] first second to from = absurd (nothing-in x (to x (stands-in [] xs x)))
   same-sorted (x ∷ xs) (y ∷ ys) first second to from =
-      let heads = same-heads (first-or y ys x (to x (stands-in [] xs x))) (first-or x xs y (from y (stands-in [] ys y))) in
+      let heads = same-heads (first-or y ys x (to x (stands-in [] xs x)))
+      (first-or x xs y (from y (stands-in [] ys y))) in
       let tails = same-sorted xs ys first.1 second.1
       (λ o there. not-first y ys o (first-or y ys o (to o (behind-first x xs o there)))
       (λ same. one_way o o (subst (λ z. R z o) (heads ∙ same) (each-at (R x) xs o there first.0))
@@ -58,7 +59,8 @@ module _ (R : Order → Order → Type 0) (one_way : (a b : Order) → R a b →
       same-heads : (y ≡ x) ⊎ Contains ys x → (x ≡ y) ⊎ Contains xs y → x ≡ y
       same-heads (inl same) other = sym same
       same-heads (inr there) (inl same) = same
-      same-heads (inr there) (inr also) = absurd (one_way x y (each-at (R x) xs y also first.0) (each-at (R y) ys x there second.0))
+      same-heads (inr there) (inr also) = absurd
+          (one_way x y (each-at (R x) xs y also first.0) (each-at (R y) ys x there second.0))
 
       not-first : (z : Order) (zs : List Order) (o : Order) → (z ≡ o) ⊎ Contains zs o → (z ≡ o → ⊥) → Contains zs o
       not-first z zs o (inl same) other = absurd (other same)
@@ -100,7 +102,8 @@ still-rising all rising (o ∷ os) from stamps apart = (
   still-rising all rising os (λ x there. from x (behind-first o os x there)) stamps.1 apart.1,
 )
   where
-    strictly : (x : Order) → Contains all x → o.stamp ≤ x.stamp → is_named o.client o.cl_ord_id x ≡ false → o.stamp < x.stamp
+    strictly : (x : Order) → Contains all x → o.stamp ≤ x.stamp → is_named o.client o.cl_ord_id x ≡ false
+        → o.stamp < x.stamp
     strictly x there within other = above (λ same.
         let one = one-stamp all rising o x (from o (stands-in [] os o)) there same in
         let its = ap (is_named o.client o.cl_ord_id) (sym one) ∙ named-self o in
@@ -109,7 +112,8 @@ still-rising all rising (o ∷ os) from stamps apart = (
         above : (o.stamp ≡ x.stamp → ⊥) → o.stamp < x.stamp
         above differs = omega (arith, within, differs)
 
-    later : (xs : List Order) → ((x : Order) → Contains xs x → Contains all x) → AllByRecursion (λ x. o.stamp ≤ x.stamp) xs
+    later : (xs : List Order) → ((x : Order) → Contains xs x → Contains all x)
+        → AllByRecursion (λ x. o.stamp ≤ x.stamp) xs
         → AllByRecursion (λ x. is_named o.client o.cl_ord_id x ≡ false) xs → AllByRecursion (Earlier o) xs
     later [] inside within other = tt
     later (x ∷ xs) inside within other = (
@@ -128,7 +132,8 @@ same-orders xs ys same rising stamps apart =
 
 -- ROWS
 
-module _ (symbols : Symbols) (greatest : List ℕ) (commands : ℕ) (table : AreSymbols symbols) (few : commands ≤ 2 ^ 48) where
+module _ (symbols : Symbols) (greatest : List ℕ) (commands : ℕ) (table : AreSymbols symbols)
+    (few : commands ≤ 2 ^ 48) where
   abbrev Ranged : List Order → Type 0
   Ranged = AllByRecursion (HasRanges symbols greatest commands)
 
@@ -150,28 +155,36 @@ module _ (symbols : Symbols) (greatest : List ℕ) (commands : ℕ) (table : Are
 
 -- ONE STATE
 
-module _ (symbols : Symbols) (s r : State) (commands told its_commands its_told : ℕ) (bytes : List ℕ) (table : AreSymbols symbols)
-    (is : SnapshotOf symbols s commands told bytes) (also : SnapshotOf symbols r its_commands its_told bytes) where
-  heads : its_head symbols r its_commands its_told bytes also ≡ its_head symbols s commands told bytes is
+module _ (symbols : Symbols) (bytes : List ℕ) (s r : State) (both : SpellsBoth symbols bytes s r) where
+  abbrev is : SnapshotOf symbols s both.commands both.told bytes
+  is = both.one
+
+  abbrev also : SnapshotOf symbols r both.its_commands both.its_told bytes
+  also = both.other
+
+  heads : its_head symbols r both.its_commands both.its_told bytes also
+      ≡ its_head symbols s both.commands both.told bytes is
   heads =
-      let one = has-head symbols s commands told bytes is in
-      let other = has-head symbols r its_commands its_told bytes also in
+      let one = has-head symbols s both.commands both.told bytes is in
+      let other = has-head symbols r both.its_commands both.its_told bytes also in
       head-is bytes _ _ (head-small bytes _ other) (sym other.spelled) one
 
   lists : also.listed ≡ is.listed
   lists =
       let count = ap (λ (h : Head). h.commands) heads in
       let names = ap (λ (h : Head). h.greatest) heads in
-      let ranged : Ranged symbols s.greatest commands table is.counts.counted also.listed =
+      let ranged : Ranged symbols s.greatest both.commands both.table is.counts.counted also.listed =
       subst (λ (n : ℕ). AllByRecursion (HasRanges symbols s.greatest n) also.listed) count
-      (subst (λ (g : List ℕ). AllByRecursion (HasRanges symbols g its_commands) also.listed) names also.are.each) in
-      same-rows symbols s.greatest commands table is.counts.counted also.listed is.listed ranged is.are.each
-      (sym (its-rows symbols r its_commands its_told bytes also) ∙ its-rows symbols s commands told bytes is)
+      (subst (λ (g : List ℕ). AllByRecursion (HasRanges symbols g both.its_commands) also.listed) names
+      also.are.each) in
+      same-rows symbols s.greatest both.commands both.table is.counts.counted also.listed is.listed ranged is.are.each
+      (sym (its-rows symbols r both.its_commands both.its_told bytes also)
+      ∙ its-rows symbols s both.commands both.told bytes is)
 
-  pub one-count : its_commands ≡ commands
+  pub one-count : both.its_commands ≡ both.commands
   one-count = ap (λ (h : Head). h.commands) heads
 
-  pub one-told : its_told ≡ told
+  pub one-told : both.its_told ≡ both.told
   one-told = ap (λ (h : Head). h.outputs) heads
 
   pub one-greatest : r.greatest ≡ s.greatest
@@ -183,14 +196,16 @@ module _ (symbols : Symbols) (s r : State) (commands told its_commands its_told 
 
   pub one-state : Rising s.orders → InStamps r.orders → r ≡ s
   one-state rising stamps =
-      let apart = apart-permuted also.listed r.orders (IsPermutation-sym r.orders also.listed also.same) also.are.apart in
+      let apart = apart-permuted also.listed r.orders (IsPermutation-sym r.orders also.listed also.same)
+      also.are.apart in
       let orders = same-orders s.orders r.orders one-orders rising stamps apart in
       λ i. record { orders = orders i; greatest = one-greatest i }
 
 -- ONE SNAPSHOT
 
 -- where stamps rise within each price level, the bytes are those that are written
-pub one-snapshot : (symbols : Symbols) (s : State) (commands told : ℕ) (bytes : List ℕ) → AreSymbols symbols → InTime s.orders
+pub one-snapshot : (symbols : Symbols) (s : State) (commands told : ℕ) (bytes : List ℕ) → AreSymbols symbols
+    → InTime s.orders
     → SnapshotOf symbols s commands told bytes
     → bytes ≡ snapshot_bytes symbols commands told s.greatest (listing symbols s.orders)
 one-snapshot symbols s commands told bytes table in_time is =
@@ -200,8 +215,10 @@ one-snapshot symbols s commands told bytes table in_time is =
     (each-map (HasRanges symbols s.greatest commands) (λ o. list_any (bytes_eq o.symbol) symbols ≡ true)
     (λ o has. has.symbol) is.listed is.are.each) in
     let once = listed-once symbols table.differ s.orders known in
-    let both = IsPermutation-trans is.listed s.orders (listing symbols s.orders) (IsPermutation-sym s.orders is.listed is.same) once in
-    let one = same-sorted (Before symbols) (λ a b h k. let not_so = before-not symbols a b h in cc) is.listed (listing symbols s.orders)
+    let both = IsPermutation-trans is.listed s.orders (listing symbols s.orders)
+    (IsPermutation-sym s.orders is.listed is.same) once in
+    let one = same-sorted (Before symbols) (λ a b h k. let not_so = before-not symbols a b h in cc)
+    is.listed (listing symbols s.orders)
     is.are.in_order (listing-in_order s.orders in_time symbols table.differ)
     (λ o there. Contains-permutation is.listed (listing symbols s.orders) o both there)
     (λ o there. Contains-permutation (listing symbols s.orders) is.listed o

@@ -15,7 +15,7 @@ use Rattle.price_levels.specs.Places.{Places, at, StandsAt, IsOf, Leads, BestOf,
 use Rattle.price_levels.specs.Stamps.{SeatedByStamp}
 use Rattle.price_levels.specs.StampLaws.{seated, is-within, each-listed}
 use Rattle.book.specs.declared.order_index.slots.IndexEntry.{IndexEntry}
-use Rattle.book.specs.Queues.{is_of, NoneQueuedOf, IsFirst, NoneQueuedBehind, IsNext}
+use Rattle.book.specs.Queues.{is_of, NoneQueuedOf, IsFirst, NoneQueuedBehind, IsQueuedNext}
 use Rattle.book.proofs.Keepings.{Shown}
 use Rattle.book.proofs.Middles.{some-same, and-first, and-last, not-true, same-or-not}
 
@@ -75,7 +75,7 @@ module _ {places : Places} {entries : List IndexEntry} {count : ℕ} {view : Lis
         (λ q x there of. not-true (ahead o x)
         (λ h. none o stands q x there (record { is_of = of-test o.symbol o.side x of; ahead = h }))))
 
-    pub next-some : (q : ℕ) → NextBehind places p q → (y : Order) → at places q ≡ Some y → IsNext view o y
+    pub next-some : (q : ℕ) → NextBehind places p q → (y : Order) → at places q ≡ Some y → IsQueuedNext view o y
     next-some q next y there =
         let same : next.order ≡ o = some-same (sym next.stands ∙ stands) in
         let its : next.next ≡ y = some-same (sym next.next_stands ∙ there) in

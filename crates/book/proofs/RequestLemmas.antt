@@ -67,7 +67,8 @@ known-new symbols s client n none = elim (nat_le n.cl_ord_id (greatest_of s clie
     ] none
 
 -- what rests of a new order has a price
-limit-by : (ord_type : OrdType) (terms : TimeInForce) → is_day (if is_market ord_type then at_once terms else terms) ≡ true
+limit-by : (ord_type : OrdType) (terms : TimeInForce)
+    → is_day (if is_market ord_type then at_once terms else terms) ≡ true
     → is_market ord_type ≡ false
 limit-by (Limit price) terms day = refl
 limit-by Market Day day = cc

@@ -1,12 +1,16 @@
 -- The orders that the rows of a snapshot spell, as they come one behind the other.
-use Rattle.std.proofs.Common.{◌≡◌, ◌≢◌, ℕ, suc, ◌+◌, ◌*◌, ◌<◌, ◌≤◌, ◌^◌, Bool, true, false, ◌&&◌, ◌||◌, nat_eq, nat_lt, List, [], ◌∷◌, ◌++◌, length}
-use Rattle.std.proofs.Common.{Option, Some, None, refl, ap, sym, subst, ◌∙◌, arith, append_assoc, append-nil, length-append}
+use Rattle.std.proofs.Common.{◌≡◌, ◌≢◌, ℕ, suc, ◌+◌, ◌*◌, ◌<◌, ◌≤◌, ◌^◌, Bool, true, false, ◌&&◌, ◌||◌, nat_eq, nat_lt}
+use Rattle.std.proofs.Common.{List, [], ◌∷◌, ◌++◌, length}
+use Rattle.std.proofs.Common.{Option, Some, None, refl, ap, sym, subst, ◌∙◌, arith, append_assoc}
+use Rattle.std.proofs.Common.{length-append}
 use Rattle.std.specs.List.{AllByRecursion, Contains}
 use Rattle.std.specs.List.Sorted.{IsPermutation}
 use Rattle.std.proofs.lemmas.Bool.Decides.{nat_tests}
 use Rattle.std.proofs.lemmas.List.{flat_map_more}
-use Rattle.std.proofs.lemmas.List.Sorted.{IsPermutation-refl, IsPermutation-sym, IsPermutation-cons, IsPermutation-trans}
-use Rattle.std.proofs.lemmas.List.Sorted.{IsPermutation-middle, IsPermutation-to_front, Contains-permutation, length_permutation}
+use Rattle.std.proofs.lemmas.List.Sorted.{IsPermutation-refl, IsPermutation-sym, IsPermutation-cons}
+use Rattle.std.proofs.lemmas.List.Sorted.{IsPermutation-trans}
+use Rattle.std.proofs.lemmas.List.Sorted.{IsPermutation-middle, IsPermutation-to_front, Contains-permutation}
+use Rattle.std.proofs.lemmas.List.Sorted.{length_permutation}
 use Rattle.venue_model.specs.declared.orders.Side.{Side}
 use Rattle.venue_model.specs.declared.orders.Side.TheVariants.{Buy, Sell}
 use Rattle.venue_model.specs.declared.orders.Order.{Order}
@@ -20,7 +24,7 @@ use Rattle.book.specs.Books.{NamedApart}
 use Rattle.book.specs.Next.{side_order, symbol_number, group_of, comes_behind}
 use Rattle.book.specs.Rows.{row_of, row_bytes, orders_bytes}
 use Rattle.book.specs.Snapshots.{HasRanges, AreListed}
-use Rattle.book.specs.Spelled.{FitsRow, CanCome, Restores, SpellsNone}
+use Rattle.book.specs.Spelled.{FitsRow, CanCome, SpellsNone}
 use Rattle.book.specs.Standing.{Rests, NoneNamed, Pairwise, IsEarlier, InTime, BehindLevel}
 use Rattle.book.proofs.GroupLemmas.{group-parts}
 use Rattle.book.proofs.LawPairs.{pairs-push}
@@ -35,14 +39,19 @@ use Rattle.book.proofs.SpelledRows.{goes_on}
 -- what holds of each that a list contains holds of each element
 each-in : (P : Order → Type 0) (xs : List Order) → ((x : Order) → Contains xs x → P x) → AllByRecursion P xs
 each-in P [] f = tt
-each-in P (x ∷ xs) f = (f x (stands-in [] xs x), each-in P xs (λ y there. f y (suc there.0, omega (arith, there.1), there.2)))
+each-in P (x ∷ xs) f = (
+  f x (stands-in [] xs x),
+  each-in P xs (λ y there. f y (suc there.0, omega (arith, there.1), there.2)),
+)
 
-pub each-permuted : (P : Order → Type 0) (xs ys : List Order) → IsPermutation xs ys → AllByRecursion P xs → AllByRecursion P ys
+pub each-permuted : (P : Order → Type 0) (xs ys : List Order) → IsPermutation xs ys → AllByRecursion P xs
+    → AllByRecursion P ys
 each-permuted P xs ys same all = each-in P ys
     (λ y there. each-at P xs y (Contains-permutation ys xs y (IsPermutation-sym xs ys same) there) all)
 
 -- those before one in the middle
-pairs-front : (R : Order → Order → Type 0) (xs ys : List Order) (o : Order) → Pairwise R (xs ++ o ∷ ys) → AllByRecursion (λ x. R x o) xs
+pairs-front : (R : Order → Order → Type 0) (xs ys : List Order) (o : Order) → Pairwise R (xs ++ o ∷ ys)
+    → AllByRecursion (λ x. R x o) xs
 pairs-front R [] ys o pairs = tt
 pairs-front R (x ∷ xs) ys o pairs = ((each-back (R x) xs (o ∷ ys) pairs.0).0, pairs-front R xs ys o pairs.1)
 
@@ -57,7 +66,8 @@ pairs-between R (x ∷ xs) ys o before behind pairs = (
 
 -- NAMES
 
-apart-push : (xs : List Order) (o : Order) → NamedApart xs → AllByRecursion (λ x. is_named x.client x.cl_ord_id o ≡ false) xs
+apart-push : (xs : List Order) (o : Order) → NamedApart xs
+    → AllByRecursion (λ x. is_named x.client x.cl_ord_id o ≡ false) xs
     → NamedApart (xs ++ o ∷ [])
 apart-push [] o apart other = (tt, tt)
 apart-push (x ∷ xs) o apart other = (
@@ -65,12 +75,14 @@ apart-push (x ∷ xs) o apart other = (
   apart-push xs o apart.1 other.1,
 )
 
-apart-front : (xs ys : List Order) (o : Order) → NamedApart (xs ++ o ∷ ys) → AllByRecursion (λ x. is_named x.client x.cl_ord_id o ≡ false) xs
+apart-front : (xs ys : List Order) (o : Order) → NamedApart (xs ++ o ∷ ys)
+    → AllByRecursion (λ x. is_named x.client x.cl_ord_id o ≡ false) xs
 apart-front [] ys o apart = tt
 apart-front (x ∷ xs) ys o apart =
     ((each-back (λ y. is_named x.client x.cl_ord_id y ≡ false) xs (o ∷ ys) apart.0).0, apart-front xs ys o apart.1)
 
-apart-between : (xs ys : List Order) (o : Order) → AllByRecursion (λ x. is_named o.client o.cl_ord_id x ≡ false) (xs ++ ys)
+apart-between : (xs ys : List Order) (o : Order)
+    → AllByRecursion (λ x. is_named o.client o.cl_ord_id x ≡ false) (xs ++ ys)
     → NamedApart (xs ++ ys) → NamedApart (xs ++ o ∷ ys)
 apart-between [] ys o fresh apart = (fresh, apart)
 apart-between (x ∷ xs) ys o fresh apart = (
@@ -89,7 +101,8 @@ listed-when n m false within tie =
     let less : n < m = (omega (arith, within, other)) in
     grind (arith, nat_tests)
 
-leads-over : (side : Side) (p s q t r u : ℕ) → leads side p s q t ≡ true → leads side q t r u ≡ true → leads side p s r u ≡ true
+leads-over : (side : Side) (p s q t r u : ℕ) → leads side p s q t ≡ true → leads side q t r u ≡ true
+    → leads side p s r u ≡ true
 leads-over Buy p s q t r u h k = grind (arith, nat_tests)
 leads-over Sell p s q t r u h k = grind (arith, nat_tests)
 
@@ -124,11 +137,13 @@ module _ (symbols : Symbols) where
     pub behind : (o : Order) → comes_behind symbols last o ≡ true → AllByRecursion (λ x. Before symbols x o) listed
     pub least : (o : Order) → AllByRecursion (λ x. Before symbols x o) listed → comes_behind symbols last o ≡ true
 
-  last-more : (last : Option Order) (listed : List Order) (o : Order) → IsLast last listed → comes_behind symbols last o ≡ true
+  last-more : (last : Option Order) (listed : List Order) (o : Order) → IsLast last listed
+      → comes_behind symbols last o ≡ true
       → IsLast (Some o) (listed ++ o ∷ [])
   last-more last listed o is behind = record {
     behind = λ p h. each-append (λ x. Before symbols x p) listed (o ∷ [])
-        (each-map (λ x. Before symbols x o) (λ x. Before symbols x p) (λ x b. before-over x o p b h) listed (is.behind o behind))
+        (each-map (λ x. Before symbols x o) (λ x. Before symbols x p) (λ x b. before-over x o p b h) listed
+        (is.behind o behind))
         (h, tt);
     least = λ p all. (each-back (λ x. Before symbols x p) listed (o ∷ []) all).0;
   }
@@ -174,22 +189,26 @@ module _ (symbols : Symbols) (greatest : List ℕ) (commands : ℕ) where
     };
   }
 
-  module _ (bytes left : List ℕ) (count : ℕ) (last : Option Order) (orders : List Order) (so_far : SoFar bytes left count last orders) where
+  module _ (bytes left : List ℕ) (count : ℕ) (last : Option Order) (orders : List Order)
+      (so_far : SoFar bytes left count last orders) where
     pub few-yet : length orders ≡ count
     few-yet = sym (length_permutation orders so_far.listed so_far.same) ∙ so_far.as_many
 
     pub behind-level : (o : Order) → comes_behind symbols last o ≡ true → BehindLevel o orders
     behind-level o behind = each-permuted (λ x. InOneLevel o x → x.stamp < o.stamp) so_far.listed orders
         (IsPermutation-sym orders so_far.listed so_far.same)
-        (each-map (λ x. Before symbols x o) (λ x. InOneLevel o x → x.stamp < o.stamp) (λ x h. before-earlier symbols x o h)
+        (each-map (λ x. Before symbols x o) (λ x. InOneLevel o x → x.stamp < o.stamp)
+        (λ x h. before-earlier symbols x o h)
         so_far.listed (so_far.last_is.behind o behind))
 
     turned : (o x : Order) → InOneLevel x o → InOneLevel o x
     turned o x level = record { symbol = sym level.symbol; side = sym level.side; price = sym level.price }
 
     -- one more has come
-    module _ (o : Order) (new : List Order) (r : Row) (behind : List ℕ) (can : CanCome symbols greatest commands last orders o)
-        (row : row_of symbols o ≡ r) (split : left ≡ row_bytes r ++ behind) (comes : Comes o orders new) (stamps : InStamps new) where
+    module _ (o : Order) (new : List Order) (r : Row) (behind : List ℕ)
+        (can : CanCome symbols greatest commands last orders o)
+        (row : row_of symbols o ≡ r) (split : left ≡ row_bytes r ++ behind)
+        (comes : Comes o orders new) (stamps : InStamps new) where
       abbrev listed : List Order
       listed = so_far.listed
 
@@ -203,16 +222,19 @@ module _ (symbols : Symbols) (greatest : List ℕ) (commands : ℕ) where
 
       new-in_time : InTime new
       new-in_time = subst InTime (sym comes.put) (pairs-between IsEarlier comes.before comes.behind o
-          (each-map (λ x. InOneLevel o x → x.stamp < o.stamp) (λ x. IsEarlier x o) (λ x h level. h (turned o x level)) comes.before
+          (each-map (λ x. InOneLevel o x → x.stamp < o.stamp) (λ x. IsEarlier x o) (λ x h level. h (turned o x level))
+          comes.before
           (each-front (λ x. InOneLevel o x → x.stamp < o.stamp) comes.before comes.behind later))
-          (none-behind comes.behind comes.later (each-back (λ x. InOneLevel o x → x.stamp < o.stamp) comes.before comes.behind later))
+          (none-behind comes.behind comes.later
+          (each-back (λ x. InOneLevel o x → x.stamp < o.stamp) comes.before comes.behind later))
           (subst InTime comes.split so_far.in_time))
         where
           none-behind : (xs : List Order) → AllByRecursion (λ x. o.stamp ≤ x.stamp) xs
               → AllByRecursion (λ x. InOneLevel o x → x.stamp < o.stamp) xs → AllByRecursion (IsEarlier o) xs
           none-behind [] all also = tt
           none-behind (x ∷ xs) all also = (
-            (λ level. let earlier = also.0 level in let not_later = all.0 in absurd (omega (arith, earlier, not_later))),
+            (λ level. let earlier = also.0 level in
+                let not_later = all.0 in absurd (omega (arith, earlier, not_later))),
             none-behind xs all.1 also.1,
           )
 
@@ -269,20 +291,3 @@ module _ (symbols : Symbols) (greatest : List ℕ) (commands : ℕ) where
               (each-map (λ x. is_named x.client x.cl_ord_id o ≡ false) (λ x. is_named o.client o.cl_ord_id x ≡ false)
               (λ x h. named-other o x h) so_far.listed (apart-front so_far.listed goes.behind o apart));
         }) goes.row
-
-    -- no bytes are left
-    pub all-come : length left ≡ 0 → Restores symbols greatest commands bytes orders
-    all-come none = record {
-      listed = so_far.listed;
-      spelled = so_far.spelled ∙ ap (λ rest. orders_bytes symbols so_far.listed ++ rest) (nothing left none)
-          ∙ append-nil (orders_bytes symbols so_far.listed);
-      are = so_far.are;
-      same = so_far.same;
-      stamps = so_far.stamps;
-      in_time = so_far.in_time;
-      apart = so_far.apart;
-    }
-      where
-        nothing : (xs : List ℕ) → length xs ≡ 0 → xs ≡ []
-        nothing [] none = refl
-        nothing (x ∷ xs) none = absurd (omega (arith, none))

@@ -1,5 +1,6 @@
 -- Numbers in bytes, and the pieces of a row.
-use Rattle.std.proofs.Common.{◌≡◌, ℕ, zero, suc, ◌+◌, ◌<◌, List, [], ◌++◌, length, take, drop, get_or, refl, ap, sym, ◌∙◌, arith, length-append}
+use Rattle.std.proofs.Common.{◌≡◌, ℕ, zero, suc, ◌+◌, ◌<◌, List, [], ◌++◌, length, take, drop, get_or, refl, ap, sym}
+use Rattle.std.proofs.Common.{◌∙◌, arith, length-append}
 use Rattle.std.proofs.lemmas.List.{take_all, take_more, flat_map_more}
 use Rattle.std.specs.List.{flat_map}
 use Rattle.std.proofs.Math.Seq.{take-add}
@@ -29,7 +30,17 @@ pub ten_pieces : (xs : List ℕ) → length xs ≡ 47 →
     ++ take 4 (drop 19 xs) ++ take 4 (drop 23 xs) ++ take 4 (drop 27 xs) ++ take 8 (drop 31 xs) ++ take 8 (drop 39 xs)
     ≡ xs
 ten_pieces xs long =
-    rw (more 8 1 xs, more 9 8 xs, more 17 1 xs, more 18 1 xs, more 19 4 xs, more 23 4 xs, more 27 4 xs, more 31 8 xs, more 39 8 xs)
+    rw (
+      more 8 1 xs,
+      more 9 8 xs,
+      more 17 1 xs,
+      more 18 1 xs,
+      more 19 4 xs,
+      more 23 4 xs,
+      more 27 4 xs,
+      more 31 8 xs,
+      more 39 8 xs,
+    )
     (take_all 47 xs (omega arith))
 
 -- one element more, and what is written of it

@@ -1,5 +1,6 @@
 -- Bytes that are a snapshot begin with one head, spell one list of orders, and make a book.
-use Rattle.std.proofs.Common.{◌≡◌, ℕ, ◌*◌, ◌<◌, ◌≤◌, ◌^◌, List, [], ◌∷◌, ◌++◌, length, take, drop, refl, ap, sym, subst, ◌∙◌, arith}
+use Rattle.std.proofs.Common.{◌≡◌, ℕ, ◌*◌, ◌<◌, ◌≤◌, ◌^◌, List, [], ◌∷◌, ◌++◌, length, take, drop, refl, ap, sym, subst}
+use Rattle.std.proofs.Common.{◌∙◌, arith}
 use Rattle.std.proofs.Common.{◌-◌, length-append, length-drop, take-append-drop}
 use Rattle.std.specs.List.{AllByRecursion, flat_map}
 use Rattle.std.proofs.lemmas.List.{take_all, take_at, drop_at}
@@ -10,7 +11,7 @@ use Rattle.book.specs.declared.snapshot.head.Head.{Head}
 use Rattle.book.specs.Books.{Belongs, IsBook}
 use Rattle.book.specs.Rows.{number_bytes, row_of, row_bytes, orders_bytes}
 use Rattle.book.specs.Snapshots.{HasRanges, AreListed, CountsFit, SnapshotOf, head_bytes}
-use Rattle.book.specs.Spelled.{bytes_of_head, FitsBytes, HasHead, Restores, SpellsNone}
+use Rattle.book.specs.Spelled.{bytes_of_head, FitsBytes, SpellsHead, Restores, SpellsNone}
 use Rattle.book.specs.Standing.{Rests, Below}
 use Rattle.book.proofs.Lists.{each-map}
 use Rattle.book.proofs.RestoredOrders.{each-permuted, can-rest}
@@ -46,7 +47,8 @@ behind_it n xs = take_all (length xs - n) (drop n xs) (omega (arith, length-drop
 
 -- the rows behind the head, and the table of a logic
 module _ (given symbols : Symbols) (greatest : List ℕ) (commands : ℕ) (bytes : List ℕ) (table : given ≡ symbols) where
-  pub rows-restore : (orders : List Order) → Restores given greatest commands (take (length bytes - 82) (drop 82 bytes)) orders
+  pub rows-restore : (orders : List Order)
+      → Restores given greatest commands (take (length bytes - 82) (drop 82 bytes)) orders
       → Restores symbols greatest commands (drop 82 bytes) orders
   rows-restore orders restores = subst (λ (ss : Symbols). Restores ss greatest commands (drop 82 bytes) orders) table
       (subst (λ (rows : List ℕ). Restores given greatest commands rows orders) (behind_it 82 bytes) restores)
@@ -59,26 +61,28 @@ module _ (given symbols : Symbols) (greatest : List ℕ) (commands : ℕ) (bytes
 -- HEADS
 
 -- numbers that fit one another fit their bytes
-pub head-small : (bytes : List ℕ) (h : Head) → HasHead bytes h → FitsBytes h
+pub head-small : (bytes : List ℕ) (h : Head) → SpellsHead bytes h → FitsBytes h
 head-small bytes h has =
     let counts = has.fits.counts in
     record {
       commands = omega (arith, counts.counted);
       outputs = omega (arith, counts.counted, counts.outputs);
       clients = has.clients;
-      names = each-map (λ n. n ≤ 999999999999999) (λ n. n < 2 ^ 64) (λ n most. omega (arith, most)) h.greatest has.fits.names;
+      names = each-map (λ n. n ≤ 999999999999999) (λ n. n < 2 ^ 64) (λ n most. omega (arith, most)) h.greatest
+          has.fits.names;
       resting = omega (arith, counts.few);
     }
 
 -- whatever numbers the bytes in front spell, they are those that fit
-pub head-is : (bytes : List ℕ) (h k : Head) → FitsBytes h → bytes_of_head h ≡ take 82 bytes → HasHead bytes k → h ≡ k
+pub head-is : (bytes : List ℕ) (h k : Head) → FitsBytes h → bytes_of_head h ≡ take 82 bytes → SpellsHead bytes k → h ≡ k
 head-is bytes h k small spelled has = same-head h k small (head-small bytes k has) (spelled ∙ has.spelled)
 
-module _ (symbols : Symbols) (s : State) (commands told : ℕ) (bytes : List ℕ) (is : SnapshotOf symbols s commands told bytes) where
+module _ (symbols : Symbols) (s : State) (commands told : ℕ) (bytes : List ℕ)
+    (is : SnapshotOf symbols s commands told bytes) where
   abbrev pub its_head : Head
   its_head = record { commands = commands; outputs = told; greatest = s.greatest; resting = length is.listed }
 
-  pub has-head : HasHead bytes its_head
+  pub has-head : SpellsHead bytes its_head
   has-head =
       let head = head_bytes commands told s.greatest (length is.listed) in
       let whole = ap length is.spelled in
@@ -97,14 +101,15 @@ module _ (symbols : Symbols) (s : State) (commands told : ℕ) (bytes : List ℕ
       (length-head commands told s.greatest (length is.listed) is.clients)
 
   -- so rows behind such a head that spell none are no snapshot's
-  pub spells-some : (h : Head) → HasHead bytes h → SpellsNone symbols h.greatest h.commands (drop 82 bytes) → ⊥
+  pub spells-some : (h : Head) → SpellsHead bytes h → SpellsNone symbols h.greatest h.commands (drop 82 bytes) → ⊥
   spells-some h has none =
       let same = head-is bytes h its_head (head-small bytes h has) (sym has.spelled) has-head in
-      none is.listed (subst (λ (k : Head). AreListed symbols k.greatest k.commands is.listed) (sym same) is.are) its-rows
+      none is.listed (subst (λ (k : Head). AreListed symbols k.greatest k.commands is.listed) (sym same) is.are)
+      its-rows
 
 -- BOOKS
 
-module _ (symbols : Symbols) (bytes : List ℕ) (h : Head) (has : HasHead bytes h) (orders : List Order)
+module _ (symbols : Symbols) (bytes : List ℕ) (h : Head) (has : SpellsHead bytes h) (orders : List Order)
     (restores : Restores symbols h.greatest h.commands (drop 82 bytes) orders) where
   as-many : length restores.listed ≡ h.resting
   as-many =
@@ -131,7 +136,8 @@ module _ (symbols : Symbols) (bytes : List ℕ) (h : Head) (has : HasHead bytes 
   }
 
   -- what holds of each order in range holds of each of these
-  every : (P : Order → Type 0) → ((o : Order) → HasRanges symbols h.greatest h.commands o → P o) → AllByRecursion P orders
+  every : (P : Order → Type 0) → ((o : Order) → HasRanges symbols h.greatest h.commands o → P o)
+      → AllByRecursion P orders
   every P f = each-permuted P restores.listed orders (IsPermutation-sym orders restores.listed restores.same)
       (each-map (HasRanges symbols h.greatest h.commands) P f restores.listed restores.are.each)
 

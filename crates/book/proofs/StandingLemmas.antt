@@ -1,5 +1,6 @@
 -- What stands in the book's list, behind a fill, with orders taken out, and with one more at the end.
-use Rattle.std.proofs.Common.{◌≡◌, ℕ, suc, ◌+◌, ◌<◌, ◌≤◌, Bool, true, false, List, [], ◌∷◌, ◌++◌, length, refl, sym, ◌∙◌}
+use Rattle.std.proofs.Common.{◌≡◌, ℕ, suc, ◌+◌, ◌<◌, ◌≤◌, Bool, true, false, List, [], ◌∷◌, ◌++◌, length, refl, sym}
+use Rattle.std.proofs.Common.{◌∙◌}
 use Rattle.std.proofs.Common.{subst, arith, length-append}
 use Rattle.std.specs.Prelude.{if◌then◌else◌, filter}
 use Rattle.std.specs.List.{AllByRecursion}

@@ -53,7 +53,7 @@ pub record TakesOut (client name : ℕ) (old new : Book) (o : Order) : Type 0 wh
 
 -- What the request at this sequence asks is done in the book, whose orders all came before the next sequence, and few of
 -- them were read.
-pub record Follows (old new : Book) (sequence : ℕ) (request : Request) : Type 0 where
+pub record FollowsRequest (old new : Book) (sequence : ℕ) (request : Request) : Type 0 where
   pub limits : new.limits ≡ old.limits
   pub state : new.state ≡ (step old.limits.symbols old.state sequence request).state
   pub below : Below (sequence + 1) new.state.orders

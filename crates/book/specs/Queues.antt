@@ -27,7 +27,7 @@ abbrev pub NoneQueuedBehind : List Order → Order → Type 0
 NoneQueuedBehind orders o = AllByRecursion (λ x. is_of o.symbol o.side x ≡ true → ahead o x ≡ false) orders
 
 -- it is one of the orders and stands behind the first one; of those that do, none stands ahead of it
-pub record IsNext (orders : List Order) (o next : Order) : Type 0 where
+pub record IsQueuedNext (orders : List Order) (o next : Order) : Type 0 where
   pub before : List Order
   pub behind : List Order
   pub split : orders ≡ before ++ next ∷ behind

@@ -13,10 +13,10 @@ use Rattle.book.specs.Next.{symbol_number}
 unfoldable pub number_bytes : ℕ → ℕ → List ℕ
 number_bytes count n = bytes_high_first count n
 
--- Side (54) as a number
-abbrev pub side_number : Side → ℕ
-side_number Buy = 1
-side_number Sell = 2
+-- Side (54) as a byte of a row
+abbrev pub side_byte : Side → ℕ
+side_byte Buy = 1
+side_byte Sell = 2
 
 -- an order's numbers; its symbol is told by the place in the venue's table, from 0
 abbrev pub row_of : Symbols → Order → Row
@@ -25,7 +25,7 @@ row_of symbols o = record {
   client = o.client;
   cl_ord_id = o.cl_ord_id;
   symbol = symbol_number symbols o.symbol;
-  side = side_number o.side;
+  side = side_byte o.side;
   price = o.price;
   total = o.total;
   cum = o.cum;

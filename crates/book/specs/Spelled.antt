@@ -32,7 +32,7 @@ pub record FitsHead (h : Head) (size : ℕ) : Type 0 where
   pub long : size ≡ 82 + 47 * h.resting
 
 -- the bytes begin with these numbers, which fit, and a row for each order follows
-pub record HasHead (bytes : List ℕ) (h : Head) : Type 0 where
+pub record SpellsHead (bytes : List ℕ) (h : Head) : Type 0 where
   pub spelled : take 82 bytes ≡ bytes_of_head h
   pub clients : length h.greatest ≡ 8
   pub fits : FitsHead h (length bytes)

@@ -3,7 +3,7 @@ ghost use Rattle.std.specs.Prelude.{◌≡◌, ◌+◌, ◌*◌, ◌^◌, ◌<�
 ghost use Rattle.std.specs.Vec.{vec_len, vec_capacity};
 ghost use Rattle.venue_model.specs.Match.{output};
 ghost use Rattle.venue_model.specs.Step.{empty, cause, step, IsCommand};
-ghost use Rattle.book.specs.Books.{Follows};
+ghost use Rattle.book.specs.Books.{FollowsRequest};
 ghost use Rattle.book.specs.Reads.{ReadsFew};
 ghost use Rattle.book.specs.Standing.{Below};
 
@@ -87,7 +87,7 @@ impl Book {
         requires command { IsCommand command.now }
         requires room { (out.old.items ≡ []) × (8194 ≤ vec_capacity out.old) }
         ensures succeeds { IsOk result × (vec_capacity out.new ≡ vec_capacity out.old) }
-        ensures state { Follows self.old self.new sequence (record { gateway = gateway; command = command.now }) }
+        ensures state { FollowsRequest self.old self.new sequence (record { gateway = gateway; command = command.now }) }
         ensures told { out.new.items ≡ (step self.old.limits.symbols self.old.state sequence (record { gateway = gateway; command = command.now })).outputs }
     {
         let mut reads = 0;

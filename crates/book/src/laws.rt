@@ -17,10 +17,9 @@ ghost use Rattle.venue_model.specs.Requests.{Limits, Symbols, State, is_day, ter
 ghost use Rattle.venue_model.specs.Step.{Request, step, state, outputs_from, outputs};
 ghost use Rattle.book.specs.Histories.{state_of, outputs_of};
 ghost use Rattle.price_levels.specs.Stamps.{InStamps};
-ghost use Rattle.book.specs.Listing.{listing};
-ghost use Rattle.book.specs.Snapshots.{SnapshotOf, snapshot_bytes};
+ghost use Rattle.book.specs.Snapshots.{SnapshotOf, SpellsBoth};
 ghost use Rattle.book.specs.Standing.{Rising, Below, InTime};
-ghost use Rattle.book.specs.TrueSnapshots.{SpellsItsState};
+ghost use Rattle.book.specs.TrueSnapshots.{written_snapshot, SpellsItsState};
 ghost use Rattle.venue_model.specs.Spelling.{AreSymbols};
 ghost use Rattle.book.specs.Laws.{AreCrossed, GoesFirst, IsAheadOf, HasPrice, CrossesAnyPrice, KeepsLimit, KeepsPrice, KeepsTotal, IsFromGateway, Pairwise, IsOrderly, IsUncrossed, TellsFields, quantity_traded, money_traded};
 
@@ -166,18 +165,14 @@ pub fn a_state_can_be_a_snapshot()
 /// and don't fall in the other, both are one. And a state has one snapshot with these counts, if stamps rise within each of
 /// its price levels: the one that the book writes.
 pub fn a_snapshot_spells_one_state()
-    ensures counts { (symbols : Symbols) (s r : State) (commands told its_commands its_told : ℕ) (bytes : List ℕ) → AreSymbols symbols
-        → SnapshotOf symbols s commands told bytes → SnapshotOf symbols r its_commands its_told bytes
-        → (its_commands ≡ commands) × (its_told ≡ told) }
-    ensures orders { (symbols : Symbols) (s r : State) (commands told its_commands its_told : ℕ) (bytes : List ℕ) → AreSymbols symbols
-        → SnapshotOf symbols s commands told bytes → SnapshotOf symbols r its_commands its_told bytes
+    ensures counts { (symbols : Symbols) (bytes : List ℕ) (s r : State) → (both : SpellsBoth symbols bytes s r)
+        → (both.its_commands ≡ both.commands) × (both.its_told ≡ both.told) }
+    ensures orders { (symbols : Symbols) (bytes : List ℕ) (s r : State) → SpellsBoth symbols bytes s r
         → (r.greatest ≡ s.greatest) × IsPermutation s.orders r.orders }
-    ensures state { (symbols : Symbols) (s r : State) (commands told its_commands its_told : ℕ) (bytes : List ℕ) → AreSymbols symbols
-        → SnapshotOf symbols s commands told bytes → SnapshotOf symbols r its_commands its_told bytes
+    ensures state { (symbols : Symbols) (bytes : List ℕ) (s r : State) → SpellsBoth symbols bytes s r
         → Rising s.orders → InStamps r.orders → r ≡ s }
     ensures bytes { (symbols : Symbols) (s : State) (commands told : ℕ) (bytes : List ℕ) → AreSymbols symbols → InTime s.orders
-        → SnapshotOf symbols s commands told bytes
-        → bytes ≡ snapshot_bytes symbols commands told s.greatest (listing symbols s.orders) }
+        → SnapshotOf symbols s commands told bytes → bytes ≡ written_snapshot symbols commands told s }
 {}
 
 /// Each output's text is fields, whatever messages the history has: so who takes an output can write it as a frame.

@@ -9,7 +9,7 @@ ghost use Rattle.price_levels.specs.Stamps.{InStamps, Comes};
 ghost use Rattle.book.specs.Standing.{InRange, Rests, Below, BehindLevel, NoneNamed};
 ghost use Rattle.venue_model.specs.declared.orders.Order.{Order};
 ghost use Rattle.book.specs.Firsts.{FillsFirst, FillsNone};
-ghost use Rattle.book.specs.Queues.{NoneQueuedOf, IsFirst, NoneQueuedBehind, IsNext};
+ghost use Rattle.book.specs.Queues.{NoneQueuedOf, IsFirst, NoneQueuedBehind, IsQueuedNext};
 
 use crate::order_index::OrderIndex;
 use price_levels::{Levels, Place};
@@ -159,7 +159,7 @@ impl RestingOrders {
     pub(crate) fn behind(&self, client: u8, name: u64) -> Option<Order>
         requires { find (is_named client name) self.now ≢ None }
         ensures { (o : Order) → find (is_named client name) self.now ≡ Some o
-            → MatchOption result (NoneQueuedBehind self.now o) (IsNext self.now o) }
+            → MatchOption result (NoneQueuedBehind self.now o) (IsQueuedNext self.now o) }
     {
         let number = self.index.find(client, name).unwrap();
         let place = self.levels.after(Place::at(number as usize))?;

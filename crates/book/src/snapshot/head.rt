@@ -3,7 +3,7 @@ ghost use Rattle.std.specs.Prelude.{◌≡◌, ◌<◌, ◌≤◌, ◌^◌, ◌�
 ghost use Rattle.std.specs.List.{AllByRecursion, flat_map};
 ghost use Rattle.book.specs.Rows.{number_bytes};
 ghost use Rattle.book.specs.declared.snapshot.head.Head.{Head};
-ghost use Rattle.book.specs.Spelled.{bytes_of_head, FitsBytes, FitsHead, HasHead};
+ghost use Rattle.book.specs.Spelled.{bytes_of_head, FitsBytes, FitsHead, SpellsHead};
 
 use crate::snapshot::numbers::{eight, two};
 use crate::snapshot::ranges::HIGHEST_NAME;
@@ -28,8 +28,8 @@ pub(crate) struct Head {
 impl Head {
     /// The numbers in front of some bytes, or `None` where no snapshot of so many bytes begins with them.
     pub(crate) fn read(bytes: &[u8]) -> Option<Head>
-        ensures some { IfSome result (HasHead bytes.now) }
-        ensures none { IfNone result ((h : Head) → HasHead bytes.now h → ⊥) }
+        ensures some { IfSome result (SpellsHead bytes.now) }
+        ensures none { IfNone result ((h : Head) → SpellsHead bytes.now h → ⊥) }
     {
         if bytes.len() < 82 {
             return None;

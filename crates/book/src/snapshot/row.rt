@@ -6,7 +6,7 @@ ghost use Rattle.venue_model.specs.declared.orders.Order.{Order};
 ghost use Rattle.venue_model.specs.declared.orders.Side.{Side};
 ghost use Rattle.venue_model.specs.Spelling.{AreSymbols};
 ghost use Rattle.fix_orders.specs.Writing.{Puts};
-ghost use Rattle.book.specs.Rows.{side_number, row_of, row_bytes};
+ghost use Rattle.book.specs.Rows.{side_byte, row_of, row_bytes};
 ghost use Rattle.book.specs.Spelled.{FitsRow};
 ghost use Rattle.book.specs.Standing.{InRange};
 
@@ -51,7 +51,7 @@ impl Row {
             client: order.client,
             cl_ord_id: order.cl_ord_id,
             symbol: number_of(symbols, &order.symbol) as u8,
-            side: side_number(order.side),
+            side: side_byte(order.side),
             price: order.price as u32,
             total: order.total as u32,
             cum: order.cum as u32,
@@ -125,9 +125,9 @@ impl Row {
     }
 }
 
-/// Side (54) as a number.
-fn side_number(side: Side) -> u8
-    ensures { result ≡ side_number side }
+/// Side (54) as a byte of a row.
+fn side_byte(side: Side) -> u8
+    ensures { result ≡ side_byte side }
 {
     match side {
         Side::Buy => 1,
@@ -135,10 +135,10 @@ fn side_number(side: Side) -> u8
     }
 }
 
-/// The side of this number.
+/// The side of this byte.
 fn side_of(number: u8) -> Option<Side>
-    ensures some { IfSome result (λ side. side_number side ≡ number) }
-    ensures none { IfNone result ((side : Side) → side_number side ≢ number) }
+    ensures some { IfSome result (λ side. side_byte side ≡ number) }
+    ensures none { IfNone result ((side : Side) → side_byte side ≢ number) }
 {
     match number {
         1 => Some(Side::Buy),

@@ -35,8 +35,10 @@ of-requires-clause-range c =
     let more = one_more all c.loop.counter _ c.unwrap-order.result (sym c.unwrap-order.ensures ∙ next) refl in
     let is_listed : Contains all c.unwrap-order.result = subst (λ os. Contains os c.unwrap-order.result) (sym more.1)
     (stands-in more.0 _ c.unwrap-order.result) in
-    let there = Contains-permutation all orders c.unwrap-order.result (IsPermutation-sym orders all c.after.ensures.once) is_listed in
-    let rests = subst (λ (b : Book). AllByRecursion Rests b.state.orders) c.self.view_is c.self.invariant.standing.each in
+    let there = Contains-permutation all orders c.unwrap-order.result
+    (IsPermutation-sym orders all c.after.ensures.once) is_listed in
+    let rests = subst (λ (b : Book). AllByRecursion Rests b.state.orders) c.self.view_is
+    c.self.invariant.standing.each in
     (each-at Rests orders c.unwrap-order.result there rests).in_range
 
 pub loop-preserved : goal.loop-preserved
@@ -53,7 +55,8 @@ loop-preserved c =
     record {
       at = one_more all c.loop.counter _ c.unwrap-order.result is (omega arith);
       puts = subst (Puts c.args.buf.now c.put-upto.new.buf c.args.at c.put-upto.result)
-          (written_more (λ (o : Order). row_bytes (row_of symbols o)) all c.loop.counter _ c.unwrap-order.result is (omega arith))
+          (written_more (λ (o : Order). row_bytes (row_of symbols o)) all c.loop.counter _ c.unwrap-order.result is
+          (omega arith))
           (puts_join c.loop.invariant.puts row_put);
       long = omega arith;
     }
@@ -70,4 +73,5 @@ returns-clause-puts c =
     let rest = ap (λ (b : Book). length b.state.orders) c.self.view_is in
     let each : length all ≡ length c.args.self.now.state.orders = returns-clause-each c in
     subst (λ os. Puts c.args.buf.now c.loop.buf c.args.at c.loop.upto (orders_bytes symbols os))
-    (take_all c.loop.counter all (omega (arith, each, rest, c.loop-test.false, c.len-end.ensures))) c.loop.invariant.puts
+    (take_all c.loop.counter all (omega (arith, each, rest, c.loop-test.false, c.len-end.ensures)))
+    c.loop.invariant.puts

@@ -1,7 +1,7 @@
 -- The next of the levels is the next in the list.
 use Rattle.std.proofs.Common.{◌∙◌, sym, subst}
 use Rattle.std.specs.Prelude.{MatchOption}
-use Rattle.book.specs.Queues.{NoneQueuedBehind, IsNext}
+use Rattle.book.specs.Queues.{NoneQueuedBehind, IsQueuedNext}
 use Rattle.book.proofs.RestingCalls.{NamedAt, named-at, is-there, stands-there, stands-as}
 use Rattle.book.proofs.QueueLemmas.{next-none, next-some}
 use Rattle.book.proofs.resting.RestingOrders.behind.Goals.{After-at}
@@ -21,7 +21,7 @@ after-requires c = stands-there (its (goal.at.after-requires c).After-at)
 pub returns-in_err-place : goal.returns-in_err-place
 returns-in_err-place c = λ o is.
     let its = its (goal.at.returns-in_err-place c).After-at in
-    subst (λ r. MatchOption r (NoneQueuedBehind c.args.self.now o) (IsNext c.args.self.now o))
+    subst (λ r. MatchOption r (NoneQueuedBehind c.args.self.now o) (IsQueuedNext c.args.self.now o))
     (sym c.from_residual.ensures)
     (next-none its.shown c.at.result.number o (stands-as its o is) c.in_err-place.ensures)
 

@@ -5,7 +5,8 @@ use Rattle.book.proofs.snapshot.rows.put_rows.Goals as goal
 
 pub loop-init : goal.loop-init
 loop-init c = record {
-  so_far = none-yet c.args.symbols.now c.args.head.now.greatest c.args.head.now.commands c.args.bytes.now c.args.orders.now c.requires.empty;
+  so_far = none-yet c.args.symbols.now c.args.head.now.greatest c.args.head.now.commands c.args.bytes.now
+      c.args.orders.now c.requires.empty;
   left = omega arith;
 }
 
@@ -20,7 +21,8 @@ returns-in_default-clause-none c _ = none-comes c.args.symbols.now c.args.head.n
 
 pub insert-requires-clause-room : goal.insert-requires-clause-room
 insert-requires-clause-room c =
-    let few = few-yet c.args.symbols.now c.args.head.now.greatest c.args.head.now.commands c.args.bytes.now c.loop.rest.now
+    let few = few-yet c.args.symbols.now c.args.head.now.greatest c.args.head.now.commands c.args.bytes.now
+    c.loop.rest.now
     c.loop.counter c.loop.last c.loop.orders c.loop.invariant.so_far in
     omega (arith, few, c.loop-test.true, c.requires.counts.few)
 

@@ -1,5 +1,6 @@
 use Rattle.book.proofs.OneState.{one-snapshot}
-use Rattle.book.proofs.SpelledBooks.{rows-restore, rows-spell_none, has-head, spells-some, spells, makes-book, comes-next}
+use Rattle.book.proofs.SpelledBooks.{rows-restore, rows-spell_none, has-head, spells-some, spells, makes-book}
+use Rattle.book.proofs.SpelledBooks.{comes-next}
 use Rattle.book.proofs.snapshot.restoring.Restored.of.Goals as goal
 
 pub returns-in_default-clause-bad : goal.returns-in_default-clause-bad
@@ -30,7 +31,8 @@ returns-clause-spelled c =
 pub returns-clause-written : goal.returns-clause-written
 returns-clause-written c =
     let h = c.in-Some.head in
-    one-snapshot c.args.logic.symbols (record { orders = c.put_rows.new.orders; greatest = h.greatest }) h.commands h.outputs
+    one-snapshot c.args.logic.symbols (record { orders = c.put_rows.new.orders; greatest = h.greatest }) h.commands
+    h.outputs
     c.args.bytes.now c.symbols-symbols.ensures.table (c.put_rows.ensures.restored c.if-not-put_rows.false).in_time
     (returns-clause-spelled c)
 
