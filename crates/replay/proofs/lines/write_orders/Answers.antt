@@ -4,8 +4,9 @@ use Rattle.std.specs.Io.KnownBytes.{Appends}
 use Rattle.std.proofs.lemmas.List.{take_all}
 use Rattle.std.proofs.lemmas.List.Sorted.{length_permutation}
 use Rattle.book.specs.Listing.{listing}
+use Rattle.book.proofs.OneByOne.{next_at, one_more, written_more}
 use Rattle.replay.specs.Lines.{order_line}
-use Rattle.replay.proofs.LineLemmas.{appends_both, next_at, one_more, none_left}
+use Rattle.replay.proofs.LineLemmas.{appends_both, none_left}
 use Rattle.replay.proofs.lines.write_orders.Goals as goal
 
 pub loop-preserved : goal.loop-preserved
@@ -13,11 +14,11 @@ loop-preserved g c =
     let all = listing c.args.book.now.limits.symbols c.args.book.now.state.orders in
     let next = next_at all c.loop.counter c.loop.from c.after.result c.loop.invariant.at c.after.ensures.first
     c.after.ensures.next in
-    let more = one_more all c.loop.counter _ c.in-Some.order (sym c.in-Some.is ∙ next) (omega arith) in
+    let is = sym c.in-Some.is ∙ next in
     record {
-      at = more.0;
+      at = one_more all c.loop.counter _ c.in-Some.order is (omega arith);
       written = subst (λ lines. Appends (g.W.Write.contents c.args.out.now) (g.W.Write.contents c.write_order.new.out)
-          lines) more.1
+          lines) (written_more order_line all c.loop.counter _ c.in-Some.order is (omega arith))
           (appends_both _ _ _ _ _ c.loop.invariant.written c.in_ok-write_order.ensures);
       once = λ _. c.after.ensures.once;
     }

@@ -3,8 +3,8 @@ use Rattle.std.specs.List.{flat_map}
 use Rattle.std.specs.List.Sorted.{IsPermutation}
 use Rattle.std.specs.Io.KnownBytes.{Appends}
 use Rattle.book.specs.Listing.{listing}
+use Rattle.book.proofs.OneByOne.{IsAt}
 use Rattle.replay.specs.Lines.{order_line}
-use Rattle.replay.proofs.LineLemmas.{IsAt}
 use Rattle.replay.proofs.lines.write_orders.Given as goal
 
 abbrev pub invariant-loop : goal.invariant-loop
