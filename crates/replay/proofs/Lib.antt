@@ -12,3 +12,4 @@ mod Clients
 mod Shaping
 mod Added
 mod Reported
+mod StartLemmas

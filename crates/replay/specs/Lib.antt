@@ -10,6 +10,7 @@ pub mod Steps
 pub mod Truth
 pub mod Checking
 pub mod Starts
+pub mod StartsUp
 pub mod Newest
 pub mod Recovering
 pub mod Reports
