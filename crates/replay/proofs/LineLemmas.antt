@@ -1,11 +1,8 @@
 -- What is written piece by piece, and the lines of a report.
 use Rattle.std.proofs.Common.{◌≡◌, ℕ, zero, suc, ◌+◌, ◌<◌, Option, Some, None, Result, Ok, Err, OnOk}
-use Rattle.std.proofs.Common.{List, [], ◌∷◌, ◌++◌, length, get_or, take, drop, slice_get, append_assoc, append-nil}
-use Rattle.std.proofs.Common.{take-append-drop}
-use Rattle.std.proofs.Common.{refl, ap, sym, ◌∙◌, subst}
-use Rattle.std.specs.List.{flat_map}
+use Rattle.std.proofs.Common.{List, [], ◌∷◌, ◌++◌, length, get_or, take, drop, slice_get, append_assoc}
+use Rattle.std.proofs.Common.{refl, ap, sym, ◌∙◌}
 use Rattle.std.specs.Io.KnownBytes.{Appends}
-use Rattle.std.proofs.lemmas.Grind.{flat_map-append}
 use Rattle.std.proofs.Math.Seq.{drop-cons}
 use Rattle.venue_model.specs.declared.orders.Order.{Order}
 use Rattle.venue_model.specs.declared.outputs.Output.{Output}
@@ -13,7 +10,7 @@ use Rattle.fix_frame.specs.Grammar.{print_fields}
 use Rattle.fix_orders.specs.Text.{Said, field}
 use Rattle.fix_orders.specs.Writing.{Puts, PutsFields}
 use Rattle.fix_orders.specs.WritingLaws.{print_fields-append, ◌⨟◌}
-use Rattle.replay.specs.Lines.{said_fields, line_to, client_lines, order_line}
+use Rattle.replay.specs.Lines.{said_fields, line_to, client_lines}
 
 -- a piece and then another one are both together
 pub appends_both : (before between behind : Option (List ℕ)) (xs ys : List ℕ) →

@@ -35,8 +35,8 @@ IsWithWords words (Check limits) = (words ≡ limits.symbols) × AreSymbols word
 IsWithWords words (Carry new) = (words ≡ string_bytes new ∷ []) × (1 ≤ length (string_bytes new))
 
 -- these are the words behind this one, and ask for this task
-abbrev pub AreBehind : List (List ℕ) → Word → Task → Type 0
-AreBehind words said task = (asked_by task ≡ said) × IsWithWords words task
+abbrev pub AreWordsBehind : List (List ℕ) → Word → Task → Type 0
+AreWordsBehind words said task = (asked_by task ≡ said) × IsWithWords words task
 
 -- the words that ask for this task, behind the journal's name
 pub record AreTaskWords (words : List (List ℕ)) (task : Task) : Type 0 where

@@ -2,7 +2,7 @@
 ghost use Rattle.std.specs.Prelude.{◌≡◌, ℕ, List, map, string_bytes, IfOk, IsErrOf, IfErr, MatchOption, ◌⊎◌};
 ghost use Rattle.replay.specs.declared.job.Word.{Word};
 ghost use Rattle.replay.specs.declared.job.Task.{Task};
-ghost use Rattle.replay.specs.Words.{AreWords, AreTaskWords, AreBehind, IsSaid};
+ghost use Rattle.replay.specs.Words.{AreWords, AreTaskWords, AreWordsBehind, IsSaid};
 
 use crate::fault::ReplayFault;
 use std::alloc::Global;
@@ -87,8 +87,8 @@ impl Task {
 
 /// Reads the words behind the one that says what is asked.
 fn read_behind(alloc: Global, said: Word, words: &[String]) -> Result<Task, ReplayFault>
-    ensures said { IfOk result (AreBehind (map string_bytes words.now) said) }
-    ensures wrong { IsErrOf result ReplayFault.Usage → (task : Task) → AreBehind (map string_bytes words.now) said task → ⊥ }
+    ensures said { IfOk result (AreWordsBehind (map string_bytes words.now) said) }
+    ensures wrong { IsErrOf result ReplayFault.Usage → (task : Task) → AreWordsBehind (map string_bytes words.now) said task → ⊥ }
     ensures fault { IfErr result (λ fault. (fault ≡ ReplayFault.Usage) ⊎ (fault ≡ ReplayFault.Memory)) }
 {
     match said {
@@ -108,8 +108,8 @@ fn read_behind(alloc: Global, said: Word, words: &[String]) -> Result<Task, Repl
 
 /// Reads the one word behind `carry`.
 fn read_new(alloc: Global, words: &[String]) -> Result<Task, ReplayFault>
-    ensures said { IfOk result (AreBehind (map string_bytes words.now) Word.Carry) }
-    ensures wrong { IsErrOf result ReplayFault.Usage → (task : Task) → AreBehind (map string_bytes words.now) Word.Carry task → ⊥ }
+    ensures said { IfOk result (AreWordsBehind (map string_bytes words.now) Word.Carry) }
+    ensures wrong { IsErrOf result ReplayFault.Usage → (task : Task) → AreWordsBehind (map string_bytes words.now) Word.Carry task → ⊥ }
     ensures fault { IfErr result (λ fault. (fault ≡ ReplayFault.Usage) ⊎ (fault ≡ ReplayFault.Memory)) }
 {
     let [new] = words else {
