@@ -4,7 +4,7 @@ import struct
 from typing import NamedTuple
 
 import journals
-from book_rules import Book, Order
+from book_rules import Book, Order, Report
 from journals import Entry
 from rules import sealed
 from snapshot_rules import HEAD, MOST_OUTPUTS, ORDER, snapshot
@@ -20,6 +20,9 @@ MOST_OF_FIELD = {"Q": 2 ** 64, "I": 2 ** 32, "H": 2 ** 16, "B": 2 ** 8}
 TOP = {name: MOST_OF_FIELD[form] for name, form in zip(HEADS + FIELDS, "QQQQQQQQQQH" "QBQBBIIIQQ")}
 WRONG_BLOCKS = ([Entry(0, b"x")], [Entry(9, b"x")], [Entry(1, b"")], [Entry(1, b"x" * 321)], [Entry(1, b"x")] * 4097, [])
 LONG = (4095, 4096, 4097, 8191, 8192, 8193, 9000)  # How many entries the few long journals have.
+
+
+DEEP, MIDDLE = 3_000, 10_000  # How many orders come to rest in a deep book, and the price between its buys and its sells.
 
 
 class Chosen(NamedTuple):
@@ -283,3 +286,60 @@ def chosen(seed: str, number: int) -> Chosen:
     if chance.random() < 0.12:
         data = damaged(chance, data)
     return Chosen(data, words(chance, other_table(chance, symbols)))
+
+
+class Deep(NamedTuple):
+    """A journal with a deep book: its bytes, all reports of it, and the book at its end."""
+    data: bytes
+    told: list[Report]
+    book: Book
+
+
+def deep_price(chance: random.Random, side: str, trades: bool) -> int:
+    """A price some ticks on the side's own side of the middle, or on the other one's where it is to trade."""
+    return MIDDLE - 1 - chance.randrange(64) if (side == "1") != trades else MIDDLE + chance.randrange(64)
+
+
+def deep_order(chance: random.Random, trades: bool) -> list[tuple[int, object]]:
+    """A new order that rests, or one that trades: on any terms, one in four of these without a price."""
+    side = chance.choice("12")
+    fields = [(55, "ABC"), (54, side), (60, TIMES[0]), (38, chance.randint(1, 100))]
+    if trades and chance.randrange(4) == 0:
+        return fields + [(40, 1), (59, chance.choice("034"))]
+    return fields + [(40, 2), (44, deep_price(chance, side, trades)), (59, chance.choice("034") if trades else 0)]
+
+
+def deep_change(chance: random.Random, kind: str, order: Order) -> list[tuple[int, object]]:
+    """A cancel of a resting order, or a replace: half of these keep its price, and one in eight is to trade."""
+    side = order.side.decode()
+    fields = [(55, "ABC"), (54, side), (60, TIMES[0]), (38, chance.randint(1, 100))]
+    if kind == "F":
+        return fields
+    form = chance.randrange(8)
+    return fields + [(40, 2), (44, order.price if form < 4 else deep_price(chance, side, form == 4))]
+
+
+def deep_message(chance: random.Random, book: Book, is_full: bool) -> Entry:
+    """Until the book is full a new order that rests; and then of a hundred some thirty rest, fifteen trade, twenty cancel
+    and thirty-five replace."""
+    number = chance.randrange(100) if is_full else 99
+    kind = "F" if number < 20 else "G" if number < 55 else "D"
+    order = chance.choice(book.resting) if kind != "D" else None
+    client = order.client if order else chance.choice(journals.MEMBERS)
+    fields = deep_change(chance, kind, order) if order else deep_order(chance, number < 70)
+    names = [(41, order.name)] if order else []
+    return Entry(client, coded(client, kind, 2, TIMES[0], names + [(11, book.greatest[client] + 1), *fields]))
+
+
+def deep(seed: str, count: int) -> Deep:
+    """A journal of so many messages, with snapshots in the midst of it and near its end."""
+    chance, book = random.Random(f"{seed} deep"), Book()
+    data, told, is_full = journals.header(journals.WITH_SNAPSHOTS), [], False
+    for left in range(count, 0, -1):
+        if left in (count // 4, 10):
+            data += journals.snapshot_block(snapshot(book))
+        is_full |= len(book.resting) >= DEEP
+        entry = deep_message(chance, book, is_full)
+        data += journals.block_of(journals.WITH_SNAPSHOTS, [entry])
+        told += book.take(*entry)
+    return Deep(data + journals.CLOSED, told, book)

@@ -25,26 +25,27 @@ import concurrent.futures
 import os
 import random
 import re
-import subprocess
 import sys
 import tempfile
 import time
 from collections.abc import Iterator
+from itertools import zip_longest
 from typing import NamedTuple
 
 from replay_rules import USAGE, WRONG_WORDS, Outcome, Replayer, Symbols  # (first: it finds the scripts' modules)
 import snapshot_rules
 from book_rules import Book
-from journal_writer import Chosen, chosen
-from journals import Journal, Snapshot
+from journal_writer import DEEP, Chosen, chosen, deep
+from journals import MEMBERS, Journal, Snapshot
+from replay_program import FOLDERS, Program, is_built, not_built
+from replay_rules import counts, line_of, said
 from snapshot_rules import BadSnapshot
-from venues import PATIENCE, REPLAY
 from wrong_replays import CONDITIONS, WRONG, Wrong
 
 SAMPLE = 2_000       # Journals of the full check,
 MOST_TO_TELL = 10_000  # and those among which one has to tell a wrong rule.
 A_BATCH = 50
-MEMORY = "/dev/shm"
+DEEP_JOURNAL = 6_000  # Messages of the journal with a deep book.
 MET = {"book": r"J book 0", "reports": r"J Cn 0", "true snapshots": r"J check 0",
        "false snapshot": r"J check 1 .*false snapshot", "snapshot added": r"J snapshot 0",
        "carried over": r"J carry 0", "no carry": r"J carry 1 .*fault 45",
@@ -76,53 +77,17 @@ class Telling(Replayer):
         return super().restore(it, journal, symbols)
 
 
-class Program:
-    """The built program, in a folder with the files of one journal."""
-
-    def __init__(self, folder: str) -> None:
-        self.folder, self.path = folder, os.path.abspath(REPLAY)
-
-    def place(self, name: str) -> str:
-        return os.path.join(self.folder, name)
-
-    def begin(self, data: bytes) -> None:
-        """Makes J a file of these bytes, and N none."""
-        with open(self.place("J"), "wb") as file:
-            file.write(data)
-        self.drop()
-
-    def drop(self) -> None:
-        """Deletes what a carry that failed may have left."""
-        if os.path.lexists(self.place("N")):
-            os.remove(self.place("N"))
-
-    def run(self, words: list[str]) -> Outcome:
-        try:
-            ran = subprocess.run([self.path, *words], cwd=self.folder, capture_output=True, timeout=PATIENCE)
-        except subprocess.TimeoutExpired:
-            return Outcome(-1, "", f"expected an end came none within {PATIENCE} seconds")
-        return Outcome(ran.returncode, ran.stdout.decode("latin-1"), ran.stderr.decode("latin-1"))
-
-    def files(self) -> dict[str, bytes]:
-        """What stands in the folder."""
-        found = {}
-        for name in sorted(os.listdir(self.folder)):
-            with open(self.place(name), "rb") as file:
-                found[name] = file.read()
-        return found
-
-
 class WrongRules:
     """A program that goes by a wrong rule."""
 
     def __init__(self, wrong: Wrong) -> None:
         self.wrong, self.stored = wrong, {}
 
-    def begin(self, data: bytes) -> None:
-        self.stored = {"J": data}
+    def put(self, files: dict[str, bytes]) -> None:
+        self.stored = dict(files)
 
-    def drop(self) -> None:
-        self.stored.pop("N", None)
+    def drop(self, name: str) -> None:
+        self.stored.pop(name, None)
 
     def run(self, words: list[str]) -> Outcome:
         with self.wrong.put():
@@ -159,13 +124,13 @@ def files_difference(wanted: dict[str, bytes], came: dict[str, bytes]) -> str | 
 
 def difference(it: Chosen, steps: list[Step], tried: Program | WrongRules) -> str | None:
     """How what is tried differs from the rules on this journal, or None."""
-    tried.begin(it.data)
+    tried.put({"J": it.data})
     for at, (words, wanted, files) in enumerate(steps):
         came = tried.run(words)
         if came != wanted:
             return f"run {at}, {' '.join(words)}: expected {short(wanted)} came {short(came)}"
         if "N" not in files:
-            tried.drop()
+            tried.drop("N")
         if why := files_difference(files, tried.files()):
             return f"run {at}, {' '.join(words)}: {why}"
     return None
@@ -181,7 +146,7 @@ def seen(steps: list[Step]) -> Iterator[str]:
 def batch(seed: str, numbers: list[int], keep: str | None) -> tuple[collections.Counter, int, list[str]]:
     """Compares the program on these journals: what they met, how often it ran, and what differs."""
     met, runs, faults = collections.Counter(), 0, []
-    with tempfile.TemporaryDirectory(prefix="journals-", dir=MEMORY if os.path.isdir(MEMORY) else None) as folder:
+    with tempfile.TemporaryDirectory(prefix="journals-", dir=FOLDERS) as folder:
         program = Program(folder)
         for number in numbers:
             it = chosen(seed, number)
@@ -217,6 +182,31 @@ def journals(given: argparse.Namespace) -> tuple[str, list[str]]:
     if len(numbers) >= 10_000:
         faults += [f"no journal met {it}" for it in wanted if not met[it]]
     return f"{len(numbers)} journals, {runs} runs", faults
+
+
+def deep_book(given: argparse.Namespace) -> tuple[str, list[str]]:
+    """The program on a journal in whose book some three thousand orders rest."""
+    it = deep(given.seed, DEEP_JOURNAL)
+    wanted = {"book": [line_of(order) for order in it.book.listed()],
+              **{f"C{client}": [said(report) for report in it.told if report.to == client] for client in MEMBERS}}
+    faults = [] if len(it.book.resting) > DEEP // 2 else [f"too few orders rest: {len(it.book.resting)}"]
+    with tempfile.TemporaryDirectory(prefix="journals-", dir=FOLDERS) as folder:
+        program = Program(folder)
+        program.put({"J": it.data})
+        for word, lines in wanted.items():
+            came, lines = program.run(["J", word, "ABC"]), [*lines, counts(it.book)]
+            if came != Outcome(0, "".join(f"{line}\n" for line in lines), ""):
+                faults.append(f"{word}: {first_difference(lines, came)}")
+        if (came := program.run(["J", "check", "ABC"])) != Outcome(0, "snapshots true\n", ""):
+            faults.append(f"check: came {came}")
+    return f"{DEEP_JOURNAL} messages, at the end {len(it.book.resting)} orders", faults
+
+
+def first_difference(lines: list[str], came: Outcome) -> str:
+    """The first line that differs."""
+    pairs = zip_longest(lines, came.out.splitlines())
+    where = next((f"line {at}: expected {one} came {two}" for at, (one, two) in enumerate(pairs, 1) if one != two), "")
+    return f"{where} {came.status} {came.err}"
 
 
 def told(seed: str, numbers: range, names: list[str]) -> dict[str, int]:
@@ -273,9 +263,9 @@ def read_words() -> argparse.Namespace:
 
 def main() -> None:
     given = read_words()
-    if not given.rules_alone and not os.access(REPLAY, os.X_OK):
-        sys.exit(f"journals_by_chance: {os.path.relpath(REPLAY)} isn't built: scripts/build proves and builds it")
-    tests = [wrong_rules] if given.rules_alone else [wrong_rules, wrong_words, journals]
+    if not given.rules_alone and not is_built():
+        sys.exit(f"journals_by_chance: {not_built()}")
+    tests = [wrong_rules] if given.rules_alone else [wrong_rules, wrong_words, journals, deep_book]
     tests = [journals] if given.only is not None else tests
     print(f"journals_by_chance: seed {given.seed}", flush=True)
     failed = 0

@@ -1,19 +1,25 @@
 #!/usr/bin/env python3
-"""Checks the rules for journals and snapshots in plain Python by worked examples, byte for byte. No program is run.
+"""Checks journals and snapshots by worked examples, byte for byte: the rules in plain Python, and venue-replay.
 
-    tests/worked_journals.py
+    tests/worked_journals.py                  both
+    tests/worked_journals.py --rules-alone    no program is run
 
 The bytes that are expected stand here as literals: empty journals, blocks, a journal with a snapshot and what a crash may
 leave of it, an old journal carried over, each way in which a journal can be damaged, and each way in which bytes are no
-snapshot, beside the nearest that are one. The last line is `N passed, M failed`, and the status is 1 where one failed.
+snapshot, beside the nearest that are one. Whatever the rules say of a journal, venue-replay has to do: its status, its
+output, and the files then. The last line is `N passed, M failed`, and the status is 1 where one failed. Build the program
+first, by scripts/build; another is taken by the environment's VENUE_REPLAY.
 """
+import argparse
 import sys
+import tempfile
 from collections.abc import Iterator
 
 from replay_rules import USAGE, WRONG_WORDS, Outcome, Replayer  # (first: it finds the scripts' modules)
 import journals
 from book_rules import Book
 from journals import Damaged, Entry, NotAJournal, Snapshot
+from replay_program import FOLDERS, Program, is_built, not_built
 from rules import read_order, sealed, shown
 from snapshot_rules import BadSnapshot, restore
 from venues import Trouble, framed, message, order
@@ -42,10 +48,23 @@ def expect(came: object, wanted: object) -> None:
         raise Trouble(f"expected {wanted!r} came {came!r}")
 
 
+programs: list[Program] = []  # The one that is run beside the rules, if one is.
+
+
+def run(files: dict[str, bytes], *words: str) -> Outcome:
+    """What the rules say of these words on these files, which change by it. A program has to do the same."""
+    before = dict(files)
+    outcome = Replayer(files).run(list(words))
+    for program in programs:
+        program.put(before)
+        expect((words, program.run(list(words)), program.files()), (words, outcome, files))
+    return outcome
+
+
 def ran(data: bytes, *words: str) -> tuple[Outcome, bytes]:
-    """What the rules say of these words on a journal, and its bytes then."""
+    """What is said to these words on a journal, and its bytes then."""
     files = {"JOURNAL": data}
-    return Replayer(files).run(["JOURNAL", *words]), files["JOURNAL"]
+    return run(files, "JOURNAL", *words), files["JOURNAL"]
 
 
 def said(data: bytes, *words: str) -> list[str]:
@@ -114,6 +133,16 @@ def entries_behind_a_snapshot() -> None:
     expect([len(said(data, f"C{it}", "ABC")) for it in (1, 2, 3)], [3, 3, 1])
 
 
+def only_what_follows_is_applied() -> None:
+    """A snapshot says that nothing rests, that nobody has a ClOrdID, and that one message came: the buy before it is
+    applied no more, so the sell behind it rests. It is the one message that is applied."""
+    nothing = of(f"{COUNTS[:16]} {9 * '0000000000000000'} 0000")
+    data = of(WITH_BUY)[:150] + journals.snapshot_block(nothing) + journals.block_of(3, [Entry(2, SELL)]) + b"\0"
+    expect(said(data, "book", "ABC"), ["ABC 2 50 30 2 C2 1", "commands 2 outputs 1"])
+    expect(said(data, "C2", "ABC")[-1], "commands 2 outputs 4")
+    expect(ran(data, "check", "ABC")[0], refused("false snapshot at 150"))
+
+
 def crashes(old: bytes, gate: int, block: bytes) -> Iterator[bytes]:
     """What a crash at each device call may leave, while this block is added: the write behind the gate in part, any bytes
     in its place, and the gate's own byte."""
@@ -140,7 +169,7 @@ def old_journal_carried() -> None:
     old = of(f"564e4a4c 00000001 01 00000079 01 0076 {MARKET.hex()} 00")
     new = of(f"564e4a4c 00000003 0000000000000001 01 0000007a 01 01 0076 {MARKET.hex()} 00")
     files = {"OLD": old}
-    expect(Replayer(files).run(["OLD", "carry", "NEW"]), Outcome(0, "carried 1 commands\n", ""))
+    expect(run(files, "OLD", "carry", "NEW"), Outcome(0, "carried 1 commands\n", ""))
     expect(files, {"OLD": old, "NEW": new})
     rejected = "35=3|52=20250102-09:30:00|45=2|371=44|372=D|373=1|"
     for data in (old, new):
@@ -148,9 +177,9 @@ def old_journal_carried() -> None:
     behind = journals.added(new, len(new) - 1, journals.block_of(3, [Entry(1, MARKET)]))
     expect([it.split("|")[2:5] for it in said(behind, "C1", "ABC")[1:-1]],
            [["37=2", "17=2", "150=0"], ["37=2", "17=3", "150=4"]])
-    expect(Replayer(files).run(["OLD", "carry", "NEW"]), refused("NEW exists"))
-    expect(Replayer(files).run(["NEW", "carry", "OTHER"]), refused("journal fault 45"))
-    expect(Replayer(files).run(["OLD", "snapshot", "ABC"]), refused("journal fault 45"))
+    expect(run(files, "OLD", "carry", "NEW"), refused("NEW exists"))
+    expect(run(files, "NEW", "carry", "OTHER"), refused("journal fault 45"))
+    expect(run(files, "OLD", "snapshot", "ABC"), refused("journal fault 45"))
     expect(files, {"OLD": old, "NEW": new})
 
 
@@ -158,7 +187,7 @@ def second_version_carried() -> None:
     """All market orders of a journal of version 2 are read as such, so the cut is 0. Blocks are full but for the last."""
     count = 4096 + 2
     files = {"OLD": journals.header(2) + journals.in_blocks(2, [Entry(8, b"x")] * count, 3) + journals.CLOSED}
-    expect(Replayer(files).run(["OLD", "carry", "NEW"]), Outcome(0, "carried 4098 commands\n", ""))
+    expect(run(files, "OLD", "carry", "NEW"), Outcome(0, "carried 4098 commands\n", ""))
     full, rest = 4096 * "08000178", 2 * "08000178"
     expect(files["NEW"], of(f"{HEADER} 01 00004001 01 {full} 01 00000009 01 {rest} 00"))
 
@@ -174,7 +203,7 @@ def which_fault_comes_first() -> None:
                         (["WHOLE", "carry", "OTHER"], "journal fault 45"),
                         (["FIRST", "snapshot", "ABC"], "journal fault 42 at 8")):
         files = dict(broken)
-        expect((words, Replayer(files).run(words), files), (words, refused(line), broken))
+        expect((words, run(files, *words), files), (words, refused(line), broken))
     behind = of(WITH_SNAPSHOT.replace(ROW, ROW.replace("00000032", "00000000"))[:-2])
     expect(ran(behind, "book", "ABC")[0], refused("journal fault 42 at 285"))
 
@@ -233,7 +262,7 @@ def damage() -> None:
             expect(ran(of(HEADER + text), "check", "ABC")[0], refused(f"journal fault 42 at {offset}"))
     for text in WHOLE:
         journals.read(of(HEADER + text))
-    expect(Replayer({}).run(["JOURNAL", "book", "ABC"]), refused("journal fault 41"))
+    expect(run({}, "JOURNAL", "book", "ABC"), refused("journal fault 41"))
 
 
 def row(**changed: str) -> str:
@@ -245,15 +274,20 @@ def row(**changed: str) -> str:
 
 
 def spelled(*rows: str, commands: str = "0000000000000009", outputs: str = "0000000000000014",
-            greatest: str = "0000000000000007", count: int | None = None) -> bytes:
-    """The bytes of a snapshot of these rows, for C1 alone."""
-    return of(commands + outputs + greatest + 7 * "0000000000000007" + f"{len(rows) if count is None else count:04x}"
-              + "".join(rows))
+            greatest: str = "0000000000000007", of_c8: str = "0000000000000007", count: int | None = None) -> bytes:
+    """The bytes of a snapshot of these rows, where C1 and C8 have these greatest ClOrdIDs."""
+    return of(commands + outputs + greatest + 6 * "0000000000000007" + of_c8
+              + f"{len(rows) if count is None else count:04x}" + "".join(rows))
 
 
 def other(**changed: str) -> str:
     """The same of another order of C1."""
     return row(**{"name": "0000000000000006", **changed})
+
+
+def untouched(**changed: str) -> str:
+    """The same of an order of which nothing was filled."""
+    return row(**{"filled": "00000000", "paid": "0000000000000000", **changed})
 
 
 BUY_5, SELL_6 = row(), row(name="0000000000000006", side="02", price="00000033")
@@ -270,6 +304,7 @@ PAIRS = [  # What is refused, the nearest bytes that are a snapshot, and the nea
     ("commands", spelled(commands="0001000000000000"), spelled(commands="0001000000000001")),
     ("outputs", spelled(outputs="0000000000012012"), spelled(outputs="0000000000012013")),
     ("greatest name", spelled(greatest=MOST), spelled(greatest=ABOVE)),
+    ("greatest name", spelled(of_c8=MOST), spelled(of_c8=ABOVE)),
     ("symbol", spelled(row(symbol="01")), spelled(row(symbol="02"))),
     ("side", spelled(row(side="02")), spelled(row(side="03"))),
     ("side", spelled(row(side="01")), spelled(row(side="00"))),
@@ -281,10 +316,12 @@ PAIRS = [  # What is refused, the nearest bytes that are a snapshot, and the nea
     ("price", spelled(row(price="000f4240")), spelled(row(price="000f4241"))),
     ("total", spelled(row(total="00000005")), spelled(row(total="00000000"))),
     ("total", spelled(row(total="000f4240")), spelled(row(total="000f4241"))),
+    ("total", spelled(untouched(total="00000001")), spelled(untouched(total="00000000"))),
     ("filled", spelled(row(total="00000005")), spelled(row(total="00000004"))),
     ("filled", spelled(row(total="00000005")), spelled(row(total="00000003"))),
     ("paid", spelled(row(paid="00000000003d0900")), spelled(row(paid="00000000003d0901"))),
-    ("paid", spelled(row(filled="00000000", paid="0000000000000000")), spelled(row(filled="00000000"))),
+    ("paid", spelled(row(paid="0000000000000000")), spelled(row(paid="00000000003d0901"))),
+    ("paid", spelled(untouched()), spelled(row(filled="00000000"))),
     ("number", spelled(row(number="0000000000000001")), spelled(row(number="0000000000000000"))),
     ("number", spelled(row(number="0000000000000009")), spelled(row(number="000000000000000a"))),
     ("stamp", spelled(row(stamp="0000000000000008")), spelled(row(stamp="0000000000000009"))),
@@ -309,6 +346,17 @@ def snapshots() -> None:
             raise Trouble(f"expected a refusal for its {reason} came {vars(restore(bad, ('ABC', 'XYZ'), 0))}")
         except BadSnapshot as why:
             expect(str(why), reason)
+        if reason != "commands":  # (no journal has so many entries)
+            expect((reason, behind_nine(good).err), (reason, ""))
+            expect((reason, behind_nine(bad)), (reason, refused(f"journal fault 42 at {len(NINE)}")))
+
+
+NINE = journals.header(3) + journals.block_of(3, [Entry(1, b"x")] * 9)
+
+
+def behind_nine(snapshot: bytes) -> Outcome:
+    """What is said to a book from this snapshot on, in a journal of nine entries."""
+    return ran(NINE + journals.snapshot_block(snapshot) + journals.CLOSED, "book", "ABC", "XYZ")[0]
 
 
 def replayed(book: Book) -> bytes:
@@ -326,7 +374,7 @@ def crossed_books_go_on() -> None:
 
 def wrong_words() -> None:
     for words in WRONG_WORDS:
-        expect((words, Replayer({}).run(words)), (words, Outcome(1, "", f"{USAGE}\n")))
+        expect((words, run({}, *words)), (words, Outcome(1, "", f"{USAGE}\n")))
 
 
 def entries_that_are_no_orders() -> None:
@@ -339,9 +387,10 @@ def entries_that_are_no_orders() -> None:
     expect(read_order(BUY)[:2], (b"D", b"20250102-09:30:00"))
 
 
-TESTS = [empty_journals, blocks, snapshot_of_one_order, snapshot_of_nothing, entries_behind_a_snapshot, crash_in_a_snapshot,
-         old_journal_carried, second_version_carried, which_fault_comes_first, false_snapshot, snapshot_that_is_none, damage,
-         snapshots, crossed_books_go_on, wrong_words, entries_that_are_no_orders]
+TESTS = [empty_journals, blocks, snapshot_of_one_order, snapshot_of_nothing, entries_behind_a_snapshot,
+         only_what_follows_is_applied, crash_in_a_snapshot, old_journal_carried, second_version_carried,
+         which_fault_comes_first, false_snapshot, snapshot_that_is_none, damage, snapshots, crossed_books_go_on,
+         wrong_words, entries_that_are_no_orders]
 
 
 def passes(test) -> bool:
@@ -354,9 +403,14 @@ def passes(test) -> bool:
 
 
 def main() -> None:
-    if set(sys.argv[1:]) & {"-h", "--help"}:
-        sys.exit(print(__doc__.strip()))
-    failed = sum(not passes(it) for it in TESTS)
+    parser = argparse.ArgumentParser(description=__doc__, formatter_class=argparse.RawDescriptionHelpFormatter)
+    parser.add_argument("--rules-alone", action="store_true", help="run no program")
+    given = parser.parse_args()
+    if not given.rules_alone and not is_built():
+        sys.exit(f"worked_journals: {not_built()}")
+    with tempfile.TemporaryDirectory(prefix="journals-", dir=FOLDERS) as folder:
+        programs.extend([] if given.rules_alone else [Program(folder)])
+        failed = sum(not passes(it) for it in TESTS)
     print(f"{len(TESTS) - failed} passed, {failed} failed")
     sys.exit(1 if failed else 0)
 

@@ -1,0 +1,56 @@
+"""The built venue-replay over files in a folder of its own. Not a test: tests import it."""
+import os
+import subprocess
+
+from replay_rules import Outcome
+from venues import PATIENCE, REPLAY
+
+MEMORY = "/dev/shm"
+FOLDERS = MEMORY if os.path.isdir(MEMORY) else None  # Where tests make such folders: in memory, where there is one.
+
+
+def is_built() -> bool:
+    return os.access(REPLAY, os.X_OK)
+
+
+def not_built() -> str:
+    return f"{os.path.relpath(REPLAY)} isn't built: scripts/build proves and builds it"
+
+
+class Program:
+    """The program, in a folder."""
+
+    def __init__(self, folder: str) -> None:
+        self.folder, self.path = folder, os.path.abspath(REPLAY)
+
+    def place(self, name: str) -> str:
+        return os.path.join(self.folder, name)
+
+    def put(self, files: dict[str, bytes]) -> None:
+        """Makes these the files of the folder, and lets all others go."""
+        for name in os.listdir(self.folder):
+            os.remove(self.place(name))
+        for name, data in files.items():
+            with open(self.place(name), "wb") as file:
+                file.write(data)
+
+    def drop(self, name: str) -> None:
+        """Deletes a file, if it is there."""
+        if os.path.lexists(self.place(name)):
+            os.remove(self.place(name))
+
+    def run(self, words: list[str]) -> Outcome:
+        """Runs the program with these words: how it ended, and what it wrote."""
+        try:
+            ran = subprocess.run([self.path, *words], cwd=self.folder, capture_output=True, timeout=PATIENCE)
+        except subprocess.TimeoutExpired:
+            return Outcome(-1, "", f"expected an end came none within {PATIENCE} seconds")
+        return Outcome(ran.returncode, ran.stdout.decode("latin-1"), ran.stderr.decode("latin-1"))
+
+    def files(self) -> dict[str, bytes]:
+        """What stands in the folder."""
+        found = {}
+        for name in sorted(os.listdir(self.folder)):
+            with open(self.place(name), "rb") as file:
+                found[name] = file.read()
+        return found
