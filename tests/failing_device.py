@@ -14,18 +14,21 @@ moves half of its bytes, which is no failure; or the program is killed in its pl
 - the journal has the version and the cut that it had, or those with which the program makes one;
 - a new start on that journal goes on behind it, with the next OrderID and ExecID.
 
-The same for a venue that listens, and for venue-replay. Calls are refused by tests/refusals.c, which cc compiles into a
-folder of its own; without cc nothing is tried, and a line says so. A killed program leaves what it wrote: that an unsynced
-write may be lost is a matter of the proofs. The last line is `N passed, M failed`, and the status is 1 where one failed.
-It takes some ten seconds. Build both programs first, by scripts/build; others are taken by the environment's VENUED and
-VENUE_REPLAY.
+The same for a venue that listens. Where venue-replay only reads it says `venue-replay: journal fault 41` with status 1.
+Where it adds a snapshot the journal has its entries behind that, and the snapshot or not. Where it carries a journal over
+that one stays as it was, and under the new name there is nothing, or the whole new journal.
+
+Calls are refused by tests/refusals.c, which cc compiles into a folder of its own; without cc nothing is tried, and a
+line says so. A killed program leaves what it wrote: that an unsynced write may be lost is a matter of the proofs. The
+last line is `N passed, M failed`, and the status is 1 where one failed. It takes some ten seconds. Build both programs
+first, by scripts/build; others are taken by the environment's VENUED and VENUE_REPLAY.
 """
 import collections
 import signal
 import sys
 
-from refusals import FRESH, LOGON, answered, answers, check_history, contents, journal_of, listens, orders
-from refusals import printed_report, put, ran, run_tests, standard
+from refusals import FRESH, LOGON, answered, answers, by_rules, check_history, contents, journal_of, listens, orders
+from refusals import put, ran, run_tests, standard
 import journals
 from venues import REPLAY, Client, Trouble, printed
 
@@ -33,6 +36,7 @@ ORDERS = 4
 KILLED = -signal.SIGKILL
 NOT_BEGUN = (1, b"", "venued: journal fault 41\n")
 FAILED = (2, "venued: journal failed\n")
+UNREAD = (1, b"", "venue-replay: journal fault 41\n")
 
 
 def check_goes_on(journal, kept):
@@ -52,6 +56,17 @@ def check_version(journal, before):
         raise Trouble(f"expected a journal that begins with {wanted.hex()} came {came[:16].hex()}")
 
 
+def is_as_it_was(journal, before):
+    """Whether a program that hadn't begun left a journal as it was. A missing one may have been made, and one of version
+    3 may have another snapshot."""
+    now = contents(journal)
+    if now == before or before is None and now == FRESH:
+        return True
+    if before is None or journals.version_of(before) < journals.WITH_SNAPSHOTS:
+        return False
+    return journals.read(now).entries == journals.read(before).entries
+
+
 def check_ended(how, came, journal, before, first):
     """How a session with a refused call ended: how many of its orders were answered."""
     status, out, error = came
@@ -62,7 +77,7 @@ def check_ended(how, came, journal, before, first):
         return told
     if how in ("before", "after") and (status, error) == (KILLED, ""):
         return told
-    if came == NOT_BEGUN and contents(journal) in (before, FRESH if before is None else before):
+    if came == NOT_BEGUN and is_as_it_was(journal, before):
         return told
     if (status, error) != FAILED:
         raise Trouble(f"expected one of {NOT_BEGUN} {FAILED} came status {status} {error!r} {printed(out)}")
@@ -71,7 +86,7 @@ def check_ended(how, came, journal, before, first):
 
 def check_session(refusal, before):
     """Plays a session in which a call is refused, and checks what came of it: its status."""
-    first = 1 if before is None else 2
+    first = 1 + (len(journals.read(before).entries) if before else 0)
     put(refusal.journal, before)
     came = refusal.serve(LOGON + b"".join(orders(first, ORDERS)))
     name = refusal.came()
@@ -160,24 +175,102 @@ def listening(sweeps):
 
 
 def replays(sweeps):
-    """`venue-replay`: where a call fails it prints no report, and a read of half the bytes is none that fails."""
-    before = journal_of(orders(1, ORDERS))
+    """`venue-replay` that reads: where a call fails it prints no report. A read of half the bytes is none that fails."""
+    before = by_rules(journal_of(orders(1, ORDERS), journals.WITH_SNAPSHOTS), "snapshot", "ABC")[1]["J"]
 
-    def check(refusal):
+    def check(refusal, what):
         put(refusal.journal, before)
-        check_history(refusal.journal, ORDERS, ORDERS)
-        came = refusal.ran([REPLAY, refusal.journal, "C1", "ABC"])
+        came = refusal.ran([REPLAY, refusal.journal, what, "ABC"])
         fails = refusal.came() and refusal.how != "short"
-        wanted = (1, b"", "venue-replay: journal fault 41\n") if fails else (0, printed_report(refusal.journal, "C1"), "")
+        wanted = UNREAD if fails else by_rules(before, what, "ABC")[0]
         if came != wanted or contents(refusal.journal) != before:
             raise Trouble(f"expected {wanted} came {came}")
 
-    for how in ("once", "on", "short"):
-        sweeps.sweep(check, "device", how)
+    for what in ("C1", "book", "check"):
+        for how in ("once", "on", "short"):
+            sweeps.sweep(lambda it: check(it, what), "device", how)
     return sweeps.said()
+
+
+def check_changed(refusal, came, wanted):
+    """How a run of venue-replay that writes ended: as without a refusal, by 41, or by the kill."""
+    if came == wanted and (refusal.how == "short" or not refusal.came()):
+        return "done"
+    if came == UNREAD and refusal.came() and refusal.how in ("once", "on"):
+        return "failed"
+    if came == (KILLED, b"", "") and refusal.how in ("before", "after"):
+        return "killed"
+    raise Trouble(f"expected {wanted} {UNREAD} or a kill came {came}")
+
+
+def check_same_entries(journal, before):
+    """A journal has the entries that it had, and its snapshots are those that it had, or with one more, and true."""
+    kept = journals.read(contents(journal))
+    was = journals.read(before)
+    if (kept.entries, kept.snapshots[:len(was.snapshots)]) != (was.entries, was.snapshots):
+        raise Trouble(f"expected the entries and snapshots of before came {kept}")
+    for what in ("check", "book", "C1"):
+        if (came := ran([REPLAY, journal, what, "ABC"])) != (wanted := by_rules(before, what, "ABC")[0]):
+            raise Trouble(f"expected, of {what}, {wanted} came {came}")
+    return len(kept.snapshots) - len(was.snapshots)
+
+
+def added_snapshots(sweeps):
+    """`venue-replay` that adds a snapshot: it is in the journal, or isn't, and the next one is added behind."""
+    before = journal_of(orders(1, ORDERS), journals.WITH_SNAPSHOTS)
+    wanted, ends = by_rules(before, "snapshot", "ABC")[0], collections.Counter()
+
+    def check(refusal):
+        put(refusal.journal, before)
+        end = check_changed(refusal, refusal.ran([REPLAY, refusal.journal, "snapshot", "ABC"]), wanted)
+        more = check_same_entries(refusal.journal, before)
+        if more not in {"done": (1,)}.get(end, (0, 1)):
+            raise Trouble(f"expected a snapshot where it was {end} came {more}")
+        ends.update([(end, more)])
+        next_one, files = by_rules(contents(refusal.journal), "snapshot", "ABC")
+        came = ran([REPLAY, refusal.journal, "snapshot", "ABC"])
+        if (came, contents(refusal.journal)) != (next_one, files["J"]):
+            raise Trouble(f"expected, of the next snapshot, {next_one} came {came}")
+
+    for how in ("once", "on", "short", "before", "after"):
+        sweeps.sweep(check, "device", how)
+    return said_of(sweeps, ends, [("done", 1), ("failed", 0), ("failed", 1), ("killed", 0), ("killed", 1)])
+
+
+def said_of(sweeps, ends, wanted):
+    """What sweeps came to, in words. Each of these ends has to be among them."""
+    if missed := [it for it in wanted if not ends[it]]:
+        raise Trouble(f"expected ends of all kinds came none {missed} in {dict(ends)}")
+    return f"{sweeps.said()}; " + ", ".join(f"{ends[it]} {it[0]} with {it[1]}" for it in wanted)
+
+
+def carried_over(sweeps):
+    """`venue-replay` that carries over: the old journal stays, and there is a whole new one, or none. Then it is done."""
+    ends = collections.Counter()
+
+    def check(refusal, before):
+        old, new = refusal.journal, f"{refusal.journal}.3"
+        wanted, files = by_rules(before, "carry", "N")
+        put(old, before)
+        put(new, None)
+        end = check_changed(refusal, refusal.ran([REPLAY, old, "carry", new]), wanted)
+        came = contents(new)
+        if came not in ((files["N"],) if end == "done" else (None, files["N"])) or contents(old) != before:
+            raise Trouble(f"expected the old journal, and the whole new one or none, came {contents(old)} {came}")
+        if end == "failed" and contents(f"{new}.new"):  # (it is empty where it was made, and couldn't be locked)
+            raise Trouble("expected nothing that a failed carrying left came a file")
+        ends.update([(end, int(came is not None))])
+        put(new, None)  # What a killed one left is in the way.
+        if (again := (ran([REPLAY, old, "carry", new]), contents(new), contents(old))) != (wanted, files["N"], before):
+            raise Trouble(f"expected {wanted} behind that came {again}")
+
+    for version in (1, 2):
+        for how in ("once", "on", "short", "before", "after"):
+            sweeps.sweep(lambda it: check(it, journal_of(orders(1, ORDERS), version)), "device", how)
+    return said_of(sweeps, ends, [("done", 1), ("failed", 0), ("failed", 1), ("killed", 0), ("killed", 1)])
 
 
 if __name__ == "__main__":
     if set(sys.argv[1:]) & {"-h", "--help"}:
         sys.exit(print(__doc__.strip()))
-    run_tests("failing_device", [standard_session, first_sync, listening, replays])
+    run_tests("failing_device", [standard_session, first_sync, listening, replays, added_snapshots, carried_over])

@@ -1,6 +1,7 @@
 """The built programs with a call of the system refused to them, by tests/refusals.c. Not a test: tests import it."""
 import collections
 import concurrent.futures
+import functools
 import os
 import shutil
 import subprocess
@@ -14,6 +15,7 @@ import needs_python  # (in front of what an older Python can't read)
 import journals
 from book_rules import Book
 from journals import Entry
+from replay_rules import Replayer
 from rules import Judged, told
 from venues import COUNTS, PATIENCE, TRIES, VENUED, Trouble, Venue, free_port, kill_all, message, need_programs, order
 from venues import printed, replay
@@ -58,7 +60,7 @@ class Refusal:
         return self.ran(standard(self.journal), data)
 
 
-def ran(words, data, environment=None):
+def ran(words, data=b"", environment=None):
     """Runs a program to its end: its status, and what it wrote."""
     try:
         it = subprocess.run(words, input=data, env=environment, capture_output=True, timeout=PATIENCE)
@@ -161,6 +163,7 @@ def after(count):
     return book
 
 
+@functools.lru_cache(maxsize=None)
 def answers(first, count):
     """What a session is told of so many orders, from the one of this number on: its Logon's answer, and each order's."""
     judged = Judged(LOGON + b"".join(orders(first, count)), after(first - 1))
@@ -187,16 +190,23 @@ def check_history(journal, least, most):
     lines, (commands, _) = replay(journal, "C1") if os.path.exists(journal) else ([], (0, 0))
     if not least <= commands <= most:
         raise Trouble(f"expected {least} to {most} orders kept came {commands}")
-    wanted = Judged(LOGON + b"".join(orders(1, commands)), Book()).lines()
-    if lines != wanted:
+    if lines != (wanted := history(commands)):
         raise Trouble(f"expected {wanted} kept came {lines}")
     return commands
 
 
-def printed_report(journal, what):
-    """The bytes of what venue-replay prints with ample memory and a device that works."""
-    lines, (commands, outputs) = replay(journal, what)
-    return "".join(f"{line}\n" for line in [*lines, f"commands {commands} outputs {outputs}"]).encode()
+@functools.lru_cache(maxsize=None)
+def history(count):
+    """What venue-replay prints of so many of the orders, line by line."""
+    return Judged(LOGON + b"".join(orders(1, count)), Book()).lines()
+
+
+def by_rules(data, *words):
+    """What the rules say of these words on a journal J: how venue-replay ends with ample memory and a device that works,
+    and the files then."""
+    files = {"J": data}
+    outcome = Replayer(files).run(["J", *words])
+    return (outcome.status, outcome.out.encode(), outcome.err), files
 
 
 def listens(refusal, gateways):

@@ -17,8 +17,8 @@ import argparse
 import collections
 import concurrent.futures
 
-from refusals import FRESH, LOGON, answers, check_history, contents, journal_of, listens, orders, printed_report, put
-from refusals import run_tests
+from refusals import FRESH, LOGON, answers, by_rules, check_history, contents, journal_of, listens, orders, put, run_tests
+import journals
 from venues import REPLAY, Client, Trouble, printed
 
 ORDERS = 3
@@ -109,20 +109,29 @@ def listening(sweeps):
 
 
 def replays(sweeps):
-    """`venue-replay` on a journal of three orders."""
-    before, ends = journal_of(orders(1, ORDERS)), collections.Counter()
+    """`venue-replay` on a journal of three orders, with a snapshot behind them in one of version 3."""
+    old = journal_of(orders(1, ORDERS), 1)
+    third = by_rules(journal_of(orders(1, ORDERS), journals.WITH_SNAPSHOTS), "snapshot", "ABC")[1]["J"]
+    ends = collections.Counter()
 
-    def check(refusal, what):
+    def check(refusal, before, *words):
         put(refusal.journal, before)
-        came = refusal.ran([REPLAY, refusal.journal, what, "ABC"])
-        if came == (0, printed_report(refusal.journal, what), ""):
+        put(f"{refusal.journal}.3", None)
+        wanted, files = by_rules(before, *words)
+        words = [f"{refusal.journal}.3" if it == "N" else it for it in words]
+        came = refusal.ran([REPLAY, refusal.journal, *words])
+        now = {"J": contents(refusal.journal), "N": contents(f"{refusal.journal}.3")}
+        if came == wanted and now == {"N": None, **files}:
             return "went on"
         check_no_memory("venue-replay", came, refusal.journal, before)
+        if now["N"] is not None or contents(f"{refusal.journal}.3.new") is not None:
+            raise Trouble("expected no new journal came one")
         return "no memory"
 
-    for what in ("book", "C1"):
+    for before, words in ((third, ("book", "ABC")), (third, ("C1", "ABC")), (third, ("check", "ABC")),
+                          (third, ("snapshot", "ABC")), (old, ("carry", "N"))):
         for how in ("once", "on"):
-            sweeps.sweep(lambda it: ends.update([check(it, what)]), "memory", how)
+            sweeps.sweep(lambda it: ends.update([check(it, before, *words)]), "memory", how)
     return said(sweeps, ends)
 
 
