@@ -3,8 +3,7 @@ use Rattle.std.specs.Prelude.{◌≡◌, ◌⊎◌, ℕ, Bool, true, false, List
 use Rattle.venue_model.specs.Requests.{Limits}
 use Rattle.ring_words.specs.At.{Opened, At}
 use Rattle.ring_words.specs.declared.close.Summary.{Summary}
-use Rattle.disks.specs.Disk.{OnlyRead}
-use Rattle.journal.specs.Journals.{IsOpened}
+use Rattle.replay.specs.StartsUp.{KeepsHistory, IsStarted}
 use Rattle.stages.specs.Stations.{OneCrew, disk_of}
 use Rattle.stages.specs.Finishing.{Finished}
 use Rattle.stages.specs.Journalling.{JournalsOn}
@@ -35,15 +34,16 @@ module _ {D : Type 0} where
     pub cut : ReadsByCut (device.honest (disk_of begun)) (device.tells (disk_of begun)) rings
     pub crew : IsNewCrew rings begun
     pub counts : device.failed (disk_of begun) ≡ device.failed old
-    pub opened : IsOpened (device.honest old) (device.honest (disk_of begun)) (device.tells old) (device.tells (disk_of begun)) rings.base
+    pub opened : IsStarted (device.honest old) (device.honest (disk_of begun)) (device.tells old) (device.tells (disk_of begun)) limits rings.base
     pub journals : JournalsOn rings device.honest device.tells device.failed begun.journaller ended.journaller
     pub back : AreBack rings seats × (length seats ≡ g)
     pub finished : Finished rings seats ended (device.honest new) (device.tells new) summary
     pub disk_is : new ≡ disk_of ended
     pub status_is : status ≡ status_of_end (end_of ended.journaller.journal.failed ready)
 
-  -- what the program's status says: 1 where nobody was served and the disk was only read, and else how it ended
+  -- What the program's status says: 1 where nobody was served, and the disk was only read, or a snapshot that was due was added to the journal of the
+  -- same history, or not; and else how it ended.
   abbrev pub EndsListening : Limits → Device D → ℕ → D → D → ℕ → Type 0
   EndsListening limits device g old new status =
-      ((status ≡ 1) × OnlyRead (device.honest old) (device.honest new) (device.tells old) (device.tells new))
+      ((status ≡ 1) × KeepsHistory (device.honest old) (device.honest new) (device.tells old) (device.tells new) limits)
       ⊎ Listens limits device g old new status

@@ -7,9 +7,9 @@ use Rattle.gateway.specs.Delivers.{Course, Delivers, starts}
 use Rattle.gateway.specs.Gateways.{begun}
 use Rattle.gateway.specs.Seats.{ledger_of}
 use Rattle.wires.specs.Wires as wires
-use Rattle.disks.specs.Disk.{Told, LeavesOnly, OnlyRead}
+use Rattle.disks.specs.Disk.{Told, LeavesOnly}
 use Rattle.journal.specs.Format.{IsJournal}
-use Rattle.journal.specs.Journals.{IsOpened}
+use Rattle.replay.specs.StartsUp.{KeepsHistory, IsStarted}
 use Rattle.ring_words.specs.declared.close.Summary.{Summary}
 use Rattle.venue.specs.Faults.{status_of_end}
 use Rattle.stages.specs.Stations.{disk_of}
@@ -45,7 +45,8 @@ module _ {D : Type 0} where
     pub seat : IsFirstSeat s.rings s.gateway.seat
     pub session : s.gateway.front ≡ begun 1 0
     pub wire : s.wire ≡ old.wire
-    pub disk_is : IsOpened (device.honest old.disk) (device.honest (disk_of s.crew)) (device.tells old.disk) (device.tells (disk_of s.crew)) s.rings.base
+    pub disk_is : IsStarted (device.honest old.disk) (device.honest (disk_of s.crew)) (device.tells old.disk) (device.tells (disk_of s.crew))
+        limits s.rings.base
 
   -- The session was served. It ended by itself (or 2 ^ 64 - 1 rounds were taken), or the journal failed. What the client sent, was given and was written
   -- is the course of the session; and one log tells of all.
@@ -61,8 +62,9 @@ module _ {D : Type 0} where
     pub wire : new.wire ≡ end.wire
     pub disk_is : new.disk ≡ disk_of end.crew
 
-  -- what the program's status says: 1 where the session didn't begin, and the disk was only read; and else how it ended
+  -- What the program's status says: 1 where the session didn't begin, and the disk was only read, or a snapshot that was due was added to the journal
+  -- of the same history, or not; and else how it ended.
   abbrev pub EndsWith : Limits → Device D → Outside D → Outside D → ℕ → Type 0
   EndsWith limits device old new status =
-      ((status ≡ 1) × OnlyRead (device.honest old.disk) (device.honest new.disk) (device.tells old.disk) (device.tells new.disk))
+      ((status ≡ 1) × KeepsHistory (device.honest old.disk) (device.honest new.disk) (device.tells old.disk) (device.tells new.disk) limits)
       ⊎ ((result : Result (Unit {0}) ServeFault) × (status ≡ status_of_end result) × Serves limits device old new result)

@@ -6,7 +6,7 @@ use Rattle.venue.specs.Faults.{status_of_end}
 use Rattle.venue.specs.Listening.{end_of}
 use Rattle.venue.specs.Serving.{LeavesFrom}
 use Rattle.venue.specs.Venues.{IsJournalBehind}
-use Rattle.venue.specs.CrashLaws.{LeftOrBehind, leaves_behind, new_behind, serve_leaves}
+use Rattle.venue.specs.CrashLaws.{LeftOrBehind, leaves_behind, new_behind, kept_honest, kept_leaves, unopened_kept, serve_leaves}
 use Rattle.venue.proofs.listening.listen.Goals as goal
 
 pub returns-clause-ends : goal.returns-clause-ends
@@ -46,9 +46,18 @@ returns-clause-any_moment g c = λ honest.
     let old = tells (disk_of begun) in let new = tells (disk_of ended) in
     let behind = new_behind rings begun c.in-Ok.ensures.opened.1 in
     subst (λ (d : g.row.D.Denot). LeavesFrom (tells c.args.disk) (tells d)) (sym c.close-disk.ensures.disk)
-    (serve_leaves (tells c.args.disk) old new rings.base (opened.read.any_moment.leaves honest)
-    (opened.read.file honest) (opened.durable honest) (opened.history honest)
+    (serve_leaves _ _ (tells c.args.disk) old new _ rings.base opened honest
     (weaker old new (IsJournalBehind rings.base) (LeftOrBehind old rings.base)
     (leaves_behind rings.base begun.journaller.seat.who ended.journaller.seat.who old new behind journals.grows
-    (journals.any_moment.leaves (opened.read.any_moment.honest.0 honest)))
+    (journals.any_moment.leaves ((kept_honest _ _ _ _ _ opened.keeps).0 honest)))
     (λ c is. inr is)))
+
+pub returns-in-Err-clause-any_moment : goal.returns-in-Err-clause-any_moment
+returns-in-Err-clause-any_moment g c = λ honest.
+    kept_leaves _ _ _ _ c.args.limits (unopened_kept _ _ _ _ c.args.limits c.in-Err.fault c.in-Err.ensures.refused) honest
+
+pub returns-in-Err-open_posts-clause-any_moment : goal.returns-in-Err-open_posts-clause-any_moment
+returns-in-Err-open_posts-clause-any_moment g c = λ honest.
+    let tells = g.D.JournalDisk.tells in
+    subst (λ (d : g.row.D.Denot). LeavesFrom (tells c.args.disk) (tells d)) (sym c.unserved.ensures)
+    (kept_leaves _ _ _ _ c.args.limits c.in-Ok.ensures.disk.keeps honest)

@@ -8,7 +8,7 @@ use Rattle.stages.specs.Finishing.{Finished}
 use Rattle.venue.specs.Serving.{LeavesFrom}
 use Rattle.venue.specs.VenueRings.{IsFirstSeat}
 use Rattle.venue.specs.Venues.{Venue}
-use Rattle.venue.specs.CrashLaws.{serve_leaves}
+use Rattle.venue.specs.CrashLaws.{kept_honest, kept_leaves, unopened_kept, serve_leaves}
 use Rattle.venue.specs.OpenedLaws.{new_seen}
 use Rattle.venue.proofs.ServingLemmas.{began}
 use Rattle.venue.proofs.serving.serve.Goals as goal
@@ -68,7 +68,15 @@ pub returns-clause-any_moment : goal.returns-clause-any_moment
 returns-clause-any_moment g c = λ honest.
     let tells = g.D.JournalDisk.tells in let opened = c.in-Ok.ensures.disk in let crew = c.in-Ok.opened.1 in
     subst (λ (d : g.row.D.Denot). LeavesFrom (tells c.args.disk) (tells d)) (sym c.finish-disk-2.ensures.disk)
-    (serve_leaves (tells c.args.disk) (tells (disk_of crew)) (tells (disk_of c.take_turns.new.crew))
-    c.in-Ok.opened.0.base (opened.read.any_moment.leaves honest)
-    (opened.read.file honest) (opened.durable honest) (opened.history honest)
-    (c.take_turns.ensures.any_moment (opened.read.any_moment.honest.0 honest)))
+    (serve_leaves _ _ (tells c.args.disk) (tells (disk_of crew)) (tells (disk_of c.take_turns.new.crew)) _ _ opened honest
+    (c.take_turns.ensures.any_moment ((kept_honest _ _ _ _ _ opened.keeps).0 honest)))
+
+pub returns-in-Err-clause-any_moment : goal.returns-in-Err-clause-any_moment
+returns-in-Err-clause-any_moment g c = λ honest.
+    kept_leaves _ _ _ _ c.args.limits (unopened_kept _ _ _ _ c.args.limits c.in-Err.fault c.in-Err.ensures.refused) honest
+
+pub returns-in-Err-new-clause-any_moment : goal.returns-in-Err-new-clause-any_moment
+returns-in-Err-new-clause-any_moment g c = λ honest.
+    let tells = g.D.JournalDisk.tells in
+    subst (λ (d : g.row.D.Denot). LeavesFrom (tells c.args.disk) (tells d)) (sym c.finish-disk.ensures.disk)
+    (kept_leaves _ _ _ _ c.args.limits c.in-Ok.ensures.disk.keeps honest)
