@@ -6,7 +6,7 @@ from dataclasses import dataclass, field
 from typing import NamedTuple
 
 VERSIONS = (1, 2, 3)
-MADE = 2                  # The version with which the venue makes a missing journal.
+MADE = 3                  # The version with which the venue makes a missing journal.
 WITH_SNAPSHOTS = 3        # The version from which on there are kinds of blocks, and a cut in the header.
 MAGIC = b"VNJL"
 OPEN, CLOSED = b"\1", b"\0"

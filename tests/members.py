@@ -223,7 +223,7 @@ def rejected_market_orders_of_the_profile():
 
 def an_old_journal():
     """A journal of version 1 goes on as version 1, over stops and kills, and its members have no market orders. A missing
-    one is made with version 2."""
+    one is made with version 3."""
     write(JOURNAL, OLD_EMPTY)
     venue = started(JOURNAL, 2)
     clients = [Client(venue.port, it).log_on() for it in (1, 2)]

@@ -64,11 +64,11 @@ fn rate_of<R: Clock + Files<File = File> + AllocGlobal>(
 }
 
 /// How many bytes a journal has with so many blocks of so many orders (docs/JOURNAL.md, "The bytes"): header and gate,
-/// and for each block its length, its records, each with 3 bytes in front of the order, and the next gate.
+/// and for each block its length, its kind, its records, each with 3 bytes in front of the order, and the next gate.
 fn file_length(blocks: u32, count: u64) -> u64 {
     let record = 3 + ORDER.len() as u64;
-    let block = record.saturating_mul(count).saturating_add(4 + 1);
-    u64::from(blocks).saturating_mul(block).saturating_add(9)
+    let block = record.saturating_mul(count).saturating_add(4 + 1 + 1);
+    u64::from(blocks).saturating_mul(block).saturating_add(17)
 }
 
 /// Appends the block to a new journal in this file, as `append_again` does.
