@@ -4,6 +4,7 @@ pub mod Kept
 pub mod Marshals
 pub mod Processes
 pub mod Stations
+pub mod Devices
 pub mod Insides
 pub mod Crews
 pub mod Finishing

@@ -51,14 +51,15 @@ impl<const N: usize, const M: usize, const G: usize> Stage<Rings<BookLogic, N, M
 impl<D: JournalDisk, const N: usize, const M: usize, const G: usize> Stage<
     Rings<BookLogic, N, M, G>,
 > for Journaller<D> {
+    ghost use Rattle.stages.specs.Devices.{device};
     ghost use Rattle.stages.specs.Journalling.{JournalsOn};
     ghost use Rattle.stages.specs.JournallingLaws.{goes_on};
 
     ghost sits = { λ rings x. IsAt rings x.seat };
 
-    ghost goes = { λ rings x y. JournalsOn rings D.honest D.tells D.failed x y };
+    ghost goes = { λ rings x y. JournalsOn N rings (device D.honest D.tells D.failed) x y };
 
-    ghost further = { λ rings x y z first second. goes_on rings D.honest D.tells D.failed x y z first second };
+    ghost further = { λ rings x y z first second. goes_on N (device D.honest D.tells D.failed) rings x y z first second };
 
     fn next_seq(&self) -> u64 {
         self.next_seq()

@@ -33,7 +33,8 @@ use Rattle.venue.specs.Rounds.{Round, Rounds}
 use Rattle.venue.specs.VenueRings.{IsFirstSeat}
 use Rattle.stages.specs.PollLaws.{journaller_grows}
 use Rattle.venue.specs.CrashLaws.{LeftOrBehind, leaves_behind}
-use Rattle.venue.specs.Venues.{Venue, Device, IsJournalBehind}
+use Rattle.stages.specs.Devices.{Device}
+use Rattle.venue.specs.Venues.{Venue, IsJournalBehind}
 
 -- before the first call of the disk
 pub at_start : (old : Told) (base : History) → ((c : List ℕ) → old.left_since old.moment c → old.may_leave c)

@@ -10,7 +10,7 @@ use Rattle.stages.specs.Journalling.{JournalsOn}
 use Rattle.venue.specs.Faults.{status_of_end}
 use Rattle.venue.specs.Members.{AreBack}
 use Rattle.venue.specs.Opened.{AreBehind, IsNewCrew, ReadsByCut}
-use Rattle.venue.specs.Venues.{Device}
+use Rattle.stages.specs.Devices.{Device}
 use Rattle.venue.specs.declared.fault.ServeFault.{ServeFault}
 use Rattle.venue.specs.declared.fault.ServeFault.TheVariants as fault
 
@@ -35,7 +35,7 @@ module _ {D : Type 0} where
     pub crew : IsNewCrew rings begun
     pub counts : device.failed (disk_of begun) ≡ device.failed old
     pub opened : IsStarted (device.honest old) (device.honest (disk_of begun)) (device.tells old) (device.tells (disk_of begun)) limits rings.base
-    pub journals : JournalsOn rings device.honest device.tells device.failed begun.journaller ended.journaller
+    pub journals : JournalsOn 1024 rings device begun.journaller ended.journaller
     pub back : AreBack rings seats × (length seats ≡ g)
     pub finished : Finished rings seats ended (device.honest new) (device.tells new) summary
     pub disk_is : new ≡ disk_of ended

@@ -11,7 +11,8 @@ use Rattle.stages.specs.Crews.{Polls, AreIdle}
 use Rattle.stages.specs.Processes.{sizes}
 use Rattle.stages.specs.declared.crew.Turns.{Turns}
 use Rattle.stages.specs.declared.turn.Turn.TheVariants.{JournalFailed}
-use Rattle.venue.specs.Venues.{Venue, Device}
+use Rattle.stages.specs.Devices.{Device}
+use Rattle.venue.specs.Venues.{Venue}
 use Rattle.venue.specs.declared.fault.ServeFault.{ServeFault}
 use Rattle.venue.specs.declared.fault.ServeFault.TheVariants as fault
 

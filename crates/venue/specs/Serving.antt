@@ -17,7 +17,8 @@ use Rattle.stages.specs.Finishing.{Finished}
 use Rattle.venue.specs.Opened.{AreBehind, IsNewCrew, ReadsByCut}
 use Rattle.venue.specs.Rounds.{Served}
 use Rattle.venue.specs.VenueRings.{IsFirstSeat}
-use Rattle.venue.specs.Venues.{Venue, Device, IsJournalBehind}
+use Rattle.stages.specs.Devices.{Device}
+use Rattle.venue.specs.Venues.{Venue, IsJournalBehind}
 use Rattle.venue.specs.declared.fault.ServeFault.{ServeFault}
 
 -- A crash at any moment since old leaves a file that it might have left then, or the journal of a history that begins with that of the

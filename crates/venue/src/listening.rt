@@ -12,7 +12,7 @@ ghost use Rattle.venue.specs.Serving.{LeavesFrom};
 ghost use Rattle.stages.specs.Finishing.{Finished};
 ghost use Rattle.venue.specs.Faults.{status_of_end};
 ghost use Rattle.venue.specs.Listening.{EndsListening, end_of};
-ghost use Rattle.venue.specs.Venues.{device};
+ghost use Rattle.stages.specs.Devices.{device};
 
 use crate::fault::ServeFault;
 use crate::member::Post;
@@ -58,7 +58,7 @@ fn work_all<
     requires crew { AreAt rings.now crew }
     requires posts { ArePosts rings.now posts.items }
     requires home { (home.items ≡ []) × (vec_len posts ≤ vec_capacity home) }
-    ensures crew { WorksOn rings.now D.honest D.tells D.failed crew result.0 }
+    ensures crew { WorksOn 1024 rings.now (device D.honest D.tells D.failed) crew result.0 }
     ensures back { AreBack rings.now result.1.items }
     ensures count { vec_len result.1 ≡ vec_len posts }
 {
@@ -98,7 +98,7 @@ fn serve_members<
     requires crew { AreAt rings.now crew }
     requires posts { ArePosts rings.now posts.items }
     requires home { (home.items ≡ []) × (vec_len posts ≤ vec_capacity home) }
-    ensures crew { WorksOn rings.now D.honest D.tells D.failed crew result.0.0 }
+    ensures crew { WorksOn 1024 rings.now (device D.honest D.tells D.failed) crew result.0.0 }
     ensures back { AreBack rings.now result.0.1.items }
     ensures count { vec_len result.0.1 ≡ vec_len posts }
 {
@@ -113,7 +113,7 @@ fn serve_members<
         move || -> Left<D>
             requires { IsSync R.row × IsSync Q.row × IsSend D.row × (AreAt rings.now crew) × (ArePosts rings.now posts.items)
                 × (home.items ≡ []) × (vec_len posts ≤ vec_capacity home) }
-            ensures { WorksOn rings.entry.now D.honest D.tells D.failed crew result.0
+            ensures { WorksOn 1024 rings.entry.now (device D.honest D.tells D.failed) crew result.0
                 × (AreBack rings.entry.now result.1.items) × (vec_len result.1 ≡ vec_len posts) }
         { work_all(rt, gate, alloc, rings, crew, posts, home, signals) },
         move || -> bool { watch(rt, signals, sign, out, recovered) },

@@ -14,7 +14,8 @@ ghost use Rattle.venue.specs.Rounds.{Served, DeliversOn};
 ghost use Rattle.venue.specs.Crashes.{Behind};
 ghost use Rattle.venue.specs.Serving.{LeavesFrom, IsStatus, EndsWith};
 ghost use Rattle.venue.specs.VenueRings.{IsFirstSeat};
-ghost use Rattle.venue.specs.Venues.{venue, device, IsJournalBehind};
+ghost use Rattle.stages.specs.Devices.{device};
+ghost use Rattle.venue.specs.Venues.{venue, IsJournalBehind};
 
 use crate::fault::ServeFault;
 use crate::opening::open;

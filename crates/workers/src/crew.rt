@@ -1,6 +1,7 @@
 //! The four stages of one venue, each on a thread of its own.
 ghost use Rattle.ring_words.specs.At.{IsAt};
 ghost use Rattle.stages.specs.Crews.{AreAt};
+ghost use Rattle.stages.specs.Devices.{device};
 ghost use Rattle.stages.specs.Journalling.{JournalsOn, WorksOn};
 ghost use denote.Param.Send.{IsSend, IsSync};
 
@@ -53,7 +54,7 @@ pub(crate) fn run_stages<
     const G: usize,
 >(rt: &R, gate: &Q, rings: &Rings<BookLogic, N, M, G>, crew: Crew<D>, signals: &Signals) -> Crew<D>
     requires { AreAt rings.now crew }
-    ensures { WorksOn rings.now D.honest D.tells D.failed crew result }
+    ensures { WorksOn N rings.now (device D.honest D.tells D.failed) crew result }
 {
     let Crew {
         unmarshaller,
@@ -67,7 +68,7 @@ pub(crate) fn run_stages<
             requires { IsSync R.row × IsSync Q.row × IsSend D.row × (IsAt rings.now unmarshaller)
                 × (IsAt rings.now journaller.seat) }
             ensures { (IsAt rings.entry.now result.0)
-                × JournalsOn rings.entry.now D.honest D.tells D.failed journaller result.1 }
+                × JournalsOn N rings.entry.now (device D.honest D.tells D.failed) journaller result.1 }
         {
             let one = (Station::Unmarshaller, unmarshaller);
             let other = (Station::Journaller, journaller);

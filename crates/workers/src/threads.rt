@@ -1,5 +1,6 @@
 //! A run: stages, and what is to happen beside them, at the same time.
 ghost use Rattle.stages.specs.Crews.{AreAt};
+ghost use Rattle.stages.specs.Devices.{device};
 ghost use Rattle.stages.specs.Journalling.{WorksOn};
 ghost use denote.Param.Send.{IsSend, IsSync};
 
@@ -36,14 +37,14 @@ pub fn run<
 ) -> (Crew<D>, X)
     requires rings { AreAt rings.now crew }
     requires others { F.pre others }
-    ensures crew { WorksOn rings.now D.honest D.tells D.failed crew result.0 }
+    ensures crew { WorksOn N rings.now (device D.honest D.tells D.failed) crew result.0 }
     ensures others { F.post others result.1 }
 {
     join(
         rt,
         move || -> Crew<D>
             requires { IsSync R.row × IsSync Q.row × IsSend D.row × (AreAt rings.now crew) }
-            ensures { WorksOn rings.entry.now D.honest D.tells D.failed crew result }
+            ensures { WorksOn N rings.entry.now (device D.honest D.tells D.failed) crew result }
         { run_stages(rt, gate, rings, crew, signals) },
         move || -> X
             requires { F.pre others }

@@ -10,7 +10,8 @@ use Rattle.stages.specs.Crews.{AreIdle}
 use Rattle.stages.specs.PollLaws.{journaller_grows}
 use Rattle.stages.specs.declared.turn.Turn.{Turn}
 use Rattle.stages.specs.declared.turn.Turn.TheVariants.{JournalFailed}
-use Rattle.venue.specs.Venues.{Venue, Device}
+use Rattle.stages.specs.Devices.{Device}
+use Rattle.venue.specs.Venues.{Venue}
 use Rattle.venue.specs.CrashLaws.{still_behind}
 use Rattle.venue.proofs.OpenedLemmas.{still_at}
 use Rattle.venue.proofs.ServingLemmas.{told_quiet, at_start, behind_poll, lives, next_round, told_again, still_ready}
