@@ -1,5 +1,6 @@
-//! Tests of the book and of the journal, each by itself, for what no clause says: reports as literal text, journals byte by byte, and files
-//! that do less than they are asked. They stand here, and not beside what they test, since a crate with tests is proved twice.
+//! Tests of the journal and of the wires, for what the built programs don't show: disks of which a call fails or behind
+//! whose call the program stops, and readers and writers that go by a script. They stand here, and not beside what they
+//! test, since a crate with tests is proved twice.
 #![tactic(auto)]
 
 #[cfg(test)]

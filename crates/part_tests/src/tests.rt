@@ -1,10 +1,5 @@
-//! Worked days through the book alone, the book beside a plain list, journals on disks in memory and of the system, and
-//! old ones that are carried over.
+//! Journals on disks in memory and of the system, where a call fails or the program stops; and the wires.
 
-mod carried;
+mod client_wires;
 mod failing_disks;
 mod journals;
-mod plain_book;
-mod snapshots;
-mod two_books;
-mod worked_days;

@@ -38,7 +38,7 @@ met_spent rings k s t r h step spent = record {
   claims = ap (λ (a : At _). a.who.claims) step ∙ spent.claims;
 }
 
--- the last of new seats is new, and so are those before it
+-- the last of new seats is new
 module _ {L : Type 0} (rings : Opened L) (all front : List (At L)) (s : At L) (is : all ≡ front ++ s ∷ [])
     (new : AreNewGateways rings all) where
   pub new_last : s ≡ at rings (newcomer (Gateway (number s)) rings.base rings.base_outputs)
@@ -47,10 +47,6 @@ module _ {L : Type 0} (rings : Opened L) (all front : List (At L)) (s : At L) (i
       (subst (λ (l : List (At L)). get_elem? l (length front) ≡ some s) (sym is) (last_one front s)) in
       subst (λ (k : ℕ). s ≡ at rings (newcomer (Gateway k) rings.base rings.base_outputs))
       (sym (ap (λ (a : At L). number a) last)) last
-
-  pub new_front : AreNewGateways rings front
-  new_front i x there = new i x (subst (λ (l : List (At L)). get_elem? l i ≡ some x) (sym is)
-      (stays front (s ∷ []) i x there))
 
 -- what `close` asks of the gateways' seats
 pub are_gateways : {L : Type 0} (rings : Opened L) (seats : List (At L)) → ComeBackSpent rings seats

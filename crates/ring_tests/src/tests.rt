@@ -1,11 +1,9 @@
-//! On one thread small rings and all stages, on threads of their own gateways and stages all at once; and the wires.
+//! On one thread small rings and all stages, on threads of their own gateways and stages all at once.
 
-mod client_wires;
 mod crew;
 mod gateways_meet;
 mod member;
 mod messages;
-mod one_gateway_ring;
 mod orders;
 mod output_ring_of_two;
 mod ring_of_two;

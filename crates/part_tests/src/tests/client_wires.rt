@@ -2,12 +2,12 @@
 //! asked for, or fail.
 ghost use Rattle.std.specs.Prelude.{◌<◌, ◌≤◌, length, IfOk};
 
-use gateway::{Counts, GatheringWire, StdWire, StreamWire, TcpWire, TryRead, TryWrite, Wire};
 use std::alloc::{AllocError, Global};
 use std::io;
 use std::io::{ErrorKind, Read, Write};
 use std::process::Abort;
 use std::test::Fail;
+use wires::{Counts, GatheringWire, StdWire, StreamWire, TcpWire, TryRead, TryWrite, Wire};
 
 /// A reader and a writer that go through a script: each read, write and flush takes the next step.
 #[derive(Drop)]

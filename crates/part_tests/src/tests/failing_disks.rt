@@ -104,9 +104,15 @@ fn behind(alloc: Global, calls: &[Call]) -> Result<MemDisk, Fail> {
 
 /// Whether these entries are the first of those.
 fn begin(some: &[Entry], all: &[Entry]) -> bool {
-    some.len() <= all.len()
-        && some.iter().zip(all).all(|(one, other)| one.gateway() == other.gateway()
-            && one.bytes() == other.bytes())
+    if all.len() < some.len() {
+        return false;
+    }
+    for k in 0..some.len() {
+        if some[k].gateway() != all[k].gateway() || some[k].bytes() != all[k].bytes() {
+            return false;
+        }
+    }
+    true
 }
 
 /// How many of these entries `open` finds after a crash: they are the first ones. Another one can be added to them.
@@ -134,17 +140,29 @@ fn alike(alloc: Global, count: usize) -> Result<Vec<Entry>, AllocError> {
     Ok(all)
 }
 
-/// Whether `open` finds the block, and not just no entries, by what stands after a crash.
-fn finds(alloc: Global, disk: &MemDisk, block: &[Entry]) -> Result<[bool; 4], Fail> {
-    let mut finds = NONE;
-    for (place, fill) in finds.iter_mut().zip(FILLS) {
-        let count = found(alloc, disk, fill, block)?;
-        if count != 0 && count != block.len() {
-            return Err(Fail::from("a part of the block"));
-        }
-        *place = count != 0;
+/// Whether `open` finds the block, and not just no entries, where this stands after a crash.
+fn is_found(
+    alloc: Global,
+    disk: &MemDisk,
+    fill: Option<u8>,
+    block: &[Entry],
+) -> Result<bool, Fail> {
+    let count = found(alloc, disk, fill, block)?;
+    if count != 0 && count != block.len() {
+        return Err(Fail::from("a part of the block"));
     }
-    Ok(finds)
+    Ok(count != 0)
+}
+
+/// The same by what stands after a crash.
+fn finds(alloc: Global, disk: &MemDisk, block: &[Entry]) -> Result<[bool; 4], Fail> {
+    let [first, second, third, fourth] = FILLS;
+    Ok([
+        is_found(alloc, disk, first, block)?,
+        is_found(alloc, disk, second, block)?,
+        is_found(alloc, disk, third, block)?,
+        is_found(alloc, disk, fourth, block)?,
+    ])
 }
 
 /// Looks behind each cut of the first append, of so many entries as one block.
@@ -192,6 +210,30 @@ fn left(alloc: Global, fill: Option<u8>) -> Result<Vec<u8>, AllocError> {
     Ok(bytes)
 }
 
+/// The disk on which a journal could not be opened, since this call failed, the write of the half synced one among them.
+fn unopened(alloc: Global, call: usize) -> Result<MemDisk, Fail> {
+    let mut disk = half_synced(alloc)?;
+    disk.fail_at((call as u64).wrapping_sub(1), 0);
+    match Journal::open(alloc, disk) {
+        Err((JournalFault::Device, disk)) => Ok(disk),
+        _ => Err(Fail::from("not 41")),
+    }
+}
+
+/// What a crash leaves of it is the journal of one entry, but for what isn't synced yet behind the first call.
+fn is_left<A: Abort>(rt: &A, alloc: Global, disk: &MemDisk, call: usize) -> Result<(), Fail> {
+    for fill in FILLS {
+        let unsynced = if call == 2 { fill } else { None };
+        let crashed = disk.crash(fill)?;
+        assert_eq!(rt;
+            crashed.bytes(),
+            left(alloc, unsynced)?.as_slice(),
+            "call {call}"
+        );
+    }
+    Ok(())
+}
+
 #[test]
 fn opening_fails(rt: HostRuntime) -> Result<(), Fail> {
     let mut disk = half_synced(rt.alloc())?;
@@ -199,21 +241,10 @@ fn opening_fails(rt: HostRuntime) -> Result<(), Fail> {
     let last = disk.calls().len();
     assert!(rt; last >= 3);
     for call in 2..=last {
-        let mut disk = half_synced(rt.alloc())?;
-        disk.fail_at(call as u64 - 1, 0);
-        let Err((fault, disk)) = Journal::open(rt.alloc(), disk) else {
-            return Err(Fail::from("opened"));
-        };
-        assert_eq!(rt; (fault, disk.calls().len()), (JournalFault::Device, call));
+        let disk = unopened(rt.alloc(), call)?;
+        assert_eq!(rt; disk.calls().len(), call);
         assert_eq!(rt; disk.bytes(), ONE_ENTRY.as_slice());
-        for fill in FILLS {
-            let unsynced = if call == 2 { fill } else { None };
-            assert_eq!(rt;
-                disk.crash(fill)?.bytes(),
-                left(rt.alloc(), unsynced)?.as_slice(),
-                "call {call}"
-            );
-        }
+        is_left(&rt, rt.alloc(), &disk, call)?;
     }
     Ok(())
 }

@@ -25,11 +25,7 @@ pub const SELL_THREE: &str = "8=FIX.4.4|9=100|35=D|49=C1|56=VENUE|34=4|52=202501
 pub const BUY_THREE: &str = "8=FIX.4.4|9=100|35=D|49=C2|56=VENUE|34=2|52=20250102-09:30:00|11=1|\
     55=ABC|54=1|60=20250102-09:30:00|38=3|40=2|44=50|10=003|";
 
-/// That the first buy is accepted, as the first command.
-pub const FIRST_ACKNOWLEDGED: &str = "37=1|17=1|150=0|39=0|11=1|55=ABC|54=1|38=100|44=50|151=100|\
-    14=0|6=0|";
-
-/// The same, as the third command.
+/// That the first buy is accepted, as the third command.
 pub const THIRD_ACKNOWLEDGED: &str = "37=3|17=1|150=0|39=0|11=1|55=ABC|54=1|38=100|44=50|151=100|\
     14=0|6=0|";
 

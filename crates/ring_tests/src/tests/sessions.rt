@@ -1,5 +1,4 @@
-//! Two clients' sessions, one behind the other: the first orders and leaves, and what the second's order brings it is passed over by its gateway,
-//! and counted. And sessions of a client that breaks, is deaf or has closed, each with another session of that client behind it.
+//! Sessions of a client that breaks, is deaf or has closed, each with another session of that client behind it.
 ghost use Rattle.std.specs.Prelude.{None, ◌≡◌, ◌≤◌, true, false, [], IfOk, IsSome};
 ghost use Rattle.ring_words.specs.declared.view.Role.TheVariants as role;
 ghost use Rattle.ring_words.specs.Rule.{newcomer};
@@ -18,20 +17,16 @@ use std::process::Abort;
 use std::test::Fail;
 use venue_model::Limits;
 
-/// The first client's Logon.
+/// The client's Logon.
 const LOGON: &str = "8=FIX.4.4|9=63|35=A|49=C1|56=VENUE|34=1|\
     52=20250102-09:30:00|98=0|108=0|141=Y|10=026|";
 
-/// The first client's Logon and order to buy 100 at 50.
+/// The client's Logon and order to buy 100 at 50.
 const BUYER: &str = "8=FIX.4.4|9=63|35=A|49=C1|56=VENUE|34=1|\
     52=20250102-09:30:00|98=0|108=0|141=Y|10=026|8=FIX.4.4|\
     9=102|35=D|49=C1|56=VENUE|34=2|52=20250102-09:30:00|11=1|\
     55=ABC|54=1|60=20250102-09:30:00|38=100|40=2|44=50|\
     10=098|";
-
-/// Its Logout, once it has the acknowledgement.
-const BUYER_LEAVES: &str = "8=FIX.4.4|9=46|35=5|49=C1|56=VENUE|34=3|\
-    52=20250102-09:30:00|10=254|";
 
 /// The Logon's answer and the order's acknowledgement.
 const BUYER_IS_TOLD: &str = "8=FIX.4.4|9=63|35=A|49=VENUE|56=C1|34=1|\
@@ -43,27 +38,6 @@ const BUYER_IS_TOLD: &str = "8=FIX.4.4|9=63|35=A|49=VENUE|56=C1|34=1|\
 /// The Logon's answer.
 const LOGON_IS_TOLD: &str = "8=FIX.4.4|9=63|35=A|49=VENUE|56=C1|34=1|\
     52=20250102-09:30:00|98=0|108=0|141=Y|10=026|";
-
-/// The Logout's answer.
-const BUYER_LEFT: &str = "8=FIX.4.4|9=46|35=5|49=VENUE|56=C1|34=3|\
-    52=20250102-09:30:00|10=254|";
-
-/// The second client's Logon and order to sell 30 at 50.
-const SELLER: &str = "8=FIX.4.4|9=63|35=A|49=C2|56=VENUE|34=1|\
-    52=20250102-09:30:00|98=0|108=0|141=Y|10=027|8=FIX.4.4|\
-    9=101|35=D|49=C2|56=VENUE|34=2|52=20250102-09:30:00|11=1|\
-    55=ABC|54=2|60=20250102-09:30:00|38=30|40=2|44=50|\
-    10=053|";
-
-/// The Logon's answer, the order's acknowledgement, and its fill: the outputs 2 and 4 of all.
-const SELLER_IS_TOLD: &str = "8=FIX.4.4|9=63|35=A|49=VENUE|56=C2|34=1|\
-    52=20250102-09:30:00|98=0|108=0|141=Y|10=027|8=FIX.4.4|\
-    9=112|35=8|49=VENUE|56=C2|34=2|52=20250102-09:30:00|37=2|\
-    17=2|150=0|39=0|11=1|55=ABC|54=2|38=30|44=50|\
-    151=30|14=0|6=0|10=153|8=FIX.4.4|9=125|35=8|49=VENUE|\
-    56=C2|34=3|52=20250102-09:30:00|37=2|17=4|150=F|39=2|\
-    11=1|55=ABC|54=2|38=30|44=50|32=30|31=50|151=0|\
-    14=30|6=50|10=250|";
 
 /// The gateway of a new seat, in a box: all of it is let go by one call.
 fn gateway_at<const N: usize, const M: usize, const G: usize>(
@@ -133,112 +107,26 @@ fn serve<const N: usize, const M: usize, const G: usize>(
     None
 }
 
-/// Lets a gateway without a session look three times.
-fn idle<const N: usize, const M: usize, const G: usize>(
-    rings: &TestRings<N, M, G>,
-    gateway: &mut Gateway,
-)
-    requires off { gateway.old.front.live ≡ false }
-    requires at { IsAt rings.now gateway.old.seat }
-{
-    gateway.idle(rings);
-    gateway.idle(rings);
-    gateway.idle(rings);
-}
-
 /// A client that sends this text.
 fn wire_of(alloc: Global, text: &str) -> Result<MemWire, AllocError> {
     MemWire::new(alloc, &bytes_of(alloc, text)?)
 }
 
-/// What the clients send and are sent.
-#[derive(Drop)]
-struct Wires {
-    buying: MemWire,
-    leaving: MemWire,
-    selling: MemWire,
-}
-
-/// The gateways of two seats, the second one first.
-fn pair<const N: usize, const M: usize, const G: usize>(
+/// The gateway of the last seat.
+fn last_gateway<const N: usize, const M: usize, const G: usize>(
     alloc: Global,
     rings: &TestRings<N, M, G>,
     limits: &Limits,
     mut gateways: Vec<GatewaySeat<BookLogic>>,
-) -> Result<(Box<Gateway>, Box<Gateway>), Fail>
+) -> Result<Box<Gateway>, Fail>
     requires opened { (rings.now.logic ≡ limits.now) × (rings.now.base ≡ []) × (rings.now.base_outputs ≡ 0) }
     requires new { AreNewGateways rings.now gateways.items }
-    ensures { IfOk result (λ pair. IsAt rings.now pair.0.value.seat × IsAt rings.now pair.1.value.seat) }
+    ensures { IfOk result (λ g. IsAt rings.now g.value.seat) }
 {
-    let Some(second) = gateways.pop() else {
+    let Some(seat) = gateways.pop() else {
         return Err(Fail::from("no gateway"));
     };
-    let Some(first) = gateways.pop() else {
-        return Err(Fail::from("no other gateway"));
-    };
-    let second = gateway_at(alloc, rings, limits, second)?;
-    let first = gateway_at(alloc, rings, limits, first)?;
-    Ok((second, first))
-}
-
-/// Serves the first client and then the second, and lets the first gateway be idle behind them. Says whether each session ended as it is to end.
-fn serve_both<const N: usize, const M: usize, const G: usize>(
-    rings: &TestRings<N, M, G>,
-    stages: &mut Stages,
-    buyer: &mut Gateway,
-    seller: &mut Gateway,
-    wires: &mut Wires,
-) -> bool
-    requires stages { AreAt rings.now stages.old.value }
-    requires buyer { IsAt rings.now buyer.old.seat }
-    requires seller { IsAt rings.now seller.old.seat }
-{
-    buyer.begin();
-    let None = serve(rings, stages, buyer, &mut wires.buying, 16) else {
-        return false;
-    };
-    let Some((Reason::LoggedOut, _)) = serve(rings, stages, buyer, &mut wires.leaving, 16) else {
-        return false;
-    };
-    seller.begin();
-    let Some((Reason::Closed, _)) = serve(rings, stages, seller, &mut wires.selling, 4_000) else {
-        return false;
-    };
-    idle(rings, buyer);
-    true
-}
-
-/// Serves two clients so at new rings. Answers how many outputs the first one's gateway passed over, where each session ended as it is to end.
-fn trade<const N: usize, const M: usize, const G: usize>(
-    alloc: Global,
-    limits: &Limits,
-    wires: &mut Wires,
-) -> Result<Option<u64>, Fail>
-    requires { (1 ≤ G) × (G ≤ 8) }
-{
-    let (rings, seats) = open::<N, M, G>(alloc, limits)?;
-    let (mut stages, gateways) = stages_of(alloc, &rings, seats, limits)?;
-    let (mut seller, mut buyer) = pair(alloc, &rings, limits, gateways)?;
-    let served = serve_both(&rings, &mut stages, &mut buyer, &mut seller, wires);
-    Ok(served.then_some(buyer.passed()))
-}
-
-/// The same at rings of four rows, for the symbol ABC.
-fn trade_abc(alloc: Global, wires: &mut Wires) -> Result<Option<u64>, Fail> {
-    let limits = abc(alloc).ok_or("no memory")?;
-    trade::<4, 4, 2>(alloc, &limits, wires)
-}
-
-/// The clients: the first one stays until it has left, the second one closes.
-fn clients(alloc: Global) -> Result<Wires, AllocError> {
-    let buying = wire_of(alloc, BUYER)?.staying_open();
-    let leaving = wire_of(alloc, BUYER_LEAVES)?;
-    let selling = wire_of(alloc, SELLER)?;
-    Ok(Wires {
-        buying,
-        leaving,
-        selling,
-    })
+    gateway_at(alloc, rings, limits, seat)
 }
 
 /// The client of this wire was sent this text.
@@ -246,16 +134,6 @@ fn is_told<A: Abort>(rt: &A, alloc: Global, wire: &MemWire, told: &str) -> Resul
     let told = bytes_of(alloc, told)?;
     assert_eq!(rt; wire.taken(), told.as_slice());
     Ok(())
-}
-
-#[test]
-fn reports_without_session_are_passed_over(rt: HostRuntime) -> Result<(), Fail> {
-    let mut wires = clients(rt.alloc())?;
-    let passed = trade_abc(rt.alloc(), &mut wires)?;
-    assert_eq!(rt; passed, Some(1));
-    is_told(&rt, rt.alloc(), &wires.buying, BUYER_IS_TOLD)?;
-    is_told(&rt, rt.alloc(), &wires.leaving, BUYER_LEFT)?;
-    is_told(&rt, rt.alloc(), &wires.selling, SELLER_IS_TOLD)
 }
 
 /// Serves a client over this wire until its session ends, and then, over another one, a Logon. Says how the first session ended; how many
@@ -270,7 +148,7 @@ fn serve_again<const N: usize, const M: usize, const G: usize>(
 {
     let (rings, seats) = open::<N, M, G>(alloc, limits)?;
     let (mut stages, gateways) = stages_of(alloc, &rings, seats, limits)?;
-    let (_, mut gateway) = pair(alloc, &rings, limits, gateways)?;
+    let mut gateway = last_gateway(alloc, &rings, limits, gateways)?;
     gateway.begin();
     let Some((reason, still)) = serve(&rings, &mut stages, &mut gateway, wire, 200_000) else {
         return Ok(None);
@@ -282,14 +160,14 @@ fn serve_again<const N: usize, const M: usize, const G: usize>(
     Ok(Some((reason, still, gateway.passed())))
 }
 
-/// The same at rings of four rows, for the symbol ABC.
+/// The same at rings of four rows for one gateway, and for the symbol ABC.
 fn serve_abc_again(
     alloc: Global,
     wire: &mut MemWire,
     next: &mut MemWire,
 ) -> Result<Option<(Reason, u32, u64)>, Fail> {
     let limits = abc(alloc).ok_or("no memory")?;
-    serve_again::<4, 4, 2>(alloc, &limits, wire, next)
+    serve_again::<4, 4, 1>(alloc, &limits, wire, next)
 }
 
 /// The session over this wire ends so, no report is passed over, the wire took so many bytes of what the buyer is told, and the session behind

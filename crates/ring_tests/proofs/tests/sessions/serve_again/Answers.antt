@@ -2,7 +2,7 @@
 use Rattle.std.proofs.Common.{lit<}
 use Rattle.ring_tests.proofs.tests.sessions.serve_again.Goals as goal
 
-pub pair-requires : goal.pair-requires
-pair-requires g c =
+pub last_gateway-requires : goal.last_gateway-requires
+last_gateway-requires g c =
     let opened = c.in_ok-rings.ensures in
     (lit< tt, (opened.opened, rw c.in_ok-stages.ensures.gateways opened.seats.gateways))

@@ -1,6 +1,0 @@
--- stamps below the next sequence
-use Rattle.book.specs.Standing.{Below}
-use Rattle.part_tests.proofs.tests.snapshots.behind.Given as goal
-
-abbrev pub invariant-loop-place : goal.invariant-loop-place
-invariant-loop-place l = Below l.place l.book.state.orders

@@ -1,6 +1,0 @@
--- stamps below the next sequence
-use Rattle.book.specs.Standing.{Below}
-use Rattle.part_tests.proofs.tests.two_books.full_book_is_hardly_read.Given as goal
-
-abbrev pub invariant-loop-turn : goal.invariant-loop-turn
-invariant-loop-turn l = Below l.turn l.book.state.orders
