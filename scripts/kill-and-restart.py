@@ -4,18 +4,20 @@
     scripts/kill-and-restart.py [KILLS]             20 kills, if left out, and 10 ordered stops between them
     scripts/kill-and-restart.py --standard [KILLS]  the same for `venued -`, one member over pipes, without stops
 
-Four members trade over TCP at once, in bursts, with limit orders on all terms, market orders, cancels and replaces.
-After each kill, or stop by the file, the reports that venue-replay prints have to
+Four members trade over TCP at once, in bursts, with limit orders on all terms, market orders, cancels and replaces, on a
+journal of version 3, until a thousand requests and more were answered. After each kill, or stop by the file, the reports
+that venue-replay prints have to
 
 - begin with those that it printed before: nothing that was kept is lost or told otherwise;
 - hold, for each member, all that it got in this session, in one piece and in its order;
 - answer, of the requests that each member sent, each up to some one, once and in order, and none behind that one.
 
-Each member's MsgSeqNum (34) has to rise by one. The line of a start has to have venue-replay's counts, and so has that
-of a stop when all requests were answered; a stop while orders flow counts those that were worked on, and may leave more
-in the journal. A round that misses one of these is a failed one; the last line is `N passed, M failed`, and the
-status is 1 where one failed. It takes about a minute. Build both programs first, by scripts/build; others are taken by
-the environment's VENUED and VENUE_REPLAY.
+Each start but the first has to write a snapshot; all have to be true, and the book from the newest one on has to be that
+of the entries alone. Each member's MsgSeqNum (34) has to rise by one. The line of a start has to have venue-replay's
+counts, and so has that of a stop when all requests were answered; a stop while orders flow counts those that were worked
+on, and may leave more in the journal. A round that misses one of these is a failed one; the last line is `N passed, M
+failed`, and the status is 1 where one failed. It takes about a minute. Build both programs first, by scripts/build;
+others are taken by the environment's VENUED and VENUE_REPLAY.
 """
 import argparse
 import os
@@ -26,7 +28,8 @@ import tempfile
 import time
 
 import needs_python  # (in front of what an older Python can't read)
-from traders import Member, Rounds, started_again
+import journals
+from traders import Member, Rounds, await_round, started_again, write_entries
 from venues import VENUED, Client, Trouble, free_port, need_programs, replay
 
 MEMBERS = 4
@@ -50,6 +53,7 @@ def trading(rounds, port):
     """Members that trade at this port, for some time."""
     traders = [Member(Client(port, it).socket, it, rounds.names[it]) for it in rounds.members]
     time.sleep(random.uniform(0.1, LONGEST))
+    await_round(traders)
     if any(it.has_ended for it in traders):
         raise Trouble("a session has ended by itself")
     return traders
@@ -68,28 +72,13 @@ def killed(port):
     return trade
 
 
-def beginning(journal, commands, name):
-    """Makes a journal of the first entries of this one, so many."""
-    with open(journal, "rb") as file:
-        data = file.read()
-    with open(name, "wb") as file:
-        file.write(data[:8])
-        at, end = 8, 8
-        while commands:
-            if at == end:  # Here a block begins: its gate, and the length of its records.
-                at, end = at + 5, at + 5 + int.from_bytes(data[at + 1: at + 5], "big")
-            length = 3 + int.from_bytes(data[at + 1: at + 3], "big")
-            file.write(b"\1" + length.to_bytes(4, "big") + data[at: at + length])
-            at, commands = at + length, commands - 1
-        file.write(b"\0")
-
-
 def check_stop(journal, counts, is_quiet):
     """Checks the counts of a stop. Orders that were under way may stand in the journal behind those that it counts."""
     _, kept = replay(journal, "book")
     if is_quiet and counts != kept:
         raise Trouble(f"stopped with {counts} commands and outputs, where venue-replay counts {kept}")
-    beginning(journal, min(counts[0], kept[0]), f"{journal}.beginning")
+    with open(journal, "rb") as file:
+        write_entries(f"{journal}.beginning", journals.read(file.read()), min(counts[0], kept[0]))
     _, first = replay(f"{journal}.beginning", "book")
     if counts != first:
         raise Trouble(f"stopped with {counts} commands and outputs; the journal has {kept}, and so far {first}")
@@ -119,10 +108,13 @@ def killed_standard(rounds):
     process = subprocess.Popen(words, stdin=subprocess.PIPE, stdout=subprocess.PIPE, bufsize=0)
     trader = Member(Pipes(process), 1, rounds.names[1])
     time.sleep(random.uniform(0.1, LONGEST))
-    if process.poll() is not None:
-        raise Trouble(f"venued ended by itself, with status {process.wait()}")
-    process.kill()
-    process.wait()
+    try:
+        await_round([trader])
+        if process.poll() is not None:
+            raise Trouble(f"venued ended by itself, with status {process.wait()}")
+    finally:
+        process.kill()
+        process.wait()
     return [trader]
 
 

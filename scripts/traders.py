@@ -5,10 +5,13 @@ import re
 import threading
 import time
 
-from venues import PATIENCE, TIME, Trouble, Venue, market_order, message, order, parted, replay, value
+import journals
+from venues import PATIENCE, TIME, Trouble, Venue, check_snapshots, market_order, message, order, parted, replay, value
 
 BURST = 32     # Requests that a member sends in one go, so that many are under way at a kill.
+A_ROUND = 1_000  # Requests that are answered between two starts at least: the next start then writes a snapshot.
 PLACE = re.compile(r"\|17=(\d+)\|")
+ANSWERS = re.compile(rb"\x01150=[058]\x01|\x0135=9\x01")  # Of all but cancels.
 
 
 def request(name):
@@ -64,6 +67,10 @@ class Member:
         except OSError:
             pass
 
+    def answered(self):
+        """How many of its requests were answered, at least."""
+        return len(ANSWERS.findall(bytes(self.got)))
+
     def silence(self):
         """The longest time for which nothing came, in seconds, since `longest` was set to 0."""
         return max(self.longest, time.monotonic() - self.heard_at)
@@ -92,6 +99,15 @@ class Member:
         return [re.sub(r"^.*?\|(35=.\|)49=.*?\|(52=.*?\|)", r"\1\2", it)[: -len("10=000|")] for it in told[1:]]
 
 
+def await_round(traders):
+    """Waits until the members were answered as often as a round asks."""
+    end = time.monotonic() + PATIENCE
+    while (answered := sum(it.answered() for it in traders)) < A_ROUND:
+        if any(it.has_ended for it in traders) or time.monotonic() > end:
+            raise Trouble(f"expected {A_ROUND} answers came {answered}")
+        time.sleep(0.02)
+
+
 def check_kept(who, before, kept):
     """Checks that what was kept before still is, and that the places of reports rise."""
     if kept[: len(before)] != before:
@@ -118,13 +134,15 @@ def check_told(trader, told, kept):
 
 
 class Rounds:
-    """Rounds on one journal, and what it held after each."""
+    """Rounds on one journal of version 3, and what it held after each."""
 
     def __init__(self, journal, members, gateways=None):
         self.journal, self.members, self.gateways = journal, members, gateways or len(members)
         self.names = {member: 1 for member in members}
         self.kept = {member: [] for member in members}
-        self.counts, self.seen, self.sent = (0, 0), 0, 0
+        self.counts, self.seen, self.sent, self.starts = (0, 0), 0, 0, 0
+        with open(journal, "wb") as file:
+            file.write(journals.empty(journals.WITH_SNAPSHOTS))
 
     def round(self, trade):
         """Lets the members trade, and checks what is kept behind the end of the venue. Says it in words."""
@@ -134,9 +152,12 @@ class Rounds:
         for it in traders:
             self.names[it.member] = it.name
             self.check(it, told[it.member])
+        self.starts += 1
+        self.check_snapshots()
         seen, total = sum(map(len, told.values())), sum(map(len, self.kept.values()))
         self.seen, self.sent = self.seen + seen, self.sent + sent
-        return f"{sent} requests sent, {seen} reports seen; {total} kept, all {self.seen} seen so far among them"
+        return (f"{sent} requests sent, {seen} reports seen; {total} kept, all {self.seen} seen so far among them; "
+                f"{self.starts - 1} snapshots")
 
     def check(self, trader, told):
         """Checks what is kept for a member against what was kept before, was told and was sent."""
@@ -145,6 +166,29 @@ class Rounds:
         self.kept[trader.member] = kept
         check_kept(who, before, kept)
         check_told(trader, told, kept[len(before):])
+
+
+    def check_snapshots(self):
+        """Checks that each start but the first wrote a snapshot, that all are true, and that the book from the newest one
+        on is that of the entries alone."""
+        with open(self.journal, "rb") as file:
+            journal = journals.read(file.read())
+        if len(journal.snapshots) != self.starts - 1:
+            raise Trouble(f"expected {self.starts - 1} snapshots, one of each start but the first, "
+                          f"came {len(journal.snapshots)}")
+        if (came := check_snapshots(self.journal)) != "snapshots true":
+            raise Trouble(f"expected true snapshots came {came}")
+        alone = f"{self.journal}.alone"
+        write_entries(alone, journal, len(journal.entries))
+        if (came := replay(self.journal, "book")) != (wanted := replay(alone, "book")):
+            raise Trouble(f"expected, from the newest snapshot on, {wanted} came {came}")
+
+
+def write_entries(name, journal, count):
+    """Makes a journal of the first entries of this one, so many, without snapshots."""
+    blocks = journals.in_blocks(journal.version, journal.entries[:count], journals.MOST_IN_A_BLOCK)
+    with open(name, "wb") as file:
+        file.write(journals.header(journal.version, journal.cut) + blocks + journals.CLOSED)
 
 
 def started_again(rounds, port):

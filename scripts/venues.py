@@ -231,3 +231,9 @@ def replay(journal, what, symbols=("ABC",)):
         raise Trouble(f"venue-replay ended with status {ran.returncode}: {ran.stderr.strip()}")
     *lines, last = ran.stdout.splitlines()
     return lines, tuple(map(int, REPLAYED.fullmatch(last).groups()))
+
+
+def check_snapshots(journal, symbols=("ABC",)):
+    """The line that venue-replay prints of a journal's snapshots."""
+    ran = subprocess.run([REPLAY, journal, "check", *symbols], capture_output=True, text=True)
+    return (ran.stdout + ran.stderr).strip()

@@ -30,9 +30,11 @@ import sys
 from refusals import FRESH, LOGON, answered, answers, by_rules, check_history, contents, journal_of, listens, orders
 from refusals import put, ran, run_tests, standard
 import journals
+from journals import Entry
 from venues import REPLAY, Client, Trouble, printed
 
 ORDERS = 4
+A_THOUSAND = 1_000  # Orders behind which the next start writes a snapshot.
 KILLED = -signal.SIGKILL
 NOT_BEGUN = (1, b"", "venued: journal fault 41\n")
 FAILED = (2, "venued: journal failed\n")
@@ -108,6 +110,29 @@ def standard_session(sweeps):
             sweeps.sweep(lambda it: statuses.update([check_session(it, before)]), "device", how)
     if not all(statuses[it] for it in (0, 1, 2, KILLED)):
         raise Trouble(f"expected ends of all kinds came {dict(statuses)}")
+    return f"{sweeps.said()}; {statuses[1]} times not begun, {statuses[2]} times failed, {statuses[KILLED]} times killed"
+
+
+def snapshot_at_the_start(sweeps):
+    """`venued -` on a journal of a thousand orders, of which it writes a snapshot before it serves."""
+    whole = orders(1, A_THOUSAND)
+    before = journals.header(3) + journals.in_blocks(3, [Entry(1, it) for it in whole], A_THOUSAND) + journals.CLOSED
+    wanted = by_rules(before, "snapshot", "ABC")[1]["J"]
+    statuses, found = collections.Counter(), collections.Counter()
+
+    def check(refusal):
+        statuses.update([check_session(refusal, before)])
+        kept = journals.read(contents(refusal.journal))
+        if any(it not in journals.read(wanted).snapshots for it in kept.snapshots[:1]):
+            raise Trouble(f"expected a snapshot of {A_THOUSAND} orders came {kept.snapshots}")
+        if (came := ran([REPLAY, refusal.journal, "check", "ABC"])) != (0, b"snapshots true\n", ""):
+            raise Trouble(f"expected true snapshots came {came}")
+        found.update([len(kept.snapshots)])
+
+    for how in ("once", "short", "before", "after"):
+        sweeps.sweep(check, "device", how)
+    if set(found) != {1} or not all(statuses[it] for it in (0, 1, 2, KILLED)):
+        raise Trouble(f"expected one snapshot at last, and ends of all kinds, came {dict(found)} {dict(statuses)}")
     return f"{sweeps.said()}; {statuses[1]} times not begun, {statuses[2]} times failed, {statuses[KILLED]} times killed"
 
 
@@ -273,4 +298,5 @@ def carried_over(sweeps):
 if __name__ == "__main__":
     if set(sys.argv[1:]) & {"-h", "--help"}:
         sys.exit(print(__doc__.strip()))
-    run_tests("failing_device", [standard_session, first_sync, listening, replays, added_snapshots, carried_over])
+    run_tests("failing_device", [standard_session, snapshot_at_the_start, first_sync, listening, replays, added_snapshots,
+                                 carried_over])
