@@ -13,3 +13,4 @@ mod Shaping
 mod Added
 mod Reported
 mod StartLemmas
+mod Staying

@@ -26,7 +26,7 @@ pub use carrying::carry_file;
 pub use checking::{check, check_file};
 pub use fault::{ReplayFault, refuse};
 pub use job::{Job, Subject, Task};
-pub use laws::true_snapshots_recover_the_whole;
+pub use laws::{true_snapshots_recover_the_whole, true_snapshots_stay_true};
 pub use recovered::{Recovered, replay};
 pub use replayed::{Replayed, replay_whole};
 pub use reporting::report;
