@@ -42,7 +42,7 @@ from replay_rules import counts, line_of, said
 from snapshot_rules import BadSnapshot
 from wrong_replays import CONDITIONS, WRONG, Wrong
 
-SAMPLE = 2_000       # Journals of the full check,
+SAMPLE = 1_200       # Journals of the full check,
 MOST_TO_TELL = 10_000  # and those among which one has to tell a wrong rule.
 A_BATCH = 50
 DEEP_JOURNAL = 6_000  # Messages of the journal with a deep book.
