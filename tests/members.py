@@ -420,6 +420,32 @@ def a_taken_port():
     expect(venue.stop(), (0, 0))
 
 
+def own_addresses():
+    """The IPv4 addresses of this machine beside 127.0.0.1: another one of the loopback, and that by which it sends out."""
+    addresses = {"127.0.0.2"}
+    with socket.socket(socket.AF_INET, socket.SOCK_DGRAM) as probe:
+        try:
+            probe.connect(("192.0.2.1", 9))  # Of the addresses that are for examples; nothing is sent.
+            addresses.add(probe.getsockname()[0])
+        except OSError:
+            pass  # It has no way out.
+    return sorted(addresses - {HOST})
+
+
+def the_local_host_alone():
+    """The ports are those of 127.0.0.1, and no other address of the machine takes a connection there."""
+    venue = started(JOURNAL, 2)
+    for port in (venue.port, venue.port + 1):
+        for address in own_addresses():
+            try:
+                socket.create_connection((address, port), PATIENCE).close()
+                raise Trouble(f"expected no venue at {address}:{port} came a connection")
+            except ConnectionRefusedError:
+                pass
+    Client(venue.port, 1).log_on()
+    expect(venue.stop(), (0, 0))
+
+
 def the_ports_of_another_venue():
     """A second venue on another journal doesn't get the ports of the first, which serves on."""
     venue = started(JOURNAL, 2)
@@ -496,8 +522,8 @@ def wrong_words():
 TESTS = [the_worked_example, worked_days, market_orders_of_the_profile, rejected_market_orders_of_the_profile,
          an_old_journal, a_full_book, trades_of_eight, a_report_without_a_session, one_at_a_time,
          no_other_member, vanishing_clients, half_closed_behind_an_order, in_single_bytes, a_wrong_logon,
-         a_client_that_stays, a_taken_port, the_ports_of_another_venue, one_venue_a_journal, a_stop_file_of_before,
-         start_after_stop, a_stop_with_members, wrong_words]
+         a_client_that_stays, a_taken_port, the_local_host_alone, the_ports_of_another_venue, one_venue_a_journal,
+         a_stop_file_of_before, start_after_stop, a_stop_with_members, wrong_words]
 
 
 def passes(test):

@@ -23,7 +23,7 @@ use Rattle.ring_words.specs.Terms.{Terms}
 use Rattle.ring_words.specs.Rule.{Depth, Knows, owners, words_of, Lawful}
 use Rattle.ring_words.specs.Seats.{person, together}
 use Rattle.ring_words.specs.Steps.{Seated}
-use Rattle.ring_words.specs.Meeting.{longer, met, AreMet, MeetsJournal, sees_meeting, sees_journal}
+use Rattle.ring_words.specs.Meeting.{longer, met, AreMet, MeetsJournal, IsPresent, sees_meeting, sees_journal}
 use Rattle.ring_words.proofs.Written.{writes_rows}
 use Rattle.ring_words.proofs.Owners.{one_of, owners_both, same_owners}
 use Rattle.ring_words.proofs.Logs.{knows_looked}
@@ -157,6 +157,20 @@ module _ {L : Type 0} (terms : Terms L) (w : ℕ → ℕ) (log : Log) where
       (apart_at j k (log.status s) ne)
 
 module _ {L : Type 0} (terms : Terms L) where
+  -- what a gateway has seen is a beginning of what the journaller has handed on
+  pub not_ahead : (s : State Boxed (View L)) (p q : Person) (k : ℕ) → Lawful terms s → IsPresent s p → IsPresent s q
+      → p.role ≡ Gateway k → q.role ≡ Journal → q.sequence ≤ length q.seen
+      → p.seen ≡ take (length p.seen) (take q.sequence q.seen)
+  not_ahead s p q k r there_p there_q role_p role_q within =
+      let w = words_of s in
+      let knows_p = (r.people there_p.0 there_p.1 there_p.2 p there_p.3 there_p.4).2 in
+      let knows_q = (r.people there_q.0 there_q.1 there_q.2 q there_q.3 there_q.4).2 in
+      let low : length p.seen ≤ w journalled = subst (λ (z : Role). Depth w z (length p.seen)) role_p knows_p.depth in
+      let own : w journalled ≡ q.sequence = subst (λ (z : Role). w (word_of_role z) ≡ q.sequence) role_q knows_q.sequence in
+      let long : length (take q.sequence q.seen) ≡ q.sequence = length-take-le q.sequence q.seen within in
+      begun r.log.status p.seen (take q.sequence q.seen) knows_p.front
+      (front_taken r.log.status q.sequence q.seen knows_q.front) (omega (arith, low, own, long))
+
   -- two gateways whose seats came together load processed: both then know the longer history
   pub loads_meeting : (slots id : ℕ) (me : Seated Boxed L) (p q : Person) (j k : ℕ) → me.0.people ≡ p ∷ q ∷ []
       → p.role ≡ Gateway j → q.role ≡ Gateway k

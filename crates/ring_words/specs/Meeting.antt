@@ -1,6 +1,8 @@
 -- What two gateways learn when they meet, and a gateway that meets the journaller.
 use Rattle.std.specs.Prelude.{◌≡◌, ◌⊎◌, ℕ, ◌≤◌, List, [], ◌∷◌, ◌++◌, length, take, drop, if◌then◌else◌, nat_le}
-use Rattle.atomic_table.specs.Table.{Step}
+use mathlib.Core.Option.{some}
+use lib.ListN.{get_elem?}
+use Rattle.atomic_table.specs.Table.{State, Step}
 use Rattle.venue_model.specs.History.{Message}
 use Rattle.ring_words.specs.declared.view.Person.{Person}
 use Rattle.ring_words.specs.declared.view.Role.TheVariants.{Journal, Gateway}
@@ -26,10 +28,18 @@ pub record AreMet (start : ℕ) (p q : Person) : Type 0 where
   pub legal_one : IsLegal start p (longer p.seen q.seen)
   pub legal_other : IsLegal start q (longer p.seen q.seen)
 
+-- what the gateway p has seen begins what the journaller q has handed on
+abbrev pub HasSeenJournalled : Person → Person → Type 0
+HasSeenJournalled p q = p.seen ≡ take (length p.seen) (take q.sequence q.seen)
+
 -- what the gateway p knows begins what the journaller q has released, and that is legal for it
 pub record MeetsJournal (start : ℕ) (p q : Person) : Type 0 where
   pub begins : p.seen ≡ take (length p.seen) (take q.sequence q.seen)
   pub legal : IsLegal start p (take q.sequence q.seen)
+
+-- one of the persons in the views of all seats
+abbrev pub IsPresent : {S L : Type 0} → State S (View L) → Person → Type 0
+IsPresent s p = (id j : ℕ) × (v : View _) × (get_elem? s.views id ≡ some v) × (get_elem? v.people j ≡ some p)
 
 module _ {S L : Type 0} where
   -- a load of processed by the seat of two gateways

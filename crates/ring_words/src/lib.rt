@@ -4,6 +4,7 @@
 
 mod close;
 mod heads;
+mod laws;
 mod meeting;
 mod open;
 mod places;
@@ -18,6 +19,7 @@ mod view;
 
 pub use close::Summary;
 pub use heads::{Raw, TextHead, word_at};
+pub use laws::no_gateway_is_ahead_of_the_journal;
 pub use open::OpenError;
 pub use report::PlacedOutput;
 pub use rings::{Ring, Rings};

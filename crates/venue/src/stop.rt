@@ -1,4 +1,6 @@
 //! How the venue is told to stop: by a file that appears beside its journal, since a program of this language can't catch signals.
+ghost use Rattle.std.specs.Prelude.{◌≡◌, ◌≢◌, ◌++◌, IfOk, codes, string_bytes};
+
 use std::alloc::AllocError;
 use std::fs::{self, Files};
 
@@ -15,12 +17,16 @@ pub trait StopSign {
 #[derive(Drop)]
 pub struct StopFile<'a, R: Files> {
     files: &'a R,
-    path: String,
+    /// Its name.
+    pub path: String,
 }
 
 impl<'a, R: Files + AllocGlobal> StopFile<'a, R> {
-    /// The file beside the journal of this name.
-    pub fn beside(files: &'a R, journal: &str) -> Result<StopFile<'a, R>, AllocError> {
+    /// The file beside the journal of this name, which is another file than that.
+    pub fn beside(files: &'a R, journal: &str) -> Result<StopFile<'a, R>, AllocError>
+        ensures named { IfOk result (λ sign. string_bytes sign.path ≡ journal.now ++ codes ".stop") }
+        ensures other { IfOk result (λ sign. string_bytes sign.path ≢ journal.now) }
+    {
         let path = format!(in files.alloc(); "{journal}.stop")?;
         Ok(StopFile { files, path })
     }
