@@ -91,9 +91,12 @@ def functions_of(texts):
             elif line == "}":
                 owner = None
             elif name := FUNCTION.match(line):
-                first, end = at, line[:len(line) - len(line.lstrip())] + "}"
-                ends = (end, end[:-1] + "{}")
+                first, margin = at, line[:len(line) - len(line.lstrip())]
+                ends, has_body = (margin + "}", margin + "{}"), False
                 while not line.endswith("}") and at + 1 < len(lines) and lines[at] not in ends:
+                    has_body = has_body or lines[at].endswith("{") and not lines[at].startswith(margin + " ")
+                    if not has_body and lines[at].endswith(";") and not lines[at + 1].startswith(margin + " "):
+                        break  # A trait's function that it leaves to others.
                     at += 1
                 found.append(Function(module, owner, name[1], file, first + 1, at + 1, "\n".join(lines[first:at + 1])))
             at += 1
