@@ -61,7 +61,7 @@ fn start(rt: &HostRuntime, job: &Job, err: &mut Stderr) -> u8 {
             let Ok(mut new) = SystemFolder::fresh(rt, new.as_str()) else {
                 return refuse(ReplayFault::Memory, err);
             };
-            let (answer, _) = carry_file(rt.alloc(), &mut folder, &mut new);
+            let (answer, _, _) = carry_file(rt.alloc(), &mut folder, &mut new);
             tell(answer, &mut out, err)
         }
     }
