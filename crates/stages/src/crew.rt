@@ -5,7 +5,7 @@ ghost use Rattle.ring_words.specs.Crew.{AreGateways, AreNew};
 ghost use Rattle.ring_words.specs.Ending.{AreSpent};
 ghost use Rattle.journal.specs.Journals.{Holds};
 ghost use Rattle.book.specs.Histories.{state_of, outputs_of};
-ghost use Rattle.stages.specs.Kept.{KeepsDone, Fails, IsUntouched, LeavesJournals};
+ghost use Rattle.stages.specs.Kept.{KeepsDone, Fails, IsUntouched, LeavesBlock};
 ghost use Rattle.stages.specs.Stations.{disk_of};
 ghost use Rattle.stages.specs.Crews.{AreAt, AreIdle, new_crew, Polls};
 ghost use Rattle.stages.specs.Processes.{sizes};
@@ -127,7 +127,7 @@ impl<D: JournalDisk> Crew<D> {
         ensures untouched { IsUntouched self.old.journaller self.new.journaller result.journaller }
         ensures not_kept { self.old.journaller.journal.failed ≡ false → result.journaller ≡ Turn.JournalFailed →
             OnlyReadBlock N self.old.journaller.seat.who self.new.journaller.seat.who }
-        ensures any_moment { LeavesJournals D.honest D.tells self.old.journaller self.new.journaller }
+        ensures any_moment { LeavesBlock N D.honest D.tells self.old.journaller self.new.journaller }
         ensures keeps { D.honest (disk_of self.new) → KeepsDone (D.tells (disk_of self.new)) self.new.journaller.seat.who }
     {
         Turns {

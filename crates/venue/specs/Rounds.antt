@@ -5,7 +5,7 @@ use Rattle.gateway.specs.Seats.{Uses, ledger_of}
 use Rattle.gateway.specs.declared.ending.Reason.{Reason}
 use Rattle.gateway.specs.declared.ending.Turned.{Turned}
 use Rattle.gateway.specs.declared.ending.Turned.TheVariants.{Quiet, Ended}
-use Rattle.stages.specs.Kept.{KeepsDone, Fails, LeavesJournals}
+use Rattle.stages.specs.Kept.{KeepsDone, Fails, LeavesBlock}
 use Rattle.stages.specs.Stations.{disk_of}
 use Rattle.stages.specs.Crews.{Polls, AreIdle}
 use Rattle.stages.specs.Processes.{sizes}
@@ -24,11 +24,12 @@ module _ {D : Type 0} where
     pub others : t ≡ record s { gateway = t.gateway; wire = t.wire }
 
   -- Each stage was polled once, and that was all; a call of the disk failed just where the journal did. A crash at any moment of it leaves the journal of a beginning of what the journaller knows now, which
-  -- has all that it had handed on before; and a crash from then on leaves one with all that it has handed on now.
+  -- has all that it had handed on before, with the block that the poll took up or without it, of the same version; and a crash from then on leaves one with all that
+  -- it has handed on now.
   pub record TakesPolls (device : Device D) (s t : Venue D) (polled : Turns) : Type 0 where
     pub polls : Polls (sizes 1024 1024 1) s.rings.logic s.crew t.crew polled
     pub fails : Fails device.failed s.crew.journaller.journal t.crew.journaller.journal polled.journaller
-    pub leaves : LeavesJournals device.honest device.tells s.crew.journaller t.crew.journaller
+    pub leaves : LeavesBlock 1024 device.honest device.tells s.crew.journaller t.crew.journaller
     pub keeps : device.honest (disk_of t.crew) → KeepsDone (device.tells (disk_of t.crew)) t.crew.journaller.seat.who
     pub others : t ≡ record s { crew = t.crew }
 

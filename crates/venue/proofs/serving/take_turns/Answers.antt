@@ -80,13 +80,13 @@ loop-round-preserved g c =
       ready = ready.0;
       behind = still_behind rings.base v w before.behind grows;
       honest = (
-        λ h. polled.any_moment.honest.0 (before.honest.0 h),
-        λ h. before.honest.1 (polled.any_moment.honest.1 h),
+        λ h. polled.any_moment.any_moment.honest.0 (before.honest.0 h),
+        λ h. before.honest.1 (polled.any_moment.any_moment.honest.1 h),
       );
       counts = ready.1 ∙ before.counts;
       leaves = λ h. behind_poll (tells (disk_of first)) (tells (disk_of old)) (tells (disk_of new)) rings.base
           c.poll-polled.result.journaller v w (before.leaves h)
-          before.behind polled.polls.journals (polled.any_moment.leaves (before.honest.0 h));
+          before.behind polled.polls.journals (polled.any_moment.any_moment.leaves (before.honest.0 h));
       rounds = next_round device c.loop-round._round start now then before.rounds (record {
         between = between;
         turned = c.turn-turned.result;
@@ -152,13 +152,13 @@ returns-then-eq g c =
     failed polled.failed in
     record {
       honest = (
-        λ h. polled.any_moment.honest.0 (before.honest.0 h),
-        λ h. before.honest.1 (polled.any_moment.honest.1 h),
+        λ h. polled.any_moment.any_moment.honest.0 (before.honest.0 h),
+        λ h. before.honest.1 (polled.any_moment.any_moment.honest.1 h),
       );
       any_moment = λ h. behind_poll (tells (disk_of c.args.crew.now)) (tells (disk_of old)) (tells (disk_of new))
           rings.base c.poll-polled.result.journaller
           old.journaller.seat.who new.journaller.seat.who (before.leaves h) before.behind polled.polls.journals
-          (polled.any_moment.leaves (before.honest.0 h));
+          (polled.any_moment.any_moment.leaves (before.honest.0 h));
       served = record {
         count = c.loop-round._round;
         last = _;
