@@ -1,18 +1,23 @@
 //! The book: what rests, and each client's greatest accepted ClOrdID.
-ghost use Rattle.std.specs.Prelude.{◌≡◌, ◌+◌, ◌*◌, ◌^◌, ◌<◌, ◌≤◌, [], ◌∷◌, ◌++◌, length, IfOk, IsOk};
+ghost use Rattle.std.specs.Prelude.{◌≡◌, ◌+◌, ◌*◌, ◌^◌, ◌<◌, ◌≤◌, List, [], ◌∷◌, ◌++◌, None, Some, length, slice_get, IfOk, IsOk};
+ghost use Rattle.std.specs.List.Sorted.{IsPermutation};
 ghost use Rattle.std.specs.Vec.{vec_len, vec_capacity};
 ghost use Rattle.venue_model.specs.Match.{output};
 ghost use Rattle.venue_model.specs.Step.{empty, cause, step, IsCommand};
-ghost use Rattle.book.specs.Books.{FollowsRequest};
+ghost use Rattle.venue_model.specs.declared.orders.Order.{Order};
+ghost use Rattle.book.specs.Books.{FollowsRequest, IsBook};
+ghost use Rattle.book.specs.Listing.{listing};
 ghost use Rattle.book.specs.Reads.{ReadsFew};
 ghost use Rattle.book.specs.Standing.{Below};
 
+use crate::listing::next;
 use crate::logic::BookLogic;
 use crate::reports::{output, put};
 use crate::resting::RestingOrders;
+use price_levels::{ReadCounter, Reads};
 use std::alloc::{AllocError, Global};
 use std::marker::Model;
-use venue_model::{Cause, Command, Limits, MOST_GATEWAYS, Malformed, Output, Report};
+use venue_model::{Cause, Command, Limits, MOST_GATEWAYS, Malformed, Order, Output, Report};
 
 /// The resting orders, each client's greatest accepted ClOrdID, and how many resting orders the last command read.
 /// Contracts see the venue's limits, the state, in which the orders stand in the order of their stamps, and that number.
@@ -21,7 +26,9 @@ pub struct Book {
     pub(crate) logic: BookLogic,
     pub(crate) orders: RestingOrders,
     pub(crate) greatest: [u64; MOST_GATEWAYS],
-    pub(crate) reads: u64,
+    // (no other module sees it, so a command reads orders by the one count that `apply` begins)
+    counter: ReadCounter,
+    reads: u64,
 }
 
 impl Model for Book {
@@ -47,13 +54,27 @@ impl Book {
     pub fn of(alloc: Global, logic: BookLogic) -> Result<Book, AllocError>
         ensures { IfOk result (λ b. b ≡ record { limits = logic; state = empty; reads = 0 }) }
     {
-        let orders = RestingOrders::new(alloc, logic.symbols())?;
-        Ok(Book {
+        let (orders, counter) = RestingOrders::new(alloc, logic.symbols())?;
+        Ok(Book::made(logic, orders, [0; MOST_GATEWAYS], counter))
+    }
+
+    /// The book of these orders, with the counter that came with them.
+    pub(crate) fn made(
+        logic: BookLogic,
+        orders: RestingOrders,
+        greatest: [u64; MOST_GATEWAYS],
+        counter: ReadCounter,
+    ) -> Book
+        requires { IsBook logic.symbols orders greatest }
+        ensures { result ≡ record { limits = logic; state = record { orders = orders; greatest = greatest }; reads = 0 } }
+    {
+        Book {
             logic,
             orders,
-            greatest: [0; MOST_GATEWAYS],
+            greatest,
+            counter,
             reads: 0,
-        })
+        }
     }
 
     /// How many orders rest.
@@ -90,10 +111,25 @@ impl Book {
         ensures state { FollowsRequest self.old self.new sequence (record { gateway = gateway; command = command.now }) }
         ensures told { out.new.items ≡ (step self.old.limits.symbols self.old.state sequence (record { gateway = gateway; command = command.now })).outputs }
     {
-        let mut reads = 0;
+        let mut reads = self.counter.begin();
         self.obey(sequence, gateway, command, out, &mut reads);
-        self.reads = reads;
+        self.reads = reads.count();
         Ok(())
+    }
+
+    /// The resting orders one by one: from `None` the first, from an order that rests the one behind it, and `None`
+    /// behind the last. They stand by symbol in the order of the command line, buys before sells, each ahead of the
+    /// next. An order is known by its client and ClOrdID; behind one that doesn't rest comes `None`. It takes no memory.
+    /// A call looks the order's name up and, behind the last order of a price, searches the price levels once for that
+    /// order and once for each later symbol and side (at most 16 in all), until an order is there.
+    pub fn after(&self, from: Option<Order>) -> Option<Order>
+        ensures first { from ≡ None → result ≡ slice_get (listing self.now.limits.symbols self.now.state.orders) 0 }
+        ensures next { (before behind : List Order) (o : Order) → from ≡ Some o →
+            listing self.now.limits.symbols self.now.state.orders ≡ before ++ o ∷ behind
+            → result ≡ slice_get behind 0 }
+        ensures once { IsPermutation self.now.state.orders (listing self.now.limits.symbols self.now.state.orders) }
+    {
+        next(self.logic.symbols(), &self.orders, &from, &self.counter)
     }
 
     /// Does what the command asks, and counts what it reads.
@@ -103,7 +139,7 @@ impl Book {
         gateway: u8,
         command: &Command,
         out: &mut Vec<Output>,
-        reads: &mut u64,
+        reads: &mut Reads,
     )
         requires sequence { sequence < 2 ^ 48 }
         requires behind { Below sequence self.old.state.orders }

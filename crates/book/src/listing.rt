@@ -11,26 +11,9 @@ ghost use Rattle.book.specs.Books.{NamedApart, IsBook};
 ghost use Rattle.book.specs.Listing.{listing};
 ghost use Rattle.book.specs.Next.{symbol_number, side_order, group_of, comes_before, InTable, NextOf, FirstFrom};
 
-use crate::book::Book;
 use crate::resting::RestingOrders;
+use price_levels::ReadCounter;
 use venue_model::{Order, Side, Symbol};
-
-impl Book {
-    /// The resting orders one by one: from `None` the first, from an order that rests the one behind it, and `None`
-    /// behind the last. They stand by symbol in the order of the command line, buys before sells, each ahead of the
-    /// next. An order is known by its client and ClOrdID; behind one that doesn't rest comes `None`. It takes no memory.
-    /// A call looks the order's name up and, behind the last order of a price, searches the price levels once for that
-    /// order and once for each later symbol and side (at most 16 in all), until an order is there.
-    pub fn after(&self, from: Option<Order>) -> Option<Order>
-        ensures first { from ≡ None → result ≡ slice_get (listing self.now.limits.symbols self.now.state.orders) 0 }
-        ensures next { (before behind : List Order) (o : Order) → from ≡ Some o →
-            listing self.now.limits.symbols self.now.state.orders ≡ before ++ o ∷ behind
-            → result ≡ slice_get behind 0 }
-        ensures once { IsPermutation self.now.state.orders (listing self.now.limits.symbols self.now.state.orders) }
-    {
-        next(self.logic.symbols(), &self.orders, &from)
-    }
-}
 
 /// Every resting order is listed, each once.
 pub fn every_order_is_listed_once()
@@ -39,7 +22,12 @@ pub fn every_order_is_listed_once()
 {}
 
 /// The order that is listed next behind this one, or first.
-fn next(symbols: &[Symbol], orders: &RestingOrders, from: &Option<Order>) -> Option<Order>
+pub(crate) fn next(
+    symbols: &[Symbol],
+    orders: &RestingOrders,
+    from: &Option<Order>,
+    counter: &ReadCounter,
+) -> Option<Order>
     requires table { AreSymbols symbols.now }
     requires known { InTable symbols.now orders.now }
     requires apart { NamedApart orders.now }
@@ -48,33 +36,44 @@ fn next(symbols: &[Symbol], orders: &RestingOrders, from: &Option<Order>) -> Opt
         → NextOf symbols.now (Some o) orders.now result }
 {
     match from {
-        None => first_from(symbols, orders, 0),
-        Some(from) => next_behind(symbols, orders, from.client, from.cl_ord_id),
+        None => first_from(symbols, orders, 0, counter),
+        Some(from) => next_behind(symbols, orders, from.client, from.cl_ord_id, counter),
     }
 }
 
 /// The order that is listed next behind the client's one of this name: of its group, or else of the later ones.
-fn next_behind(symbols: &[Symbol], orders: &RestingOrders, client: u8, name: u64) -> Option<Order>
+fn next_behind(
+    symbols: &[Symbol],
+    orders: &RestingOrders,
+    client: u8,
+    name: u64,
+    counter: &ReadCounter,
+) -> Option<Order>
     requires table { AreSymbols symbols.now }
     requires known { InTable symbols.now orders.now }
     ensures { (o : Order) → find (is_named client name) orders.now ≡ Some o
         → NextOf symbols.now (Some o) orders.now result }
 {
-    let order = orders.named(client, name, &mut 0)?;
-    if let Some(next) = orders.behind(client, name) {
+    let order = orders.named(client, name, &mut counter.begin())?;
+    if let Some(next) = orders.behind(client, name, counter) {
         return Some(next);
     }
-    first_from(symbols, orders, group_of(symbols, &order) + 1)
+    first_from(symbols, orders, group_of(symbols, &order) + 1, counter)
 }
 
 /// The first order of this group and the later ones.
-fn first_from(symbols: &[Symbol], orders: &RestingOrders, from: usize) -> Option<Order>
+fn first_from(
+    symbols: &[Symbol],
+    orders: &RestingOrders,
+    from: usize,
+    counter: &ReadCounter,
+) -> Option<Order>
     requires table { AreSymbols symbols.now }
     requires known { InTable symbols.now orders.now }
     ensures { FirstFrom symbols.now from orders.now result }
 {
     for group in from..2 * symbols.len() {
-        if let Some(first) = orders.first_of(&symbols[group / 2], side_of(group)) {
+        if let Some(first) = orders.first_of(&symbols[group / 2], side_of(group), counter) {
             return Some(first);
         }
     }

@@ -14,12 +14,13 @@ ghost use Rattle.book.specs.Reads.{fills, filled_by, IsMatched};
 
 use crate::reports::tell;
 use crate::resting::RestingOrders;
+use price_levels::Reads;
 use std::cmp::min;
 use venue_model::{Cause, ExecType, Order, Output, TimeInForce};
 
 /// Fills the order that the incoming one fills next, as far as both go. It answers that order as it was, or `None` where
 /// the match is over.
-fn next_fill(orders: &mut RestingOrders, incoming: &Order, reads: &mut u64) -> Option<Order>
+fn next_fill(orders: &mut RestingOrders, incoming: &Order, reads: &mut Reads) -> Option<Order>
     requires standing { IsBookList orders.old }
     requires in_range { InRange incoming.now }
     requires reads { reads.old < 2 ^ 64 - 1 }
@@ -66,7 +67,7 @@ fn sweep(
     incoming: &Order,
     cause: Cause,
     out: &mut Vec<Output>,
-    reads: &mut u64,
+    reads: &mut Reads,
 ) -> Order
     requires standing { IsBookList orders.old }
     requires in_range { InRange incoming.now }
@@ -98,7 +99,7 @@ pub(crate) fn enter(
     terms: TimeInForce,
     cause: Cause,
     out: &mut Vec<Output>,
-    reads: &mut u64,
+    reads: &mut Reads,
 )
     requires standing { IsBookList orders.old }
     requires in_range { InRange incoming.now }

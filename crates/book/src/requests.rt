@@ -15,6 +15,7 @@ use crate::book::Book;
 use crate::matching::enter;
 use crate::refusals::{cancel_refusal, replace_refusal};
 use crate::reports::{output, put, tell};
+use price_levels::Reads;
 use venue_model::{
     Cause, CxlRejReason, CxlRejResponseTo, ExecType, MOST_RESTING, NewOrderSingle, OrdRejReason,
     Order, OrderCancelReject, OrderCancelReplaceRequest, OrderCancelRequest, Output, Report,
@@ -32,7 +33,7 @@ impl Book {
     }
 
     /// The client's resting order of this name. `reads` counts the read of it.
-    fn named(&self, client: u8, name: u64, reads: &mut u64) -> Option<Order>
+    fn named(&self, client: u8, name: u64, reads: &mut Reads) -> Option<Order>
         requires { reads.old < 2 ^ 32 }
         ensures order { result ≡ named self.now.state client name }
         ensures stands { MatchOption result ⊤ (StandsInBook self.now client) }
@@ -87,7 +88,7 @@ impl Book {
         cause: Cause,
         request: &NewOrderSingle,
         out: &mut Vec<Output>,
-        reads: &mut u64,
+        reads: &mut Reads,
     )
         requires from { 1 ≤ cause.gateway }
         requires to { cause.gateway ≤ 8 }
@@ -120,7 +121,7 @@ impl Book {
         order: &Order,
         terms: TimeInForce,
         out: &mut Vec<Output>,
-        reads: &mut u64,
+        reads: &mut Reads,
     )
         requires from { 1 ≤ order.now.client }
         requires to { order.now.client ≤ 8 }
@@ -153,7 +154,7 @@ impl Book {
         cause: Cause,
         request: &OrderCancelRequest,
         out: &mut Vec<Output>,
-        reads: &mut u64,
+        reads: &mut Reads,
     )
         requires from { 1 ≤ cause.gateway }
         requires to { cause.gateway ≤ 8 }
@@ -186,7 +187,7 @@ impl Book {
         cause: Cause,
         request: &OrderCancelReplaceRequest,
         out: &mut Vec<Output>,
-        reads: &mut u64,
+        reads: &mut Reads,
     )
         requires from { 1 ≤ cause.gateway }
         requires to { cause.gateway ≤ 8 }
@@ -217,7 +218,7 @@ impl Book {
         request: &OrderCancelReplaceRequest,
         order: &Order,
         out: &mut Vec<Output>,
-        reads: &mut u64,
+        reads: &mut Reads,
     )
         requires from { 1 ≤ cause.gateway }
         requires to { cause.gateway ≤ 8 }

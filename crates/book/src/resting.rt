@@ -12,7 +12,7 @@ ghost use Rattle.book.specs.Firsts.{FillsFirst, FillsNone};
 ghost use Rattle.book.specs.Queues.{NoneQueuedOf, IsFirst, NoneQueuedBehind, IsQueuedNext};
 
 use crate::order_index::OrderIndex;
-use price_levels::{Levels, Place};
+use price_levels::{Levels, Place, ReadCounter, Reads};
 use std::alloc::{AllocError, Global};
 use std::marker::Model;
 use venue_model::{MOST_RESTING, Order, Side, Symbol};
@@ -40,18 +40,22 @@ impl Model for RestingOrders {
 
 impl RestingOrders {
     /// No order rests. All room is made here, for the orders of these symbols apart from one another; no other call asks
-    /// for memory.
-    pub(crate) fn new(alloc: Global, symbols: &[Symbol]) -> Result<RestingOrders, AllocError>
+    /// for memory. The counter isn't kept: each call that reads an order is handed a count.
+    pub(crate) fn new(
+        alloc: Global,
+        symbols: &[Symbol],
+    ) -> Result<(RestingOrders, ReadCounter), AllocError>
         requires { length symbols.now ≤ 8 }
-        ensures { IfOk result (λ orders. orders ≡ []) }
+        ensures { IfOk result (λ made. made.0 ≡ []) }
     {
-        let levels = Levels::new(alloc, symbols, MOST_RESTING)?;
+        let (levels, counter) = Levels::make(alloc, symbols, MOST_RESTING)?;
         let index = OrderIndex::new(alloc)?;
-        Ok(RestingOrders {
+        let orders = RestingOrders {
             levels,
             index,
             count: 0,
-        })
+        };
+        Ok((orders, counter))
     }
 
     /// How many orders rest.
@@ -62,7 +66,7 @@ impl RestingOrders {
     }
 
     /// The client's order of this name. `reads` counts the read of it.
-    pub(crate) fn named(&self, client: u8, name: u64, reads: &mut u64) -> Option<Order>
+    pub(crate) fn named(&self, client: u8, name: u64, reads: &mut Reads) -> Option<Order>
         requires { reads.old < 2 ^ 64 - 1 }
         ensures order { result ≡ find (is_named client name) self.now }
         ensures reads { MatchOption result (reads.new ≡ reads.old) (λ o. reads.new ≡ reads.old + 1) }
@@ -123,7 +127,7 @@ impl RestingOrders {
 
     /// Fills the first of the orders that the incoming one crosses, as far as both go. It answers that order as it was, or
     /// `None` where none is crossed. `reads` counts the read of one order at most.
-    pub(crate) fn fill_first(&mut self, incoming: &Order, reads: &mut u64) -> Option<Order>
+    pub(crate) fn fill_first(&mut self, incoming: &Order, reads: &mut Reads) -> Option<Order>
         requires reads { reads.old < 2 ^ 64 - 1 }
         requires some { 0 < leaves incoming.now }
         ensures first { MatchOption result (FillsNone incoming.now self.old self.new) (FillsFirst incoming.now self.old self.new) }
@@ -148,22 +152,27 @@ impl RestingOrders {
     }
 
     /// The order of a symbol and side that is ahead of all others, or `None` where there is none.
-    pub(crate) fn first_of(&self, symbol: &Symbol, side: Side) -> Option<Order>
+    pub(crate) fn first_of(
+        &self,
+        symbol: &Symbol,
+        side: Side,
+        counter: &ReadCounter,
+    ) -> Option<Order>
         ensures { MatchOption result (NoneQueuedOf symbol.now side self.now) (IsFirst symbol.now side self.now) }
     {
         let place = self.levels.best(symbol, side)?;
-        Some(self.levels.get(place, &mut 0))
+        Some(self.levels.get(place, &mut counter.begin()))
     }
 
     /// The order that comes next behind the client's one of this name, of its symbol and side. `None` where it is the last.
-    pub(crate) fn behind(&self, client: u8, name: u64) -> Option<Order>
+    pub(crate) fn behind(&self, client: u8, name: u64, counter: &ReadCounter) -> Option<Order>
         requires { find (is_named client name) self.now ≢ None }
         ensures { (o : Order) → find (is_named client name) self.now ≡ Some o
             → MatchOption result (NoneQueuedBehind self.now o) (IsQueuedNext self.now o) }
     {
         let number = self.index.find(client, name).unwrap();
         let place = self.levels.after(Place::at(number as usize))?;
-        Some(self.levels.get(place, &mut 0))
+        Some(self.levels.get(place, &mut counter.begin()))
     }
 
     /// What the orders that it crosses have left. It reads no order.

@@ -6,6 +6,7 @@ use crate::changes::{change, push, take_out};
 use crate::finds::{after, best, crossing_total};
 use crate::ladders::Ladders;
 use crate::nodes::{Node, VACANT};
+use crate::reads::{ReadCounter, Reads};
 use std::alloc::{AllocError, Global};
 use std::marker::Model;
 use venue_model::{Order, Side, Symbol};
@@ -56,9 +57,24 @@ impl Model for Levels {
 }
 
 impl Levels {
-    /// Room for this many orders, all places free. It is all made here; no other call asks for memory. The orders of each
-    /// of these symbols, and of each side, are found without regard to those of the others.
-    pub fn new(alloc: Global, symbols: &[Symbol], cap: usize) -> Result<Levels, AllocError>
+    /// Room for this many orders, all places free, and the right to begin counts of what is read of them. It is all made
+    /// here; no other call asks for memory. The orders of each of these symbols, and of each side, are found without regard
+    /// to those of the others.
+    pub fn make(
+        alloc: Global,
+        symbols: &[Symbol],
+        cap: usize,
+    ) -> Result<(Levels, ReadCounter), AllocError>
+        requires symbols { length symbols.now ≤ 8 }
+        requires quantities { cap * 1000000 < 2 ^ 64 }
+        ensures { IfOk result (λ made. made.0 ≡ replicate cap None) }
+    {
+        let levels = Levels::new(alloc, symbols, cap)?;
+        Ok((levels, ReadCounter::new()))
+    }
+
+    /// Room for this many orders, all places free.
+    fn new(alloc: Global, symbols: &[Symbol], cap: usize) -> Result<Levels, AllocError>
         requires symbols { length symbols.now ≤ 8 }
         requires quantities { cap * 1000000 < 2 ^ 64 }
         ensures { IfOk result (λ l. l ≡ replicate cap None) }
@@ -105,13 +121,13 @@ impl Levels {
     }
 
     /// Reads the order at a place. `reads` counts it.
-    pub fn get(&self, place: Place, reads: &mut u64) -> Order
+    pub fn get(&self, place: Place, reads: &mut Reads) -> Order
         requires stands { get_or self.now place.number None ≢ None }
         requires count { reads.old < 2 ^ 64 - 1 }
         ensures order { get_or self.now place.number None ≡ Some result }
         ensures counted { reads.new ≡ reads.old + 1 }
     {
-        *reads += 1;
+        reads.raise();
         self.nodes[place.number].order.unwrap()
     }
 

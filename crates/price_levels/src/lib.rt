@@ -8,5 +8,7 @@ mod keys;
 mod ladders;
 mod levels;
 mod nodes;
+mod reads;
 
 pub use levels::{Levels, Place};
+pub use reads::{ReadCounter, Reads};

@@ -58,18 +58,13 @@ impl Restored {
             return Err(RestoreFault::BadSnapshot);
         };
         let symbols = logic.symbols();
-        let Ok(mut orders) = RestingOrders::new(alloc, symbols) else {
+        let Ok((mut orders, counter)) = RestingOrders::new(alloc, symbols) else {
             return Err(RestoreFault::Memory);
         };
-        if !put_rows(&bytes[82..], &head, symbols, &mut orders) {
+        if !put_rows(&bytes[82..], &head, symbols, &mut orders, &counter) {
             return Err(RestoreFault::BadSnapshot);
         }
-        let book = Book {
-            logic,
-            orders,
-            greatest: head.greatest,
-            reads: 0,
-        };
+        let book = Book::made(logic, orders, head.greatest, counter);
         Ok(Restored {
             book,
             commands: head.commands,

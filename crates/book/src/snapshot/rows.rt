@@ -13,6 +13,7 @@ use crate::resting::RestingOrders;
 use crate::snapshot::head::Head;
 use crate::snapshot::ranges::has_ranges;
 use crate::snapshot::row::Row;
+use price_levels::ReadCounter;
 use venue_model::{Order, Symbol};
 
 /// Puts the orders of these rows in, where none rests yet. False where the rows spell no orders that could be listed;
@@ -22,6 +23,7 @@ pub(crate) fn put_rows(
     head: &Head,
     symbols: &[Symbol],
     orders: &mut RestingOrders,
+    counter: &ReadCounter,
 ) -> bool
     requires rows { length bytes.now ≡ 47 * head.now.resting }
     requires counts { CountsFit head.now.commands head.now.outputs head.now.resting }
@@ -34,7 +36,7 @@ pub(crate) fn put_rows(
     let mut last = None;
     for _ in 0..head.resting {
         let (row, behind) = rest.split_at(47);
-        let Some(order) = next_order(&Row::read(row), head, symbols, &last, orders) else {
+        let Some(order) = next_order(&Row::read(row), head, symbols, &last, orders, counter) else {
             return false;
         };
         orders.insert(&order);
@@ -51,6 +53,7 @@ fn next_order(
     symbols: &[Symbol],
     last: &Option<Order>,
     orders: &RestingOrders,
+    counter: &ReadCounter,
 ) -> Option<Order>
     requires { AreSymbols symbols.now }
     ensures row { IfSome result (λ o. row_of symbols.now o ≡ row.now) }
@@ -61,7 +64,7 @@ fn next_order(
     let order = row.order(symbols)?;
     if has_ranges(&order, &head.greatest, head.commands)
         && comes_behind(symbols, last, &order)
-        && is_new(orders, &order)
+        && is_new(orders, &order, counter)
     {
         Some(order)
     } else {
@@ -81,10 +84,10 @@ fn comes_behind(symbols: &[Symbol], last: &Option<Order>, order: &Order) -> bool
 }
 
 /// Whether its client has no resting order under its name.
-fn is_new(orders: &RestingOrders, order: &Order) -> bool
+fn is_new(orders: &RestingOrders, order: &Order, counter: &ReadCounter) -> bool
     ensures { IsTrue result ↔ NoneNamed order.now.client order.now.cl_ord_id orders.now }
 {
     orders
-        .named(order.client, order.cl_ord_id, &mut 0)
+        .named(order.client, order.cl_ord_id, &mut counter.begin())
         .is_none()
 }
