@@ -24,10 +24,12 @@ last line is `N passed, M failed`, and the status is 1 where one failed. It take
 first, by scripts/build; others are taken by the environment's VENUED and VENUE_REPLAY.
 """
 import collections
+import fcntl
+import os
 import signal
 import sys
 
-from refusals import FRESH, LOGON, answered, answers, by_rules, check_history, contents, journal_of, listens, orders
+from refusals import FRESH, LOGON, Refusal, answered, answers, by_rules, check_history, contents, journal_of, listens, orders
 from refusals import put, ran, run_tests, standard
 import journals
 from journals import Entry
@@ -39,6 +41,28 @@ KILLED = -signal.SIGKILL
 NOT_BEGUN = (1, b"", "venued: journal fault 41\n")
 FAILED = (2, "venued: journal failed\n")
 UNREAD = (1, b"", "venue-replay: journal fault 41\n")
+
+
+# What is asked of the device besides reads, call by call, where J is the journal, N a new one, and the point their folder.
+OPENS_FOR = {os.O_RDONLY: "to read", os.O_RDWR: "to write", os.O_RDWR | os.O_CREAT: "to make",
+             os.O_RDWR | os.O_CREAT | os.O_EXCL: "to make anew"}
+LOCKS_FOR = {fcntl.LOCK_EX | fcntl.LOCK_NB: "alone"}
+FOLDER_SYNCED = ["open . to read", "fsync ."]
+OPENED = ["open J to write", "flock J alone", *FOLDER_SYNCED, "fdatasync J"]
+READ = ["open J to read", "fdatasync J"]
+LOCKED = ["flock J.new alone", "statx J.new file", "statx J.new name", "statx J.new file"]  # (its name and its length)
+NAMED = ["statx J.new file", "statx J.new name", "statx J name", "rename J.new J", *FOLDER_SYNCED]
+MADE = ["open J to write", "open J.new to make", *LOCKED, "pwrite J.new 17", "fdatasync J.new", *NAMED, "fdatasync J"]
+
+
+def appended(block, file="J"):
+    """A block: behind the closed gate all of it but its own gate, and a closed one; then that gate, which opens it."""
+    return [f"pwrite {file} {len(block)}", f"fdatasync {file}", f"pwrite {file} 1", f"fdatasync {file}"]
+
+
+def for_new(calls):
+    """The same of a new journal."""
+    return [it.replace("J", "N") for it in calls]
 
 
 def check_goes_on(journal, kept):
@@ -295,8 +319,88 @@ def carried_over(sweeps):
     return said_of(sweeps, ends, [("done", 1), ("failed", 0), ("failed", 1), ("killed", 0), ("killed", 1)])
 
 
+def shown(noting, call):
+    """A call in words."""
+    name, file, more = call
+    if name == "open":
+        more = OPENS_FOR.get(int(more), more)
+    elif name == "flock":
+        more = LOCKS_FOR.get(int(more), more)
+    elif name == "rename":
+        more = noting.beside(more)
+    return f"{name} {file} {more}".rstrip().replace("venue.journal.3", "N").replace("venue.journal", "J")
+
+
+def check_asked(noting, what, wanted):
+    """What a program asked of the device that ran last."""
+    came = [shown(noting, it) for it in noting.noted() if it[0] != "pread"]
+    if came != wanted:
+        raise Trouble(f"expected, of {what}, {wanted} came {came}")
+    return len(wanted)
+
+
+def listened(noting):
+    """Lets a venue that listens take one order behind the first."""
+    venue, line = listens(noting, 1)
+    if not venue:
+        raise Trouble(f"expected a venue came {line}")
+    client = Client(venue.port, 1)
+    for it in (LOGON, *orders(2, 1)):
+        client.send_bytes(it)
+        client.next()
+    client.close()
+    venue.stop()
+
+
+def calls_asked(sweeps):
+    """Which calls the programs make: none is left out of the locks, the syncs of files and folders, and the renames."""
+    noting = Refusal(sweeps.library, sweeps.folder, "device", 0, "note")
+    whole, block = orders(1, 1)[0], journals.block_of(journals.MADE, [Entry(1, orders(1, 1)[0])])
+    put(noting.journal, None)
+    noting.serve(LOGON + whole)
+    count = check_asked(noting, "a first start and an order", MADE + appended(block))
+    listened(noting)
+    count += check_asked(noting, "a later start and an order", OPENED + appended(block))
+    for what in ("book", "C1", "check"):
+        noting.ran([REPLAY, noting.journal, what, "ABC"])
+        count += check_asked(noting, what, READ)
+    data = contents(noting.journal)
+    noting.ran([REPLAY, noting.journal, "snapshot", "ABC"])
+    more = len(contents(noting.journal)) - len(data)
+    count += check_asked(noting, "a snapshot", OPENED + appended(bytes(more)))
+    put(noting.journal, journal_of([whole], 1))
+    noting.ran([REPLAY, noting.journal, "carry", f"{noting.journal}.3"])
+    wanted = ["open J to read", *for_new(["statx J name", "open J.new to make anew", *LOCKED]), "fdatasync J"]
+    wanted += ["pwrite N.new 17", "fdatasync N.new", *appended(block, "N.new"), *for_new(NAMED)]
+    count += check_asked(noting, "a journal carried over", wanted)
+    return f"{count} calls, in their order"
+
+
+def lock_raced(sweeps):
+    """Another process puts its own file in the place of the new one before that is locked: this one has then locked a
+    file without a name. It says so, gives no journal that name, and leaves the other's file where it is."""
+    found = collections.Counter()
+
+    def check(refusal, words, data, name, wanted):
+        put(refusal.journal, None if data else journal_of(orders(1, 1), 1))
+        came = refusal.ran(words(refusal.journal), data)
+        if refusal.came() != "flock":
+            return
+        found.update([name])
+        left = contents(f"{refusal.journal}{name}"), contents(f"{refusal.journal}{name}.new")
+        if (came, left) != (wanted, (None, b"")):
+            raise Trouble(f"expected {wanted} and the other's file came {came} and {left}")
+
+    serves = LOGON + orders(1, 1)[0]
+    sweeps.sweep(lambda it: check(it, standard, serves, "", NOT_BEGUN), "device", "swap")
+    sweeps.sweep(lambda it: check(it, lambda name: [REPLAY, name, "carry", f"{name}.3"], b"", ".3", UNREAD), "device", "swap")
+    if found != {"": 1, ".3": 1}:
+        raise Trouble(f"expected a lock of each new file came {dict(found)}")
+    return "2 locks, of a new journal and of one that is carried over"
+
+
 if __name__ == "__main__":
     if set(sys.argv[1:]) & {"-h", "--help"}:
         sys.exit(print(__doc__.strip()))
     run_tests("failing_device", [standard_session, snapshot_at_the_start, first_sync, listening, replays, added_snapshots,
-                                 carried_over])
+                                 carried_over, calls_asked, lock_raced])

@@ -3,18 +3,23 @@
 //   REFUSE       which calls are counted: memory, threads or device
 //   REFUSE_AT    the number of the call that is refused, from 1
 //   REFUSE_HOW   once: that call fails; on: and so do all behind it; short: it moves half of its bytes;
-//                before: the program is killed in its place; after: the program is killed behind it
-//   REFUSE_TOLD  a file that is made where the call came, with its name
+//                before: the program is killed in its place; after: the program is killed behind it;
+//                swap: if it is a flock, an empty file takes the name of the one that is to be locked before it;
+//                note: no call is refused, and all of the device are written down
+//   REFUSE_TOLD  a file that is made where the call came, with its name; or those that are written down, one a line: its
+//                name, the file's, and the flags, the operation, the bytes that moved or the other name
 //
 // Requests for memory are answered with none; a thread by EAGAIN; the calls of the journal's device by EIO.
 #define _GNU_SOURCE
 #include <dlfcn.h>
 #include <errno.h>
 #include <fcntl.h>
+#include <limits.h>
 #include <pthread.h>
 #include <signal.h>
 #include <stdarg.h>
 #include <stdatomic.h>
+#include <stdio.h>
 #include <stdlib.h>
 #include <string.h>
 #include <sys/file.h>
@@ -25,7 +30,7 @@
 extern void *__libc_malloc(size_t), *__libc_calloc(size_t, size_t), *__libc_realloc(void *, size_t);
 extern void *__libc_memalign(size_t, size_t);
 
-enum how { ONCE, ON, SHORT, BEFORE, AFTER, PASSES };
+enum how { ONCE, ON, SHORT, BEFORE, AFTER, SWAP, NOTE, PASSES };
 
 static const char *group, *told;
 static long refused_at;
@@ -33,7 +38,7 @@ static enum how how = PASSES;
 static atomic_long calls;
 
 __attribute__((constructor)) static void begin(void) {
-    static const char *const names[] = {"once", "on", "short", "before", "after"};
+    static const char *const names[] = {"once", "on", "short", "before", "after", "swap", "note"};
     const char *at = getenv("REFUSE_AT"), *word = getenv("REFUSE_HOW");
     group = getenv("REFUSE");
     told = getenv("REFUSE_TOLD");
@@ -53,9 +58,43 @@ static void say(const char *name) {
     }
 }
 
+// The name of an open file, or of the one that is given.
+static const char *named(char out[PATH_MAX], int file, const char *path) {
+    char link[32];
+    if (path && *path)
+        return path;
+    snprintf(link, sizeof link, "/proc/self/fd/%d", file);
+    ssize_t size = syscall(SYS_readlink, link, out, PATH_MAX - 1);
+    out[size < 0 ? 0 : size] = 0;
+    return out;
+}
+
+// Writes a call down that was made.
+static void note(const char *name, int file, const char *path, const char *more) {
+    char own[PATH_MAX], line[3 * PATH_MAX];
+    if (how != NOTE)
+        return;
+    snprintf(line, sizeof line, "%s %s %s\n", name, named(own, file, path), more);
+    say(line);
+}
+
+static void note_number(const char *name, int file, const char *path, long number) {
+    char more[32];
+    snprintf(more, sizeof more, "%ld", number);
+    note(name, file, path, more);
+}
+
+// An empty file takes the name of this one, as if another process had made it meanwhile.
+static void swap(int file) {
+    char own[PATH_MAX];
+    const char *path = named(own, file, NULL);
+    syscall(SYS_unlink, path);
+    syscall(SYS_close, syscall(SYS_open, path, O_WRONLY | O_CREAT | O_EXCL, 0600));
+}
+
 // What is done about this call.
 static enum how decided(const char *of, const char *name) {
-    if (how == PASSES || strcmp(of, group))
+    if (how == PASSES || how == NOTE || strcmp(of, group))
         return PASSES;
     long number = atomic_fetch_add(&calls, 1) + 1;
     if (number == refused_at)
@@ -83,8 +122,9 @@ static void end(enum how what) {
     if (!real) \
         real = (result(*)(__VA_ARGS__))dlsym(RTLD_NEXT, #name)
 
-// Does the call, or what is to be done in its place. `whole` and `half` are the words of the whole call and of its half.
-#define DEVICE(name, whole, half) \
+// Does the call, or what is to be done in its place, and what is noted of it. `whole` and `half` are the words of the whole call and of
+// its half.
+#define DEVICE(name, whole, half, noted) \
     enum how what = decided("device", #name); \
     if (fails(what)) { \
         errno = EIO; \
@@ -93,6 +133,7 @@ static void end(enum how what) {
     int saved_errno; \
     __typeof__(real whole) got = what == SHORT ? real half : real whole; \
     saved_errno = errno; \
+    noted; \
     end(what); \
     errno = saved_errno; \
     return got
@@ -123,6 +164,9 @@ int pthread_create(pthread_t *thread, const pthread_attr_t *attributes, void *(*
     return fails(decided("threads", "pthread_create")) ? EAGAIN : real(thread, attributes, body, given);
 }
 
+// The flags of an open that are noted.
+#define SHOWN (O_ACCMODE | O_CREAT | O_EXCL | O_TRUNC | O_APPEND)
+
 #define OPENS(name) \
     int name(const char *path, int flags, ...) { \
         REAL(int, name, const char *, int, ...); \
@@ -130,14 +174,16 @@ int pthread_create(pthread_t *thread, const pthread_attr_t *attributes, void *(*
         va_start(more, flags); \
         mode_t mode = flags & O_CREAT ? va_arg(more, mode_t) : 0; \
         va_end(more); \
-        DEVICE(name, (path, flags, mode), (path, flags, mode)); \
+        DEVICE(name, (path, flags, mode), (path, flags, mode), note_number("open", got, path, flags & SHOWN)); \
     }
 OPENS(open)
 OPENS(open64)
 
 int flock(int file, int operation) {
     REAL(int, flock, int, int);
-    DEVICE(flock, (file, operation), (file, operation));
+    if (how == SWAP && atomic_load(&calls) + 1 == refused_at && !strcmp(group, "device"))
+        swap(file);
+    DEVICE(flock, (file, operation), (file, operation), note_number("flock", file, NULL, operation));
 }
 
 int statx(int folder, const char *path, int flags, unsigned mask, struct statx *out) {
@@ -145,13 +191,13 @@ int statx(int folder, const char *path, int flags, unsigned mask, struct statx *
     const char *end_of_name = path ? strrchr(path, '.') : NULL;
     if (end_of_name && !strcmp(end_of_name, ".stop"))  // The stop file is no part of the journal.
         return real(folder, path, flags, mask, out);
-    DEVICE(statx, (folder, path, flags, mask, out), (folder, path, flags, mask, out));
+    DEVICE(statx, (folder, path, flags, mask, out), (folder, path, flags, mask, out), note("statx", folder, path, flags & AT_EMPTY_PATH ? "file" : "name"));
 }
 
 #define WRITES(name) \
     ssize_t name(int file, const void *data, size_t size, off_t at) { \
         REAL(ssize_t, name, int, const void *, size_t, off_t); \
-        DEVICE(name, (file, data, size, at), (file, data, (size + 1) / 2, at)); \
+        DEVICE(name, (file, data, size, at), (file, data, (size + 1) / 2, at), note_number("pwrite", file, NULL, got)); \
     }
 WRITES(pwrite)
 WRITES(pwrite64)
@@ -159,7 +205,7 @@ WRITES(pwrite64)
 #define READS(name) \
     ssize_t name(int file, void *data, size_t size, off_t at) { \
         REAL(ssize_t, name, int, void *, size_t, off_t); \
-        DEVICE(name, (file, data, size, at), (file, data, (size + 1) / 2, at)); \
+        DEVICE(name, (file, data, size, at), (file, data, (size + 1) / 2, at), note_number("pread", file, NULL, got)); \
     }
 READS(pread)
 READS(pread64)
@@ -167,17 +213,17 @@ READS(pread64)
 #define SYNCS(name) \
     int name(int file) { \
         REAL(int, name, int); \
-        DEVICE(name, (file), (file)); \
+        DEVICE(name, (file), (file), note(#name, file, NULL, "")); \
     }
 SYNCS(fsync)
 SYNCS(fdatasync)
 
 int ftruncate(int file, off_t size) {
     REAL(int, ftruncate, int, off_t);
-    DEVICE(ftruncate, (file, size), (file, size));
+    DEVICE(ftruncate, (file, size), (file, size), note_number("ftruncate", file, NULL, size));
 }
 
 int rename(const char *from, const char *to) {
     REAL(int, rename, const char *, const char *);
-    DEVICE(rename, (from, to), (from, to));
+    DEVICE(rename, (from, to), (from, to), note("rename", -1, from, to));
 }

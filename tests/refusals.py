@@ -51,6 +51,17 @@ class Refusal:
         name = contents(self.told)
         return name and name.decode()
 
+    def noted(self):
+        """The calls to the device that were noted, where that is how: each the call's name, the file's beside the journal,
+        and what it has more."""
+        calls = (line.split(" ") for line in (contents(self.told) or b"").decode().splitlines())
+        return [(name, self.beside(path), more) for name, path, more in calls if self.beside(path)]
+
+    def beside(self, path):
+        """The name of a file beside the journal, or of their folder; of any other None."""
+        name = os.path.relpath(path, os.path.dirname(self.journal)) if os.path.isabs(path) else "../"
+        return None if name.startswith("../") else name
+
     def ran(self, words, data=b""):
         """Runs a program with it to its end: its status, and what it wrote."""
         return ran(words, data, self.environment())

@@ -1,0 +1,162 @@
+#!/usr/bin/env python3
+"""Starts the built programs on a journal of 100,000 entries: no start takes more memory for it, or reads it twice.
+
+    tests/long_journal.py
+
+What memory a program takes at least, as its address space is limited, is found on a journal of 5,000 entries. On the
+long one it has no more, and a megabyte: so what grows with the entries is refused, be it eleven bytes for each. What it
+reads of the file is counted, by tests/refusals.c, and is not a tenth more than the file. Tried are
+
+- `venued -` with one order more as its input: a first start, which adds a snapshot, and one behind that snapshot;
+- `venue-replay` with `check`, and with `book`, behind that snapshot too.
+
+Without cc nothing is tried, and a line says so. The last line is `N passed, M failed`, and the status is 1 where one
+failed. It takes some seconds. Build both programs first, by scripts/build; others are taken by the environment's VENUED
+and VENUE_REPLAY.
+"""
+import functools
+import os
+import subprocess
+import sys
+from collections.abc import Callable
+from typing import NamedTuple
+
+from refusals import LOGON, Refusal, contents, greatest, orders, put, run_tests, standard
+import journals
+from book_rules import Book, Order
+from journals import Entry
+from replay_rules import counts, line_of
+from rules import Judged, told
+from snapshot_rules import snapshot
+from venues import REPLAY, Trouble, message, order
+
+SHORT, LONG = 5_000, 100_000  # How many entries the journals have.
+RESTING = 3                   # How many of these, the last ones, rest.
+BLOCK = 20                    # How many entries a block has.
+STEP = 64                     # A limit is found to so many KiB.
+SLACK = 1024                  # What the long journal may take beyond the short one, in KiB.
+
+
+def entries(count):
+    """So many entries: by turns a sell and a buy that trade, one that is no order, and a few that rest."""
+    resting = [message(1, 2, "D", order(count - RESTING + 1 + it, 2, 10, 60 + it)) for it in range(RESTING)]
+    return [Entry(1, it) for it in (*orders(1, count - RESTING - 1), b"x", *resting)]
+
+
+@functools.lru_cache(maxsize=None)
+def journal_of(count):
+    """The bytes of a journal of these entries."""
+    return journals.header(journals.MADE) + journals.in_blocks(journals.MADE, entries(count), BLOCK) + journals.CLOSED
+
+
+@functools.lru_cache(maxsize=None)
+def with_snapshot(count):
+    """The same with the snapshot that the first start adds."""
+    data = journal_of(count)
+    return journals.added(data, len(data) - 1, journals.snapshot_block(snapshot(book_of(count))))
+
+
+def book_of(count):
+    """The book behind them. Of two orders that trade there are four reports, of one that rests there is one."""
+    book = Book()
+    book.commands, book.outputs, book.greatest[1] = count, 2 * (count - RESTING - 1) + RESTING, count
+    book.resting = [Order(at + 1, 1, at + 1, b"ABC", b"2", 60 + it, 10, stamp=at)
+                    for it, at in enumerate(range(count - RESTING, count))]
+    return book
+
+
+def session(count):
+    """A Logon, and an order that rests, behind so many entries."""
+    return LOGON + message(1, 2, "D", order(count + 1, 1, 10, 50))
+
+
+def answers(count):
+    """What that session is told."""
+    judged = Judged(session(count), book_of(count))
+    whole = [told(kind, 1, when, own) for kind, when, own, _ in judged.session.answers]
+    return b"".join(whole + [told(kind, 2, when, own) for kind, when, own, _ in judged.reports])
+
+
+def book_lines(count):
+    """What venue-replay prints of the book."""
+    book = book_of(count)
+    return "".join(f"{line}\n" for line in (*map(line_of, book.listed()), counts(book))).encode()
+
+
+class Run(NamedTuple):
+    """A program's words over a journal, and by the number of entries that journal, the input, and what has to come out."""
+    words: Callable[[str], list[str]]
+    journal: Callable[[int], bytes]
+    data: Callable[[int], bytes]
+    wanted: Callable[[int], bytes]
+
+    def came(self, kib, journal, count):
+        """How it ends over the journal of so many entries, where it has so much memory for itself."""
+        put(journal, self.journal(count))
+        words = ["sh", "-c", 'ulimit -v "$0" && exec "$@"', str(kib), *self.words(journal)]
+        it = subprocess.run(words, input=self.data(count), capture_output=True)
+        return it.returncode, it.stdout, it.stderr.decode()
+
+    def is_enough(self, kib, journal, count):
+        """Whether it does then what it does with ample memory."""
+        return self.came(kib, journal, count) == (0, self.wanted(count), "")
+
+    def least(self, journal):
+        """What memory it takes at least on the short journal, in KiB."""
+        return STEP * (1 + greatest(lambda it: not self.is_enough(STEP * it, journal, SHORT)))
+
+    def read(self, noting):
+        """How many bytes of the long journal it reads."""
+        put(noting.journal, self.journal(LONG))
+        came = noting.ran(self.words(noting.journal), self.data(LONG))
+        if came != (0, self.wanted(LONG), ""):
+            raise Trouble(f"expected {(0, self.wanted(LONG), '')} came {came}")
+        return sum(int(more) for name, _, more in noting.noted() if name == "pread")
+
+    def check(self, sweeps):
+        """Runs it with memory for the short journal, and looks how often it reads the long one."""
+        noting = Refusal(sweeps.library, sweeps.folder, "device", 0, "note")
+        limit = self.least(noting.journal)
+        came = self.came(limit + SLACK, noting.journal, LONG)
+        if came != (0, self.wanted(LONG), ""):
+            raise Trouble(f"expected, with {limit + SLACK} KiB, {(0, self.wanted(LONG), '')} came {came}")
+        read, size = self.read(noting), len(self.journal(LONG))
+        if not 10 * size <= 10 * read <= 11 * size:
+            raise Trouble(f"expected {size} bytes read came {read}")
+        return f"{limit} KiB and {SLACK} more, {read} bytes read of {size}"
+
+
+def no_input(_count):
+    """Nothing."""
+    return b""
+
+
+def first_start(sweeps):
+    """`venued -`, which adds a snapshot before it serves."""
+    said = Run(standard, journal_of, session, answers).check(sweeps)
+    came = contents(os.path.join(sweeps.folder, "venue.journal"))
+    wanted = with_snapshot(LONG)
+    if came[:len(wanted) - 1] != wanted[:-1]:
+        raise Trouble("expected the entries and a snapshot of them came other bytes")
+    return said
+
+
+def second_start(sweeps):
+    """`venued -` behind that snapshot."""
+    return Run(standard, with_snapshot, session, answers).check(sweeps)
+
+
+def snapshots_checked(sweeps):
+    """`venue-replay` with `check`."""
+    return Run(lambda it: [REPLAY, it, "check", "ABC"], with_snapshot, no_input, lambda _: b"snapshots true\n").check(sweeps)
+
+
+def book_shown(sweeps):
+    """`venue-replay` with `book`."""
+    return Run(lambda it: [REPLAY, it, "book", "ABC"], with_snapshot, no_input, book_lines).check(sweeps)
+
+
+if __name__ == "__main__":
+    if set(sys.argv[1:]) & {"-h", "--help"}:
+        sys.exit(print(__doc__.strip()))
+    run_tests("long_journal", [first_start, second_start, snapshots_checked, book_shown])
