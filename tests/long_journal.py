@@ -10,9 +10,10 @@ reads of the file is counted, by tests/refusals.c, and is not a tenth more than 
 - `venued -` with one order more as its input: a first start, which adds a snapshot, and one behind that snapshot;
 - `venue-replay` with `check`, and with `book`, behind that snapshot too.
 
-Without cc nothing is tried, and a line says so. The last line is `N passed, M failed`, and the status is 1 where one
-failed. It takes some seconds. Build both programs first, by scripts/build; others are taken by the environment's VENUED
-and VENUE_REPLAY.
+Programs that keep what they read, read twice, or have no memory for a long journal, by tests/stand_in.c, have to be
+refused. Without cc nothing is tried, and a line says so. The last line is `N passed, M failed`, and the status is 1
+where one failed. It takes some seconds. Build both programs first, by scripts/build; others are taken by the
+environment's VENUED and VENUE_REPLAY.
 """
 import functools
 import os
@@ -21,14 +22,14 @@ import sys
 from collections.abc import Callable
 from typing import NamedTuple
 
-from refusals import LOGON, Refusal, contents, greatest, orders, put, run_tests, standard
+from refusals import LOGON, Refusal, compiled, contents, greatest, orders, put, run_tests, standard
 import journals
 from book_rules import Book, Order
 from journals import Entry
 from replay_rules import counts, line_of
 from rules import Judged, told
 from snapshot_rules import snapshot
-from venues import REPLAY, Trouble, message, order
+from venues import PATIENCE, REPLAY, Trouble, message, order
 
 SHORT, LONG = 5_000, 100_000  # How many entries the journals have.
 RESTING = 3                   # How many of these, the last ones, rest.
@@ -94,7 +95,7 @@ class Run(NamedTuple):
         """How it ends over the journal of so many entries, where it has so much memory for itself."""
         put(journal, self.journal(count))
         words = ["sh", "-c", 'ulimit -v "$0" && exec "$@"', str(kib), *self.words(journal)]
-        it = subprocess.run(words, input=self.data(count), capture_output=True)
+        it = subprocess.run(words, input=self.data(count), capture_output=True, timeout=PATIENCE)
         return it.returncode, it.stdout, it.stderr.decode()
 
     def is_enough(self, kib, journal, count):
@@ -146,9 +147,14 @@ def second_start(sweeps):
     return Run(standard, with_snapshot, session, answers).check(sweeps)
 
 
+def all_true(_count):
+    """What it prints where all snapshots are true."""
+    return b"snapshots true\n"
+
+
 def snapshots_checked(sweeps):
     """`venue-replay` with `check`."""
-    return Run(lambda it: [REPLAY, it, "check", "ABC"], with_snapshot, no_input, lambda _: b"snapshots true\n").check(sweeps)
+    return Run(lambda it: [REPLAY, it, "check", "ABC"], with_snapshot, no_input, all_true).check(sweeps)
 
 
 def book_shown(sweeps):
@@ -156,7 +162,24 @@ def book_shown(sweeps):
     return Run(lambda it: [REPLAY, it, "book", "ABC"], with_snapshot, no_input, book_lines).check(sweeps)
 
 
+def wrong_programs(sweeps):
+    """Of programs that stand in for these, each with a fault or none, those with one are refused."""
+    program, answer = os.path.join(sweeps.folder, "stand_in"), os.path.join(sweeps.folder, "answer")
+    compiled("tests/stand_in.c", program)
+    put(answer, all_true(LONG))
+    seen = {}
+    for wrong in ("none", "keeps", "twice", "most"):
+        stands_in = Run(lambda it, wrong=wrong: [program, wrong, answer, it], journal_of, no_input, all_true)
+        try:
+            seen[wrong] = bool(stands_in.check(sweeps)) and "passed"
+        except Trouble as why:
+            seen[wrong] = "read" if "bytes read" in str(why) else "memory"
+    if seen != {"none": "passed", "keeps": "memory", "twice": "read", "most": "memory"}:
+        raise Trouble(f"expected three of four refused came {seen}")
+    return "one that keeps what it reads, one that reads twice, and one without memory for a long journal are seen"
+
+
 if __name__ == "__main__":
     if set(sys.argv[1:]) & {"-h", "--help"}:
         sys.exit(print(__doc__.strip()))
-    run_tests("long_journal", [first_start, second_start, snapshots_checked, book_shown])
+    run_tests("long_journal", [first_start, second_start, snapshots_checked, book_shown, wrong_programs])

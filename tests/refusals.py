@@ -101,6 +101,14 @@ def sample(count):
     return [at for at in range(1, count + 1) if at <= EDGE or count - at < EDGE or at % STEP == 0]
 
 
+def compiled(source, out, *more):
+    """Compiles a file of the project with cc."""
+    words = ["cc", "-O1", "-o", out, os.path.join(ROOT, source), *more]
+    built = subprocess.run(words, capture_output=True, text=True)
+    if built.returncode:
+        raise Trouble(f"cc can't compile {source}: {built.stderr.strip()}")
+
+
 class Sweeps:
     """What refuses calls, compiled into this folder, and which calls were refused so far, with how many of each name.
     All calls are, or a sample of those for memory."""
@@ -108,10 +116,7 @@ class Sweeps:
     def __init__(self, folder, is_sample=False):
         self.folder, self.library, self.is_sample = folder, os.path.join(folder, "refusals.so"), is_sample
         self.met = collections.Counter()
-        words = ["cc", "-O1", "-shared", "-fPIC", "-o", self.library, os.path.join(ROOT, "tests/refusals.c"), "-ldl"]
-        built = subprocess.run(words, capture_output=True, text=True)
-        if built.returncode:
-            raise Trouble(f"cc can't compile tests/refusals.c: {built.stderr.strip()}")
+        compiled("tests/refusals.c", self.library, "-shared", "-fPIC", "-ldl")
 
     def refused(self, check, group, at, how):
         """Lets a check run with this call refused: its name, or None where the program made fewer."""
