@@ -307,6 +307,13 @@ all-of-ends symbol side (l ∷ levels) order d e first last =
     all-amid symbol side (l ∷ levels) order (length levels) refl d e first
     (subst (λ i. of_side symbol side (get_or (l ∷ levels) i e).key ≡ true) n last)
 
+-- what holds of all holds of each
+pub at-all : {X : Type 0} (P : X → Type 0) (xs : List X) → AllByRecursion P xs → (i : ℕ) (d : X) → i < length xs
+    → P (get_or xs i d)
+at-all P [] all i d within = absurd (omega arith)
+at-all P (x ∷ xs) all zero d within = all.0
+at-all P (x ∷ xs) all (suc i) d within = at-all P xs all.1 i d (omega arith)
+
 -- where the first level isn't before a key, none is
 pub none-before : (k : Key) (levels : List Level) (d : Level) → InOrder levels
     → key_before (get_or levels 0 d).key k ≡ false →

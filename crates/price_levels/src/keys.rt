@@ -129,6 +129,7 @@ fn halve(levels: &[Level], side: Side, price: u64) -> (usize, usize)
     ensures from { result.0 ≤ count_better side price levels.now }
     ensures upto { count_better side price levels.now ≤ result.1 }
     ensures within { result.1 ≤ length levels.now }
+    ensures few { result.1 ≤ result.0 + 64 }
 {
     let mut from = 0;
     let mut upto = levels.len();

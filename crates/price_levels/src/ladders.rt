@@ -1,6 +1,6 @@
 //! The levels in ladders: those of each symbol and side of the venue in a list of their own, which is searched and
 //! moved alone. Contracts see which level stands where, in the order of all.
-ghost use Rattle.std.specs.Prelude.{◌≡◌, ◌<◌, ◌≤◌, ◌+◌, ◌^◌, List, [], true, false, length, take, drop, get_or, slice_set, IfOk, IfSome};
+ghost use Rattle.std.specs.Prelude.{◌≡◌, ◌↔◌, ◌<◌, ◌≤◌, ◌+◌, ◌^◌, List, [], true, false, length, take, drop, get_or, slice_set, IfOk, IfSome};
 ghost use Rattle.std.specs.List.{AllByRecursion, insert};
 ghost use Rattle.venue_model.specs.Orders.{opposite};
 ghost use Rattle.price_levels.specs.Keys.{key_before, before_side, InOrder};
@@ -360,7 +360,7 @@ fn place_in(levels: &[Level], key: &Key) -> usize
 #[inline(always)]
 fn are_of(levels: &[Level], symbol: &Symbol, side: Side) -> bool
     requires { InOrder levels.now }
-    ensures { result ≡ true → AllByRecursion (λ l. of_side symbol.now side l.key ≡ true) levels.now }
+    ensures { (result ≡ true) ↔ AllByRecursion (λ l. of_side symbol.now side l.key ≡ true) levels.now }
 {
     if levels.is_empty() {
         return true;
