@@ -1,6 +1,7 @@
 //! The levels in ladders: those of each symbol and side of the venue in a list of their own, which is searched and
 //! moved alone. Contracts see which level stands where, in the order of all.
-ghost use Rattle.std.specs.Prelude.{◌≡◌, ◌↔◌, ◌<◌, ◌≤◌, ◌+◌, ◌^◌, List, [], true, false, length, take, drop, get_or, slice_set, IfOk, IfSome};
+ghost use Rattle.std.specs.Prelude.{◌≡◌, ◌↔◌, ◌<◌, ◌≤◌, ◌+◌, ◌*◌, ◌^◌, List, [], true, false, length, take, drop, get_or, slice_set, IfOk, IfSome};
+ghost use Rattle.std.specs.Vec.{vec_len, vec_capacity};
 ghost use Rattle.std.specs.List.{AllByRecursion, insert};
 ghost use Rattle.venue_model.specs.Orders.{opposite};
 ghost use Rattle.price_levels.specs.Keys.{key_before, before_side, InOrder};
@@ -218,10 +219,10 @@ impl Ladders {
 }
 
 /// The fences of these symbols, two of each, each ahead of those that it is before. So each symbol and side has a ladder
-/// alone, which is for speed, and no clause says it.
+/// alone, which is for speed: a clause has their number alone.
 fn fences_of(alloc: Global, symbols: &[Symbol]) -> Result<Vec<Fence>, AllocError>
     requires { length symbols.now ≤ 8 }
-    ensures { IfOk result (λ fences. length fences.items ≤ 16) }
+    ensures { IfOk result (λ fences. length fences.items ≡ 2 * length symbols.now) }
 {
     let mut fences = Vec::with_capacity(alloc, 2 * symbols.len())?;
     'symbols: for symbol in symbols {
@@ -231,9 +232,11 @@ fn fences_of(alloc: Global, symbols: &[Symbol]) -> Result<Vec<Fence>, AllocError
     Ok(fences)
 }
 
-/// Puts a fence ahead of the first that its symbol and side are before.
+/// Puts a fence ahead of the first that its symbol and side are before. There is room.
 fn put(fences: &mut Vec<Fence>, symbol: &Symbol, side: Side)
-    ensures { length fences.new.items ≤ length fences.old.items + 1 }
+    requires { vec_len fences.old < vec_capacity fences.old }
+    ensures more { length fences.new.items ≡ length fences.old.items + 1 }
+    ensures room { vec_capacity fences.old ≤ vec_capacity fences.new }
 {
     let at = fence_at(fences, symbol, side);
     let fence = Fence {
