@@ -1,0 +1,283 @@
+#!/usr/bin/env python3
+"""Checks scripts/reads: on two made-up crates, whose definitions are few enough to say what it has to print, and on the
+project's own, where each name of each clause has to be found.
+
+    tests/reads.py
+
+Each fault has a line of its own; the last line is `N passed, M failed`, and the status is 1 where one failed.
+"""
+import os
+import re
+import shutil
+import subprocess
+import sys
+import tempfile
+
+ROOT = os.path.dirname(os.path.dirname(os.path.abspath(__file__)))
+sys.path.insert(0, os.path.join(ROOT, "scripts"))
+
+import needs_python  # (in front of what an older Python can't read)
+from below import Entry, Project
+
+SCRIPTS = ("reads", "below.py", "antt.py", "contracts.py", "crates.py", "needs_python.py")
+
+# What one has to read of `listen` is a page that grows no longer, and never is nothing.
+LISTEN = ("listen", "--clause", "ends")
+LEAST, MOST = (250, 30), (600, 100)
+
+FILES = {
+    "lower/specs/Numbers.antt": """
+-- Numbers.
+use Rattle.std.specs.Prelude.{◌≡◌, ◌+◌, ℕ, zero, suc, Bool, true, false, length, List}
+
+-- twice a number
+abbrev pub twice : ℕ → ℕ
+twice n = once n + once n
+
+-- (private)
+abbrev once : ℕ → ℕ
+once twice = twice
+
+-- a circle
+abbrev pub even : ℕ → Bool
+even zero = true
+even (suc n) = odd n
+
+abbrev pub odd : ℕ → Bool
+odd zero = false
+odd (suc n) = even n
+
+-- nobody names it
+abbrev pub unused : ℕ
+unused = twice 1
+
+module _ {A : Type 0} where
+  -- how long a list is
+  unfoldable pub long : List A → ℕ
+  long xs = length xs
+
+-- a lemma
+pub twice-one : even (twice 1) ≡ true
+unfolding twice
+twice-one = refl
+""",
+    "lower/specs/Shapes.antt": """
+-- Shapes, and what is named on.
+use Rattle.std.specs.Prelude.{◌≡◌, ℕ, List}
+use Rattle.lower.specs.Numbers.{long}
+pub use Rattle.lower.specs.Numbers.{even}
+
+pub data Shape : Type 0 where
+  Round : ℕ → Shape
+  Flat : Side → Shape
+
+-- a side
+pub record Side : Type 0 where
+  pub from : ℕ
+  pub long : List ℕ
+  pub is_long : long ≡ long
+
+pub record Unused : Type 0 where
+  pub side : Side
+""",
+    "lower/src/colours.rt": """
+use std::marker::Model;
+
+/// A colour.
+pub enum Colour {
+    Red,
+    Depth(Shade),
+}
+
+/// Its shade.
+pub struct Shade {
+    pub depth: [u64; MOST],
+}
+
+/// How many.
+pub const MOST: usize = 8;
+
+/// Of the same name as one that is public.
+fn look() {}
+
+/// No clause sees it.
+pub struct Depth {
+    inner: u64,
+}
+
+/// Contracts see a shape.
+pub struct Hidden {
+    inner: Depth,
+}
+
+impl Model for Hidden {
+    ghost use Rattle.lower.specs.Shapes.{Shape};
+
+    ghost Value = { Shape };
+}
+
+/// Something kept.
+pub trait Keeps {
+    ghost use Rattle.lower.specs.Shapes.{Side};
+
+    /// What it keeps.
+    ghost kept: { Self → Side };
+
+    /// No clause names it.
+    ghost lost: { Self → Side };
+}
+""",
+    "upper/specs/Above.antt": """
+-- What stands above.
+use Rattle.std.specs.Prelude.{◌≡◌, ◌×◌, ℕ, Bool}
+use Rattle.lower.specs.Numbers as numbers
+use Rattle.lower.specs.Numbers.{twice, twice-one, odd}
+use Rattle.lower.specs.Shapes.{even as is_even}
+use Rattle.lower.specs.declared.colours.Colour.{Colour}
+use Rattle.lower.specs.declared.colours.Colour.TheVariants as colours
+
+-- by its number
+abbrev pub number_of : Colour → ℕ
+number_of colours.Red = numbers.twice 1
+number_of (colours.Depth odd) = let twice = 2 in (λ (odd : ℕ). odd) twice
+
+-- a fact, with a proof
+pub record IsAbove (colour : Colour) (twice : ℕ) : Type 0 where
+  pub number : number_of colour ≡ twice
+  pub even : is_even twice ≡ is_even (elim twice as (λ odd. ℕ) [ zero ↦ 0 | suc odd ↦ odd ])
+  pub proof : let fact = twice-one in ℕ
+""",
+    "upper/src/lib.rt": """
+ghost use Rattle.std.specs.Prelude.{◌≡◌, ◌≤◌};
+ghost use Rattle.upper.specs.Above.{IsAbove};
+ghost use Rattle.lower.specs.Numbers.{long, twice-one};
+
+use lower::{Colour, Hidden, Keeps, MOST};
+
+/// One function.
+pub fn look<K: Keeps>(colour: Colour, hidden: &Hidden, keeps: K) -> u64
+    requires kept { K.kept keeps ≡ K.kept keeps }
+    requires few { long hidden.now.list ≤ MOST }
+    ensures above { IsAbove colour result }
+    ensures lemma { twice-one ≡ twice-one }
+{
+    0
+}
+
+impl Other {
+    /// Of the same name as another.
+    pub fn twin(&self) {}
+}
+
+/// Of the same name.
+pub fn twin() {}
+""",
+}
+
+# Words, and what has to be printed of them in this order; in front of a word of the code stands its crate's name.
+READ = {
+    ("look", "--clause", "above"): ["IsAbove", "number_of", "twice", "once", "even", "odd", "Colour", "Shade", "MOST"],
+    ("look", "--clause", "few"): ["long", "Shape", "Side", "MOST"],
+    ("look", "--clause", "kept"): ["Keeps.kept", "Side"],
+    ("look", "--clause", "lemma"): ["twice-one", "even", "odd", "twice", "once"],
+    ("Shape",): ["Shape", "Side"],
+    ("Rattle.lower.specs.Numbers.odd",): ["odd", "even"],
+    ("lower::Numbers::unused",): ["unused", "twice", "once"],
+}
+
+# Words, a part of what has to be printed, and the status.
+TOLD = {
+    ("twin",): ("stands for several:\n    upper::Other::twin\n    upper::twin", 1),
+    ("upper::Other::twin",): ("upper::Other::twin has no clause", 2),
+    ("look", "--clause", "below"): ("upper::look has no clause below: it has kept, few, above, lemma", 2),
+    ("Shape", "--clause", "above"): ("lower::Shapes::Shape is a definition", 2),
+    ("nothing",): ("no function and no definition of specs is called nothing", 2),
+    ("Shape", "--most", "2", "1"): ("2 definitions in 1 file", 0),
+    ("Shape", "--most", "1", "1"): ("more than 1 definitions in 1 files", 1),
+    ("look", "--most", "99", "3"): ("more than 99 definitions in 3 files", 1),
+    ("look", "--clause", "few", "--text"): ("    -- how long a list is\n    unfoldable pub long : List A → ℕ\n    long xs", 0),
+    ("Shape", "--by-file"): ("lower: crates/lower/specs/Shapes.antt, 2\n    Shape\n    Side\n", 0),
+    ("Shape", "--by-file", "--text"): ("        -- a side\n        pub record Side", 0),
+}
+
+
+class Check:
+    """Runs the script, and counts."""
+
+    def __init__(self) -> None:
+        self.passed, self.failed = 0, 0
+
+    def count(self, is_right: bool, fault: str) -> None:
+        if is_right:
+            self.passed += 1
+        else:
+            self.failed += 1
+            print(fault)
+
+
+def run(root: str, words: tuple[str, ...]) -> tuple[str, int]:
+    """What the script there prints, with the last of its standard error, and its status."""
+    command = [sys.executable, f"{root}/scripts/reads", *words]
+    done = subprocess.run(command, stdout=subprocess.PIPE, stderr=subprocess.STDOUT, text=True)
+    return done.stdout, done.returncode
+
+
+def made_up(check: Check) -> None:
+    """The two crates, and then one that names what isn't there."""
+    with tempfile.TemporaryDirectory() as root:
+        os.mkdir(f"{root}/scripts")
+        for name in SCRIPTS:
+            shutil.copy(f"{ROOT}/scripts/{name}", f"{root}/scripts/{name}")
+        for name, text in FILES.items():
+            path = f"{root}/crates/{name}"
+            os.makedirs(os.path.dirname(path), exist_ok=True)
+            with open(path, "w", encoding="utf-8") as file:
+                file.write(text.lstrip())
+        for words, names in READ.items():
+            said, status = run(root, words)
+            found = re.findall(r"^\w+ +\S+:\d+  (\S+)$", said, re.M)
+            check.count((found, status) == (names, 0), f"{' '.join(words)}: {' '.join(found)}, status {status}")
+            check.count(f"\n{len(names)} definitions in " in said, f"{' '.join(words)}: {said}")
+        for words, (part, status) in TOLD.items():
+            said, its = run(root, words)
+            check.count(part in said and its == status, f"{' '.join(words)}: status {its}\n{said}")
+        with open(f"{root}/crates/lower/specs/Numbers.antt", "a", encoding="utf-8") as file:
+            file.write("\nuse Rattle.lower.specs.Shapes.{Gone}\n\nabbrev pub lost : ℕ\nlost = unfound Gone\n")
+        said, status = run(root, ("lost",))
+        for name in ("unfound", "Gone"):
+            check.count(f"{name} has no definition" in said and status == 1, f"lost: status {status}\n{said}")
+
+
+def of_project(check: Check) -> None:
+    """The project's own clauses and definitions."""
+    project = Project()
+    for path, functions in project.functions.items():
+        for function in functions:
+            for clause in project.clauses(path, function):
+                project.below_clause(clause)
+    for path, found in project.specs.items():
+        for it in found.values():
+            project.below(Entry(path, it.first, it.name))
+    for path, name in sorted(project.unknown):
+        print(f"{os.path.relpath(path, ROOT)}: {name} has no definition")
+    check.count(not project.unknown, "names have no definition")
+    said, status = run(ROOT, (*LISTEN, "--most", *map(str, MOST)))
+    counts = re.search(r"^(\d+) definitions in (\d+) files", said, re.M)
+    there = (int(counts[1]), int(counts[2])) if counts else (0, 0)
+    check.count(status == 0, f"{' '.join(LISTEN)}: {there[0]} definitions in {there[1]} files, status {status}")
+    check.count(there[0] >= LEAST[0] and there[1] >= LEAST[1], f"{' '.join(LISTEN)}: but {there[0]} in {there[1]}")
+
+
+def main() -> None:
+    if set(sys.argv[1:]) & {"-h", "--help"}:
+        print(__doc__.strip())
+        return
+    check = Check()
+    made_up(check)
+    of_project(check)
+    print(f"{check.passed} passed, {check.failed} failed")
+    sys.exit(1 if check.failed else 0)
+
+
+if __name__ == "__main__":
+    main()
