@@ -2,18 +2,20 @@
 """Feeds bytes of all kinds to `venued -`, and compares what comes out with the rules of docs/PROFILE.md in plain Python.
 
     tests/hostile_bytes.py                              the sample that the full check takes, half a minute
+    tests/hostile_bytes.py NAME...                      of the tests below, those whose names have one of these words in them
     tests/hostile_bytes.py --messages 1000000           as many mutated messages, however long that takes
     tests/hostile_bytes.py --messages N --seconds S     the same, for so long at most
     tests/hostile_bytes.py --seed N                     the same messages again
 
-Three tests. `cuts`: the bytes of the first order in two pieces, cut at each place, are answered as in one.
-`replaced_bytes`: each of them is replaced by 00 and by other values. `mutated_sessions`: sessions of up to a hundred
-messages, right ones and wrong ones, many on one journal, so that later ones find a book. A tenth of the messages are
+Four tests. `rules_corners`: the sessions of tests/corners.py, what just fits and what just doesn't, which reach each rule;
+where one is reached by none of them the test fails. `cuts`: the bytes of the first order in two pieces, cut at each place,
+are answered as in one. `replaced_bytes`: each of them is replaced by 00 and by other values. `mutated_sessions`: sessions of
+up to a hundred messages, right ones and wrong ones, many on one journal, so that later ones find a book. A tenth of the messages are
 market orders, or were before they were changed; the journals are of all versions by turns, and on those of version 1 the
 venue refuses these. tests/rules.py says which bytes may come out: the venue's own answers in their order, the reports in
 theirs, numbered together, nothing behind a Logout; where a Logout ended the session, reports that were due may be missing
 at the end. Behind every journal venue-replay has to print each report that the rules know of, and the journal has to have
-the version that it had.
+the version that it had. That all this tells a wrong answer and a wrong rule is shown by tests/known_bad.py.
 
 What differs is shown with its input as a line of hex digits. The last line is `N passed, M failed`, and the status is 1
 where one failed. Build both programs first, by scripts/build; others are taken by the environment's VENUED and
@@ -38,12 +40,14 @@ ROOT = os.path.dirname(os.path.dirname(os.path.abspath(__file__)))
 sys.path.insert(0, os.path.join(ROOT, "scripts"))
 
 import needs_python  # (in front of what an older Python can't read)
+import corners
 import journals
 from book_rules import Book
+from corners import SYMBOLS, Corner, all_corners
+from replay_rules import line_of
 from rules import Judged, Session, asks_for_market, sealed
 from venues import PATIENCE, REPLAY, TIME, VENUED, Trouble, message, need_programs, order, printed
 
-SYMBOLS = ("ABC", "XYZ")
 FIRST = message(1, 1, "A", "98=0|108=0|141=Y|") + message(1, 2, "D", order(1, 1, 100, 50))
 OTHERS = b"\x00\x01\x30\x7f\x80\xff"
 SESSIONS = 16      # Sessions of one journal.
@@ -51,7 +55,7 @@ CUTS = {it: journals.begun(journals.empty(it)).cut for it in journals.VERSIONS}
 WITHOUT_PRICE = r"\|38=\d+\|(?:32|151)="  # In a report: behind the quantity comes what stands behind a Price.
 WANTED = [*(f"58={it}" for it in ("bad begin", "bad length", "bad checksum", "too long", "bad field", "bad header",
                                   "wrong party", "wrong number", "no logon", "bad logon", "bad test", "bad type")),
-          *(f"373={it}" for it in (13, 2, 1, 6, 5)), *(f"150={it}" for it in "0F458"), *(f"103={it}" for it in (1, 6)),
+          *(f"373={it}" for it in (13, 2, 1, 6, 5)), *(f"150={it}" for it in "0F458"), *(f"103={it}" for it in (0, 1, 6)),
           *(f"102={it}" for it in (1, 2, 6))]
 ASKED = "asked for a market order"
 MARKET = {"market order accepted": rf"\|150=0\|.*{WITHOUT_PRICE}",
@@ -65,6 +69,7 @@ MARKET = {"market order accepted": rf"\|150=0\|.*{WITHOUT_PRICE}",
 OLD = {"rejected by an old journal": r"\|371=44\|372=D\|373=1\|"}
 SHOWN = {**{it: re.compile(rf"\|{re.escape(it)}\|") for it in WANTED},
          **{it: re.compile(form) for it, form in {**MARKET, **OLD}.items()}}
+BY_CORNERS = ("103=0",)  # Met by corners alone: in no session by chance there is a full book.
 
 NUMBERS = ["0", "00", "01", "-1", "+1", " 1", "1 ", "1.0", "1e3", "2", "7", "50", "999999", "1000000", "1000001",
            "4294967297", "999999999999999", "1000000000000000", "18446744073709551616", "9" * 40]
@@ -123,6 +128,37 @@ def tried(cases, together):
         with concurrent.futures.ThreadPoolExecutor(together) as pool:
             runs = [(name, pool.submit(case, os.path.join(folder, f"{at}.journal"))) for at, (name, case) in enumerate(cases)]
             return len(runs), [f"{name}: {why}" for name, run in runs if (why := run.result())]
+
+
+def shown_in(judged, is_old):
+    """Which rules the answers and reports of a session show."""
+    ends = [f"|{printed(body)}" for _, _, body, _ in judged.session.answers[-1:]]
+    return [name for text in judged.lines() + ends for name, form in SHOWN.items()
+            if form.search(text) and (name not in OLD or is_old)]
+
+
+def corner(it: Corner, journal: str) -> str | None:
+    """Plays a session that goes to a corner of the rules: how it differs, or None."""
+    data, book = corners.data_of(it.journal), corners.book_of(it.journal)
+    if data is not None:
+        with open(journal, "wb") as file:
+            file.write(data)
+    judged = Judged(it.data, book)
+    if why := ran(journal, it.data, judged):
+        return f"{why}; its bytes: {it.data.hex()}"
+    if it.shows_book:
+        wanted = [*map(line_of, book.listed()), f"commands {book.commands} outputs {book.outputs}"]
+        return kept_difference("book", wanted, kept(journal, "book"))
+    return None
+
+
+def rules_corners(together):
+    """What just fits, and what just doesn't. All rules have to be met."""
+    chosen = all_corners()
+    met = {name for it in chosen
+           for name in shown_in(Judged(it.data, corners.book_of(it.journal)), it.journal == corners.OLD)}
+    count, faults = tried([(it.name, lambda journal, it=it: corner(it, journal)) for it in chosen], together)
+    return count, faults + [f"no session met {it}" for it in SHOWN if it not in met]
 
 
 def cuts(together):
@@ -293,10 +329,11 @@ class Writer:
         return data + chance.choice((b"", coded(self.header("5", told.accepted + 1))) if not rest else (b"", piece)), count
 
 
-def kept(journal):
-    """What venue-replay prints of C1."""
-    ran_ = subprocess.run([REPLAY, journal, "C1", *SYMBOLS], capture_output=True, timeout=PATIENCE)
-    return ran_.stdout.decode("latin-1").splitlines()
+def kept(journal, what="C1"):
+    """What venue-replay prints of the book, or of a member. Where it fails, that."""
+    it = subprocess.run([REPLAY, journal, what, *SYMBOLS], capture_output=True, timeout=PATIENCE)
+    failed = [f"status {it.returncode}"] if it.returncode or it.stderr else []
+    return (it.stdout + it.stderr).decode("latin-1").splitlines() + failed
 
 
 def begun(journal, version):
@@ -306,11 +343,18 @@ def begun(journal, version):
             file.write(journals.empty(version))
 
 
+def kept_difference(what, lines, came):
+    """How these lines of venue-replay differ from those that are due, or None."""
+    for at, (one, two) in enumerate(itertools.zip_longest(lines, came), 1):
+        if one != two:
+            return f"venue-replay {what}, line {at}: expected {one} came {two}"
+    return None
+
+
 def check_kept(journal, version, lines):
     """How a journal differs from these lines of venue-replay, or by its version from what it was, or None."""
-    if (came := kept(journal)) != lines:
-        at = next(at for at, (one, two) in enumerate(itertools.zip_longest(lines, came)) if one != two)
-        return f"venue-replay, line {at + 1}: expected {lines[at:at + 1]} came {came[at:at + 1]}"
+    if why := kept_difference("C1", lines, kept(journal)):
+        return why
     wanted = journals.header(version)
     with open(journal, "rb") as file:
         if (came := file.read(len(wanted))) != wanted:
@@ -330,9 +374,7 @@ def batch(number, seed, journal):
         if why := ran(journal, data, judged):
             return messages, met, f"batch {number}, version {version}, session {at}: {why}; its bytes: {data.hex()}"
         messages += count
-        ends = [f"|{printed(body)}" for _, _, body, _ in judged.session.answers[-1:]]
-        met.update(name for text in judged.lines() + ends for name, form in SHOWN.items()
-                   if form.search(text) and (name not in OLD or version == 1))
+        met.update(shown_in(judged, version == 1))
         met[ASKED] += sum(asks_for_market(kind, found) for _, kind, _, found in judged.session.orders)
         lines += judged.lines()
     lines.append(f"commands {book.commands} outputs {book.outputs}")
@@ -356,7 +398,7 @@ def mutated_sessions(messages, seconds, seed, together):
                     os.remove(os.path.join(folder, name))
     print("    " + ", ".join(f"{it}: {met[it]}" for it in WANTED))
     print("    " + ", ".join(f"{it}: {met[it]}" for it in [ASKED, *MARKET, *OLD]))
-    faults += [f"no session met {it}" for it in SHOWN if not met[it] and total > 50_000]
+    faults += [f"no session met {it}" for it in SHOWN if not met[it] and it not in BY_CORNERS and total > 20_000]
     print(f"    {batches * SESSIONS} sessions on {batches} journals")
     return total, faults
 
@@ -369,6 +411,7 @@ def positive(word):
 
 def main():
     parser = argparse.ArgumentParser(description=__doc__, formatter_class=argparse.RawDescriptionHelpFormatter)
+    parser.add_argument("names", nargs="*", metavar="NAME", help="which tests; all, if left out")
     parser.add_argument("--messages", type=positive, help="mutated messages; 100,000, if left out")
     parser.add_argument("--seconds", type=positive, help="how long they may take; 15, or any time with --messages")
     parser.add_argument("--together", type=positive, default=2, metavar="N", help="programs side by side; 2, if left out")
@@ -380,8 +423,10 @@ def main():
     except Trouble as why:
         sys.exit(f"hostile_bytes: {why}")
     failed = 0
-    tests = [("cuts", cuts), ("replaced_bytes", replaced_bytes),
+    tests = [("rules_corners", rules_corners), ("cuts", cuts),
+             ("replaced_bytes", replaced_bytes),
              ("mutated_sessions", lambda it: mutated_sessions(given.messages or 100_000, seconds, given.seed, it))]
+    tests = [it for it in tests if not given.names or any(word in it[0] for word in given.names)]
     for name, test in tests:
         begun = time.monotonic()
         count, faults = test(given.together)

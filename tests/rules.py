@@ -217,7 +217,7 @@ class Judged:
         self.session = Session()
         self.session.feed(data)
         self.reports = [(it.kind, it.when, it.body, place) for place, (_, kind, when, found) in enumerate(self.session.orders)
-                        for it in book.apply(kind, when, found)]
+                        for it in book.apply(kind, when, found) if it.to == 1]
 
     def difference(self, out):
         """How these bytes differ from what may come, in words, or None."""
@@ -228,6 +228,8 @@ class Judged:
                 break
             size = head.end() + int(head[1]) + 7
             came, out = out[:size], out[size:]
+            if self.session.has_ended and not answers:
+                return f"expected nothing behind the Logout came {shown(came)}"
             due = reports if came[head.end():].startswith((b"35=8\x01", b"35=9\x01", b"35=3\x01")) else answers
             if not due:
                 return f"expected nothing of this kind came {shown(came)}"

@@ -1,7 +1,7 @@
 #!/usr/bin/env python3
 """Checks journals and snapshots by worked examples, byte for byte: the rules in plain Python, and venue-replay.
 
-    tests/worked_journals.py                  both
+    tests/worked_journals.py [NAME...]        both; the tests whose names have one of these words in them, or all
     tests/worked_journals.py --rules-alone    no program is run
 
 The bytes that are expected stand here as literals: empty journals, blocks, a journal with a snapshot and what a crash may
@@ -404,14 +404,16 @@ def passes(test) -> bool:
 
 def main() -> None:
     parser = argparse.ArgumentParser(description=__doc__, formatter_class=argparse.RawDescriptionHelpFormatter)
+    parser.add_argument("names", nargs="*", metavar="NAME", help="which tests; all, if left out")
     parser.add_argument("--rules-alone", action="store_true", help="run no program")
     given = parser.parse_args()
+    chosen = [it for it in TESTS if not given.names or any(word in it.__name__ for word in given.names)]
     if not given.rules_alone and not is_built():
         sys.exit(f"worked_journals: {not_built()}")
     with tempfile.TemporaryDirectory(prefix="journals-", dir=FOLDERS) as folder:
         programs.extend([] if given.rules_alone else [Program(folder)])
-        failed = sum(not passes(it) for it in TESTS)
-    print(f"{len(TESTS) - failed} passed, {failed} failed")
+        failed = sum(not passes(it) for it in chosen)
+    print(f"{len(chosen) - failed} passed, {failed} failed")
     sys.exit(1 if failed else 0)
 
 

@@ -1,0 +1,266 @@
+#!/usr/bin/env python3
+"""Shows that the tests which compare see what is wrong: each is given wrong answers, wrong rules or wrong programs, and has
+to refuse every one.
+
+    tests/known_bad.py [NAME...]      the tests whose names have one of these words in them; without one all
+
+`wrong_rules`: each rule of tests/rules.py and tests/book_rules.py, turned off or turned round (tests/wrong_rules.py), differs
+from the right ones at a session of tests/corners.py. `wrong_answers`: the bytes that are due in a session, with one byte, one
+message, their order, a number or a price changed. `wrong_lines`: the same of what venue-replay prints. `wrong_venues` and
+`wrong_replays`: tests/members.py, tests/hostile_bytes.py, tests/worked_journals.py and tests/journals_by_chance.py, with
+programs in the place of the built ones that do as these do, but for one thing (tests/wrong_program.py).
+
+What isn't refused has a line. The last line is `N passed, M failed`, and the status is 1 where one failed. Build both
+programs first, by scripts/build; others are taken by the environment's VENUED and VENUE_REPLAY.
+"""
+import concurrent.futures
+import os
+import re
+import subprocess
+import sys
+import tempfile
+import types
+from collections.abc import Iterator
+from unittest import mock
+
+ROOT = os.path.dirname(os.path.dirname(os.path.abspath(__file__)))
+sys.path.insert(0, os.path.join(ROOT, "scripts"))
+
+import needs_python  # (in front of what an older Python can't read)
+import corners
+import hostile_bytes
+import wrong_program
+from book_rules import Book
+from corners import LOGON, SYMBOLS, Corner, all_corners, buy, cut, market, sell, spelled
+from hostile_bytes import kept_difference
+from replay_rules import line_of
+from rules import Judged, sealed, told
+from venues import REPLAY, VENUED, Trouble, need_programs
+from wrong_rules import WRONG
+
+TESTS = os.path.dirname(os.path.abspath(__file__))
+TOGETHER = os.cpu_count() or 1
+A_DAY = [LOGON, sell(1, 5, 50), ("1", "112=hi|"), buy(2, 3, 50), buy(3, 4, 51), cut(4, 3), market(5, 2, 1), buy(6, 1, 49), ("0", "")]
+LONG = 90  # Seconds for a test with a wrong program, which may have to wait for what never comes.
+
+
+def answer_to(judged: Judged) -> list[bytes]:
+    """The messages of a right answer, each report as soon as it may stand."""
+    answers, due = list(judged.session.answers), []
+    for kind, when, own, place in judged.reports:
+        while answers and answers[0][3] <= place:
+            due.append(answers.pop(0)[:3])
+        due.append((kind, when, own))
+    due += [it[:3] for it in answers]
+    return [told(kind, number, when, own) for number, (kind, when, own) in enumerate(due, 1)]
+
+
+def book_lines(book: Book) -> list[str]:
+    return [*map(line_of, book.listed()), f"commands {book.commands} outputs {book.outputs}"]
+
+
+class Played:
+    """A corner, what is due there, and how the book stands then."""
+
+    def __init__(self, it: Corner) -> None:
+        book = corners.book_of(it.journal)
+        judged = Judged(it.data, book)
+        self.corner, self.out, self.lines = it, b"".join(answer_to(judged)), book_lines(book)
+        if why := judged.difference(self.out):
+            raise Trouble(f"{it.name}: the right answer is refused: {why}")
+
+    def differs(self, modules: dict[str, types.ModuleType]) -> bool:
+        """Whether other rules differ here. Such as find no answer at all do."""
+        try:
+            book = corners.book_of(self.corner.journal, modules["book_rules"])
+            if modules["rules"].Judged(self.corner.data, book).difference(self.out):
+                return True
+            return self.corner.shows_book and book_lines(book) != self.lines
+        except (LookupError, ValueError, TypeError, AttributeError):
+            return True
+
+
+def untold(names: list[str]) -> list[str]:
+    """Those of these wrong rules that differ at no corner."""
+    played, left = [Played(it) for it in all_corners()], []
+    for name in names:
+        modules = WRONG[name].rules()
+        if not any(it.differs(modules) for it in played):
+            left.append(name)
+    return left
+
+
+def wrong_rules() -> tuple[int, list[str]]:
+    names = list(WRONG)
+    with concurrent.futures.ProcessPoolExecutor(TOGETHER) as pool:
+        left = [it for some in pool.map(untold, [names[at::TOGETHER] for at in range(TOGETHER)]) for it in some]
+    return len(names), [f"not told from the right ones at any corner: {it}" for it in left]
+
+
+def numbered(messages: list[bytes]) -> bytes:
+    """These messages with numbers from 1 on, and the lengths and sums that they have to have then."""
+    found = b""
+    for number, it in enumerate(messages, 1):
+        body = it.split(b"\x01", 2)[2][:-len("10=000|")]
+        found += sealed(re.sub(rb"\x0134=\d+\x01", b"\x0134=%d\x01" % number, body, count=1))
+    return found
+
+
+def with_field(message: bytes, tag: int, value: bytes) -> bytes:
+    """A message with another value of a field, and the length and the sum for it."""
+    return numbered_one(re.sub(rb"\x01%d=[^\x01]*\x01" % tag, b"\x01%d=%s\x01" % (tag, value), message, count=1))
+
+
+def numbered_one(message: bytes) -> bytes:
+    return sealed(message.split(b"\x01", 2)[2][:-len("10=000|")])
+
+
+def altered(messages: list[bytes]) -> Iterator[tuple[str, bytes]]:
+    """What isn't to be taken for these messages."""
+    whole = b"".join(messages)
+    for at in range(len(whole)):
+        yield f"byte {at} is another one", whole[:at] + bytes([whole[at] ^ 1]) + whole[at + 1:]
+    for at, it in enumerate(messages):
+        others = messages[:at] + messages[at + 1:]
+        yield f"message {at} is missing", b"".join(others)
+        yield f"message {at} is missing, with no gap", numbered(others)
+        yield f"message {at} came twice", b"".join(messages[:at] + [it] + messages[at:])
+        yield f"message {at} came twice, each with its number", numbered(messages[:at] + [it] + messages[at:])
+        for tag, value in ((34, b"7777"), (56, b"C2"), (49, b"C1"), (52, b"20250102-09:30:01"), (31, b"51"), (44, b"48"), (17, b"99"),
+                           (37, b"9"), (6, b"7"), (151, b"77"), (14, b"66"), (32, b"2"), (11, b"8"), (150, b"0"), (54, b"7")):
+            other = with_field(it, tag, value)
+            if other != it:
+                yield f"message {at} has {tag}={value.decode()}", b"".join(messages[:at] + [other] + messages[at + 1:])
+    for at in range(len(messages) - 1):
+        swapped = messages[:at] + [messages[at + 1], messages[at]] + messages[at + 2:]
+        yield f"messages {at} and {at + 1} are swapped", b"".join(swapped)
+        # (the answer to a TestRequest may stand behind the reports of what came later)
+        if not any(b"\x0135=0\x01" in it for it in messages[at:at + 2]):
+            yield f"messages {at} and {at + 1} are swapped, each with its number", numbered(swapped)
+    last = messages[-1]
+    for name, more in (("a further byte", b"8"), ("a further message", last), ("half of one", last[:40]), ("a zero", b"\0")):
+        yield f"{name} behind the end", whole + more
+    for size in range(1, len(last) + 1):
+        yield f"{size} bytes of the end are missing", whole[:-size]
+
+
+def wrong_answers() -> tuple[int, list[str]]:
+    """A day in one session, with all kinds of answers, and one that a Logout ends."""
+    count, faults = 0, []
+    for name, sent in (("a day", A_DAY), ("a day with a Logout", [*A_DAY[:4], ("5", "")])):
+        data = spelled(*sent)
+        messages = answer_to(Judged(data, Book(SYMBOLS)))
+        for what, out in altered(messages):
+            # (where a Logout ended it, reports may be missing in front of that)
+            if "missing, with no gap" in what and name != "a day" and b"\x0135=8\x01" in messages[int(what.split()[1])]:
+                continue
+            count += 1
+            if not Judged(data, Book(SYMBOLS)).difference(out):
+                faults.append(f"{name}: taken, though {what}")
+    return count, faults
+
+
+def wrong_lines() -> tuple[int, list[str]]:
+    """Lines of venue-replay, of which one is another, missing, surplus, or at another place."""
+    book = Book(SYMBOLS)
+    lines = [*Judged(spelled(*A_DAY), book).lines(), *book_lines(book)]
+    others = [("one more", [*lines, "x"]), ("none", [])]
+    for at, line in enumerate(lines):
+        others.append((f"line {at} with another end", lines[:at] + [f"{line[:-1]}~"] + lines[at + 1:]))
+        others.append((f"line {at} missing", lines[:at] + lines[at + 1:]))
+        others.append((f"line {at} twice", lines[:at] + [line] + lines[at:]))
+        if at and lines[at - 1] != line:
+            others.append((f"line {at} before its time", lines[:at - 1] + [line, lines[at - 1]] + lines[at + 1:]))
+    return len(others), [f"taken: {name}" for name, came in others if not kept_difference("C1", lines, came)]
+
+
+def refuses(words: list[str], program: str, wrong: str) -> tuple[str, str | None]:
+    """Runs a test of ours with a program that is wrong: its name, and why that is no refusal, or None."""
+    name = f"{' '.join(words)} with {wrong or 'nothing wrong'}"
+    with tempfile.TemporaryDirectory(prefix="known-bad-") as folder:
+        which = "VENUED" if program == os.path.abspath(VENUED) else "VENUE_REPLAY"
+        environment = {**os.environ, which: put_in_place(folder, wrong, program), "VENUE_PATIENCE": "3" if wrong else "30"}
+        try:
+            it = subprocess.run([sys.executable, os.path.join(TESTS, words[0]), *words[1:]], env=environment, timeout=LONG,
+                                stdout=subprocess.PIPE, stderr=subprocess.STDOUT, text=True)
+        except subprocess.TimeoutExpired:
+            return name, f"hasn't ended within {LONG} seconds"
+    counted = re.fullmatch(r"(\d+) passed, (\d+) failed", (it.stdout.splitlines() or [""])[-1])
+    if not counted:
+        return name, f"ended without its last line: {it.stdout[-300:]}"
+    if (it.returncode != 0) != (int(counted[2]) > 0):
+        return name, f"ended with status {it.returncode} behind '{counted[0]}'"
+    if bool(it.returncode) != bool(wrong):
+        return name, f"said '{counted[0]}': {it.stdout[-300:] if not wrong else ''}"
+    return name, None
+
+
+def all_refuse(runs: list[tuple[list[str], str, str]]) -> tuple[int, list[str]]:
+    """Tries these, some side by side."""
+    with concurrent.futures.ThreadPoolExecutor(TOGETHER) as pool:
+        said = list(pool.map(lambda it: refuses(*it), runs))
+    return len(runs), [f"{name}: {why}" for name, why in said if why]
+
+
+def wrong_venues() -> tuple[int, list[str]]:
+    """Venues that do wrong by a member over TCP, or over standard input and output."""
+    venued = os.path.abspath(VENUED)
+    runs = [(["members.py", test], venued, wrong) for test, wrong in wrong_program.OVER_TCP]
+    runs += [(["../scripts/play", "first_acknowledgement", "logout"], venued, wrong) for wrong in ("", *wrong_program.OVER_STREAMS)]
+    runs += [(["hostile_bytes.py", "cuts"], venued, wrong) for wrong in ("", "a byte too many")]
+    count, faults = all_refuse(runs)
+    return count + len(wrong_program.OVER_STREAMS), faults + taken_sessions(wrong_program.OVER_STREAMS)
+
+
+def taken_sessions(wrongs: list[str]) -> list[str]:
+    """Those of these wrongs that tests/hostile_bytes.py takes in a day's session. (All its sessions would take minutes.)"""
+    faults, data = [], spelled(*A_DAY, ("5", ""))
+    with tempfile.TemporaryDirectory(prefix="known-bad-") as folder:
+        for at, wrong in enumerate(["", *wrongs]):
+            stands = put_in_place(folder, wrong, os.path.abspath(VENUED))
+            with mock.patch.object(hostile_bytes, "VENUED", stands):
+                why = hostile_bytes.ran(os.path.join(folder, f"{at}.journal"), data, Judged(data, Book(SYMBOLS)))
+            if bool(why) != bool(wrong):
+                faults.append(f"hostile_bytes.py with {wrong or 'nothing wrong'}: {why or 'taken'}")
+    return faults
+
+
+def put_in_place(folder: str, wrong: str, program: str) -> str:
+    """The path of a program in this folder that is wrong so."""
+    path = os.path.join(folder, os.path.basename(program))
+    with open(path, "w", encoding="utf-8") as file:
+        file.write(f"#!/bin/sh\nexec {sys.executable} -S {wrong_program.__file__} '{wrong}' {program} \"$@\"\n")
+    os.chmod(path, 0o755)
+    return path
+
+
+def wrong_replays() -> tuple[int, list[str]]:
+    """Programs in the place of venue-replay that do wrong."""
+    tests = [["worked_journals.py", "entries_behind", "which_fault", "old_journal"],
+             ["journals_by_chance.py", "--seed", "1", "--only", "2", "--together", "1"]]
+    return all_refuse([(it, os.path.abspath(REPLAY), wrong) for it in tests for wrong in wrong_program.REPLAYS])
+
+
+def main() -> None:
+    if set(sys.argv[1:]) & {"-h", "--help"}:
+        print(__doc__.strip())
+        return
+    try:
+        need_programs()
+    except Trouble as why:
+        sys.exit(f"known_bad: {why}")
+    tests = [wrong_rules, wrong_answers, wrong_lines, wrong_venues, wrong_replays]
+    chosen = [it for it in tests if not sys.argv[1:] or any(word in it.__name__ for word in sys.argv[1:])]
+    failed = 0
+    for test in chosen:
+        count, faults = test()
+        for it in faults[:10]:
+            print(f"{test.__name__}: {it}")
+        print(f"{test.__name__}: {count} tried, {len(faults)} not refused", flush=True)
+        failed += bool(faults)
+    print(f"{len(chosen) - failed} passed, {failed} failed")
+    sys.exit(1 if failed else 0)
+
+
+if __name__ == "__main__":
+    main()
