@@ -1,0 +1,635 @@
+#!/usr/bin/env python3
+"""Tests of the scripts that users hold in their hands: scripts/trade, demo, day, first-order.sh and build.
+
+    tests/users.py [NAME...]      the tests whose names have one of these words in them; without one all
+
+Members trade by words, the demo is shown, a day is drawn, over the built programs; scripts/build runs with commands in the
+place of the checker that succeed and fail. What is expected was worked out from the scripts' own words, README.md and
+docs/PROFILE.md: the lines that are printed, the numbers in the picture, read by its own axes, and the statuses. Each test
+has a folder of its own. One that fails has a line that says what came; the last line is `N passed, M failed`, and the status
+is 1 where one failed. Build both programs first, by scripts/build; others are taken by the environment's VENUED and
+VENUE_REPLAY.
+"""
+import os
+import re
+import shutil
+import subprocess
+import sys
+import tempfile
+import xml.etree.ElementTree as xml
+
+ROOT = os.path.dirname(os.path.dirname(os.path.abspath(__file__)))
+sys.path.insert(0, os.path.join(ROOT, "scripts"))
+
+import needs_python  # (in front of what an older Python can't read)
+import journals
+from journals import Entry
+from venues import HOST, REPLAY, TIME, VENUED, Trouble, free_port, kill_all, market_order, message, need_programs, order, started
+
+PROGRAMS = {"VENUED": os.path.abspath(VENUED), "VENUE_REPLAY": os.path.abspath(REPLAY)}
+LONG = 120  # Seconds for a script.
+JOURNAL = "venue.journal"
+BUILT = "isn't built: scripts/build proves and builds it"
+
+
+def script(name: str) -> str:
+    return os.path.join(ROOT, "scripts", name)
+
+
+def ran(words: list[str], given: str = "", **environment: str) -> tuple[int, list[str], list[str]]:
+    """Runs a script with this input to its end: its status, and the lines of both of its outputs."""
+    it = subprocess.run(words, input=given, env={**os.environ, **PROGRAMS, **environment}, capture_output=True, text=True,
+                        timeout=LONG)
+    return it.returncode, it.stdout.splitlines(), it.stderr.splitlines()
+
+
+def expect(came: object, wanted: object) -> None:
+    """Fails the test where something else came."""
+    if came != wanted:
+        raise Trouble(f"expected {wanted!r} came {came!r}")
+
+
+def expect_lines(came: list[str], wanted: list[str]) -> None:
+    """The same of lines: only the first that differs is shown."""
+    for at in range(max(len(came), len(wanted))):
+        if came[at:at + 1] != wanted[at:at + 1]:
+            raise Trouble(f"line {at + 1}: expected {wanted[at:at + 1]} came {came[at:at + 1]}")
+
+
+def trade(*words: str, given: str = "", **environment: str) -> tuple[int, list[str], list[str]]:
+    return ran([script("trade"), *words], given, **environment)
+
+
+def expect_trade(words: str, status: int, lines: list[str], given: str = "") -> None:
+    """What scripts/trade prints to these words, and nothing on standard error."""
+    came, out, err = trade(*words.split(), given=given)
+    expect_lines(out, lines)
+    expect((words, came, err), (words, status, []))
+
+
+def first_steps_of_the_readme() -> None:
+    """The commands of README.md print what stands there."""
+    with open(os.path.join(ROOT, "README.md"), encoding="utf-8") as file:
+        lines = [it[4:].rstrip("\n") for it in file if it.startswith("    ")]
+    at = lines.index("$ scripts/trade buy 100 ABC 50")
+    expect(lines[at + 3], "$ scripts/trade sell 30 ABC 49")
+    expect_trade("buy 100 ABC 50", 0, lines[at + 1:at + 3])
+    expect_trade("sell 30 ABC 49", 0, lines[at + 4:at + 8])
+    expect(sorted(os.listdir()), ["trade.journal"])
+
+
+# What a member says, and what it is told. Where the answer isn't the venue's there is nothing under way before it.
+A_DAY = [
+    ("buy 100 ABC 50", ["order 1 accepted: buy 100 ABC at 50 (ClOrdID 1)"]),
+    ("sell 30 ABC 49", ["order 2 accepted: sell 30 ABC at 49 (ClOrdID 2)", "order 1 filled 30 at 50, 70 left",
+                        "order 2 filled 30 at 50, nothing left"]),
+    ("sell 100 ABC 50 ioc", ["order 3 accepted: sell 100 ABC at 50 (ClOrdID 3)", "order 1 filled 70 at 50, nothing left",
+                             "order 3 filled 70 at 50, 30 left",
+                             "order 3 ends, and what is left is cancelled: 70 of 100 filled"]),
+    ("sell 10 ABC 60", ["order 4 accepted: sell 10 ABC at 60 (ClOrdID 4)"]),
+    ("orders", ["order 4: sell 10 ABC at 60, 10 left"]),
+    ("buy 11 ABC 60 fok", ["order 5 accepted: buy 11 ABC at 60 (ClOrdID 5)",
+                           "order 5 ends, and what is left is cancelled: 0 of 11 filled"]),
+    ("buy 10 ABC 60 fok", ["order 6 accepted: buy 10 ABC at 60 (ClOrdID 6)", "order 4 filled 10 at 60, nothing left",
+                           "order 6 filled 10 at 60, nothing left"]),
+    ("buy 5 ABC 40", ["order 7 accepted: buy 5 ABC at 40 (ClOrdID 7)"]),
+    ("sell 3 ABC market", ["order 8 accepted: sell 3 ABC at any price (ClOrdID 8)", "order 7 filled 3 at 40, 2 left",
+                           "order 8 filled 3 at 40, nothing left"]),
+    ("buy 4 ABC market", ["order 9 accepted: buy 4 ABC at any price (ClOrdID 9)",
+                          "order 9 ends, and what is left is cancelled: 0 of 4 filled"]),
+    ("sell 4 ABC market fok", ["order 10 accepted: sell 4 ABC at any price (ClOrdID 10)",
+                               "order 10 ends, and what is left is cancelled: 0 of 4 filled"]),
+    ("replace 7 9 41", ["order 7 replaced: buy 9 ABC at 41, 6 left (ClOrdID 11)"]),
+    ("orders", ["order 7: buy 9 ABC at 41, 6 left"]),
+    ("sell 1 ABC 41 ioc", ["order 12 accepted: sell 1 ABC at 41 (ClOrdID 12)", "order 7 filled 1 at 41, 5 left",
+                           "order 12 filled 1 at 41, nothing left"]),
+    ("sell 8 XYZ 41", ["order 13 accepted: sell 8 XYZ at 41 (ClOrdID 13)"]),
+    ("sell 6 ABC market ioc", ["order 14 accepted: sell 6 ABC at any price (ClOrdID 14)", "order 7 filled 5 at 41, nothing left",
+                               "order 14 filled 5 at 41, 1 left",
+                               "order 14 ends, and what is left is cancelled: 5 of 6 filled"]),
+    ("replace 13 7 1000000", ["order 13 replaced: sell 7 XYZ at 1000000, 7 left (ClOrdID 15)"]),
+    ("cancel 13", ["order 13 cancelled: 0 of 7 filled"]),
+    ("orders", ["no order rests"])]
+REFUSALS = [
+    ("buy 9 ABC 50", ["order 1 accepted: buy 9 ABC at 50 (ClOrdID 1)"]),
+    ("buy 1 ABC", ["not sent: 'buy 1 ABC' isn't one of the words; 'help' lists them"]),
+    ("buy 1 ABC 50 gtc", ["not sent: 'buy 1 ABC 50 gtc' isn't one of the words; 'help' lists them"]),
+    ("hello", ["not sent: 'hello' isn't one of the words; 'help' lists them"]),
+    ("cancel 99", ["not sent: there is no order 99 of yours; 'orders' lists those that rest"]),
+    ("replace 99 1 50", ["not sent: there is no order 99 of yours; 'orders' lists those that rest"]),
+    ("buy 1 A|C 50", ["not sent: a word has a character that no field here can have"]),
+    ("", []),
+    ("buy 0 ABC 50", ["rejected: quantity (38) is out of its range"]),
+    ("buy 01 ABC 50", ["rejected: quantity (38) is not written as it must be"]),
+    ("buy 1 abc 50", ["rejected: symbol (55) is not written as it must be"]),
+    ("sell 1 ABC 1000001", ["rejected: price (44) is out of its range"]),
+    ("sell 1 QQQ 50", ["order refused: the venue doesn't trade its symbol"]),
+    ("sell 4 ABC 50", ["order 7 accepted: sell 4 ABC at 50 (ClOrdID 7)", "order 1 filled 4 at 50, 5 left",
+                       "order 7 filled 4 at 50, nothing left"]),
+    ("replace 1 4 50", ["replace refused: the total isn't above what has been filled"]),
+    ("cancel 1", ["order 1 cancelled: 4 of 9 filled"]),
+    ("cancel 1", ["cancel refused: no such order rests"])]
+
+
+def told(day: list[tuple[str, list[str]]]) -> list[str]:
+    return [line for _, lines in day for line in lines]
+
+
+def said(day: list[tuple[str, list[str]]]) -> str:
+    return "".join(f"{words}\n" for words, _ in day)
+
+
+def a_day_by_words() -> None:
+    """A day of one member, and its end by `quit`, behind which nothing is read."""
+    expect_trade(f"--journal {JOURNAL} --symbols ABC,XYZ", 0, [f"The new journal {JOURNAL}, for ABC XYZ.", *told(A_DAY)],
+                 said(A_DAY) + "quit\nbuy 1 ABC 1\n")
+    expect_trade(f"--journal {JOURNAL} --symbols ABC,XYZ orders", 0, [f"The journal {JOURNAL}, for ABC XYZ.", "no order rests"])
+
+
+def what_trade_refuses() -> None:
+    """What isn't sent, is rejected or refused has its line, and makes the status 1."""
+    head = f"The new journal {JOURNAL}, for ABC."
+    expect_trade(f"--journal {JOURNAL}", 1, [head, *told(REFUSALS)], said(REFUSALS))
+    for words, line in (("cancel 9", "not sent: there is no order 9 of yours; 'orders' lists those that rest"),
+                        ("buy 1 ABC 0", "rejected: price (44) is out of its range")):
+        expect_trade(f"--journal {JOURNAL} {words}", 1, [head.replace("new ", ""), line])
+
+
+def market_orders_of_an_old_journal() -> None:
+    with open(JOURNAL, "wb") as file:
+        file.write(journals.empty(1))
+    expect_trade(f"--journal {JOURNAL} buy 1 ABC market", 1, [f"The journal {JOURNAL}, for ABC.",
+                 "rejected: the venue takes no market orders: its journal is an old one, of version 1"])
+
+
+def help_in_a_session() -> None:
+    """`help` lists all words."""
+    status, out, _ = trade("--journal", JOURNAL, given="help\n")
+    expect(status, 0)
+    expect([it.split()[0] for it in out[1:]], ["buy", "sell", "buy", "sell", "cancel", "replace", "orders", "quit"])
+
+
+def what_is_sent() -> None:
+    """With --fix the messages are shown: what was said stands in them."""
+    days = {"sell 8 ABC market": "35=D|49=C1|55=ABC|54=2|38=8|40=1|", "buy 5 ABC 70": "35=D|55=ABC|54=1|38=5|40=2|44=70|",
+            "sell 6 ABC 71 ioc": "35=D|54=2|38=6|40=2|44=71|59=3|", "buy 7 ABC 72 fok": "35=D|54=1|38=7|40=2|44=72|59=4|",
+            "buy 8 ABC market ioc": "35=D|54=1|38=8|40=1|59=3|", "replace 2 6 73": "35=G|41=2|54=1|38=6|40=2|44=73|55=ABC|",
+            "cancel 2": "35=F|41=6|54=1|38=6|55=ABC|"}
+    _, out, _ = trade("--journal", JOURNAL, "--fix", given="".join(f"{it}\n" for it in days))
+    sent = [it[2:] for it in out if it.startswith("> ")]
+    expect(len(sent), 1 + len(days))
+    for number, (line, wanted) in enumerate(zip(sent, ["35=A|34=1|98=0|108=0|141=Y|", *days.values()]), 1):
+        fields = line.strip("|").split("|")
+        if missing := [it for it in [*wanted.strip("|").split("|"), f"34={number}"] if it not in fields]:
+            raise Trouble(f"expected {missing} in what is sent came {line}")
+        more = {it.split("=")[0] for it in fields} & {"44", "59"} - {it.split("=")[0] for it in wanted.strip("|").split("|")}
+        expect((line, more), (line, set()))
+    heard = [it for it in out if it.startswith("< 8=FIX.4.4|")]
+    expect(len([it for it in heard if "|35=A|" in it]), 1)
+    expect(len([it for it in heard if "|150=5|" in it and "|44=73|" in it]), 1)
+
+
+def wrong_words_of_trade() -> None:
+    for words in (["--port", "0"], ["--port", "65529"], ["--port", "x"], ["--member", "9"], ["--member", "0"], ["--wrong"]):
+        status, out, err = trade(*words)
+        expect((words, status, out, bool(err)), (words, 2, [], True))
+    expect(trade("--member", "2", "buy", "1", "ABC", "1"), (1, [], ["trade: without --port only the member 1 is served"]))
+    expect(os.listdir(), [])
+
+
+def venues_that_cannot_be_had() -> None:
+    """Where there is no venue, or it doesn't start, the status is 1, and a line says why."""
+    port = free_port(1)
+    expect(trade("--port", str(port), "orders"), (1, [], [f"trade: no venue answers at {HOST}, port {port}: Connection refused"]))
+    with open("none.journal", "wb") as file:
+        file.write(b"no journal")
+    status, out, err = trade("--journal", "none.journal", "orders")
+    expect((status, out), (1, []))
+    expect(err, ["trade: the journal none.journal can't be read: venue-replay: journal fault 43 (docs/OPERATING.md says what its "
+                 "line means)"])
+    venue = started(JOURNAL, 1)
+    status, out, err = trade("--journal", JOURNAL, "buy", "1", "ABC", "1")
+    expect((status, out), (1, [f"The journal {JOURNAL}, for ABC."]))
+    expect(err, ["venued: journal fault 41", "trade: venued ended with status 1 (docs/OPERATING.md says what its line means)"])
+    expect(venue.stop(), (0, 0))
+    for name in ("VENUED", "VENUE_REPLAY"):
+        status, out, err = trade("orders", **{name: os.path.abspath("missing")})
+        expect((name, status, out, [it.endswith(BUILT) for it in err]), (name, 1, [], [True]))
+
+
+def members_over_tcp() -> None:
+    """Two members of one venue: each has its own port, name and orders."""
+    venue = started(JOURNAL, 2, ("ABC", "XYZ"))
+    port = str(venue.port)
+    common = f"--port {port} --journal {JOURNAL} --symbols ABC,XYZ"
+    expect_trade(f"{common} --member 2 sell 10 XYZ 50", 0,
+                 [f"The member C2, at port {venue.port + 1}.", "order 1 accepted: sell 10 XYZ at 50 (ClOrdID 1)"])
+    expect_trade(f"{common} buy 4 XYZ 51", 0, [f"The member C1, at port {port}.", "order 2 accepted: buy 4 XYZ at 51 (ClOrdID 1)",
+                                               "order 2 filled 4 at 50, nothing left"])
+    expect_trade(f"{common} orders", 0, [f"The member C1, at port {port}.", "no order rests"])
+    expect_trade(f"{common} --member 2 orders", 0, [f"The member C2, at port {venue.port + 1}.", "order 1: sell 10 XYZ at 50, 6 left"])
+    expect_trade(f"{common} --member 2 replace 1 9 49", 0, [f"The member C2, at port {venue.port + 1}.",
+                                                            "order 1 replaced: sell 9 XYZ at 49, 5 left (ClOrdID 2)"])
+    status, out, err = trade("--port", port, "sell", "3", "XYZ", "60")
+    expect((status, len(out), err), (0, 2, []))
+    name = re.fullmatch(r"order 4 accepted: sell 3 XYZ at 60 \(ClOrdID (\d+)\)", out[1])
+    if not name or int(name[1]) < 1_700_000_000_000:
+        raise Trouble(f"expected a ClOrdID by the time came {out[1]}")
+    status, out, _ = trade("--port", port, "cancel", "4")
+    expect((status, out[1]), (1, "not sent: there is no order 4 of yours that this session knows of; 'orders' lists those that rest"))
+    expect(venue.stop(), (4, 6))
+
+
+REPORT = "35=8|52=T|37={}|17={}|150={}|39={}|11={}|55=ABC|54={}|38={}|{}151={}|14={}|6={}|"
+DEMO = f"""A venue of two members, with the journal demo.journal:
+
+    venued PORT demo.journal 2 ABC
+    venued: ready, 0 commands, 0 outputs
+
+C1 says: sell 100 ABC 50
+
+    order 1 accepted: sell 100 ABC at 50 (ClOrdID 1)
+
+C2 says: buy 30 ABC 51
+
+    order 2 accepted: buy 30 ABC at 51 (ClOrdID 1)
+    order 2 filled 30 at 50, nothing left
+
+Meanwhile C1 hears
+
+    order 1 filled 30 at 50, 70 left
+
+C2 says, at whatever price: buy 20 ABC market
+
+    order 3 accepted: buy 20 ABC at any price (ClOrdID 2)
+    order 3 filled 20 at 50, nothing left
+
+And C1 hears
+
+    order 1 filled 20 at 50, 50 left
+
+The venue is stopped by a file:
+
+    touch demo.journal.stop
+    venued: stopped, 3 commands, 7 outputs
+
+What rests, by the journal: symbol, side (2 sells), price, left, OrderID, member, ClOrdID
+
+    venue-replay demo.journal book ABC
+    ABC 2 50 50 1 C1 1
+    commands 3 outputs 7
+
+All reports to C1, as FIX
+
+    venue-replay demo.journal C1 ABC
+    {REPORT.format(1, 1, 0, 0, 1, 2, 100, "44=50|", 100, 0, 0)}
+    {REPORT.format(1, 3, "F", 1, 1, 2, 100, "44=50|32=30|31=50|", 70, 30, 50)}
+    {REPORT.format(1, 6, "F", 1, 1, 2, 100, "44=50|32=20|31=50|", 50, 50, 50)}
+    commands 3 outputs 7
+
+All reports to C2, as FIX
+
+    venue-replay demo.journal C2 ABC
+    {REPORT.format(2, 2, 0, 0, 1, 1, 30, "44=51|", 30, 0, 0)}
+    {REPORT.format(2, 4, "F", 2, 1, 1, 30, "44=51|32=30|31=50|", 0, 30, 50)}
+    {REPORT.format(3, 5, 0, 0, 2, 1, 20, "", 20, 0, 0)}
+    {REPORT.format(3, 7, "F", 2, 2, 1, 20, "32=20|31=50|", 0, 20, 50)}
+    commands 3 outputs 7"""
+
+
+def the_demo() -> None:
+    """All that the demo shows, but for its port and the times, and nothing of it left behind."""
+    status, out, err = ran([script("demo")], TMPDIR=os.getcwd())
+    text = re.sub(r"(?m)\|52=\d{8}-\d\d:\d\d:\d\d\|", "|52=T|", "\n".join(out))
+    expect_lines(re.sub(r"venued \d+ demo", "venued PORT demo", text).splitlines(), [*DEMO.splitlines()])
+    expect((status, err, os.listdir()), (0, [], []))
+
+
+def demos_that_fail() -> None:
+    """A venue that isn't there, can't start, or ends with another status: a line, and status 1. Wrong words: status 2."""
+    expect(ran([script("demo"), "x"]), (2, [], ["usage: scripts/demo"]))
+    status, out, err = ran([script("demo")], VENUED=os.path.abspath("missing"))
+    expect((status, out, [it.endswith(BUILT) for it in err]), (1, [], [True]))
+    put("venued", "#!/bin/sh\necho 'venued: no memory' >&2\nexit 1\n")
+    status, out, err = ran([script("demo")], VENUED=os.path.abspath("venued"))
+    expect((status, out), (1, []))
+    expect(err, ["demo: venued isn't ready; it said: venued: no memory (docs/OPERATING.md says what that means)"])
+    put("venued", f"#!/bin/sh\n{PROGRAMS['VENUED']} \"$@\"\nexit 3\n")
+    status, out, err = ran([script("demo")], VENUED=os.path.abspath("venued"))
+    expect((status, err), (1, ["demo: venued ended with status 3"]))
+
+
+def put(name: str, text: str, mode: int = 0o755) -> str:
+    """Makes a file of this text, which may be run, and gives its path."""
+    os.makedirs(os.path.dirname(os.path.abspath(name)), exist_ok=True)
+    with open(name, "w", encoding="utf-8") as file:
+        file.write(text)
+    os.chmod(name, mode)
+    return os.path.abspath(name)
+
+
+def replaced(name: int, was: int, symbol: str, side: int, total: int, price: int) -> str:
+    return f"41={was}|11={name}|55={symbol}|54={side}|60={TIME}|38={total}|40=2|44={price}|"
+
+
+DRAWN = [(1, "D", order(1, 2, 10, 52)),                     # 1
+         (2, "D", order(1, 1, 10, 48)),                     # 2
+         (2, "D", order(2, 1, 5, 49)),                      # 3
+         (2, "D", order(3, 1, 4, 52)),                      # 4, and filled: 5 and 6
+         (1, "D", market_order(2, 2, 7)),                   # 7, and filled: 8 and 9 at 49, 10 and 11 at 48
+         (1, "G", replaced(3, 1, "ABC", 2, 10, 51)),        # 12
+         (2, "D", order(4, 2, 3, 900, "XYZ")),              # 13
+         (1, "D", order(4, 1, 2, 901, "XYZ")),              # 14, and filled: 15 and 16
+         (2, "D", order(5, 2, 7, 5000, "XYZ")),             # 17
+         (1, "D", order(5, 1, 1, 50, "QQQ"))]               # 18, refused
+
+
+class Picture:
+    """The numbers of a picture, each read by the axes that stand beside it."""
+
+    def __init__(self, text: str) -> None:
+        space = "{http://www.w3.org/2000/svg}"
+        every = list(xml.fromstring(text).iter())
+        self.title = next(it.text for it in every if it.tag == f"{space}title")
+        self.texts = [(float(it.get("x")), float(it.get("y")), it.text, it.get("text-anchor")) for it in every if it.tag == f"{space}text"]
+        self.lines = [it for it in every if it.tag == f"{space}line"]
+        self.paths = [(it.get("d"), it.get("stroke")) for it in every if it.tag == f"{space}path"]
+        self.bars = [it for it in every if it.tag == f"{space}rect" and it.get("x")]
+        self.marks = [(it.get("points"), it.get("fill"), it.get("stroke")) for it in every if it.tag == f"{space}polygon"]
+
+    def said(self) -> list[str]:
+        """The words in it that aren't numbers of an axis."""
+        return [words for _, _, words, _ in self.texts if not re.fullmatch(r"[\d,]+", words)]
+
+    def colour(self, words: str) -> str:
+        """The colour that the legend gives these words."""
+        x, y = next((x, y) for x, y, it, _ in self.texts if it == words)
+        return min((it for it in self.lines if it.get("stroke-width") == "3" and abs(float(it.get("y1")) - y) < 9),
+                   key=lambda it: abs(float(it.get("x2")) - x)).get("stroke")
+
+    def scale(self, row: tuple[float, float], left: float, right: float, anchor: str) -> tuple[float, float]:
+        """How a place in the picture becomes a number, a + b * place, by the numbers of an axis in this row: upright ones
+        end beside their tick (`end`), flat ones stand under it (`middle`)."""
+        ticks = [((y - 4 if anchor == "end" else x), int(words.replace(",", ""))) for x, y, words, of in self.texts
+                 if of == anchor and re.fullmatch(r"[\d,]+", words) and left <= x <= right and row[0] <= y <= row[1]]
+        (first, low), (last, high) = min(ticks, key=lambda it: it[1]), max(ticks, key=lambda it: it[1])
+        slope = (high - low) / (last - first)
+        return low - slope * first, slope
+
+
+def near(number: float) -> int:
+    """A whole number that was drawn, within what a tenth of a pixel is."""
+    if abs(number - round(number)) > 0.2:
+        raise Trouble(f"expected a whole number in the picture came {number}")
+    return round(number)
+
+
+def row_of(picture: Picture, symbol: str) -> dict[str, object]:
+    """What the row of a symbol tells: the best prices, the trades, and the depth."""
+    tops = sorted(y for _, y, words, _ in picture.texts if re.match(r"(ABC|XYZ|NIX): ", words))
+    top = next(y for _, y, words, _ in picture.texts if words.startswith(f"{symbol}: "))
+    row = (top, min([it for it in tops if it > top], default=10_000) - 1)
+    middle = min(float(it.get("x")) for it in picture.bars)
+    (a, b), (c, d), (e, f) = (picture.scale(row, 0, middle - 50, "middle"), picture.scale(row, 0, middle - 50, "end"),
+                              picture.scale(row, middle - 5, 10_000, "middle"))
+    sides = {picture.colour("best bid; buys that rest"): "buy", picture.colour("best offer; sells that rest"): "sell"}
+    found = {"best": {}, "trades": [], "depth": {}}
+    for path, colour in picture.paths:
+        steps = re.findall(r"([ML])([\d.]+),([\d.]+)H([\d.]+)", path)
+        if row[0] < float(steps[0][2]) < row[1]:
+            found["best"][sides[colour]] = [(near(a + b * float(x)), near(c + d * float(y)), near(a + b * float(end)))
+                                            for _, x, y, end in steps]
+    for points, fill, stroke in picture.marks:
+        (x, tip), (_, base), _ = (map(float, it.split(",")) for it in points.split())
+        if row[0] < tip < row[1]:
+            market = fill == "white"
+            found["trades"].append((near(a + b * x), near(c + d * (tip + base) / 2), "buy" if tip < base else "sell",
+                                    sides[stroke if market else fill], market))
+    for bar in picture.bars:
+        y = float(bar.get("y")) + float(bar.get("height")) / 2
+        if row[0] < y < row[1]:
+            end = float(bar.get("x")) + float(bar.get("width"))
+            found["depth"][sides[bar.get("fill")], near(c + d * y)] = near(e + f * end)
+    return found
+
+
+def a_day_drawn() -> None:
+    """The trades, best prices and depth of a day, by the picture of it. A trade stands at the place of its second report,
+    and points where the order that came in went; a best price holds from its command's last report on."""
+    numbers = {1: 1, 2: 1}
+    entries = []
+    for member, kind, text in DRAWN:
+        numbers[member] += 1
+        entries.append(Entry(member, message(member, numbers[member], kind, text)))
+    with open("my.journal", "wb") as file:
+        file.write(journals.header(3) + journals.in_blocks(3, entries, 3) + journals.CLOSED)
+    status, out, err = ran([script("day"), "my.journal", "ABC", "XYZ", "NIX"])
+    expect((status, err), (0, []))
+    picture = Picture("\n".join(out))
+    expect(picture.title, "The day in my.journal: 10 commands, 18 outputs")
+    expect([it for it in picture.said() if ": " in it or "aren't shown" in it],
+           [picture.title, "ABC: 3 trades, 11 traded, the last at 48; 2 by market orders", "XYZ: 1 trades, 2 traded, the last at 900",
+            "1 prices further off aren't shown: 7 rest there", "NIX: no order rested, and none was filled"])
+    expect(row_of(picture, "ABC"),
+           {"best": {"buy": [(2, 48, 3), (3, 49, 11), (11, 48, 19)], "sell": [(1, 52, 12), (12, 51, 19)]},
+            "trades": [(6, 52, "buy", "buy", False), (9, 49, "sell", "sell", True), (11, 48, "sell", "sell", True)],
+            "depth": {("buy", 48): 8, ("sell", 51): 6}})
+    expect(row_of(picture, "XYZ"), {"best": {"sell": [(13, 900, 19)]}, "trades": [(16, 900, "buy", "buy", False)],
+                                    "depth": {("sell", 900): 1}})
+
+
+def days_that_cannot_be_drawn() -> None:
+    for words in ([], ["my.journal"]):
+        expect((words, *ran([script("day"), *words])), (words, 2, [], ["usage: scripts/day JOURNAL SYMBOL... >day.svg"]))
+    expect(ran([script("day"), "missing", "ABC"]),
+           (1, [], ["day: the journal missing can't be read: venue-replay: journal fault 41 (docs/OPERATING.md says what that means)"]))
+    status, out, err = ran([script("day"), "missing", "ABC"], VENUE_REPLAY=os.path.abspath("missing"))
+    expect((status, out, [it.endswith(BUILT) for it in err]), (1, [], [True]))
+
+
+ANSWERS = ["8=FIX.4.4|9=63|35=A|49=VENUE|56=C1|34=1|52=20250102-09:30:00|98=0|108=0|141=Y|10=026|",
+           "8=FIX.4.4|9=114|35=8|49=VENUE|56=C1|34=2|52=20250102-09:30:00|37=1|17=1|150=0|39=0|11=1|55=ABC|54=1|38=100|44=50|"
+           "151=100|14=0|6=0|10=243|"]
+PATH = "/usr/bin:/bin"
+
+
+def the_first_order() -> None:
+    """By the program that is built, else by a trial run, else by nothing; its folder of work is gone each time."""
+    for name in ("scripts/first-order.sh", "examples/first_order.fix"):
+        os.makedirs(os.path.dirname(name), exist_ok=True)
+        shutil.copy(os.path.join(ROOT, name), name)
+    os.makedirs("crates/venued/out")
+    os.makedirs("work")
+    call, work = [os.path.abspath("scripts/first-order.sh")], {"TMPDIR": os.path.abspath("work"), "PATH": PATH}
+    status, out, err = ran(call, **work)
+    expect((status, out), (1, []))
+    expect(err, ["first-order: there is no rt on the path, and no built program: README.md says what is needed"])
+    data = "\\n".join(it.replace("|", "\\001") for it in ANSWERS).replace("\\n", "")
+    put("kit/rt", f"#!/bin/sh\necho \"$@\" >{os.getcwd()}/asked\ncat >{os.getcwd()}/given\nprintf '{data}'\necho hello >&2\n")
+    trial = {**work, "PATH": f"{os.path.abspath('kit')}:{PATH}"}
+    status, out, err = ran(call, **trial)
+    expect((status, out[1:], err), (0, ANSWERS, []))
+    expect("not proved" in out[0], True)
+    with open("asked", encoding="utf-8") as asked, open("given", "rb") as given, open("examples/first_order.fix", "rb") as example:
+        expect((asked.read(), given.read()), ("try -- - first.journal 1 ABC\n", example.read()))
+    put("kit/rt", "#!/bin/sh\necho 'error: no' >&2\nexit 3\n")
+    status, out, err = ran(call, **trial)
+    expect((status, err), (1, ["error: no", "first-order: the trial run failed; what rt said stands above"]))
+    expect([it for it in out if it.startswith("8=")], [])
+    put("crates/venued/out/venued", f"#!/bin/sh\nexec {PROGRAMS['VENUED']} \"$@\"\n")
+    expect(ran(call, **trial), (0, ["By crates/venued/out/venued, the proved program as it was built last:", *ANSWERS], []))
+    put("crates/venued/out/venued", "#!/bin/sh\necho 'venued: no memory' >&2\nexit 1\n")
+    status, out, err = ran(call, **work)
+    expect((status, err), (1, ["venued: no memory"]))
+    expect((ran([*call, "x"], **work)[0], ran([*call, "--help"], **work)[0]), (1, 0))
+    expect(os.listdir("work"), [])
+
+
+CHECKER = """#!/bin/sh
+# In the place of rt and of rattle: does what the file `fails` beside it says of this crate and this command.
+here="{here}"
+crate="$(basename "$PWD")"
+command="$(basename "$0") $1"
+[ "$command" = "rt doc" ] && {{ echo "$here/kit/README"; exit 0; }}
+echo "$crate $command" >>"$here/asked"
+rule="$(grep "^$crate $command:" "$here/fails" | head -n 1 | cut -d: -f2)"
+if [ "$rule" = once ]; then
+    grep -q "^$crate $command$" "$here/killed" && rule="" || echo "$crate $command" >>"$here/killed"
+fi
+case "$rule" in
+    fails) echo "error: not proved: a goal is open in $crate"; exit 1 ;;
+    killed | once) kill -9 $$ ;;
+    open) echo "logic=unproved goals=3 functions=7"; exit 0 ;;
+    silent) exit 0 ;;
+esac
+mkdir -p out/rlib
+case "$command" in
+    "rattle check") echo "logic=proved functions=7 goals=9" ;;
+    "rt lib") mkdir -p "out/rlib/$crate.rlib"; touch out/rlib/stamp ;;
+    "rt run") [ "$rule" = nothing ] || {{ touch "out/$crate.stamp"; touch "out/$crate"; chmod +x "out/$crate"; }} ;;
+esac
+"""
+CRATES = {"low": "", "wide": "", "middle": "low", "venued": "low middle", "venue_replay": "low", "other": "low"}
+NEEDED = [it for it in CRATES if it != "other"]
+
+
+def build(fails: str = "", **crates: str) -> tuple[int, list[str], list[str], list[str]]:
+    """Runs scripts/build in a small repository, where these commands fail: how it ended, and which commands it gave."""
+    shutil.rmtree("repository", ignore_errors=True)
+    here = os.path.abspath("repository")
+    for name in ("build", "crates.py", "needs_python.py"):
+        os.makedirs("repository/scripts", exist_ok=True)
+        shutil.copy(script(name), "repository/scripts")
+    put("repository/crates.txt", "".join(f"{name}: {below}\n" for name, below in {**CRATES, **crates}.items()), 0o644)
+    for name in CRATES:
+        put(f"repository/crates/{name}/src/{'main' if name.startswith('venue') else 'lib'}.rt", "//\n", 0o644)
+    for name in ("rt", "rattle"):
+        put(f"repository/kit/bin/{name}", CHECKER.format(here=here))
+    put("repository/fails", fails, 0o644)
+    put("repository/killed", "", 0o644)
+    return again()
+
+
+def again(*words: str) -> tuple[int, list[str], list[str], list[str]]:
+    """The same once more, over what was built."""
+    put("repository/asked", "", 0o644)
+    kit = os.path.abspath("repository/kit/bin")
+    status, out, err = ran([os.path.abspath("repository/scripts/build"), "--jobs", "2", *words],
+                           PATH=f"{kit}:{os.path.dirname(sys.executable)}:{PATH}")
+    with open("repository/asked", encoding="utf-8") as file:
+        return status, out, err, file.read().splitlines()
+
+
+def proved(out: list[str]) -> list[str]:
+    """The crates of which a build says that they are proved."""
+    return sorted(it.split()[3] for it in out if re.search(r"^ *\d+ of \d+ .*\d+ functions proved", it))
+
+
+def a_build() -> None:
+    """Each crate that the programs stand on is proved, once those below it are, and both programs are built at the end. A
+    second run proves nothing again."""
+    status, out, err, asked = build(venued="low middle wide")
+    expect((status, err, proved(out)), (0, [], sorted(NEEDED)))
+    for name in NEEDED:
+        expect((name, f"{name} rattle check" in asked or f"{name} rt lib" in asked), (name, True))
+    for name in ("low", "middle", "wide"):
+        expect((name, asked.count(f"{name} rt lib")), (name, 1))
+    for name in ("venued", "venue_replay"):
+        expect((name, asked.count(f"{name} rattle check"), asked.count(f"{name} rt run")), (name, 1, 1))
+    expect([it for it in asked if it.startswith("other")], [])
+    expect(asked.index("low rt lib") < asked.index("middle rt lib") < asked.index("venued rattle check"), True)
+    expect(any(it.startswith("The programs are crates/venued/out/venued and crates/venue_replay/out/venue_replay") for it in out), True)
+    status, out, err, asked = again()
+    expect((status, err, proved(out), [it for it in asked if "check" in it]), (0, [], [], []))
+
+
+def builds_that_fail() -> None:
+    """Whichever command fails, nothing is said to be proved that isn't, nothing is said to be built, and the status is 1."""
+    for fails, crate in (("low rattle check:fails", "low"), ("low rt lib:fails", "low"), ("middle rattle check:fails\nmiddle rt lib:fails", "middle"),
+                         ("venued rattle check:fails", "venued"), ("venued rt run:fails", "venued"), ("venued rattle check:killed", "venued"),
+                         ("venue_replay rattle check:open", "venue_replay"), ("venued rattle check:silent", "venued"),
+                         ("venue_replay rt run:fails", "venue_replay"), ("venue_replay rt run:nothing", "venue_replay"),
+                         ("low rt lib:silent", "low")):
+        status, out, err, asked = build(fails, venued="low middle wide")
+        expect((fails, status), (fails, 1))
+        expect((fails, [it for it in out if "The programs are" in it]), (fails, []))
+        if not err or not err[-1].startswith(f"build: {crate} isn't proved or built"):
+            raise Trouble(f"{fails}: expected a line on {crate} came {err}")
+        unproved = {crate, *(it for it in NEEDED if crate in {**CRATES, "venued": "low middle wide"}[it].split())}
+        if "rt run" not in fails and unproved & set(proved(out)):
+            raise Trouble(f"{fails}: expected no word that {unproved} are proved came {out}")
+        if ":fails" in fails and "error: not proved: a goal is open in" not in "\n".join(err):
+            raise Trouble(f"{fails}: expected what the checker said came {err}")
+        expect((fails, [it for it in asked if it.endswith("rt run") and crate not in it and "rt run" not in fails]), (fails, []))
+
+
+def builds_that_go_on() -> None:
+    """A check that was killed, as for memory, is tried once more by one process."""
+    status, out, err, asked = build("venued rattle check:once", venued="low middle wide")
+    expect((status, err, proved(out), asked.count("venued rattle check")), (0, [], sorted(NEEDED), 2))
+
+
+def builds_without_a_checker() -> None:
+    build()
+    status, out, err = ran([sys.executable, os.path.abspath("repository/scripts/build")], PATH=PATH)
+    expect((status, out, err), (1, [], ["build: there is no rt on the path: README.md says what is needed"]))
+    status, out, _ = ran([sys.executable, os.path.abspath("repository/scripts/build"), "--jobs", "0"], PATH=PATH)
+    expect((status, out), (2, []))
+
+
+TESTS = [first_steps_of_the_readme, a_day_by_words, what_trade_refuses, market_orders_of_an_old_journal, help_in_a_session,
+         what_is_sent, wrong_words_of_trade, venues_that_cannot_be_had, members_over_tcp, the_demo, demos_that_fail, a_day_drawn,
+         days_that_cannot_be_drawn, the_first_order, a_build, builds_that_fail, builds_that_go_on, builds_without_a_checker]
+
+
+def passes(test) -> bool:
+    """Runs a test in a folder of its own, and says whether it passed."""
+    with tempfile.TemporaryDirectory(prefix="users-") as folder:
+        os.chdir(folder)
+        try:
+            test()
+        except (Trouble, OSError, LookupError, ValueError, subprocess.TimeoutExpired, xml.ParseError) as why:
+            print(f"{test.__name__}: {why!r}" if not isinstance(why, Trouble) else f"{test.__name__}: {why}")
+            return False
+        finally:
+            kill_all()
+            os.chdir(ROOT)
+    return True
+
+
+def main() -> None:
+    if set(sys.argv[1:]) & {"-h", "--help"}:
+        print(__doc__.strip())
+        return
+    chosen = [it for it in TESTS if not sys.argv[1:] or any(word in it.__name__ for word in sys.argv[1:])]
+    try:
+        need_programs()
+    except Trouble as why:
+        sys.exit(f"users: {why}")
+    failed = sum(not passes(test) for test in chosen)
+    print(f"{len(chosen) - failed} passed, {failed} failed")
+    sys.exit(1 if failed else 0)
+
+
+if __name__ == "__main__":
+    main()
