@@ -4,7 +4,7 @@
     tests/members.py [NAME...]      the tests whose names have one of these words in them; without one all
 
 Each test has a folder and free ports of its own. One that fails has a line that says what came; the last line is
-`N passed, M failed`, and the status is 1 where one failed. All take about ten seconds. Build both programs first, by
+`N passed, M failed`, and the status is 1 where one failed. All take about a minute, most of it without work. Build both programs first, by
 scripts/build; others are taken by the environment's VENUED and VENUE_REPLAY.
 """
 import os
@@ -28,6 +28,9 @@ UNPRINTED = re.compile(r"\|(?:8|9|34|49|56|10)=[^|]*(?=\|)")
 DAYS = ["first_trade", "time_priority", "sweep_two_levels", "fill_or_kill", "replace_and_place_in_queue",
         "replace_crosses", "replace_below_filled", "market_order_without_match", "market_sweep"]
 JOURNAL = "venue.journal"
+SOON, LONG = 10, 90             # Seconds for what has to come without a wait for somebody else, and behind one.
+FALLS_ASLEEP, A_REST = 4.0, 2.0  # Seconds until an idle venue's workers rest for long, and for which it is watched then;
+MOST_IDLE = 0.25                # and what it may take of a core meanwhile.
 EMPTY, OLD_EMPTY = journals.empty(), journals.empty(1)  # Without entries, as venued makes one and as it did at first.
 PROFILE = os.path.join(ROOT, "docs", "PROFILE.md")
 USAGE = "usage: venued PORT JOURNAL GATEWAYS SYMBOL..."
@@ -394,15 +397,87 @@ def a_wrong_logon():
     expect(venue.stop(), (1, 1))
 
 
+def in_time(begun, what):
+    """Fails the test where more than ten seconds have gone since then."""
+    if (seconds := time.monotonic() - begun) > SOON:
+        raise Trouble(f"expected {what} within {SOON} seconds came it after {seconds:.1f}")
+
+
 def a_client_that_stays():
-    """A client that keeps its connection behind the Logout is let go after some seconds, and the next one is served."""
+    """A client that keeps its connection behind the Logout hears the end soon. It is let go after some seconds, and the next
+    one is served; where it closes, that one is served soon."""
     venue = started(JOURNAL, 1)
-    client = Client(venue.port, 1).log_on()
+    begun, client = time.monotonic(), Client(venue.port, 1).log_on()
     client.send("5")
     hears_reports(client, "35=5|34=2|")
     hears(client, None)
+    in_time(begun, "the end of the bytes")
+    second = Client(venue.port, 1)
+    second.socket.settimeout(LONG)
+    second.log_on().close()
+    client, begun = Client(venue.port, 1).log_on(), time.monotonic()
+    client.send("5")
+    hears_reports(client, "35=5|34=2|")
+    hears(client, None)
+    client.close()
+    Client(venue.port, 1).log_on()
+    in_time(begun, "the next client served")
+    expect(venue.stop(), (0, 0))
+
+
+def a_client_that_sends_on():
+    """A client that is refused, and goes on sending meanwhile, gets the last Logout and the end, and no reset."""
+    venue = started(JOURNAL, 1)
+    begun, client = time.monotonic(), Client(venue.port, 1)
+    client.send_bytes(framed("35=A|49=C1|56=VENUE|34=1|52=20250102-09:30:00|98=0|108=30|141=Y|"))
+    for _ in range(100):
+        client.send_bytes(2_000 * b"x")
+        time.sleep(0.01)
+    hears(client, BAD_LOGON, None)
+    client.send_bytes(b"x")
+    in_time(begun, "the end of the bytes")
+    client.close()
     trades_once(venue, 1, 1)
     expect(venue.stop(), (1, 1))
+
+
+def each_count_of_gateways():
+    """As many gateways as the words say listen at ports in a row, each for its member, and nothing at the next port."""
+    for gateways in range(1, 9):
+        port = free_port(gateways + 1)
+        venue = Venue(port, f"{gateways}.journal", gateways)
+        expect(venue.ready(), (0, 0))
+        clients = [Client(port, member).log_on() for member in range(1, gateways + 1)]
+        try:
+            socket.create_connection((HOST, port + gateways), PATIENCE).close()
+            raise Trouble(f"expected {gateways} ports came one more")
+        except ConnectionRefusedError:
+            pass
+        expect(venue.stop(), (0, 0))
+        for client in clients:
+            hears(client, None)
+
+
+def processor_time(process):
+    """The processor time that a process has taken, in seconds."""
+    with open(f"/proc/{process.pid}/stat", encoding="ascii") as file:
+        user, system = file.read().rpartition(")")[2].split()[11:13]
+    return (int(user) + int(system)) / os.sysconf("SC_CLK_TCK")
+
+
+def an_idle_venue():
+    """A venue in which nothing happens, with a member that is connected and one that isn't, leaves the processor to others
+    once its workers rest, and still answers."""
+    venue = started(JOURNAL, 2)
+    client = trades_once(venue, 1, 1)
+    time.sleep(FALLS_ASLEEP)
+    before = processor_time(venue.process)
+    time.sleep(A_REST)
+    if (taken := (processor_time(venue.process) - before) / A_REST) > MOST_IDLE:
+        raise Trouble(f"expected at most {MOST_IDLE:.0%} of a core while it idles came {taken:.0%}")
+    client.send("D", order(2, 2, 10, 50))
+    hears_reports(client, "17=2|150=0|")
+    expect(venue.stop(), (2, 2))
 
 
 def a_taken_port():
@@ -500,10 +575,11 @@ def start_after_stop():
 
 
 def a_stop_with_members():
-    """The members' connections end with the venue, without a Logout."""
+    """The members' connections end with the venue, without a Logout. The stop file stays."""
     venue = started(JOURNAL, 2)
     clients = [trades_once(venue, member, 1) for member in (1, 2)]
     expect(venue.stop(), (2, 2))
+    expect(os.path.exists(f"{JOURNAL}.stop"), True)
     for client in clients:
         hears(client, None)
 
@@ -522,7 +598,7 @@ def wrong_words():
 TESTS = [the_worked_example, worked_days, market_orders_of_the_profile, rejected_market_orders_of_the_profile,
          an_old_journal, a_full_book, trades_of_eight, a_report_without_a_session, one_at_a_time,
          no_other_member, vanishing_clients, half_closed_behind_an_order, in_single_bytes, a_wrong_logon,
-         a_client_that_stays, a_taken_port, the_local_host_alone, the_ports_of_another_venue, one_venue_a_journal,
+         a_client_that_stays, a_client_that_sends_on, each_count_of_gateways, an_idle_venue, a_taken_port, the_local_host_alone, the_ports_of_another_venue, one_venue_a_journal,
          a_stop_file_of_before, start_after_stop, a_stop_with_members, wrong_words]
 
 

@@ -1,6 +1,6 @@
 // Refuses calls of the system to a program that it is loaded into by LD_PRELOAD. tests/refusals.py builds and sets it:
 //
-//   REFUSE       which calls are counted: memory, threads or device
+//   REFUSE       which calls are counted: memory, threads, device, or look, for the stop file
 //   REFUSE_AT    the number of the call that is refused, from 1
 //   REFUSE_HOW   once: that call fails; on: and so do all behind it; short: it moves half of its bytes;
 //                before: the program is killed in its place; after: the program is killed behind it;
@@ -9,7 +9,12 @@
 //   REFUSE_TOLD  a file that is made where the call came, with its name; or those that are written down, one a line: its
 //                name, the file's, and the flags, the operation, the bytes that moved or the other name
 //
-// Requests for memory are answered with none; a thread by EAGAIN; the calls of the journal's device by EIO.
+// Requests for memory are answered with none; a thread by EAGAIN; the calls of the journal's device and a look by EIO.
+//
+// It also notes what a program does at the connections that it has accepted:
+//
+//   NOTED        a file that gets a line for each such call that moves or sets something, in their order: its name, the
+//                descriptor, and how many bytes it moved, or what it set
 #define _GNU_SOURCE
 #include <dlfcn.h>
 #include <errno.h>
@@ -17,12 +22,16 @@
 #include <limits.h>
 #include <pthread.h>
 #include <signal.h>
+#include <netinet/in.h>
+#include <netinet/tcp.h>
 #include <stdarg.h>
 #include <stdatomic.h>
 #include <stdio.h>
 #include <stdlib.h>
 #include <string.h>
 #include <sys/file.h>
+#include <sys/ioctl.h>
+#include <sys/socket.h>
 #include <sys/stat.h>
 #include <sys/syscall.h>
 #include <unistd.h>
@@ -32,8 +41,11 @@ extern void *__libc_memalign(size_t, size_t);
 
 enum how { ONCE, ON, SHORT, BEFORE, AFTER, SWAP, NOTE, PASSES };
 
-static const char *group, *told;
+enum { MOST_FILES = 4096 };
+
+static const char *group, *told, *noted;
 static long refused_at;
+static atomic_char accepted[MOST_FILES];  // Whether a descriptor is that of a connection that was accepted.
 static enum how how = PASSES;
 static atomic_long calls;
 
@@ -42,6 +54,7 @@ __attribute__((constructor)) static void begin(void) {
     const char *at = getenv("REFUSE_AT"), *word = getenv("REFUSE_HOW");
     group = getenv("REFUSE");
     told = getenv("REFUSE_TOLD");
+    noted = getenv("NOTED");
     if (!group || !at || !word || !told)
         return;
     refused_at = atol(at);
@@ -50,13 +63,15 @@ __attribute__((constructor)) static void begin(void) {
             how = i;
 }
 
-static void say(const char *name) {
-    int file = (int)syscall(SYS_open, told, O_WRONLY | O_CREAT | O_APPEND, 0600);
+static void add(const char *to, const char *text) {
+    int file = (int)syscall(SYS_open, to, O_WRONLY | O_CREAT | O_APPEND, 0600);
     if (file >= 0) {
-        syscall(SYS_write, file, name, strlen(name));
+        syscall(SYS_write, file, text, strlen(text));
         syscall(SYS_close, file);
     }
 }
+
+static void say(const char *name) { add(told, name); }
 
 // The name of an open file, or of the one that is given.
 static const char *named(char out[PATH_MAX], int file, const char *path) {
@@ -90,6 +105,17 @@ static void swap(int file) {
     const char *path = named(own, file, NULL);
     syscall(SYS_unlink, path);
     syscall(SYS_close, syscall(SYS_open, path, O_WRONLY | O_CREAT | O_EXCL, 0600));
+}
+
+// Notes a call at an accepted connection.
+static void note_moved(const char *name, int file, long what) {
+    if (!noted || file < 0 || file >= MOST_FILES || !atomic_load(&accepted[file]))
+        return;
+    int before = errno;
+    char line[96];
+    snprintf(line, sizeof line, "%s %d %ld\n", name, file, what);
+    add(noted, line);
+    errno = before;
 }
 
 // What is done about this call.
@@ -190,7 +216,7 @@ int statx(int folder, const char *path, int flags, unsigned mask, struct statx *
     REAL(int, statx, int, const char *, int, unsigned, struct statx *);
     const char *end_of_name = path ? strrchr(path, '.') : NULL;
     if (end_of_name && !strcmp(end_of_name, ".stop"))  // The stop file is no part of the journal.
-        return real(folder, path, flags, mask, out);
+        return fails(decided("look", "statx")) ? (errno = EIO, -1) : real(folder, path, flags, mask, out);
     DEVICE(statx, (folder, path, flags, mask, out), (folder, path, flags, mask, out), note("statx", folder, path, flags & AT_EMPTY_PATH ? "file" : "name"));
 }
 
@@ -227,3 +253,74 @@ int rename(const char *from, const char *to) {
     REAL(int, rename, const char *, const char *);
     DEVICE(rename, (from, to), (from, to), note("rename", -1, from, to));
 }
+
+int accept4(int listener, struct sockaddr *from, socklen_t *size, int flags) {
+    REAL(int, accept4, int, struct sockaddr *, socklen_t *, int);
+    int file = real(listener, from, size, flags);
+    if (file >= 0 && file < MOST_FILES) {
+        atomic_store(&accepted[file], 1);
+        note_moved("accept", file, flags & SOCK_NONBLOCK ? 1 : 0);
+    }
+    return file;
+}
+
+int setsockopt(int file, int level, int option, const void *value, socklen_t size) {
+    REAL(int, setsockopt, int, int, int, const void *, socklen_t);
+    if (level == IPPROTO_TCP && option == TCP_NODELAY && size == sizeof(int))
+        note_moved("nodelay", file, *(const int *)value);
+    return real(file, level, option, value, size);
+}
+
+int ioctl(int file, unsigned long request, ...) {
+    REAL(int, ioctl, int, unsigned long, void *);
+    va_list more;
+    va_start(more, request);
+    void *given = va_arg(more, void *);
+    va_end(more);
+    if (request == FIONBIO)
+        note_moved("nonblocking", file, *(const int *)given);
+    return real(file, request, given);
+}
+
+int shutdown(int file, int how) {
+    REAL(int, shutdown, int, int);
+    note_moved("shutdown", file, how);
+    return real(file, how);
+}
+
+int close(int file) {
+    REAL(int, close, int);
+    note_moved("close", file, 0);
+    if (file >= 0 && file < MOST_FILES)
+        atomic_store(&accepted[file], 0);
+    return real(file);
+}
+
+// Those that move nothing, as where nothing is there yet, aren't noted.
+#define MOVES(name, what, kind, ...) \
+    REAL(ssize_t, name, __VA_ARGS__); \
+    ssize_t moved = what; \
+    if (moved >= 0) \
+        note_moved(kind, file, moved); \
+    return moved
+
+ssize_t recv(int file, void *data, size_t size, int flags) {
+    MOVES(recv, real(file, data, size, flags), "read", int, void *, size_t, int);
+}
+
+ssize_t recvfrom(int file, void *data, size_t size, int flags, struct sockaddr *from, socklen_t *length) {
+    MOVES(recvfrom, real(file, data, size, flags, from, length), "read", int, void *, size_t, int, struct sockaddr *, socklen_t *);
+}
+
+ssize_t send(int file, const void *data, size_t size, int flags) {
+    MOVES(send, real(file, data, size, flags), "write", int, const void *, size_t, int);
+}
+
+ssize_t sendto(int file, const void *data, size_t size, int flags, const struct sockaddr *to, socklen_t length) {
+    MOVES(sendto, real(file, data, size, flags, to, length), "write", int, const void *, size_t, int, const struct sockaddr *,
+          socklen_t);
+}
+
+ssize_t read(int file, void *data, size_t size) { MOVES(read, real(file, data, size), "read", int, void *, size_t); }
+
+ssize_t write(int file, const void *data, size_t size) { MOVES(write, real(file, data, size), "write", int, const void *, size_t); }

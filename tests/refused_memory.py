@@ -6,8 +6,8 @@
 
 Each program either does what it does with ample memory, or says that it has none: `venued: no memory` on standard
 error, nothing on standard output, status 1, and the journal as it was. Each request is refused alone, and then with all
-that come behind it. A venue that listens prints no `ready` line where it has no memory; one that is ready lets a client
-go that it has no room for, serves the next, and stops in order.
+that come behind it. A venue that listens prints no `ready` line where it has no memory, and lets nobody in before all its
+threads have begun; one that is ready lets a client go that it has no room for, serves the next, and stops in order.
 
 Requests are refused by tests/refusals.c, which cc compiles into a folder of its own; without cc nothing is tried, and a
 line says so. The last line is `N passed, M failed`, and the status is 1 where one failed. Build both programs first, by
@@ -16,10 +16,11 @@ scripts/build; others are taken by the environment's VENUED and VENUE_REPLAY.
 import argparse
 import collections
 import concurrent.futures
+import time
 
-from refusals import FRESH, LOGON, answers, by_rules, check_history, contents, journal_of, listens, orders, put, run_tests
+from refusals import FRESH, LOGON, LONG, answers, by_rules, check_history, contents, journal_of, listens, orders, put, run_tests
 import journals
-from venues import REPLAY, Client, Trouble, printed
+from venues import COUNTS, REPLAY, Client, Trouble, Venue, free_port, message, order, printed
 
 ORDERS = 3
 MANY = 48  # Venues side by side that wait for threads that can't be started, which takes them ten seconds each.
@@ -108,6 +109,54 @@ def listening(sweeps):
     return said(sweeps, ends)
 
 
+def connected(port, venue):
+    """A client at a port of a venue that has to listen soon, or None where it has ended."""
+    while venue.process.poll() is None:
+        try:
+            return Client(port, 1)
+        except ConnectionRefusedError:
+            time.sleep(0.01)
+    return None
+
+
+def what_came(client):
+    """The first message that a client hears of a venue that has ended, or None."""
+    try:
+        return client.next()
+    except OSError:
+        return None
+
+
+def check_early_client(refusal):
+    """A client that comes while a thread is refused isn't let in: it hears nothing but the end. Answers whether it came."""
+    put(refusal.journal, None)
+    port = free_port(2)
+    venue = Venue(port, refusal.journal, 2, env=refusal.environment())
+    clients = [it for it in (connected(port, venue), connected(port + 1, venue)) if it]
+    try:
+        for member, client in enumerate(clients, 1):
+            client.send_bytes(message(member, 1, "A", "98=0|108=0|141=Y|") + message(member, 2, "D", order(1, 1, 10, 50)))
+    except OSError:
+        pass  # It has ended.
+    line = venue.out.next(LONG)
+    if COUNTS.fullmatch(line or ""):
+        venue.kill()
+        return False  # It makes fewer threads.
+    if any(heard := [what_came(it) for it in clients]):
+        raise Trouble(f"expected no client let in came {heard}")
+    check_no_memory("venued", (venue.process.wait(LONG), (line or "").encode(), f"{venue.err.next()}\n"), refusal.journal, None)
+    return len(clients) == 2
+
+
+def early_clients(sweeps):
+    """Two clients at the ports of a venue that can't start one of its threads, whichever that is."""
+    came = collections.Counter()
+    sweeps.sweep(lambda it: came.update([check_early_client(it)]), "threads", "on", 12)
+    if not came[True]:
+        raise Trouble("expected clients that came before the end came none")
+    return f"{sweeps.said()}, {came[True]} times two clients waited"
+
+
 def replays(sweeps):
     """`venue-replay` on a journal of three orders, with a snapshot behind them in one of version 3."""
     old = journal_of(orders(1, ORDERS), 1)
@@ -138,4 +187,4 @@ def replays(sweeps):
 if __name__ == "__main__":
     parser = argparse.ArgumentParser(description=__doc__, formatter_class=argparse.RawDescriptionHelpFormatter)
     parser.add_argument("--sample", action="store_true", help="refuse a sample of the requests for memory")
-    run_tests("refused_memory", [standard_session, listening, replays], parser.parse_args().sample)
+    run_tests("refused_memory", [standard_session, listening, early_clients, replays], parser.parse_args().sample)
