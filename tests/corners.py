@@ -225,6 +225,12 @@ def days() -> Iterator[tuple[str, list[Sent]]]:
     for quantity in (9, 10, 11):
         yield f"fill or kill of {quantity}", [*two, buy(3, quantity, 51, more="59=4|"), buy(4, quantity, 50, more="59=4|"),
                                               market(5, 1, quantity, more="59=4|"), sell(6, 1, 1)]
+    yield "fill or kill of what is too dear", [*two, sell(3, 5, 60), sell(4, 5, 50, "XYZ"), buy(5, 11, 55, more="59=4|"),
+                                               buy(6, 5, 50), buy(7, 5, 40), sell(8, 6, 45, more="59=4|")]
+    yield "names that end alike", [buy(1, 5, 50), buy(1001, 5, 50), cut(1002, 2), cut(1003, 1001), cut(1004, 1), sell(1005, 5, 50)]
+    yield "times", [whole(f"{header(at, kind, time=f'20250102-09:30:{at:02}')}{body}")
+                    for at, (kind, body) in enumerate((buy(1, 5, 50), sell(2, 3, 50), change(3, 1, 5, 51), cut(4, 3), cut(5, 3),
+                                                       ("D", "11=1|"), ("1", "112=x|")), 2)]
     for more in ("", "59=0|", "59=3|", "59=4|"):
         yield f"market orders, {more}", [*two, market(3, 1, 7, more=more), market(4, 1, 7, more=more), market(5, 2, 1, more=more),
                                          sell(6, 1, 1)]

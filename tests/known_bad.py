@@ -41,7 +41,7 @@ from wrong_rules import WRONG
 TESTS = os.path.dirname(os.path.abspath(__file__))
 TOGETHER = os.cpu_count() or 1
 A_DAY = [LOGON, sell(1, 5, 50), ("1", "112=hi|"), buy(2, 3, 50), buy(3, 4, 51), cut(4, 3), market(5, 2, 1), buy(6, 1, 49), ("0", "")]
-LONG = 90  # Seconds for a test with a wrong program, which may have to wait for what never comes.
+LONG = 180  # Seconds for a test with a wrong program, which may have to wait for what never comes.
 
 
 def answer_to(judged: Judged) -> list[bytes]:
@@ -120,6 +120,8 @@ def altered(messages: list[bytes]) -> Iterator[tuple[str, bytes]]:
     whole = b"".join(messages)
     for at in range(len(whole)):
         yield f"byte {at} is another one", whole[:at] + bytes([whole[at] ^ 1]) + whole[at + 1:]
+        if whole[at:at + 1] != whole[at + 1:at + 2]:
+            yield f"bytes {at} and {at + 1} are swapped", whole[:at] + whole[at + 1:at + 2] + whole[at:at + 1] + whole[at + 2:]
     for at, it in enumerate(messages):
         others = messages[:at] + messages[at + 1:]
         yield f"message {at} is missing", b"".join(others)
@@ -207,7 +209,8 @@ def wrong_venues() -> tuple[int, list[str]]:
     venued = os.path.abspath(VENUED)
     runs = [(["members.py", test], venued, wrong) for test, wrong in wrong_program.OVER_TCP]
     runs += [(["../scripts/play", "first_acknowledgement", "logout"], venued, wrong) for wrong in ("", *wrong_program.OVER_STREAMS)]
-    runs += [(["hostile_bytes.py", "cuts"], venued, wrong) for wrong in ("", "a byte too many")]
+    sessions = ["hostile_bytes.py", "mutated", "--messages", "1", "--seed", "1", "--together", "1"]
+    runs += [(sessions, venued, wrong) for wrong in ("", "another status")]
     count, faults = all_refuse(runs)
     return count + len(wrong_program.OVER_STREAMS), faults + taken_sessions(wrong_program.OVER_STREAMS)
 

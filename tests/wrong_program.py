@@ -162,21 +162,31 @@ def listen(wrong: str, program: str, port: str, journal: str, gateways: str, *sy
 
 
 def stream(wrong: str, words: list[str]) -> int:
-    """A venue over standard input and output, or a run of venue-replay."""
-    it = subprocess.run(words, stdin=sys.stdin, capture_output=True)
-    out, err, status = it.stdout, it.stderr, it.returncode
-    if words[1:2] == ["-"]:
-        answers = Answers(wrong)
-        out = answers.take(out) + answers.end()
-    else:
-        out, err, status = wrong_run(wrong, words, out, err, status)
-    if wrong == "another status":
-        status = 3
+    """A venue over standard input and output."""
+    answers = Answers(wrong)
+    venue = subprocess.Popen(words, stdout=subprocess.PIPE, preexec_fn=dies_with_us)
+    while data := os.read(venue.stdout.fileno(), 65536):
+        put(1, answers.take(data))
+    put(1, answers.end())
+    status = venue.wait()
     if wrong == "a line of fault":
-        err += b"venued: journal failed\n"
-    sys.stdout.buffer.write(out)
-    sys.stderr.buffer.write(err)
-    return status
+        put(2, b"venued: journal failed\n")
+    return 3 if wrong == "another status" else status
+
+
+def put(file: int, data: bytes) -> None:
+    """Writes all of these bytes."""
+    while data:
+        data = data[os.write(file, data):]
+
+
+def replay(wrong: str, words: list[str]) -> int:
+    """A run of venue-replay."""
+    it = subprocess.run(words, capture_output=True)
+    out, err, status = wrong_run(wrong, words, it.stdout, it.stderr, it.returncode)
+    put(1, out)
+    put(2, err)
+    return 3 if wrong == "another status" else status
 
 
 def wrong_run(wrong: str, words: list[str], out: bytes, err: bytes, status: int) -> tuple[bytes, bytes, int]:
@@ -218,7 +228,9 @@ REPLAYS = ["", "a line missing", "a line twice", "lines swapped", "another digit
 
 def main() -> None:
     wrong, program, *words = sys.argv[1:]
-    if len(words) > 3 and words[0] != "-" and "venued" in os.path.basename(program):
+    if not os.path.basename(program).startswith("venued"):
+        status = replay(wrong, [program, *words])
+    elif len(words) > 3 and words[0] != "-":
         status = listen(wrong, program, *words)
     else:
         status = stream(wrong, [program, *words])
