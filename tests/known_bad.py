@@ -120,7 +120,7 @@ def altered(messages: list[bytes]) -> Iterator[tuple[str, bytes]]:
     whole = b"".join(messages)
     for at in range(len(whole)):
         yield f"byte {at} is another one", whole[:at] + bytes([whole[at] ^ 1]) + whole[at + 1:]
-        if whole[at:at + 1] != whole[at + 1:at + 2]:
+        if at + 1 < len(whole) and whole[at] != whole[at + 1]:
             yield f"bytes {at} and {at + 1} are swapped", whole[:at] + whole[at + 1:at + 2] + whole[at:at + 1] + whole[at + 2:]
     for at, it in enumerate(messages):
         others = messages[:at] + messages[at + 1:]
