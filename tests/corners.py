@@ -72,7 +72,8 @@ def cut(name: int, was: int, symbol: str = "ABC", side: int = 1, quantity: int =
     return "F", f"41={was}|11={name}|55={symbol}|54={side}|60={TIME}|38={quantity}|{more}"
 
 
-def change(name: int, was: int, quantity: int, price: int, side: int = 1, symbol: str = "ABC", more: str = "") -> tuple[str, str]:
+def change(name: int, was: int, quantity: int, price: int, side: int = 1, symbol: str = "ABC",
+           more: str = "") -> tuple[str, str]:
     """A cancel/replace request."""
     return "G", f"41={was}|11={name}|55={symbol}|54={side}|60={TIME}|38={quantity}|40=2|44={price}|{more}"
 
@@ -115,7 +116,8 @@ def frames() -> Iterator[tuple[str, bytes]]:
                           ("another end", right[-7:-1] + b"|"), ("256 more", b"10=%03d\x01" % (int(right[-4:-1]) + 256))):
         yield f"a trailer of {name}", right[:-7] + trailer
     yield "no trailer", summed
-    for field in ("058=x", "0=x", "100000=x", "58", "58=", "=x", "5x=x", "-5=x", "58 =x", "", "99999=x", "58==", "58=\x7f\xff"):
+    for field in ("058=x", "0=x", "100000=x", "58", "58=", "=x", "5x=x", "-5=x", "58 =x", "", "99999=x", "58==",
+                  "58=\x7f\xff"):
         yield f"the field {field!a}", whole(f"{header()}{field}|")
     yield "another first field", whole(f"49=C1|35=0|56=VENUE|34=2|52={TIME}|")
 
@@ -127,7 +129,8 @@ def headers() -> Iterator[tuple[str, bytes]]:
     for time in ("20250102-09:30:0", "20250102 09:30:00", "2025010209:30:000", "20250102-09.30.00", "x0250102-09:30:00",
                  "20250102-09:30:00.000", "99999999-99:99:99"):
         yield f"the time {time}", whole(header(time=time))
-    for sender, target in (("C2", "VENUE"), ("c1", "VENUE"), ("C11", "VENUE"), ("C1", "C1"), ("C1", "VENUE2"), ("VENUE", "C1")):
+    for sender, target in (("C2", "VENUE"), ("c1", "VENUE"), ("C11", "VENUE"), ("C1", "C1"), ("C1", "VENUE2"),
+                           ("VENUE", "C1")):
         yield f"from {sender} to {target}", whole(header(sender=sender, target=target, time="20250102-09:30:09"))
         yield f"from {sender} to {target}, number 3", whole(header(3, sender=sender, target=target))
     fields = header().split("|")[:-1]
@@ -141,7 +144,8 @@ def headers() -> Iterator[tuple[str, bytes]]:
 
 def messages() -> Iterator[tuple[str, bytes]]:
     """Messages of the session's own, behind a Logon."""
-    for kind, body in (("0", ""), ("0", "58=x|112=y|"), ("3", ""), ("3", "45=1|"), ("5", ""), ("5", "58=bye|"), ("A", LOGON[1]),
+    for kind, body in (("0", ""), ("0", "58=x|112=y|"), ("3", ""), ("3", "45=1|"), ("5", ""), ("5", "58=bye|"),
+                       ("A", LOGON[1]),
                        ("A", "98=0|108=30|141=Y|"), ("1", "112=hi|"), ("1", f"112={32 * 'x'}|"), ("1", f"112={33 * 'x'}|"),
                        ("1", ""), ("1", "58=hi|"), ("1", "112=a|112=b|"), ("1", "112=a|58=b|"), ("1", "112=a=b|"), ("2", ""),
                        ("4", ""), ("8", ""), ("9", ""), ("B", ""), ("DD", ""), ("a", ""), ("j", "")):
@@ -174,7 +178,8 @@ def spellings() -> Iterator[tuple[str, Sent]]:
     symbols = ["ABCDEFG", "ABCDEFGH", "ABCDEFGHI", "abc", "AB1", "X9", "9", "A B", "A-B", "XYZ"]
     times = ["20250102-09:30:0", "20250102 09:30:00", "99999999-99:99:99", "20250102-09:30:00.000", "2025x102-09:30:00"]
     values = {"11": numbers, "41": numbers, "38": numbers, "44": numbers, "40": ["0", "1", "2", "3", "22", "P"],
-              "54": ["0", "1", "2", "3", "5", "12"], "59": ["0", "1", "2", "3", "4", "6", "03", "x"], "55": symbols, "60": times}
+              "54": ["0", "1", "2", "3", "5", "12"], "59": ["0", "1", "2", "3", "4", "6", "03", "x"], "55": symbols,
+              "60": times}
     forms = {"D": buy(3, 5, 60, more="59=0|"), "F": cut(3, 2), "G": change(3, 2, 6, 50, more="59=0|"), "M": market(3, 1, 5)}
     for form, (kind, body) in forms.items():
         for tag, others in values.items():
@@ -185,7 +190,8 @@ def spellings() -> Iterator[tuple[str, Sent]]:
 
 def shapes() -> Iterator[tuple[str, Sent]]:
     """New orders, cancels and replaces with a field too few, too many, or twice, and with two faults at once."""
-    forms = {"D": buy(3, 5, 60), "F": cut(3, 2), "G": change(3, 2, 6, 50), "M": market(3, 1, 5), "D59": buy(3, 5, 60, more="59=0|")}
+    forms = {"D": buy(3, 5, 60), "F": cut(3, 2), "G": change(3, 2, 6, 50), "M": market(3, 1, 5),
+             "D59": buy(3, 5, 60, more="59=0|")}
     extra = ["1=x", "21=1", "40=2", "41=2", "44=50", "59=0", "59=3", "112=x", "99999=x"]
     for form, (kind, body) in forms.items():
         fields = body.split("|")[:-1]
@@ -203,7 +209,8 @@ def shapes() -> Iterator[tuple[str, Sent]]:
         yield f"{form}, two missing", (kind, "|".join(fields[2:]) + "|")
         yield f"{form}, missing and badly written", (kind, "|".join(fields[1:]).replace("54=1", "54=12") + "|")
         yield f"{form}, badly written and out of range", (kind, body.replace("54=1", "54=3").replace("38=5", "38=x"))
-        yield f"{form}, two out of range", (kind, body.replace("54=1", "54=3").replace("38=5", "38=0").replace("38=6", "38=0"))
+        low = body.replace("38=5", "38=0").replace("38=6", "38=0")
+        yield f"{form}, two out of range", (kind, low.replace("54=1", "54=3"))
         yield f"{form}, two badly written", (kind, body.replace("54=1", "54=33").replace("38=", "38=0"))
         yield f"{form} in another order", (kind, "|".join(reversed(fields)) + "|")
 
@@ -227,18 +234,20 @@ def days() -> Iterator[tuple[str, list[Sent]]]:
                                               market(5, 1, quantity, more="59=4|"), sell(6, 1, 1)]
     yield "fill or kill of what is too dear", [*two, sell(3, 5, 60), sell(4, 5, 50, "XYZ"), buy(5, 11, 55, more="59=4|"),
                                                buy(6, 5, 50), buy(7, 5, 40), sell(8, 6, 45, more="59=4|")]
-    yield "names that end alike", [buy(1, 5, 50), buy(1001, 5, 50), cut(1002, 2), cut(1003, 1001), cut(1004, 1), sell(1005, 5, 50)]
+    yield "names that end alike", [buy(1, 5, 50), buy(1001, 5, 50), cut(1002, 2), cut(1003, 1001), cut(1004, 1),
+                                   sell(1005, 5, 50)]
     yield "times", [whole(f"{header(at, kind, time=f'20250102-09:30:{at:02}')}{body}")
-                    for at, (kind, body) in enumerate((buy(1, 5, 50), sell(2, 3, 50), change(3, 1, 5, 51), cut(4, 3), cut(5, 3),
-                                                       ("D", "11=1|"), ("1", "112=x|")), 2)]
+                    for at, (kind, body) in enumerate((buy(1, 5, 50), sell(2, 3, 50), change(3, 1, 5, 51), cut(4, 3),
+                                                       cut(5, 3), ("D", "11=1|"), ("1", "112=x|")), 2)]
     for more in ("", "59=0|", "59=3|", "59=4|"):
-        yield f"market orders, {more}", [*two, market(3, 1, 7, more=more), market(4, 1, 7, more=more), market(5, 2, 1, more=more),
-                                         sell(6, 1, 1)]
+        yield f"market orders, {more}", [*two, market(3, 1, 7, more=more), market(4, 1, 7, more=more),
+                                         market(5, 2, 1, more=more), sell(6, 1, 1)]
     yield "names", [buy(5, 5, 50), buy(5, 5, 50), buy(4, 5, 50), buy(6, 5, 50, "QQQ"), buy(6, 5, 50), buy(3, 5, 50, "QQQ"),
                     market(2, 1, 5), market(9, 1, 5, "QQQ"), market(7, 1, 5), sell(7, 1, 50), sell(8, 30, 50)]
     yield "a name that is refused counts not", [buy(9, 5, 50, "QQQ"), buy(3, 5, 50), cut(4, 3)]
-    yield "requests of wrong names", [buy(5, 5, 50), cut(5, 5), cut(4, 5), cut(6, 4), cut(6, 7), cut(6, 5, "XYZ"), cut(6, 5, side=2),
-                                      cut(6, 5, quantity=1), cut(7, 5), buy(6, 5, 50), sell(7, 5, 50), buy(8, 5, 50)]
+    yield "requests of wrong names", [buy(5, 5, 50), cut(5, 5), cut(4, 5), cut(6, 4), cut(6, 7), cut(6, 5, "XYZ"),
+                                      cut(6, 5, side=2), cut(6, 5, quantity=1), cut(7, 5), buy(6, 5, 50), sell(7, 5, 50),
+                                      buy(8, 5, 50)]
     yield "unknown and stale", [buy(5, 5, 50), cut(3, 1), change(3, 1, 5, 50), cut(6, 1), change(6, 1, 5, 50)]
     yield "a cancel of what is filled in part", [buy(1, 5, 50), sell(2, 2, 50), cut(3, 1, "XYZ"), cut(3, 1), sell(4, 5, 50)]
     yield "a cancel's name", [buy(1, 5, 50), cut(9, 1), buy(8, 5, 50), buy(9, 5, 50), buy(10, 5, 50)]
@@ -247,15 +256,18 @@ def days() -> Iterator[tuple[str, list[Sent]]]:
         yield f"a replace, {total} at {price}", [buy(1, 5, 50), buy(2, 5, 50), change(3, 1, total, price), sell(4, 3, 49),
                                                  sell(5, 9, 49), cut(6, 3), cut(7, 1)]
     for total in (2, 3, 4):
-        yield f"a replace to {total} where 3 are filled", [buy(1, 5, 50), sell(2, 3, 50), change(3, 1, total, 50), sell(4, 5, 50)]
+        yield f"a replace to {total} where 3 are filled", [buy(1, 5, 50), sell(2, 3, 50), change(3, 1, total, 50),
+                                                           sell(4, 5, 50)]
     yield "a replace that trades", [sell(1, 5, 55), buy(2, 7, 50), change(3, 2, 7, 55), sell(4, 5, 55), sell(5, 5, 50)]
     yield "a sell replaced so that it trades", [buy(1, 5, 50), sell(2, 7, 55), change(3, 2, 8, 50, side=2), buy(4, 5, 50)]
-    yield "replaces of wrong things", [buy(5, 5, 50), change(5, 5, 6, 50), change(6, 5, 6, 50, side=2), change(6, 5, 6, 50, symbol="XYZ"),
-                                       change(6, 5, 6, 50, more="59=3|"), change(6, 5, 6, 50, more="59=0|"), buy(6, 1, 50), cut(7, 6)]
+    yield "replaces of wrong things", [buy(5, 5, 50), change(5, 5, 6, 50), change(6, 5, 6, 50, side=2),
+                                       change(6, 5, 6, 50, symbol="XYZ"), change(6, 5, 6, 50, more="59=3|"),
+                                       change(6, 5, 6, 50, more="59=0|"), buy(6, 1, 50), cut(7, 6)]
     yield "a replace's name", [buy(1, 5, 50), change(9, 1, 6, 50), buy(8, 5, 50), buy(9, 5, 50), cut(10, 1), cut(10, 9)]
-    yield "a replace of what is filled in part", [buy(1, 9, 50), sell(2, 4, 50), change(3, 1, 8, 50), change(4, 3, 9, 51), sell(5, 9, 50)]
-    yield "a book of many", [buy(1, 5, 48), sell(2, 5, 55, "XYZ"), sell(3, 5, 56), buy(4, 5, 49), sell(5, 5, 55), buy(6, 5, 49),
-                             buy(7, 5, 40, "XYZ"), sell(8, 2, 55)]
+    yield "a replace of what is filled in part", [buy(1, 9, 50), sell(2, 4, 50), change(3, 1, 8, 50), change(4, 3, 9, 51),
+                                                  sell(5, 9, 50)]
+    yield "a book of many", [buy(1, 5, 48), sell(2, 5, 55, "XYZ"), sell(3, 5, 56), buy(4, 5, 49), sell(5, 5, 55),
+                             buy(6, 5, 49), buy(7, 5, 40, "XYZ"), sell(8, 2, 55)]
     yield "rejects count", [("D", "11=1|"), ("F", "21=1|"), ("G", "11=0|"), buy(1, 5, 50), ("5", "")]
     yield "an order, and a Logout", [buy(1, 5, 50), ("5", "")]
 
@@ -263,10 +275,10 @@ def days() -> Iterator[tuple[str, list[Sent]]]:
 def crowded() -> Iterator[tuple[str, list[Sent]]]:
     """In a book in which two more orders can rest."""
     yield "the last place", [buy(1, 5, 50), buy(2, 5, 50), buy(3, 5, 50), buy(3, 5, 50, more="59=3|"), market(4, 2, 1),
-                             market(5, 1, 1, more="59=4|"), buy(6, 5, 50, "QQQ"), buy(2, 5, 50), sell(6, 5, 50), sell(7, 5, 50),
-                             cut(8, 2), sell(9, 1, 60), buy(10, 1, 40)]
-    yield "what others have", [cut(1, 7), change(1, 7, 5, MILLION, side=2), cut(1, FULL), sell(2, 1, MILLION), market(3, 1, MILLION),
-                               market(4, 1, MILLION * 1, "XYZ"), buy(5, MILLION, MILLION), buy(6, 1, 50)]
+                             market(5, 1, 1, more="59=4|"), buy(6, 5, 50, "QQQ"), buy(2, 5, 50), sell(6, 5, 50),
+                             sell(7, 5, 50), cut(8, 2), sell(9, 1, 60), buy(10, 1, 40)]
+    yield "what others have", [cut(1, 7), change(1, 7, 5, MILLION, side=2), cut(1, FULL), sell(2, 1, MILLION),
+                               market(3, 1, MILLION), market(4, 1, MILLION, "XYZ"), buy(5, MILLION, MILLION), buy(6, 1, 50)]
 
 
 def all_corners() -> list[Corner]:

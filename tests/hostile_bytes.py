@@ -9,10 +9,10 @@
 
 Four tests. `rules_corners`: the sessions of tests/corners.py, what just fits and what just doesn't, which reach each rule;
 where one is reached by none of them the test fails. `cuts`: the bytes of the first order in two pieces, cut at each place,
-are answered as in one. `replaced_bytes`: each of them is replaced by 00 and by other values. `mutated_sessions`: sessions of
-up to a hundred messages, right ones and wrong ones, many on one journal, so that later ones find a book. A tenth of the messages are
-market orders, or were before they were changed; the journals are of all versions by turns, and on those of version 1 the
-venue refuses these. tests/rules.py says which bytes may come out: the venue's own answers in their order, the reports in
+are answered as in one. `replaced_bytes`: each of them is replaced by 00 and by other values. `mutated_sessions`: sessions
+of up to a hundred messages, right ones and wrong ones, many on one journal, so that later ones find a book. A tenth of the
+messages are market orders, or were before they were changed; the journals are of all versions by turns, and on those of
+version 1 the venue refuses these. tests/rules.py says which bytes may come out: the venue's own answers in their order, the reports in
 theirs, numbered together, nothing behind a Logout; where a Logout ended the session, reports that were due may be missing
 at the end. Behind every journal venue-replay has to print each report that the rules know of, and the journal has to have
 the version that it had. That all this tells a wrong answer and a wrong rule is shown by tests/known_bad.py.

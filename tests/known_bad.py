@@ -40,7 +40,8 @@ from wrong_rules import WRONG
 
 TESTS = os.path.dirname(os.path.abspath(__file__))
 TOGETHER = os.cpu_count() or 1
-A_DAY = [LOGON, sell(1, 5, 50), ("1", "112=hi|"), buy(2, 3, 50), buy(3, 4, 51), cut(4, 3), market(5, 2, 1), buy(6, 1, 49), ("0", "")]
+A_DAY = [LOGON, sell(1, 5, 50), ("1", "112=hi|"), buy(2, 3, 50), buy(3, 4, 51), cut(4, 3), market(5, 2, 1), buy(6, 1, 49),
+         ("0", "")]
 LONG = 180  # Seconds for a test with a wrong program, which may have to wait for what never comes.
 
 
@@ -121,15 +122,17 @@ def altered(messages: list[bytes]) -> Iterator[tuple[str, bytes]]:
     for at in range(len(whole)):
         yield f"byte {at} is another one", whole[:at] + bytes([whole[at] ^ 1]) + whole[at + 1:]
         if at + 1 < len(whole) and whole[at] != whole[at + 1]:
-            yield f"bytes {at} and {at + 1} are swapped", whole[:at] + whole[at + 1:at + 2] + whole[at:at + 1] + whole[at + 2:]
+            swapped = whole[at + 1:at + 2] + whole[at:at + 1]
+            yield f"bytes {at} and {at + 1} are swapped", whole[:at] + swapped + whole[at + 2:]
     for at, it in enumerate(messages):
         others = messages[:at] + messages[at + 1:]
         yield f"message {at} is missing", b"".join(others)
         yield f"message {at} is missing, with no gap", numbered(others)
         yield f"message {at} came twice", b"".join(messages[:at] + [it] + messages[at:])
         yield f"message {at} came twice, each with its number", numbered(messages[:at] + [it] + messages[at:])
-        for tag, value in ((34, b"7777"), (56, b"C2"), (49, b"C1"), (52, b"20250102-09:30:01"), (31, b"51"), (44, b"48"), (17, b"99"),
-                           (37, b"9"), (6, b"7"), (151, b"77"), (14, b"66"), (32, b"2"), (11, b"8"), (150, b"0"), (54, b"7")):
+        for tag, value in ((34, b"7777"), (56, b"C2"), (49, b"C1"), (52, b"20250102-09:30:01"), (31, b"51"), (44, b"48"),
+                           (17, b"99"), (37, b"9"), (6, b"7"), (151, b"77"), (14, b"66"), (32, b"2"), (11, b"8"),
+                           (150, b"0"), (54, b"7")):
             other = with_field(it, tag, value)
             if other != it:
                 yield f"message {at} has {tag}={value.decode()}", b"".join(messages[:at] + [other] + messages[at + 1:])
@@ -208,7 +211,8 @@ def wrong_venues() -> tuple[int, list[str]]:
     """Venues that do wrong by a member over TCP, or over standard input and output."""
     venued = os.path.abspath(VENUED)
     runs = [(["members.py", test], venued, wrong) for test, wrong in wrong_program.OVER_TCP]
-    runs += [(["../scripts/play", "first_acknowledgement", "logout"], venued, wrong) for wrong in ("", *wrong_program.OVER_STREAMS)]
+    runs += [(["../scripts/play", "first_acknowledgement", "logout"], venued, wrong)
+             for wrong in ("", *wrong_program.OVER_STREAMS)]
     sessions = ["hostile_bytes.py", "mutated", "--messages", "1", "--seed", "1", "--together", "1"]
     runs += [(sessions, venued, wrong) for wrong in ("", "another status")]
     count, faults = all_refuse(runs)

@@ -4,8 +4,8 @@
     tests/members.py [NAME...]      the tests whose names have one of these words in them; without one all
 
 Each test has a folder and free ports of its own. One that fails has a line that says what came; the last line is
-`N passed, M failed`, and the status is 1 where one failed. All take about a minute, most of it without work. Build both programs first, by
-scripts/build; others are taken by the environment's VENUED and VENUE_REPLAY.
+`N passed, M failed`, and the status is 1 where one failed. All take about a minute, most of it without work. Build both
+programs first, by scripts/build; others are taken by the environment's VENUED and VENUE_REPLAY.
 """
 import os
 import re
@@ -598,7 +598,8 @@ def wrong_words():
 TESTS = [the_worked_example, worked_days, market_orders_of_the_profile, rejected_market_orders_of_the_profile,
          an_old_journal, a_full_book, trades_of_eight, a_report_without_a_session, one_at_a_time,
          no_other_member, vanishing_clients, half_closed_behind_an_order, in_single_bytes, a_wrong_logon,
-         a_client_that_stays, a_client_that_sends_on, each_count_of_gateways, an_idle_venue, a_taken_port, the_local_host_alone, the_ports_of_another_venue, one_venue_a_journal,
+         a_client_that_stays, a_client_that_sends_on, each_count_of_gateways, an_idle_venue, a_taken_port,
+         the_local_host_alone, the_ports_of_another_venue, one_venue_a_journal,
          a_stop_file_of_before, start_after_stop, a_stop_with_members, wrong_words]
 
 

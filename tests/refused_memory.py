@@ -18,7 +18,8 @@ import collections
 import concurrent.futures
 import time
 
-from refusals import FRESH, LOGON, LONG, answers, by_rules, check_history, contents, journal_of, listens, orders, put, run_tests
+from refusals import FRESH, LOGON, LONG, answers, by_rules, check_history, contents, journal_of, listens, orders, put
+from refusals import run_tests
 import journals
 from venues import COUNTS, REPLAY, Client, Trouble, Venue, free_port, message, order, printed
 
@@ -144,7 +145,8 @@ def check_early_client(refusal):
         return False  # It makes fewer threads.
     if any(heard := [what_came(it) for it in clients]):
         raise Trouble(f"expected no client let in came {heard}")
-    check_no_memory("venued", (venue.process.wait(LONG), (line or "").encode(), f"{venue.err.next()}\n"), refusal.journal, None)
+    came = (venue.process.wait(LONG), (line or "").encode(), f"{venue.err.next()}\n")
+    check_no_memory("venued", came, refusal.journal, None)
     return len(clients) == 2
 
 

@@ -218,7 +218,8 @@ def wrong_run(wrong: str, words: list[str], out: bytes, err: bytes, status: int)
 
 OF_REPORTS = ["another price", "another total", "another number", "another ExecID", "another sum", "a report missing",
               "a report twice", "reports swapped"]
-OVER_TCP = [("the_worked_example", it) for it in ("", *OF_REPORTS, "no Logout", "another count", "another status", "a line too many")]
+OVER_TCP = [("the_worked_example", it)
+            for it in ("", *OF_REPORTS, "no Logout", "another count", "another status", "a line too many")]
 OVER_TCP += [("each_count_of_gateways", it) for it in ("", "a port too few", "a port too many")]
 OVER_TCP += [("the_local_host_alone", "all addresses"), ("an_idle_venue", "a busy core")]
 OVER_STREAMS = [*OF_REPORTS, "no Logout", "a byte too many", "another status", "a line of fault"]
