@@ -184,7 +184,7 @@ def refuses(words: list[str], program: str, wrong: str) -> tuple[str, str | None
     name = f"{' '.join(words)} with {wrong or 'nothing wrong'}"
     with tempfile.TemporaryDirectory(prefix="known-bad-") as folder:
         which = "VENUED" if program == os.path.abspath(VENUED) else "VENUE_REPLAY"
-        environment = {**os.environ, which: put_in_place(folder, wrong, program), "VENUE_PATIENCE": "3" if wrong else "30"}
+        environment = {**os.environ, which: put_in_place(folder, wrong, program), "VENUE_PATIENCE": "10" if wrong else "30"}
         try:
             it = subprocess.run([sys.executable, os.path.join(TESTS, words[0]), *words[1:]], env=environment, timeout=LONG,
                                 stdout=subprocess.PIPE, stderr=subprocess.STDOUT, text=True)
