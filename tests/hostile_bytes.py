@@ -398,7 +398,7 @@ def mutated_sessions(messages, seconds, seed, together):
                     os.remove(os.path.join(folder, name))
     print("    " + ", ".join(f"{it}: {met[it]}" for it in WANTED))
     print("    " + ", ".join(f"{it}: {met[it]}" for it in [ASKED, *MARKET, *OLD]))
-    faults += [f"no session met {it}" for it in SHOWN if not met[it] and it not in BY_CORNERS and total > 20_000]
+    faults += [f"no session met {it}" for it in SHOWN if not met[it] and it not in BY_CORNERS and total > 50_000]
     print(f"    {batches * SESSIONS} sessions on {batches} journals")
     return total, faults
 
