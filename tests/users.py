@@ -311,7 +311,9 @@ def the_demo() -> None:
     """All that the demo shows, but for its port and the times, and nothing of it left behind."""
     status, out, err = ran([script("demo")], TMPDIR=os.getcwd())
     text = re.sub(r"(?m)\|52=\d{8}-\d\d:\d\d:\d\d\|", "|52=T|", "\n".join(out))
-    expect_lines(re.sub(r"venued \d+ demo", "venued PORT demo", text).splitlines(), [*DEMO.splitlines()])
+    shown = os.path.basename(PROGRAMS["VENUE_REPLAY"]).replace("_", "-")
+    expect_lines(re.sub(r"venued \d+ demo", "venued PORT demo", text).splitlines(),
+                 DEMO.replace("    venue-replay ", f"    {shown} ").splitlines())
     expect((status, err, os.listdir()), (0, [], []))
 
 
