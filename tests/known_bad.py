@@ -244,7 +244,7 @@ def put_in_place(folder: str, wrong: str, program: str) -> str:
 def wrong_replays() -> tuple[int, list[str]]:
     """Programs in the place of venue-replay that do wrong."""
     tests = [["worked_journals.py", "entries_behind", "which_fault", "old_journal"],
-             ["journals_by_chance.py", "--seed", "1", "--only", "2", "--together", "1"]]
+             ["journals_by_chance.py", "--seed", "1", "--only", "56", "--together", "1"]]
     return all_refuse([(it, os.path.abspath(REPLAY), wrong) for it in tests for wrong in wrong_program.REPLAYS])
 
 
