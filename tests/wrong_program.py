@@ -13,7 +13,6 @@ import socket
 import subprocess
 import sys
 import threading
-import time
 
 ROOT = os.path.dirname(os.path.dirname(os.path.abspath(__file__)))
 sys.path.insert(0, os.path.join(ROOT, "scripts"))
@@ -153,11 +152,9 @@ def listen(wrong: str, program: str, port: str, journal: str, gateways: str, *sy
         print(line, end="", flush=True)
         if wrong == "a line too many":
             print("venued: hello", flush=True)
-        if wrong == "a busy core" and len(relays) and "ready" in line:
+        if wrong == "a busy core" and relays and "ready" in line:
             threading.Thread(target=spin, daemon=True).start()
     status = venue.wait()
-    if wrong == "a slow end":
-        time.sleep(60)
     return 3 if wrong == "another status" else status
 
 
