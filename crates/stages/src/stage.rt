@@ -12,6 +12,8 @@ use ring_words::Rings;
 
 /// A stage, whichever it is, that can be polled at rings of this type.
 pub trait Stage<R> {
+    ghost use Rattle.stages.specs.declared.turn.Turn.{Turn};
+
     /// That it sits at these rings.
     ghost sits: { R → Self → Type 0 };
 
@@ -21,6 +23,9 @@ pub trait Stage<R> {
     /// So it is behind more of them.
     ghost further: { (rings : R) (x y z : Self) → goes rings x y → goes rings y z → goes rings x z };
 
+    /// What one poll comes to, by what it answers, and nothing else.
+    ghost polled: { R → Turn → Self → Self → Type 0 };
+
     /// The next sequence: all below it are done.
     fn next_seq(&self) -> u64;
 
@@ -28,16 +33,21 @@ pub trait Stage<R> {
     fn poll(&mut self, rings: &R) -> Turn
         requires { sits rings.now self.old }
         ensures sits { sits rings.now self.new }
-        ensures goes { goes rings.now self.old self.new };
+        ensures goes { goes rings.now self.old self.new }
+        ensures polled { polled rings.now result self.old self.new };
 }
 
 impl<const N: usize, const M: usize, const G: usize> Stage<Rings<BookLogic, N, M, G>>
     for Unmarshaller {
+    ghost use Rattle.stages.specs.Turns.{Unmarshals};
+
     ghost sits = { λ rings x. IsAt rings x };
 
     ghost goes = { λ rings x y. Unit {0} };
 
     ghost further = { λ rings x y z first second. tt };
+
+    ghost polled = { λ rings turn x y. Unmarshals N rings.logic turn x.who y.who };
 
     fn next_seq(&self) -> u64 {
         self.next_seq()
@@ -52,7 +62,7 @@ impl<D: JournalDisk, const N: usize, const M: usize, const G: usize> Stage<
     Rings<BookLogic, N, M, G>,
 > for Journaller<D> {
     ghost use Rattle.stages.specs.Devices.{device};
-    ghost use Rattle.stages.specs.Journalling.{JournalsOn};
+    ghost use Rattle.stages.specs.Journalling.{JournalsOn, PollsWith};
     ghost use Rattle.stages.specs.JournallingLaws.{goes_on};
 
     ghost sits = { λ rings x. IsAt rings x.seat };
@@ -60,6 +70,8 @@ impl<D: JournalDisk, const N: usize, const M: usize, const G: usize> Stage<
     ghost goes = { λ rings x y. JournalsOn N rings (device D.honest D.tells D.failed) x y };
 
     ghost further = { λ rings x y z first second. goes_on N (device D.honest D.tells D.failed) rings x y z first second };
+
+    ghost polled = { λ rings turn x y. PollsWith N (device D.honest D.tells D.failed) turn x y };
 
     fn next_seq(&self) -> u64 {
         self.next_seq()
@@ -72,11 +84,15 @@ impl<D: JournalDisk, const N: usize, const M: usize, const G: usize> Stage<
 
 impl<const N: usize, const M: usize, const G: usize> Stage<Rings<BookLogic, N, M, G>>
     for Processor {
+    ghost use Rattle.stages.specs.Processes.{Processes, sizes, working};
+
     ghost sits = { λ rings x. IsAt rings x.seat };
 
     ghost goes = { λ rings x y. Unit {0} };
 
     ghost further = { λ rings x y z first second. tt };
+
+    ghost polled = { λ rings turn x y. Processes (sizes N M G) rings.logic turn (working x.seat.who x.applied) (working y.seat.who y.applied) };
 
     fn next_seq(&self) -> u64 {
         self.next_seq()
@@ -89,11 +105,15 @@ impl<const N: usize, const M: usize, const G: usize> Stage<Rings<BookLogic, N, M
 
 impl<const N: usize, const M: usize, const G: usize> Stage<Rings<BookLogic, N, M, G>>
     for Marshaller {
+    ghost use Rattle.stages.specs.Marshals.{Marshals};
+
     ghost sits = { λ rings x. IsAt rings x };
 
     ghost goes = { λ rings x y. Unit {0} };
 
     ghost further = { λ rings x y z first second. tt };
+
+    ghost polled = { λ rings turn x y. Marshals N M rings.logic turn x.who y.who };
 
     fn next_seq(&self) -> u64 {
         self.next_seq()

@@ -2,6 +2,7 @@
 //! all come back.
 #![tactic(auto)]
 
+mod counted;
 mod crew;
 mod gate;
 mod rest;
@@ -10,7 +11,9 @@ mod station;
 mod threads;
 mod worker;
 
+pub use counted::CountedPauses;
 pub use gate::{Gate, NoGate, Station};
-pub use signals::Signals;
+pub use rest::{Machine, Pause, Pauses, Rest};
+pub use signals::{Signalling, Signals};
 pub use threads::run;
-pub use worker::{Outcome, Worker, work};
+pub use worker::{Ended, Outcome, Worker, work};

@@ -1,13 +1,19 @@
 //! A stage, whichever of the four it is, at its station: the thread that calls polls it until it is told to stop.
+ghost use Rattle.std.specs.Prelude.{◌≡◌};
+ghost use Rattle.workers.specs.Working.{Ends, TurnAndRest, thread};
+ghost use Rattle.workers.specs.Polling.{outcome_of, PollsAs};
+
 use crate::gate::{Gate, Station};
-use crate::rest::Rest;
-use crate::signals::Signals;
-use crate::worker::Outcome;
+use crate::rest::{Machine, Pauses, Rest};
+use crate::signals::Signalling;
+use crate::worker::{Ended, Outcome};
 use stages::{Stage, Turn};
 use std::rt::Clock;
 
 /// What a poll came to for its thread: where the output ring has no room, all it can do is to let others work.
-fn outcome(turn: Turn) -> Outcome {
+fn outcome(turn: Turn) -> Outcome
+    ensures { result ≡ outcome_of turn }
+{
     match turn {
         Turn::Did(_) => Outcome::Worked,
         Turn::Idle | Turn::OutFull => Outcome::Idle,
@@ -20,6 +26,7 @@ fn poll_at<Q: Gate, R, S: Stage<R>>(gate: &Q, rings: &R, station: Station, stage
     requires { S.sits rings.now stage.old }
     ensures sits { S.sits rings.now stage.new }
     ensures goes { S.goes rings.now stage.old stage.new }
+    ensures polled { PollsAs (S.polled rings.now) result stage.old stage.new }
 {
     gate.enter(station, stage.next_seq());
     let turn = stage.poll(rings);
@@ -27,28 +34,52 @@ fn poll_at<Q: Gate, R, S: Stage<R>>(gate: &Q, rings: &R, station: Station, stage
     outcome(turn)
 }
 
-/// Lets the stage work until it is over or, behind a poll, the signals say stop. Then the signals say stop.
-pub(crate) fn staff<C: Clock, Q: Gate, R, S: Stage<R> + Drop>(
+/// Lets the stage work, and rest between its polls, until it is over or, behind a poll, the signals say stop.
+fn poll_on<P: Pauses, Q: Gate, R, S: Stage<R>, G: Signalling>(
+    rest: &mut Rest<P>,
+    gate: &Q,
+    rings: &R,
+    station: Station,
+    stage: &mut S,
+    signals: &G,
+) -> Ended
+    requires { S.sits rings.now stage.old }
+    ensures sits { S.sits rings.now stage.new }
+    ensures goes { S.goes rings.now stage.old stage.new }
+    ensures ends { Ends (TurnAndRest (PollsAs (S.polled rings.now)) P.paused) (G.told signals.now) result
+        (thread stage.old rest.old) (thread stage.new rest.new) }
+{
+    for polls in 0..u64::MAX {
+        let outcome = poll_at(gate, rings, station, stage);
+        if !rest.goes_on(outcome) {
+            return Ended::Over;
+        }
+        if signals.say_stop() {
+            return Ended::Told;
+        }
+    }
+    Ended::TookAll
+}
+
+/// Lets the stage work until it is over or, behind a poll, the signals say stop, and says why it took no more polls.
+/// Then the signals say stop.
+pub(crate) fn staff<C: Clock, Q: Gate, R, S: Stage<R> + Drop, G: Signalling>(
     clock: &C,
     gate: &Q,
     rings: &R,
     station: Station,
     mut stage: S,
-    signals: &Signals,
-) -> S
+    signals: &G,
+) -> (S, Ended)
     requires { S.sits rings.now stage }
-    ensures sits { S.sits rings.now result }
-    ensures goes { S.goes rings.now stage result }
+    ensures sits { S.sits rings.now result.0 }
+    ensures goes { S.goes rings.now stage result.0 }
+    ensures ends { Ends (PollsAs (S.polled rings.now)) (G.told signals.now) result.1 stage result.0 }
+    ensures stopped { G.stopped signals.now }
 {
     signals.begin();
-    let mut rest = Rest::new();
-    let mut outcome = poll_at(gate, rings, station, &mut stage);
-    for _ in 0..u64::MAX {
-        if !rest.goes_on(clock, outcome) || signals.say_stop() {
-            break;
-        }
-        outcome = poll_at(gate, rings, station, &mut stage);
-    }
+    let mut rest = Rest::new(Machine::new(clock));
+    let ended = poll_on(&mut rest, gate, rings, station, &mut stage, signals);
     signals.stop();
-    stage
+    (stage, ended)
 }

@@ -1,14 +1,15 @@
-//! A worker, a gateway at the rings, and the loop in which it takes its turns (Disruptor: an event processor). A stage has a
-//! loop of its own, in station.rt.
+//! A worker, a gateway at the rings, and the loop in which it takes its turns (Disruptor: an event processor). A stage
+//! has a loop of its own, in station.rt.
 ghost use Rattle.std.specs.Prelude.{◌≡◌};
+ghost use Rattle.workers.specs.Working.{Ends, TurnAndRest, thread};
 
 use crate::gate::{Gate, Station};
-use crate::rest::Rest;
-use crate::signals::Signals;
+use crate::rest::{Machine, Pauses, Rest};
+use crate::signals::Signalling;
 use std::rt::Clock;
 
 /// What one turn of a worker came to.
-#[derive(Clone, Copy)]
+#[derive(Clone, Copy, Debug, PartialEq, Eq)]
 pub enum Outcome {
     /// It did something.
     Worked,
@@ -18,8 +19,21 @@ pub enum Outcome {
     Over,
 }
 
+/// Why a worker took no more turns.
+#[derive(Clone, Copy, Debug, PartialEq, Eq)]
+pub enum Ended {
+    /// Its last turn said that it has ended.
+    Over,
+    /// The signals said stop.
+    Told,
+    /// It had taken 2^64 - 1 turns.
+    TookAll,
+}
+
 /// A worker that has turns: a gateway at its rings.
 pub trait Worker {
+    ghost use Rattle.workers.specs.declared.worker.Outcome.{Outcome};
+
     /// What turns come to, none or one or many of them: for instance that it is at the same rings.
     ghost goes: { Self → Self → Type 0 };
 
@@ -29,14 +43,19 @@ pub trait Worker {
     /// And so it is behind one turn more.
     ghost further: { (x y z : Self) → goes x y → goes y z → goes x z };
 
+    /// That it took one turn, which came to this, and nothing else. Code over any worker knows this of its calls alone.
+    ghost took: { Outcome → Self → Self → Type 0 } = { λ outcome x y. Unit {0} };
+
     /// Does what is next for it, if there is something. It doesn't wait.
     fn turn(&mut self) -> Outcome
-        ensures { goes self.old self.new };
+        ensures goes { goes self.old self.new }
+        ensures took { took result self.old self.new };
 }
 
 /// Lets the worker take a turn behind so many, and tells the `Gate` of it.
 fn turn_at<Q: Gate, W: Worker>(gate: &Q, station: Station, worker: &mut W, turns: u64) -> Outcome
-    ensures { W.goes worker.old worker.new }
+    ensures goes { W.goes worker.old worker.new }
+    ensures took { W.took result worker.old worker.new }
 {
     gate.enter(station, turns);
     let outcome = worker.turn();
@@ -44,25 +63,43 @@ fn turn_at<Q: Gate, W: Worker>(gate: &Q, station: Station, worker: &mut W, turns
     outcome
 }
 
-/// Lets the worker of this station take turns until it is over or the signals say stop.
-pub fn work<C: Clock, Q: Gate, W: Worker>(
+/// Lets the worker of this station take turns, and its thread rest between them, until it is over or the signals say
+/// stop, and says why it took no more.
+fn work_on<P: Pauses, Q: Gate, W: Worker, S: Signalling>(
+    rest: &mut Rest<P>,
+    gate: &Q,
+    station: Station,
+    worker: &mut W,
+    signals: &S,
+) -> Ended
+    ensures goes { W.goes worker.old worker.new }
+    ensures ends { Ends (TurnAndRest W.took P.paused) (S.told signals.now) result
+        (thread worker.old rest.old) (thread worker.new rest.new) }
+{
+    for turns in 0..u64::MAX {
+        if signals.say_stop() {
+            return Ended::Told;
+        }
+        let outcome = turn_at(gate, station, worker, turns);
+        if !rest.goes_on(outcome) {
+            return Ended::Over;
+        }
+    }
+    Ended::TookAll
+}
+
+/// Lets the worker of this station take turns until it is over or the signals say stop, and says why it took no more.
+pub fn work<C: Clock, Q: Gate, W: Worker, S: Signalling>(
     clock: &C,
     gate: &Q,
     station: Station,
     worker: &mut W,
-    signals: &Signals,
-)
-    ensures { W.goes worker.old worker.new }
+    signals: &S,
+) -> Ended
+    ensures goes { W.goes worker.old worker.new }
+    ensures ends { Ends W.took (S.told signals.now) result worker.old worker.new }
 {
     signals.begin();
-    let mut rest = Rest::new();
-    for turns in 0..u64::MAX {
-        if signals.say_stop() {
-            break;
-        }
-        let outcome = turn_at(gate, station, worker, turns);
-        if !rest.goes_on(clock, outcome) {
-            break;
-        }
-    }
+    let mut rest = Rest::new(Machine::new(clock));
+    work_on(&mut rest, gate, station, worker, signals)
 }

@@ -1,6 +1,6 @@
--- Poll by poll.
+-- The polls without the rests.
+use Rattle.workers.proofs.Turns.{ends_alone}
 use Rattle.workers.proofs.station.staff.Goals as goal
 
-pub loop-preserved : goal.loop-preserved
-loop-preserved g c = let polled = c.poll_at-outcome-in-loop.ensures in
-    record { sits = polled.sits; goes = g.S.Stage.further _ _ _ _ c.loop.invariant.goes polled.goes }
+pub returns-clause-ends : goal.returns-clause-ends
+returns-clause-ends g c = ends_alone _ _ _ _ _ _ c.poll_on-ended.ensures.ends

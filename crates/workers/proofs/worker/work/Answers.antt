@@ -1,8 +1,6 @@
--- Turn by turn.
+-- The turns without the rests.
+use Rattle.workers.proofs.Turns.{ends_alone}
 use Rattle.workers.proofs.worker.work.Goals as goal
 
-pub loop-turns-init : goal.loop-turns-init
-loop-turns-init g c = g.W.Worker.stays _
-
-pub loop-turns-preserved : goal.loop-turns-preserved
-loop-turns-preserved g c = g.W.Worker.further _ _ _ c.loop-turns.invariant c.turn_at-outcome.ensures
+pub returns-clause-ends : goal.returns-clause-ends
+returns-clause-ends g c = ends_alone _ _ _ _ _ _ c.work_on.ensures.ends

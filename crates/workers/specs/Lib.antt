@@ -1,0 +1,5 @@
+pub mod Counted
+pub mod Resting
+pub mod Working
+pub mod Polling
+pub mod Running
