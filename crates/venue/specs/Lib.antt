@@ -1,3 +1,6 @@
+pub mod Scripted
+pub mod Stopping
+pub mod Watching
 pub mod Faults
 pub mod VenueRings
 pub mod Opened

@@ -1,5 +1,5 @@
 use Rattle.std.proofs.Common.{rules, ◌≡◌, ◌++◌, codes, string_bytes, length, ap, sym, ◌∙◌, arith, length-append}
-use Rattle.venue.proofs.stop.StopFile.beside.Goals as goal
+use Rattle.venue.proofs.stop.StopFile+SystemNames+R.beside.Goals as goal
 
 -- it has five bytes more
 pub returns-clause-other : goal.returns-clause-other
