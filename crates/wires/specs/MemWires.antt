@@ -6,7 +6,8 @@ use Rattle.wires.specs.declared.wire.TryWrite.{TryWrite}
 use Rattle.wires.specs.declared.wire.TryWrite.TheVariants as write
 use Rattle.wires.specs.Wires.{Told}
 
--- what it has to give and how much of that it gave, what it took, its counts, whether it was last told to rest, and how it was set
+-- what it has to give and how much of that it gave, what it took, its counts, whether it was last told to rest, how it was set, and
+-- whether it was said that nothing more is written
 pub record Memory : Type 0 where
   pub input : List ℕ
   pub given : ℕ
@@ -23,6 +24,7 @@ pub record Memory : Type 0 where
   -- so many bytes are taken in all; from there on writes fail, or else answer Nothing
   pub room : ℕ
   pub breaks : Bool
+  pub shut : Bool
 
 -- as it is made: nothing moved yet, its input comes whole and then ends, and all bytes are taken
 abbrev pub new_memory : List ℕ → Memory
@@ -39,6 +41,7 @@ new_memory input = record {
   closes = true;
   room = 2 ^ 64 - 1;
   breaks = false;
+  shut = false;
 }
 
 -- it tells all that it gave and took

@@ -7,6 +7,7 @@ ghost use Rattle.wires.specs.GatheringWires.{holding, rested, ReadsGathering, Wr
 ghost use Rattle.wires.specs.declared.buffers.TheConstants.{GATHERED};
 
 use crate::buffers::{ReadAhead, Waiting};
+use crate::client::ClientWire;
 use crate::counts::Counts;
 use crate::flushed::Flushed;
 use crate::wire::{TryRead, TryWrite, Wire};
@@ -123,5 +124,23 @@ impl<W: Wire + Drop> Wire for GatheringWire<W> {
         ensures { result ≡ counts_of (told_gathering self.now) }
     {
         self.counts
+    }
+}
+
+impl<W: ClientWire + Drop> ClientWire for GatheringWire<W> {
+    fn flush(&mut self) -> bool
+        ensures told { told_gathering self.new ≡ told_gathering self.old }
+        ensures sends { broken_of self.old ≡ false → Sends (holding W.tells self.old) (holding W.tells self.new) }
+        ensures all { IsTrue result ↔ (waiting_of self.new ≡ []) }
+        ensures broken { broken_of self.old ≡ true → self.new ≡ self.old }
+    {
+        GatheringWire::flush(self)
+    }
+
+    fn shut(&mut self)
+        ensures told { told_gathering self.new ≡ told_gathering self.old }
+        ensures holds { holding W.tells self.new ≡ holding W.tells self.old }
+    {
+        self.below.shut();
     }
 }

@@ -3,6 +3,7 @@
 #![tactic(auto)]
 
 mod buffers;
+mod client;
 mod counts;
 mod flushed;
 mod gathering;
@@ -13,6 +14,7 @@ mod stream;
 mod tcp;
 mod wire;
 
+pub use client::ClientWire;
 pub use counts::Counts;
 pub use flushed::Flushed;
 pub use gathering::GatheringWire;

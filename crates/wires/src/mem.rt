@@ -4,6 +4,7 @@ ghost use Rattle.wires.specs.Wires.{ReadTells, WriteTells};
 ghost use Rattle.wires.specs.MemWires.{new_memory, told_memory, GivesBytes, TakesBytes};
 ghost use Rattle.wires.specs.Wires.{counts_of};
 
+use crate::client::ClientWire;
 use crate::counts::Counts;
 use crate::wire::{TryRead, TryWrite, Wire};
 use std::alloc::{AllocError, Global};
@@ -21,6 +22,7 @@ pub struct MemWire {
     closes: bool,
     room: usize,
     breaks: bool,
+    shut: bool,
 }
 
 impl Model for MemWire {
@@ -41,6 +43,7 @@ impl Model for MemWire {
       closes = w.closes;
       room = w.room;
       breaks = w.breaks;
+      shut = w.shut;
     } };
 
     ghost use Rattle.std.specs.Prelude.{◌≤◌, length};
@@ -63,6 +66,7 @@ impl MemWire {
             closes: true,
             room: usize::MAX,
             breaks: false,
+            shut: false,
         })
     }
 
@@ -113,6 +117,13 @@ impl MemWire {
         ensures { result.now ≡ self.now.taken }
     {
         self.taken.as_slice()
+    }
+
+    /// Whether it was said that nothing more is written.
+    pub fn is_shut(&self) -> bool
+        ensures { result ≡ self.now.shut }
+    {
+        self.shut
     }
 }
 
@@ -166,5 +177,20 @@ impl Wire for MemWire {
         ensures { result ≡ counts_of (told_memory self.now) }
     {
         self.counts
+    }
+}
+
+impl ClientWire for MemWire {
+    fn flush(&mut self) -> bool
+        ensures all { result ≡ true }
+        ensures same { self.new ≡ self.old }
+    {
+        true
+    }
+
+    fn shut(&mut self)
+        ensures { self.new ≡ record self.old { shut = true } }
+    {
+        self.shut = true;
     }
 }

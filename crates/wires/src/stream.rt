@@ -1,14 +1,28 @@
 //! A wire over a stream that never waits for the client, as a socket that was set so. It has no buffer.
-ghost use Rattle.std.specs.Prelude.{◌≡◌, ◌<◌, length};
+ghost use Rattle.std.specs.Prelude.{◌≡◌, ◌<◌, true, length};
 ghost use Rattle.wires.specs.Wires.{ReadTells, WriteTells, counts_of};
 ghost use Rattle.wires.specs.StdWires.{untold, TakesIn, SendsOut};
 ghost use Rattle.wires.specs.StreamWires.{told_stream, stream_of, MeansRead, MeansWrite};
 
+use crate::client::ClientWire;
 use crate::counts::Counts;
 use crate::standard::is_passing;
 use crate::wire::{TryRead, TryWrite, Wire};
 use std::io;
 use std::io::{Read, Write};
+use std::net::{Shutdown, TcpStream};
+
+/// One end of a client's connection.
+pub trait Stream: Read + Write {
+    /// Says that nothing more is written. An error is let go.
+    fn shut(&mut self);
+}
+
+impl Stream for TcpStream {
+    fn shut(&mut self) {
+        let _ = self.shutdown(Shutdown::Write);
+    }
+}
 
 /// A wire over a stream. It tells no bytes. A call that was interrupted, or would have waited, answers `Nothing`: a
 /// later one tries again. The stream is never flushed, so it is to keep nothing back.
@@ -100,5 +114,20 @@ impl<S: Read + Write + Drop> Wire for StreamWire<S> {
         ensures { result ≡ counts_of (told_stream self.now) }
     {
         self.counts
+    }
+}
+
+impl<S: Stream + Drop> ClientWire for StreamWire<S> {
+    fn flush(&mut self) -> bool
+        ensures all { result ≡ true }
+        ensures same { self.new ≡ self.old }
+    {
+        true
+    }
+
+    fn shut(&mut self)
+        ensures { told_stream self.new ≡ told_stream self.old }
+    {
+        self.stream.shut();
     }
 }
