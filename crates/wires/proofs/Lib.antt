@@ -1,2 +1,4 @@
 mod MemWireLemmas
 mod BufferLemmas
+mod StreamLemmas
+mod GatheringLemmas

@@ -1,43 +1,43 @@
--- A wire that gathers in front of another one: what it tells, what it holds, and what its calls do.
-use Rattle.std.specs.Prelude.{◌≡◌, ◌↔◌, ℕ, Bool, true, false, List, [], None}
+-- A wire that gathers in front of another one: what it is, what it tells and holds, and what its calls do.
+use Rattle.std.specs.Prelude.{◌≡◌, ◌↔◌, ℕ, Bool, true, false, List, []}
+use Rattle.wires.specs.declared.counts.Counts.{Counts}
 use Rattle.wires.specs.declared.flushed.Flushed.{Flushed}
 use Rattle.wires.specs.declared.flushed.Flushed.TheVariants.{Failed}
 use Rattle.wires.specs.declared.wire.TryRead.{TryRead}
 use Rattle.wires.specs.declared.wire.TryWrite.{TryWrite}
 use Rattle.wires.specs.declared.wire.TryWrite.TheVariants as write
-use Rattle.wires.specs.declared.gathering.GatheringWire.{GatheringWire}
-use Rattle.wires.specs.Wires.{Told}
-use Rattle.wires.specs.StdWires.{untold}
+use Rattle.wires.specs.Wires.{Told, told_by, uncounted, grown, without}
 use Rattle.wires.specs.Flushing.{Flushes}
 use Rattle.wires.specs.Gatherings.{HandsOut, Gathers}
 
--- it tells its counts, and whether it was last told to rest
-abbrev pub told_gathering : {W : Type 0} → GatheringWire W → Told
-told_gathering w = record {
-  gave = None;
-  took = None;
-  failures = w.counts.failures;
-  empty_reads = w.counts.empty_reads;
-  full_writes = w.counts.full_writes;
-  ends = w.counts.ends;
-  quiet = w.quiet;
-}
+-- the wire below; the bytes that it gave, and that were not handed out yet; those that were taken, and that it did not
+-- take yet; the counts; whether it was last told to rest; and whether a write of the wire below failed: from then on each
+-- read and write fails, and that wire moves no bytes
+pub record Gathering (W : Type 0) : Type 0 where
+  pub below : W
+  pub ahead : List ℕ
+  pub waiting : List ℕ
+  pub counts : Counts
+  pub quiet : Bool
+  pub broken : Bool
 
--- the wire below
-abbrev pub below_of : {W : Type 0} → GatheringWire W → W
-below_of w = w.below
+-- where the wire below tells so: it gave what that gave, but for what is held ahead, and took what that took, and then
+-- what waits
+abbrev pub told_gathering : {W : Type 0} → (W → Told) → Gathering W → Told
+told_gathering tells g =
+    told_by (without (tells g.below).gave g.ahead) (grown (tells g.below).took g.waiting) g.counts g.quiet
 
--- the bytes that the wire below gave, and that were not handed out yet
-abbrev pub ahead_of : {W : Type 0} → GatheringWire W → List ℕ
-ahead_of w = w.ahead
+abbrev pub below_of : {W : Type 0} → Gathering W → W
+below_of g = g.below
 
--- the bytes that it took, and that the wire below did not take yet
-abbrev pub waiting_of : {W : Type 0} → GatheringWire W → List ℕ
-waiting_of w = w.waiting
+abbrev pub ahead_of : {W : Type 0} → Gathering W → List ℕ
+ahead_of g = g.ahead
 
--- whether a write of the wire below failed: from then on each read and write fails, and that wire moves no bytes
-abbrev pub broken_of : {W : Type 0} → GatheringWire W → Bool
-broken_of w = w.broken
+abbrev pub waiting_of : {W : Type 0} → Gathering W → List ℕ
+waiting_of g = g.waiting
+
+abbrev pub broken_of : {W : Type 0} → Gathering W → Bool
+broken_of g = g.broken
 
 -- what the wire below tells, and what this one holds
 pub record Holding : Type 0 where
@@ -47,18 +47,18 @@ pub record Holding : Type 0 where
   pub broken : Bool
 
 -- where the wire below tells so
-abbrev pub holding : {W : Type 0} → (W → Told) → GatheringWire W → Holding
-holding tells w = record { below = tells w.below; ahead = w.ahead; waiting = w.waiting; broken = w.broken }
+abbrev pub holding : {W : Type 0} → (W → Told) → Gathering W → Holding
+holding tells g = record { below = tells g.below; ahead = g.ahead; waiting = g.waiting; broken = g.broken }
 
--- as it is made: it holds nothing
-pub record IsFresh {W : Type 0} (w : GatheringWire W) : Type 0 where
-  pub ahead : ahead_of w ≡ []
-  pub waiting : waiting_of w ≡ []
-  pub broken : broken_of w ≡ false
-  pub told : told_gathering w ≡ untold
+-- as it is made: it holds nothing, tells of bytes what the wire below tells, and counted nothing
+pub record IsFresh {W : Type 0} (tells : W → Told) (g : Gathering W) : Type 0 where
+  pub ahead : ahead_of g ≡ []
+  pub waiting : waiting_of g ≡ []
+  pub broken : broken_of g ≡ false
+  pub told : told_gathering tells g ≡ uncounted (tells g.below).gave (tells g.below).took
 
 -- it holds the same, and the wire below is as it was
-pub record HoldsSame {W : Type 0} (old new : GatheringWire W) : Type 0 where
+pub record HoldsSame {W : Type 0} (old new : Gathering W) : Type 0 where
   pub below : below_of new ≡ below_of old
   pub ahead : ahead_of new ≡ ahead_of old
   pub waiting : waiting_of new ≡ waiting_of old

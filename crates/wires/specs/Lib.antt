@@ -5,6 +5,8 @@ pub mod Flushing
 pub mod Inputs
 pub mod Gatherings
 pub mod GatheringWires
+pub mod Streams
+pub mod MemStreams
 pub mod MemWires
 pub mod StdWires
 pub mod StreamWires

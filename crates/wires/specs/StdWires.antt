@@ -8,23 +8,11 @@ use Rattle.wires.specs.declared.wire.TryRead.TheVariants as read
 use Rattle.wires.specs.declared.wire.TryWrite.{TryWrite}
 use Rattle.wires.specs.declared.wire.TryWrite.TheVariants as write
 use Rattle.wires.specs.declared.standard.StdWire.{StdWire}
-use Rattle.wires.specs.Wires.{Told}
+use Rattle.wires.specs.Wires.{Told, told_by}
 
 -- it tells its counts, and whether it was last told to rest
 abbrev pub told_standard : {R W : Type 0} → StdWire R W → Told
-told_standard w = record {
-  gave = None;
-  took = None;
-  failures = w.counts.failures;
-  empty_reads = w.counts.empty_reads;
-  full_writes = w.counts.full_writes;
-  ends = w.counts.ends;
-  quiet = w.quiet;
-}
-
--- what it tells before its first call
-abbrev pub untold : Told
-untold = record { gave = None; took = None; failures = 0; empty_reads = 0; full_writes = 0; ends = 0; quiet = true }
+told_standard w = told_by None None w.counts w.quiet
 
 abbrev pub reader_of : {R W : Type 0} → StdWire R W → R
 reader_of w = w.reader

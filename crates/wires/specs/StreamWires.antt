@@ -1,27 +1,19 @@
 -- A wire over a stream that never waits: what it tells, and what the stream's answers mean.
-use Rattle.std.specs.Prelude.{◌≡◌, ℕ, ◌<◌, None, Ok, Err}
+use Rattle.std.specs.Prelude.{◌≡◌, ℕ, ◌<◌, List, Option, Ok, Err}
 use Rattle.std.specs.IoError.{error_kind}
 use Rattle.std.specs.declared.io.Error.{Error}
 use Rattle.std.specs.declared.result.Result.{Result}
-use Rattle.wires.specs.declared.stream.StreamWire.{StreamWire}
+use Rattle.wires.specs.declared.stream_wire.StreamWire.{StreamWire}
 use Rattle.wires.specs.declared.wire.TryRead.{TryRead}
 use Rattle.wires.specs.declared.wire.TryRead.TheVariants as read
 use Rattle.wires.specs.declared.wire.TryWrite.{TryWrite}
 use Rattle.wires.specs.declared.wire.TryWrite.TheVariants as write
-use Rattle.wires.specs.Wires.{Told}
+use Rattle.wires.specs.Wires.{Told, told_by}
 use Rattle.wires.specs.StdWires.{IsPassing}
 
--- it tells its counts, and whether it was last told to rest
-abbrev pub told_stream : {S : Type 0} → StreamWire S → Told
-told_stream w = record {
-  gave = None;
-  took = None;
-  failures = w.counts.failures;
-  empty_reads = w.counts.empty_reads;
-  full_writes = w.counts.full_writes;
-  ends = w.counts.ends;
-  quiet = w.quiet;
-}
+-- over streams that gave and took these bytes it tells those, its counts, and whether it was last told to rest
+abbrev pub told_stream : {S : Type 0} → (S → Option (List ℕ)) → (S → Option (List ℕ)) → StreamWire S → Told
+told_stream gave took w = told_by (gave w.stream) (took w.stream) w.counts w.quiet
 
 abbrev pub stream_of : {S : Type 0} → StreamWire S → S
 stream_of w = w.stream

@@ -1,5 +1,5 @@
 -- What a wire tells of itself, and what each of its calls tells. It may keep its bytes to itself, but not its counts.
-use Rattle.std.specs.Prelude.{◌≡◌, ℕ, Bool, ◌≤◌, List, ◌++◌, length, take, Option, Some, None}
+use Rattle.std.specs.Prelude.{◌≡◌, ℕ, Bool, true, ◌-◌, ◌≤◌, List, ◌++◌, length, take, Option, Some, None}
 use Rattle.venue_model.specs.Counts.{Rose}
 use Rattle.wires.specs.declared.counts.Counts.{Counts}
 use Rattle.wires.specs.declared.wire.TryRead.{TryRead}
@@ -18,6 +18,23 @@ pub record Told : Type 0 where
   pub ends : ℕ
   pub quiet : Bool
 
+-- of these bytes, counts, and whether it was last told to rest
+abbrev pub told_by : Option (List ℕ) → Option (List ℕ) → Counts → Bool → Told
+told_by gave took counts quiet = record {
+  gave = gave;
+  took = took;
+  failures = counts.failures;
+  empty_reads = counts.empty_reads;
+  full_writes = counts.full_writes;
+  ends = counts.ends;
+  quiet = quiet;
+}
+
+-- before its first call, where it tells these bytes
+abbrev pub uncounted : Option (List ℕ) → Option (List ℕ) → Told
+uncounted gave took =
+    told_by gave took (record { failures = 0; empty_reads = 0; full_writes = 0; ends = 0 }) true
+
 -- what it counts
 abbrev pub counts_of : Told → Counts
 counts_of t = record { failures = t.failures; empty_reads = t.empty_reads; full_writes = t.full_writes; ends = t.ends }
@@ -26,6 +43,15 @@ counts_of t = record { failures = t.failures; empty_reads = t.empty_reads; full_
 abbrev pub grown : Option (List ℕ) → List ℕ → Option (List ℕ)
 grown None more = None
 grown (Some bytes) more = Some (bytes ++ more)
+
+-- what is told of some bytes, but for these, which are the last
+abbrev pub without : Option (List ℕ) → List ℕ → Option (List ℕ)
+without None last = None
+without (Some bytes) last = Some (take (length bytes - length last) bytes)
+
+-- these are the last of the bytes that are told, where any are
+abbrev pub AreLast : Option (List ℕ) → List ℕ → Type 0
+AreLast told last = (front : Option (List ℕ)) × (told ≡ grown front last)
 
 -- what a read with this answer tells, where the buffer now holds `buf`
 abbrev pub ReadTells : Told → Told → List ℕ → TryRead → Type 0

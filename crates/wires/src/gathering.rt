@@ -1,7 +1,7 @@
 //! A wire that gathers: it reads ahead of the session, and what is written waits until it is sent together. It stands
 //! in front of a wire that never waits, as that of a client that came over TCP.
 ghost use Rattle.std.specs.Prelude.{◌≡◌, ◌<◌, ◌↔◌, ◌⊎◌, [], true, false, length, IfOk, IfErr, IsTrue};
-ghost use Rattle.wires.specs.Wires.{ReadTells, WriteTells, counts_of};
+ghost use Rattle.wires.specs.Wires.{ReadTells, WriteTells, counts_of, uncounted};
 ghost use Rattle.wires.specs.GatheringWires.{told_gathering, below_of, ahead_of, waiting_of, broken_of, IsFresh, HoldsSame};
 ghost use Rattle.wires.specs.GatheringWires.{holding, rested, ReadsGathering, Writes, Sends};
 ghost use Rattle.wires.specs.declared.buffers.TheConstants.{GATHERED};
@@ -12,13 +12,16 @@ use crate::counts::Counts;
 use crate::flushed::Flushed;
 use crate::wire::{TryRead, TryWrite, Wire};
 use std::alloc::{AllocFailed, Global};
+use std::marker::Model;
 
 /// A wire in front of another one. A read hands out what was read ahead, and the wire below is read only where that is
 /// nothing. What is written waits: it is sent by `flush`, by `rest` where it is told to rest, and, as far as one write
 /// of the wire below takes it, by a write that finds no room. Once a write of the wire below has failed, this one is
-/// broken: each later read and write fails. Bytes that wait as it is dropped are lost. It tells no bytes.
+/// broken: each later read and write fails. Bytes that wait as it is dropped are lost. It tells the
+/// bytes that the wire below tells: those that it handed out of what that gave, and those that went out or wait. Contracts
+/// see a `Gathering`.
 #[derive(Drop)]
-pub struct GatheringWire<W> {
+pub struct GatheringWire<W: Wire + Drop> {
     below: W,
     ahead: ReadAhead,
     waiting: Waiting,
@@ -27,10 +30,28 @@ pub struct GatheringWire<W> {
     broken: bool,
 }
 
+impl<W: Wire + Drop> Model for GatheringWire<W> {
+    ghost use Rattle.wires.specs.Wires.{AreLast};
+    ghost use Rattle.wires.specs.GatheringWires.{Gathering};
+
+    ghost Value = { Gathering W };
+
+    ghost view = { λ g. record {
+      below = g.below;
+      ahead = g.ahead;
+      waiting = g.waiting;
+      counts = g.counts;
+      quiet = g.quiet;
+      broken = g.broken;
+    } };
+
+    ghost invariant = { λ g. AreLast (W.tells g.below).gave g.ahead };
+}
+
 impl<W: Wire + Drop> GatheringWire<W> {
     /// A wire in front of this one, which is given back where there is no memory.
     pub fn new(alloc: Global, below: W) -> Result<GatheringWire<W>, AllocFailed<W>>
-        ensures fresh { IfOk result IsFresh }
+        ensures fresh { IfOk result (IsFresh W.tells) }
         ensures below { IfOk result (λ wire. below_of wire ≡ below) }
         ensures err { IfErr result (λ failed. failed.value ≡ below) }
     {
@@ -56,7 +77,7 @@ impl<W: Wire + Drop> GatheringWire<W> {
 
     /// Sends what waits, as far as the wire below takes it, and says whether nothing waits any more.
     pub fn flush(&mut self) -> bool
-        ensures told { told_gathering self.new ≡ told_gathering self.old }
+        ensures told { told_gathering W.tells self.new ≡ told_gathering W.tells self.old }
         ensures sends { broken_of self.old ≡ false → Sends (holding W.tells self.old) (holding W.tells self.new) }
         ensures all { IsTrue result ↔ (waiting_of self.new ≡ []) }
         ensures broken { broken_of self.old ≡ true → self.new ≡ self.old }
@@ -69,11 +90,11 @@ impl<W: Wire + Drop> GatheringWire<W> {
 }
 
 impl<W: Wire + Drop> Wire for GatheringWire<W> {
-    ghost tells = { told_gathering };
+    ghost tells = { told_gathering W.tells };
 
     fn try_read(&mut self, buf: &mut [u8]) -> TryRead
         requires { 0 < length buf.old }
-        ensures tells { ReadTells (told_gathering self.old) (told_gathering self.new) buf.new result }
+        ensures tells { ReadTells (told_gathering W.tells self.old) (told_gathering W.tells self.new) buf.new result }
         ensures reads { broken_of self.old ≡ false →
             ReadsGathering (holding W.tells self.old) (holding W.tells self.new) buf.new result }
         ensures held { 0 < length (ahead_of self.old) → below_of self.new ≡ below_of self.old }
@@ -90,7 +111,7 @@ impl<W: Wire + Drop> Wire for GatheringWire<W> {
 
     fn try_write(&mut self, bytes: &[u8]) -> TryWrite
         requires { 0 < length bytes.now }
-        ensures tells { WriteTells (told_gathering self.old) (told_gathering self.new) bytes.now result }
+        ensures tells { WriteTells (told_gathering W.tells self.old) (told_gathering W.tells self.new) bytes.now result }
         ensures writes { broken_of self.old ≡ false →
             Writes (holding W.tells self.old) (holding W.tells self.new) bytes.now result }
         ensures room { length (waiting_of self.old) < GATHERED → below_of self.new ≡ below_of self.old }
@@ -107,7 +128,7 @@ impl<W: Wire + Drop> Wire for GatheringWire<W> {
     }
 
     fn rest(&mut self, quiet: bool)
-        ensures tells { told_gathering self.new ≡ record (told_gathering self.old) { quiet = quiet } }
+        ensures tells { told_gathering W.tells self.new ≡ record (told_gathering W.tells self.old) { quiet = quiet } }
         ensures sends { quiet ≡ true → broken_of self.old ≡ false →
             Sends (rested (holding W.tells self.old) quiet) (holding W.tells self.new) }
         ensures waits { (quiet ≡ false) ⊎ (broken_of self.old ≡ true) →
@@ -121,7 +142,7 @@ impl<W: Wire + Drop> Wire for GatheringWire<W> {
     }
 
     fn counts(&self) -> Counts
-        ensures { result ≡ counts_of (told_gathering self.now) }
+        ensures { result ≡ counts_of (told_gathering W.tells self.now) }
     {
         self.counts
     }
@@ -129,7 +150,7 @@ impl<W: Wire + Drop> Wire for GatheringWire<W> {
 
 impl<W: ClientWire + Drop> ClientWire for GatheringWire<W> {
     fn flush(&mut self) -> bool
-        ensures told { told_gathering self.new ≡ told_gathering self.old }
+        ensures told { told_gathering W.tells self.new ≡ told_gathering W.tells self.old }
         ensures sends { broken_of self.old ≡ false → Sends (holding W.tells self.old) (holding W.tells self.new) }
         ensures all { IsTrue result ↔ (waiting_of self.new ≡ []) }
         ensures broken { broken_of self.old ≡ true → self.new ≡ self.old }
@@ -138,7 +159,7 @@ impl<W: ClientWire + Drop> ClientWire for GatheringWire<W> {
     }
 
     fn shut(&mut self)
-        ensures told { told_gathering self.new ≡ told_gathering self.old }
+        ensures told { told_gathering W.tells self.new ≡ told_gathering W.tells self.old }
         ensures holds { holding W.tells self.new ≡ holding W.tells self.old }
     {
         self.below.shut();

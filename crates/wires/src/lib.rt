@@ -1,5 +1,6 @@
 //! Wires: where a client's bytes come in and where those to it go out. They know no session, no ring and no FIX. `MemWire` is for tests,
-//! `StdWire` for standard input and output, `TcpWire` for a client that came over TCP.
+//! `StdWire` for standard input and output, `TcpWire` for a client that came over TCP or
+//! another `Stream`.
 #![tactic(auto)]
 
 mod buffers;
@@ -9,8 +10,11 @@ mod flushed;
 mod gathering;
 mod input;
 mod mem;
+mod mem_stream;
+mod socket;
 mod standard;
 mod stream;
+mod stream_wire;
 mod tcp;
 mod wire;
 
@@ -20,7 +24,9 @@ pub use flushed::Flushed;
 pub use gathering::GatheringWire;
 pub use input::Input;
 pub use mem::MemWire;
+pub use mem_stream::MemStream;
 pub use standard::StdWire;
-pub use stream::StreamWire;
-pub use tcp::{TcpWire, tcp_wire};
+pub use stream::Stream;
+pub use stream_wire::StreamWire;
+pub use tcp::{TcpWire, tcp_wire, wire_over};
 pub use wire::{TryRead, TryWrite, Wire};

@@ -1,11 +1,13 @@
-//! A wire in memory, for tests: it gives the bytes that it was made with, keeps those that it takes, and tells both.
+//! A wire in memory, for tests: a stream in memory, of whose answers it counts those that moved nothing. It tells all bytes.
 ghost use Rattle.std.specs.Prelude.{◌≡◌, ◌<◌, ◌≤◌, [], length, take, true, false, IfOk};
-ghost use Rattle.wires.specs.Wires.{ReadTells, WriteTells};
-ghost use Rattle.wires.specs.MemWires.{new_memory, told_memory, GivesBytes, TakesBytes};
-ghost use Rattle.wires.specs.Wires.{counts_of};
+ghost use Rattle.wires.specs.Wires.{ReadTells, WriteTells, counts_of};
+ghost use Rattle.wires.specs.MemWires.{new_memory, told_memory, ReadsMemory, WritesMemory};
 
 use crate::client::ClientWire;
 use crate::counts::Counts;
+use crate::mem_stream::MemStream;
+use crate::stream::Stream;
+use crate::stream_wire::{read_answer, write_answer};
 use crate::wire::{TryRead, TryWrite, Wire};
 use std::alloc::{AllocError, Global};
 use std::marker::Model;
@@ -13,16 +15,9 @@ use std::marker::Model;
 /// A wire in memory. It is set by calls that hand it on, as `MemWire::new(alloc, input)?.in_pieces(1).staying_open()`.
 #[derive(Drop)]
 pub struct MemWire {
-    input: Vec<u8>,
-    given: usize,
-    taken: Vec<u8>,
+    stream: MemStream,
     counts: Counts,
     quiet: bool,
-    piece: usize,
-    closes: bool,
-    room: usize,
-    breaks: bool,
-    shut: bool,
 }
 
 impl Model for MemWire {
@@ -30,25 +25,7 @@ impl Model for MemWire {
 
     ghost Value = { Memory };
 
-    ghost view = { λ w. record {
-      input = w.input.items;
-      given = w.given;
-      taken = w.taken.items;
-      failures = w.counts.failures;
-      empty_reads = w.counts.empty_reads;
-      full_writes = w.counts.full_writes;
-      ends = w.counts.ends;
-      quiet = w.quiet;
-      piece = w.piece;
-      closes = w.closes;
-      room = w.room;
-      breaks = w.breaks;
-      shut = w.shut;
-    } };
-
-    ghost use Rattle.std.specs.Prelude.{◌≤◌, length};
-
-    ghost invariant = { λ w. (w.given ≤ length w.input.items) × (1 ≤ w.piece) };
+    ghost view = { λ w. record { stream = w.stream; counts = w.counts; quiet = w.quiet } };
 }
 
 impl MemWire {
@@ -56,74 +33,84 @@ impl MemWire {
     pub fn new(alloc: Global, input: &[u8]) -> Result<MemWire, AllocError>
         ensures { IfOk result (λ wire. wire ≡ new_memory input.now) }
     {
-        Ok(MemWire {
-            input: Vec::from_slice(alloc, input)?,
-            given: 0,
-            taken: Vec::new(alloc),
+        Ok(MemWire::over(MemStream::new(alloc, input)?))
+    }
+
+    /// A wire over this stream. Nothing is counted yet.
+    fn over(stream: MemStream) -> MemWire
+        ensures { result ≡ record (new_memory []) { stream = stream } }
+    {
+        MemWire {
+            stream,
             counts: Counts::new(),
             quiet: true,
-            piece: usize::MAX,
-            closes: true,
-            room: usize::MAX,
-            breaks: false,
-            shut: false,
-        })
+        }
     }
 
     /// Gives at most so many bytes a read.
-    pub fn in_pieces(mut self, most: usize) -> MemWire
+    pub fn in_pieces(self, most: usize) -> MemWire
         requires { 1 ≤ most }
-        ensures { result ≡ record self { piece = most } }
+        ensures { result ≡ record self { stream = record self.stream { piece = most } } }
     {
-        self.piece = most;
-        self
+        MemWire {
+            stream: self.stream.in_pieces(most),
+            counts: self.counts,
+            quiet: self.quiet,
+        }
     }
 
     /// Stays open behind its input: reads answer `Nothing` there.
-    pub fn staying_open(mut self) -> MemWire
-        ensures { result ≡ record self { closes = false } }
+    pub fn staying_open(self) -> MemWire
+        ensures { result ≡ record self { stream = record self.stream { closes = false } } }
     {
-        self.closes = false;
-        self
+        MemWire {
+            stream: self.stream.staying_open(),
+            counts: self.counts,
+            quiet: self.quiet,
+        }
     }
 
     /// Takes so many bytes in all, and then fails each write.
-    pub fn breaking_after(mut self, bytes: usize) -> MemWire
-        ensures { result ≡ record self { room = bytes; breaks = true } }
+    pub fn breaking_after(self, bytes: usize) -> MemWire
+        ensures { result ≡ record self { stream = record self.stream { room = bytes; breaks = true } } }
     {
-        self.room = bytes;
-        self.breaks = true;
-        self
+        MemWire {
+            stream: self.stream.breaking_after(bytes),
+            counts: self.counts,
+            quiet: self.quiet,
+        }
     }
 
     /// Takes so many bytes in all, and then answers `Nothing` to each write.
-    pub fn full_after(mut self, bytes: usize) -> MemWire
-        ensures { result ≡ record self { room = bytes; breaks = false } }
+    pub fn full_after(self, bytes: usize) -> MemWire
+        ensures { result ≡ record self { stream = record self.stream { room = bytes; breaks = false } } }
     {
-        self.room = bytes;
-        self.breaks = false;
-        self
+        MemWire {
+            stream: self.stream.full_after(bytes),
+            counts: self.counts,
+            quiet: self.quiet,
+        }
     }
 
     /// The bytes that reads have given.
     pub fn given(&self) -> &[u8]
-        ensures { result.now ≡ take self.now.given self.now.input }
+        ensures { result.now ≡ take self.now.stream.given self.now.stream.input }
     {
-        &self.input[..self.given]
+        self.stream.given()
     }
 
     /// The bytes that writes have taken.
     pub fn taken(&self) -> &[u8]
-        ensures { result.now ≡ self.now.taken }
+        ensures { result.now ≡ self.now.stream.taken }
     {
-        self.taken.as_slice()
+        self.stream.taken()
     }
 
     /// Whether it was said that nothing more is written.
     pub fn is_shut(&self) -> bool
-        ensures { result ≡ self.now.shut }
+        ensures { result ≡ self.now.stream.shut }
     {
-        self.shut
+        self.stream.is_shut()
     }
 }
 
@@ -133,38 +120,21 @@ impl Wire for MemWire {
     fn try_read(&mut self, buf: &mut [u8]) -> TryRead
         requires { 0 < length buf.old }
         ensures tells { ReadTells (told_memory self.old) (told_memory self.new) buf.new result }
-        ensures gives { GivesBytes self.old self.new (length buf.new) result }
+        ensures gives { ReadsMemory self.old self.new (length buf.new) result }
     {
-        let rest = &self.input[self.given..];
-        let count = rest.len().min(self.piece).min(buf.len());
-        if count > 0 {
-            buf[..count].copy_from_slice(&rest[..count]);
-            self.given += count;
-            return TryRead::Got(count);
-        }
-        if self.closes {
-            self.counts.ended();
-            return TryRead::End;
-        }
-        self.counts.empty_read();
-        TryRead::Nothing
+        let answer = read_answer(self.stream.read(buf));
+        self.counts.count_read(answer);
+        answer
     }
 
     fn try_write(&mut self, bytes: &[u8]) -> TryWrite
         requires { 0 < length bytes.now }
         ensures tells { WriteTells (told_memory self.old) (told_memory self.new) bytes.now result }
-        ensures takes { TakesBytes self.old self.new bytes.now result }
+        ensures takes { WritesMemory self.old self.new bytes.now result }
     {
-        let count = self.room.saturating_sub(self.taken.len()).min(bytes.len());
-        if count == 0 && !self.breaks {
-            self.counts.full_write();
-            return TryWrite::Nothing;
-        }
-        if count > 0 && self.taken.extend_from_slice(&bytes[..count]).is_ok() {
-            return TryWrite::Put(count);
-        }
-        self.counts.failed();
-        TryWrite::Failed
+        let answer = write_answer(self.stream.write(bytes));
+        self.counts.count_write(answer);
+        answer
     }
 
     fn rest(&mut self, quiet: bool)
@@ -189,8 +159,8 @@ impl ClientWire for MemWire {
     }
 
     fn shut(&mut self)
-        ensures { self.new ≡ record self.old { shut = true } }
+        ensures { self.new ≡ record self.old { stream = record self.old.stream { shut = true } } }
     {
-        self.shut = true;
+        self.stream.shut();
     }
 }

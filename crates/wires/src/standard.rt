@@ -1,8 +1,8 @@
 //! The program's own wire: standard input and output, or any reader and writer.
 ghost use Rattle.std.specs.Prelude.{◌≡◌, ◌<◌, ◌↔◌, true, false, length, IsTrue};
 ghost use Rattle.std.specs.IoError.{error_kind};
-ghost use Rattle.wires.specs.Wires.{ReadTells, WriteTells, counts_of};
-ghost use Rattle.wires.specs.StdWires.{told_standard, untold, reader_of, writer_of, rested_of, IsPassing, TakesIn, SendsOut, RestsOnRead, RestsNot};
+ghost use Rattle.wires.specs.Wires.{ReadTells, WriteTells, counts_of, uncounted};
+ghost use Rattle.wires.specs.StdWires.{told_standard, reader_of, writer_of, rested_of, IsPassing, TakesIn, SendsOut, RestsOnRead, RestsNot};
 
 use crate::counts::Counts;
 use crate::wire::{TryRead, TryWrite, Wire};
@@ -28,7 +28,7 @@ impl<R: Read + Drop, W: Write + Drop> StdWire<R, W> {
     pub fn new(reader: R, writer: W) -> StdWire<R, W>
         ensures reader { reader_of result ≡ reader }
         ensures writer { writer_of result ≡ writer }
-        ensures counts { told_standard result ≡ untold }
+        ensures counts { told_standard result ≡ uncounted None None }
         ensures rested { rested_of result ≡ true }
     {
         StdWire {

@@ -1,13 +1,16 @@
 //! What a session meets at standard input and output, and at a stream: readers and writers that do less than they are
 //! asked for, or fail.
-ghost use Rattle.std.specs.Prelude.{◌<◌, ◌≤◌, length, IfOk};
+ghost use Rattle.std.specs.Prelude.{◌<◌, ◌≤◌, None, length, IfOk};
 
 use std::alloc::{AllocError, Global};
 use std::io;
 use std::io::{ErrorKind, Read, Write};
 use std::process::Abort;
 use std::test::Fail;
-use wires::{Counts, GatheringWire, StdWire, StreamWire, TcpWire, TryRead, TryWrite, Wire};
+use wires::{
+    ClientWire, Counts, GatheringWire, MemStream, StdWire, Stream, TryRead, TryWrite, Wire,
+    wire_over,
+};
 
 /// A reader and a writer that go through a script: each read, write and flush takes the next step.
 #[derive(Drop)]
@@ -180,7 +183,11 @@ impl<'a> Line<'a> {
     }
 }
 
-impl Read for Line<'_> {
+impl Stream for Line<'_> {
+    ghost gave = { λ _. None };
+
+    ghost took = { λ _. None };
+
     fn read(&mut self, buf: &mut [u8]) -> io::Result<usize> {
         let count = self.reads.step(buf.len().min(self.input.len()))?;
         let (given, left) = self.input.split_at(count);
@@ -188,25 +195,14 @@ impl Read for Line<'_> {
         self.input = left;
         Ok(count)
     }
-}
 
-impl Write for Line<'_> {
-    fn write(&mut self, buf: &[u8]) -> io::Result<usize> {
-        let count = self.writes.step(buf.len())?;
-        self.sent.extend_from_slice(&buf[..count])?;
+    fn write(&mut self, bytes: &[u8]) -> io::Result<usize> {
+        let count = self.writes.step(bytes.len())?;
+        self.sent.extend_from_slice(&bytes[..count])?;
         Ok(count)
     }
 
-    fn flush(&mut self) -> io::Result<()> {
-        Ok(())
-    }
-}
-
-fn wire_over<'a, 'b>(
-    alloc: Global,
-    line: &'b mut Line<'a>,
-) -> Result<TcpWire<&'b mut Line<'a>>, AllocError> {
-    Ok(GatheringWire::new(alloc, StreamWire::new(line))?)
+    fn shut(&mut self) {}
 }
 
 /// Reads two bytes at a time and keeps them, and is given these answers.
@@ -247,8 +243,8 @@ fn what_is_read_ahead_is_handed_out_in_order(rt: HostRuntime) -> Result<(), Fail
         TryRead::Failed,
         TryRead::End,
     ];
-    let mut line = Line::new(rt.alloc(), b"8=FIX.4.4", &steps, &[]);
-    let mut wire = wire_over(rt.alloc(), &mut line)?;
+    let line = Line::new(rt.alloc(), b"8=FIX.4.4", &steps, &[]);
+    let mut wire = wire_over(rt.alloc(), line)?;
     let mut bytes = Vec::new(rt.alloc());
     expect_reads_by_two(&rt, &mut wire, &answers, &mut bytes)?;
     assert_eq!(rt; bytes.as_slice(), b"8=FIX.4.4".as_slice());
@@ -285,8 +281,8 @@ fn what_is_written_waits_until_it_is_sent(rt: HostRuntime) -> Result<(), Fail> {
         Step::Moves(1),
         Step::Moves(1000),
     ];
-    let mut line = Line::new(rt.alloc(), b"", &[], &steps);
-    let mut wire = wire_over(rt.alloc(), &mut line)?;
+    let line = Line::new(rt.alloc(), b"", &[], &steps);
+    let mut wire = wire_over(rt.alloc(), line)?;
     expect_flushes(
         &rt,
         &mut wire,
@@ -294,8 +290,10 @@ fn what_is_written_waits_until_it_is_sent(rt: HostRuntime) -> Result<(), Fail> {
     );
     expect_writes(&rt, &mut wire, b"5=0|1", &[TryWrite::Put(5)]);
     wire.rest(true);
-    drop(wire);
-    assert_eq!(rt; line.sent.as_slice(), b"8=FIX.4.4|9=5|35=0|1".as_slice());
+    assert_eq!(rt;
+        wire.below().stream().sent.as_slice(),
+        b"8=FIX.4.4|9=5|35=0|1".as_slice()
+    );
     Ok(())
 }
 
@@ -307,8 +305,8 @@ fn a_deaf_client_is_noticed(rt: HostRuntime) -> Result<(), Fail> {
         Step::Fails(ErrorKind::Interrupted),
         Step::Moves(100_000),
     ];
-    let mut line = Line::new(rt.alloc(), b"", &[], &steps);
-    let mut wire = wire_over(rt.alloc(), &mut line)?;
+    let line = Line::new(rt.alloc(), b"", &[], &steps);
+    let mut wire = wire_over(rt.alloc(), line)?;
     expect_writes(&rt, &mut wire, &[b'0'; 1024], &[TryWrite::Put(1024); 64]);
     let answers = [
         TryWrite::Nothing,
@@ -318,8 +316,7 @@ fn a_deaf_client_is_noticed(rt: HostRuntime) -> Result<(), Fail> {
     ];
     expect_writes(&rt, &mut wire, &[b'0'; 1024], &answers);
     assert_eq!(rt; wire.counts().full_writes, 2);
-    drop(wire);
-    assert_eq!(rt; line.sent.len(), 65_636);
+    assert_eq!(rt; wire.below().stream().sent.len(), 65_636);
     Ok(())
 }
 
@@ -336,13 +333,38 @@ fn is_broken<A: Abort, W: Wire + Drop>(rt: &A, wire: &mut GatheringWire<W>) {
 fn a_wire_whose_write_failed_is_broken(rt: HostRuntime) -> Result<(), Fail> {
     for step in [Step::Fails(ErrorKind::BrokenPipe), Step::Moves(0)] {
         let steps = [step, Step::Moves(1000)];
-        let mut line = Line::new(rt.alloc(), b"8=FIX.4.4", &[Step::Moves(3)], &steps);
-        let mut wire = wire_over(rt.alloc(), &mut line)?;
+        let line = Line::new(rt.alloc(), b"8=FIX.4.4", &[Step::Moves(3)], &steps);
+        let mut wire = wire_over(rt.alloc(), line)?;
         expect_writes(&rt, &mut wire, b"8=FIX", &[TryWrite::Put(5)]);
         is_broken(&rt, &mut wire);
         expect_writes(&rt, &mut wire, b".4.4", &[TryWrite::Failed]);
-        drop(wire);
-        assert!(rt; line.sent.is_empty());
+        assert!(rt; wire.below().stream().sent.is_empty());
     }
+    Ok(())
+}
+
+#[test]
+fn a_client_that_leaves_is_sent_all_and_then_the_end(rt: HostRuntime) -> Result<(), Fail> {
+    let stream = MemStream::new(rt.alloc(), b"8=FIX.4.4")?
+        .in_pieces(4)
+        .staying_open()
+        .full_after(12);
+    let mut wire = wire_over(rt.alloc(), stream)?;
+    let mut bytes = Vec::new(rt.alloc());
+    let answers = [
+        TryRead::Got(2),
+        TryRead::Got(2),
+        TryRead::Got(2),
+        TryRead::Got(2),
+        TryRead::Got(1),
+    ];
+    expect_reads_by_two(&rt, &mut wire, &answers, &mut bytes)?;
+    expect_read(&rt, &mut wire, TryRead::Nothing);
+    assert_eq!(rt; bytes.as_slice(), wire.below().stream().given());
+    expect_writes(&rt, &mut wire, b"8=FIX.4", &[TryWrite::Put(7); 2]);
+    assert!(rt; !wire.flush());
+    assert_eq!(rt; wire.below().stream().taken(), b"8=FIX.48=FIX".as_slice());
+    wire.shut();
+    assert!(rt; wire.below().stream().is_shut());
     Ok(())
 }

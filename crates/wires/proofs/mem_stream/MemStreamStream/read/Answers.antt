@@ -1,11 +1,11 @@
--- The piece copied is what the wire has given more, and it stands in the buffer's front.
+-- The piece copied is what the stream has given more, and it stands in the buffer's front.
 use Rattle.std.proofs.Common.{◌≡◌, ◌≤◌, ◌-◌, length, take, drop, refl, ap, ◌∙◌, arith, length-append}
 use Rattle.std.proofs.lemmas.List.{length-take-le}
 use Rattle.wires.proofs.MemWireLemmas.{rest_is, given_more}
-use Rattle.wires.proofs.mem.MemWireWire.try_read.Goals as goal
+use Rattle.wires.proofs.mem_stream.MemStreamStream.read.Goals as goal
 
-pub returns-then-count-gt0-clause-tells : goal.returns-then-count-gt0-clause-tells
-returns-then-count-gt0-clause-tells c =
+pub returns-clause-gives : goal.returns-clause-gives
+returns-clause-gives c =
     let input = c.self.inside.input.items in
     let given = c.self.inside.given in
     let count = c.min-count.result in
@@ -19,4 +19,4 @@ returns-then-count-gt0-clause-tells c =
     let long = length-take-le count (drop given input) within in
     let whole = length-append (take count (drop given input)) behind in
     let more = given_more input given count behind within in
-    rw (← c.self.view_is, piece) (omega arith, omega (arith, long, whole), rw more refl)
+    rw (← c.self.view_is, piece) (omega (arith, long, whole), rw more refl)

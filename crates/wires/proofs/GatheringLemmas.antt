@@ -1,0 +1,50 @@
+-- What a wire that gathers tells of a read: what it hands out of the bytes held ahead.
+use Rattle.std.proofs.Common.{◌≡◌, ℕ, ◌≤◌, Bool, List, ◌++◌, length, take, Option, refl, sym, ap, ◌∙◌}
+use Rattle.wires.specs.declared.counts.Counts.{Counts}
+use Rattle.wires.specs.declared.wire.TryRead.{TryRead}
+use Rattle.wires.specs.declared.wire.TryRead.TheVariants as read
+use Rattle.wires.specs.Counting.{CountsRead}
+use Rattle.wires.specs.Gatherings.{HandsOut, IfGot}
+use Rattle.wires.specs.WireLaws.{grown-append, without-grown}
+use Rattle.wires.specs.Wires.{Told, told_by, grown, without, AreLast, ReadTells}
+
+-- the bytes that the wire below gave are those in front of what was held, those handed out, and those left
+handed_out : (old : Option (List ℕ)) (front : Option (List ℕ)) (held more out left : List ℕ) → old ≡ grown front held
+    → held ++ more ≡ out ++ left → grown old more ≡ grown (grown front out) left
+handed_out old front held more out left was split =
+    ap (λ t. grown t more) was ∙ grown-append front held more ∙ ap (grown front) split
+    ∙ sym (grown-append front out left)
+
+-- the bytes left are the last that the wire below gave, where those held were
+pub still_last : (old new : Told) (held left buf : List ℕ) (answer : TryRead) → HandsOut old new held left buf answer
+    → AreLast old.gave held → AreLast new.gave left
+still_last old new held left buf (read.Got n) hands last = (
+  grown last.0 (take n buf),
+  ap (λ (t : Told). t.gave) hands.3 ∙ handed_out old.gave last.0 held hands.0 (take n buf) left last.1 hands.2,
+)
+still_last old new held left buf read.Nothing hands last =
+    (last.0, ap (λ (t : Told). t.gave) hands.2.1 ∙ last.1 ∙ ap (grown last.0) (hands.0 ∙ sym hands.1))
+still_last old new held left buf read.End hands last =
+    (last.0, ap (λ (t : Told). t.gave) hands.2.1 ∙ last.1 ∙ ap (grown last.0) (hands.0 ∙ sym hands.1))
+still_last old new held left buf read.Failed hands last =
+    (last.0, ap (λ (t : Told). t.gave) hands.2.1 ∙ last.1 ∙ ap (grown last.0) (hands.0 ∙ sym hands.1))
+
+-- what a read hands out is told behind what was handed out before
+pub read_told : (old new : Told) (held left waiting buf : List ℕ) (was is : Counts) (quiet : Bool) (answer : TryRead)
+    → HandsOut old new held left buf answer → IfGot answer (λ n. (1 ≤ n) × (n ≤ length buf)) → AreLast old.gave held
+    → CountsRead was is answer
+    → ReadTells (told_by (without old.gave held) (grown old.took waiting) was quiet)
+    (told_by (without new.gave left) (grown new.took waiting) is quiet) buf answer
+read_told old new held left waiting buf was is quiet (read.Got n) hands some last counted =
+    let before : without old.gave held ≡ last.0 = ap (λ t. without t held) last.1 ∙ without-grown last.0 held in
+    let out = take n buf in
+    let gave : without (grown old.gave hands.0) left ≡ grown (without old.gave held) out =
+    ap (λ t. without t left) (handed_out old.gave last.0 held hands.0 out left last.1 hands.2)
+    ∙ without-grown (grown last.0 out) left ∙ ap (λ t. grown t out) (sym before) in
+    (some.0, some.1, rw (hands.3, counted, gave) refl)
+read_told old new held left waiting buf was is quiet read.Nothing hands some last counted =
+    (counted.0, rw (hands.0, hands.1, hands.2.1, counted.1) refl)
+read_told old new held left waiting buf was is quiet read.End hands some last counted =
+    (counted.0, rw (hands.0, hands.1, hands.2.1, counted.1) refl)
+read_told old new held left waiting buf was is quiet read.Failed hands some last counted =
+    (counted.0, rw (hands.0, hands.1, hands.2.1, counted.1) refl)
