@@ -1,7 +1,7 @@
 //! A client whose session has ended. What it was told last still goes out, and its connection is closed in such an order that nothing of that is
 //! lost: a connection that is closed while bytes of the client lie unread is reset, and then the client may lose what it hasn't read yet.
 
-use gateway::{TcpWire, TryRead, Wire};
+use gateway::{ClientWire, TcpWire, TryRead, Wire};
 use std::net::Shutdown;
 
 /// For how many turns a client is waited for that doesn't take what it is told, or doesn't close its side: some seconds.

@@ -76,7 +76,7 @@ impl<W: Wire + Drop> GatheringWire<W> {
     }
 
     /// Sends what waits, as far as the wire below takes it, and says whether nothing waits any more.
-    pub fn flush(&mut self) -> bool
+    fn send_waiting(&mut self) -> bool
         ensures told { told_gathering W.tells self.new ≡ told_gathering W.tells self.old }
         ensures sends { broken_of self.old ≡ false → Sends (holding W.tells self.old) (holding W.tells self.new) }
         ensures all { IsTrue result ↔ (waiting_of self.new ≡ []) }
@@ -137,7 +137,7 @@ impl<W: Wire + Drop> Wire for GatheringWire<W> {
         self.quiet = quiet;
         self.below.rest(quiet);
         if quiet {
-            self.flush();
+            self.send_waiting();
         }
     }
 
@@ -155,7 +155,7 @@ impl<W: ClientWire + Drop> ClientWire for GatheringWire<W> {
         ensures all { IsTrue result ↔ (waiting_of self.new ≡ []) }
         ensures broken { broken_of self.old ≡ true → self.new ≡ self.old }
     {
-        GatheringWire::flush(self)
+        self.send_waiting()
     }
 
     fn shut(&mut self)

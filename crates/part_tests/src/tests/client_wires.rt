@@ -259,7 +259,7 @@ fn what_is_read_ahead_is_handed_out_in_order(rt: HostRuntime) -> Result<(), Fail
 }
 
 /// Writes each row, works, and flushes: says whether all was sent.
-fn expect_flushes<A: Abort, W: Wire + Drop>(
+fn expect_flushes<A: Abort, W: ClientWire + Drop>(
     rt: &A,
     wire: &mut GatheringWire<W>,
     rows: &[(&[u8; 5], bool)],
@@ -321,7 +321,7 @@ fn a_deaf_client_is_noticed(rt: HostRuntime) -> Result<(), Fail> {
 }
 
 /// Neither sends nor reads any more, and counts each try.
-fn is_broken<A: Abort, W: Wire + Drop>(rt: &A, wire: &mut GatheringWire<W>) {
+fn is_broken<A: Abort, W: ClientWire + Drop>(rt: &A, wire: &mut GatheringWire<W>) {
     for failures in 1..3 {
         assert!(rt; !wire.flush());
         expect_read(rt, wire, TryRead::Failed);
