@@ -5,8 +5,8 @@ use Rattle.wires.specs.declared.wire.TryRead.{TryRead}
 use Rattle.wires.specs.declared.wire.TryRead.TheVariants as read
 use Rattle.wires.specs.Counting.{CountsRead}
 use Rattle.wires.specs.Gatherings.{HandsOut, IfGot}
-use Rattle.wires.specs.WireLaws.{grown-append, without-grown}
-use Rattle.wires.specs.Wires.{Told, told_by, grown, without, AreLast, ReadTells}
+use Rattle.wires.specs.WireLaws.{grown-append, before_last-grown}
+use Rattle.wires.specs.Wires.{Told, telling, grown, before_last, AreLast, ReadTells}
 
 -- the bytes that the wire below gave are those in front of what was held, those handed out, and those left
 handed_out : (old : Option (List ℕ)) (front : Option (List ℕ)) (held more out left : List ℕ) → old ≡ grown front held
@@ -33,14 +33,14 @@ still_last old new held left buf read.Failed hands last =
 pub read_told : (old new : Told) (held left waiting buf : List ℕ) (was is : Counts) (quiet : Bool) (answer : TryRead)
     → HandsOut old new held left buf answer → IfGot answer (λ n. (1 ≤ n) × (n ≤ length buf)) → AreLast old.gave held
     → CountsRead was is answer
-    → ReadTells (told_by (without old.gave held) (grown old.took waiting) was quiet)
-    (told_by (without new.gave left) (grown new.took waiting) is quiet) buf answer
+    → ReadTells (telling (before_last old.gave held) (grown old.took waiting) was quiet)
+    (telling (before_last new.gave left) (grown new.took waiting) is quiet) buf answer
 read_told old new held left waiting buf was is quiet (read.Got n) hands some last counted =
-    let before : without old.gave held ≡ last.0 = ap (λ t. without t held) last.1 ∙ without-grown last.0 held in
+    let before : before_last old.gave held ≡ last.0 = ap (λ t. before_last t held) last.1 ∙ before_last-grown last.0 held in
     let out = take n buf in
-    let gave : without (grown old.gave hands.0) left ≡ grown (without old.gave held) out =
-    ap (λ t. without t left) (handed_out old.gave last.0 held hands.0 out left last.1 hands.2)
-    ∙ without-grown (grown last.0 out) left ∙ ap (λ t. grown t out) (sym before) in
+    let gave : before_last (grown old.gave hands.0) left ≡ grown (before_last old.gave held) out =
+    ap (λ t. before_last t left) (handed_out old.gave last.0 held hands.0 out left last.1 hands.2)
+    ∙ before_last-grown (grown last.0 out) left ∙ ap (λ t. grown t out) (sym before) in
     (some.0, some.1, rw (hands.3, counted, gave) refl)
 read_told old new held left waiting buf was is quiet read.Nothing hands some last counted =
     (counted.0, rw (hands.0, hands.1, hands.2.1, counted.1) refl)

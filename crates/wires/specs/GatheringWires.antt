@@ -6,7 +6,7 @@ use Rattle.wires.specs.declared.flushed.Flushed.TheVariants.{Failed}
 use Rattle.wires.specs.declared.wire.TryRead.{TryRead}
 use Rattle.wires.specs.declared.wire.TryWrite.{TryWrite}
 use Rattle.wires.specs.declared.wire.TryWrite.TheVariants as write
-use Rattle.wires.specs.Wires.{Told, told_by, uncounted, grown, without}
+use Rattle.wires.specs.Wires.{Told, telling, uncounted, grown, before_last}
 use Rattle.wires.specs.Flushing.{Flushes}
 use Rattle.wires.specs.Gatherings.{HandsOut, Gathers}
 
@@ -25,7 +25,7 @@ pub record Gathering (W : Type 0) : Type 0 where
 -- what waits
 abbrev pub told_gathering : {W : Type 0} → (W → Told) → Gathering W → Told
 told_gathering tells g =
-    told_by (without (tells g.below).gave g.ahead) (grown (tells g.below).took g.waiting) g.counts g.quiet
+    telling (before_last (tells g.below).gave g.ahead) (grown (tells g.below).took g.waiting) g.counts g.quiet
 
 abbrev pub below_of : {W : Type 0} → Gathering W → W
 below_of g = g.below

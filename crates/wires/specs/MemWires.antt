@@ -8,7 +8,7 @@ use Rattle.wires.specs.declared.wire.TryWrite.{TryWrite}
 use Rattle.wires.specs.Counting.{CountsRead, CountsWrite}
 use Rattle.wires.specs.MemStreams.{MemoryStream, new_stream, gave_of, took_of, GivesBytes, TakesBytes}
 use Rattle.wires.specs.StreamWires.{MeansRead, MeansWrite}
-use Rattle.wires.specs.Wires.{Told, told_by}
+use Rattle.wires.specs.Wires.{Told, telling}
 
 -- its stream, its counts, and whether it was last told to rest
 pub record Memory : Type 0 where
@@ -26,7 +26,7 @@ new_memory input = record {
 
 -- it tells all that it gave and took
 abbrev pub told_memory : Memory → Told
-told_memory m = told_by (gave_of m.stream) (took_of m.stream) m.counts m.quiet
+told_memory m = telling (gave_of m.stream) (took_of m.stream) m.counts m.quiet
 
 -- what a read into so much space does: the stream gives bytes, and the answer is what its own means
 abbrev pub ReadsMemory : Memory → Memory → ℕ → TryRead → Type 0

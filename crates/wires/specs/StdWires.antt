@@ -8,11 +8,11 @@ use Rattle.wires.specs.declared.wire.TryRead.TheVariants as read
 use Rattle.wires.specs.declared.wire.TryWrite.{TryWrite}
 use Rattle.wires.specs.declared.wire.TryWrite.TheVariants as write
 use Rattle.wires.specs.declared.standard.StdWire.{StdWire}
-use Rattle.wires.specs.Wires.{Told, told_by}
+use Rattle.wires.specs.Wires.{Told, telling}
 
 -- it tells its counts, and whether it was last told to rest
 abbrev pub told_standard : {R W : Type 0} → StdWire R W → Told
-told_standard w = told_by None None w.counts w.quiet
+told_standard w = telling None None w.counts w.quiet
 
 abbrev pub reader_of : {R W : Type 0} → StdWire R W → R
 reader_of w = w.reader

@@ -8,12 +8,12 @@ use Rattle.wires.specs.declared.wire.TryRead.{TryRead}
 use Rattle.wires.specs.declared.wire.TryRead.TheVariants as read
 use Rattle.wires.specs.declared.wire.TryWrite.{TryWrite}
 use Rattle.wires.specs.declared.wire.TryWrite.TheVariants as write
-use Rattle.wires.specs.Wires.{Told, told_by}
+use Rattle.wires.specs.Wires.{Told, telling}
 use Rattle.wires.specs.StdWires.{IsPassing}
 
 -- over streams that gave and took these bytes it tells those, its counts, and whether it was last told to rest
 abbrev pub told_stream : {S : Type 0} → (S → Option (List ℕ)) → (S → Option (List ℕ)) → StreamWire S → Told
-told_stream gave took w = told_by (gave w.stream) (took w.stream) w.counts w.quiet
+told_stream gave took w = telling (gave w.stream) (took w.stream) w.counts w.quiet
 
 abbrev pub stream_of : {S : Type 0} → StreamWire S → S
 stream_of w = w.stream

@@ -19,8 +19,8 @@ pub record Told : Type 0 where
   pub quiet : Bool
 
 -- of these bytes, counts, and whether it was last told to rest
-abbrev pub told_by : Option (List ℕ) → Option (List ℕ) → Counts → Bool → Told
-told_by gave took counts quiet = record {
+abbrev pub telling : Option (List ℕ) → Option (List ℕ) → Counts → Bool → Told
+telling gave took counts quiet = record {
   gave = gave;
   took = took;
   failures = counts.failures;
@@ -33,7 +33,7 @@ told_by gave took counts quiet = record {
 -- before its first call, where it tells these bytes
 abbrev pub uncounted : Option (List ℕ) → Option (List ℕ) → Told
 uncounted gave took =
-    told_by gave took (record { failures = 0; empty_reads = 0; full_writes = 0; ends = 0 }) true
+    telling gave took (record { failures = 0; empty_reads = 0; full_writes = 0; ends = 0 }) true
 
 -- what it counts
 abbrev pub counts_of : Told → Counts
@@ -45,9 +45,9 @@ grown None more = None
 grown (Some bytes) more = Some (bytes ++ more)
 
 -- what is told of some bytes, but for these, which are the last
-abbrev pub without : Option (List ℕ) → List ℕ → Option (List ℕ)
-without None last = None
-without (Some bytes) last = Some (take (length bytes - length last) bytes)
+abbrev pub before_last : Option (List ℕ) → List ℕ → Option (List ℕ)
+before_last None last = None
+before_last (Some bytes) last = Some (take (length bytes - length last) bytes)
 
 -- these are the last of the bytes that are told, where any are
 abbrev pub AreLast : Option (List ℕ) → List ℕ → Type 0
