@@ -1,7 +1,7 @@
 //! A wire that gathers: it reads ahead of the session, and what is written waits until it is sent together. It stands
 //! in front of a wire that never waits, as that of a client that came over TCP.
 ghost use Rattle.std.specs.Prelude.{◌≡◌, ◌<◌, ◌↔◌, ◌⊎◌, [], true, false, length, IfOk, IfErr, IsTrue};
-ghost use Rattle.wires.specs.Wires.{ReadTells, WriteTells, counts_of, uncounted};
+ghost use Rattle.wires.specs.Wires.{ReadTells, WriteTells, counts_of};
 ghost use Rattle.wires.specs.GatheringWires.{told_gathering, below_of, ahead_of, waiting_of, broken_of, IsFresh, HoldsSame};
 ghost use Rattle.wires.specs.GatheringWires.{holding, rested, ReadsGathering, Writes, Sends};
 ghost use Rattle.wires.specs.declared.buffers.TheConstants.{GATHERED};

@@ -1,6 +1,6 @@
 //! A wire over a stream that never waits for the client, as a socket that was set so. It has no buffer.
-ghost use Rattle.std.specs.Prelude.{◌≡◌, ◌<◌, true, length};
-ghost use Rattle.wires.specs.Wires.{ReadTells, WriteTells, counts_of, uncounted};
+ghost use Rattle.std.specs.Prelude.{◌≡◌, true};
+ghost use Rattle.wires.specs.Wires.{uncounted};
 ghost use Rattle.wires.specs.StreamWires.{told_stream, stream_of, MeansRead, MeansWrite};
 
 use crate::client::ClientWire;

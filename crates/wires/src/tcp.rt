@@ -1,5 +1,5 @@
 //! The wire of a client that came over TCP.
-ghost use Rattle.std.specs.Prelude.{◌≡◌, None, IfOk, IfErr};
+ghost use Rattle.std.specs.Prelude.{◌≡◌, IfOk, IfErr};
 ghost use Rattle.wires.specs.Wires.{uncounted};
 ghost use Rattle.wires.specs.GatheringWires.{IsFresh, below_of};
 ghost use Rattle.wires.specs.StreamWires.{stream_of};
