@@ -28,7 +28,7 @@ no_outputs (Answer (Logout time text) ∷ items) order off = none_last items ord
 no_outputs (Output said ∷ items) order off = cc
 
 -- so a client that isn't logged on was given none
-none_given : (s : Standing) (input : List ℕ) (messages : List (List ℕ)) (outs : List Said) (written : List ℕ) →
+pub none_given : (s : Standing) (input : List ℕ) (messages : List (List ℕ)) (outs : List Said) (written : List ℕ) →
     At s input messages outs written → s.logged_on ≡ false → outs ≡ []
 none_given s input messages outs written at off =
     let spoken = at.spoken in

@@ -21,3 +21,14 @@ pub mod TakenLemmas
 pub mod SeatLemmas
 pub mod PublishLemmas
 pub mod DeliversLemmas
+pub mod LogonLemmas
+pub mod SendLemmas
+pub mod ReportLemmas
+pub mod ActLemmas
+pub mod RecordLemmas
+pub mod SittingLemmas
+pub mod VisitLemmas
+pub mod LifeLemmas
+pub mod TurnLives
+pub mod ServedLemmas
+pub mod VisitLaws

@@ -20,22 +20,23 @@ use Rattle.gateway.specs.Seats.{texts_to, taken_by}
 
 -- TEXTS
 
+-- what some outputs say and then others
+pub texts-append : (k place : ℕ) (xs ys : List Output) → texts_to k place (xs ++ ys)
+    ≡ texts_to k place xs ++ texts_to k (place + length xs) ys
+texts-append k place [] ys = ap (λ (n : ℕ). texts_to k n ys) (sym (add-zero place))
+texts-append k place (x ∷ xs) ys =
+    let number : place + 1 + length xs ≡ place + suc (length xs) = omega arith in
+    let behind : List Said = texts_to k (place + suc (length xs)) ys in
+    let rest : texts_to k (place + 1) (xs ++ ys) ≡ texts_to k (place + 1) xs ++ behind =
+    texts-append k (place + 1) xs ys ∙ ap (λ (n : ℕ). texts_to k (place + 1) xs ++ texts_to k n ys) number in
+    elim (x.to == k) as (λ b.
+    (if b then text x place ∷ texts_to k (place + 1) (xs ++ ys) else texts_to k (place + 1) (xs ++ ys))
+    ≡ (if b then text x place ∷ texts_to k (place + 1) xs else texts_to k (place + 1) xs) ++ behind
+    ) [ true ↦ ap (λ l. text x place ∷ l) rest | false ↦ rest ]
+
 -- what one output more says, if it goes to this gateway
 abbrev one_text : ℕ → ℕ → Output → List Said
 one_text k place o = if o.to == k then text o place ∷ [] else []
-
-texts-one_more : (k place : ℕ) (xs : List Output) (o : Output) →
-    texts_to k place (xs ++ o ∷ []) ≡ texts_to k place xs ++ one_text k (place + length xs) o
-texts-one_more k place [] o = ap (λ (n : ℕ). one_text k n o) (sym (add-zero place))
-texts-one_more k place (x ∷ xs) o =
-    let number : place + 1 + length xs ≡ place + suc (length xs) = omega arith in
-    let behind : List Said = one_text k (place + suc (length xs)) o in
-    let rest : texts_to k (place + 1) (xs ++ o ∷ []) ≡ texts_to k (place + 1) xs ++ behind =
-    texts-one_more k (place + 1) xs o ∙ ap (λ (n : ℕ). texts_to k (place + 1) xs ++ one_text k n o) number in
-    elim (x.to == k) as (λ b.
-    (if b then text x place ∷ texts_to k (place + 1) (xs ++ o ∷ []) else texts_to k (place + 1) (xs ++ o ∷ []))
-    ≡ (if b then text x place ∷ texts_to k (place + 1) xs else texts_to k (place + 1) xs) ++ behind
-    ) [ true ↦ ap (λ l. text x place ∷ l) rest | false ↦ rest ]
 
 -- what is taken behind the outputs at the start when the count goes over one output more
 taken-one_more : (k base_outputs : ℕ) (all : List Output) (count : ℕ) (o : Output) → get_elem? all count ≡ some o
@@ -50,7 +51,7 @@ taken-one_more k base_outputs all count o at from =
     let long : base_outputs + length rest ≡ count = omega (arith, front, behind) in
     ap (λ (l : List Output). texts_to k base_outputs (drop base_outputs l)) (take_next all count o at)
     ∙ ap (texts_to k base_outputs) (drop-append-le base_outputs (take count all) (o ∷ []) (omega (arith, front)))
-    ∙ texts-one_more k base_outputs rest o ∙ ap (λ (n : ℕ). texts_to k base_outputs rest ++ one_text k n o) long
+    ∙ texts-append k base_outputs rest (o ∷ []) ∙ ap (λ (n : ℕ). texts_to k base_outputs rest ++ one_text k n o) long
 
 -- what an output says that goes to gateway k, and one that goes to another
 is_same : (n k : ℕ) → n ≡ k → (n == k) ≡ true

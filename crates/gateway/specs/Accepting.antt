@@ -1,11 +1,14 @@
 -- An acceptor: its gateway, and the wire of the client that is connected; and what one turn of it does.
-use Rattle.std.specs.Prelude.{◌≡◌, ◌⊎◌, ℕ, zero, suc, Bool, true, false, Option, Some, None}
+use Rattle.std.specs.Prelude.{◌≡◌, ◌⊎◌, ℕ, zero, suc, Bool, true, false, List, [], ◌∷◌, ◌++◌, Option, Some, None, option_to_list}
 use Rattle.gateway.specs.Gateways.{AtRings, Idles}
 use Rattle.gateway.specs.Delivers.{Proceeds}
 use Rattle.gateway.specs.Gateways.{begun}
 use Rattle.gateway.specs.Seats.{Uses, LooksOnce, ledger_of}
+use Rattle.venue_model.specs.Requests.{Limits}
 use Rattle.wires.specs.Wires.{Told}
-use Rattle.ring_words.specs.At.{number}
+use Rattle.ring_words.specs.At.{Opened, at, number}
+use Rattle.ring_words.specs.Rule.{newcomer}
+use Rattle.ring_words.specs.declared.view.Role.TheVariants.{Gateway}
 use Rattle.gateway.specs.declared.ending.Turned.{Turned}
 use Rattle.gateway.specs.declared.ending.Turned.TheVariants.{Worked, Quiet, Ended}
 
@@ -13,6 +16,16 @@ use Rattle.gateway.specs.declared.ending.Turned.TheVariants.{Worked, Quiet, Ende
 pub record Accepting : Type 0 where
   pub gateway : AtRings
   pub wire : Option Told
+
+-- Gateway k of these rings as they were opened, without a client: it knows just the history at the start, has counted its outputs, and has passed none over.
+abbrev pub without_client : Opened Limits → ℕ → Accepting
+without_client rings k = record {
+  gateway = record {
+    front = record (begun k 0) { live = false };
+    seat = at rings (newcomer (Gateway k) rings.base rings.base_outputs);
+  };
+  wire = None;
+}
 
 -- what the wire tells
 abbrev pub told_by : {W : Type 0} → (W → Told) → Option W → Option Told
@@ -58,15 +71,19 @@ Admits old told new =
     (old.wire ≡ None)
     × (new ≡ record { gateway = record old.gateway { front = begun (number old.gateway.seat) old.gateway.front.passed }; wire = Some told })
 
--- it took a turn, or a client was let in
-abbrev pub Goes : ℕ → Accepting → Accepting → Type 0
-Goes n old new = ((turned : Turned) × (gone : Option Told) × TakesTurn n old new turned gone) ⊎ ((told : Told) × Admits old told new)
+-- It took a turn, behind which a client's wire may be gone, or a client was let in: the wires that came and those that are gone.
+abbrev pub Goes : ℕ → Accepting → Accepting → List Told → List Told → Type 0
+Goes n old new came gone =
+    ((turned : Turned) × (left : Option Told) × TakesTurn n old new turned left × (came ≡ []) × (gone ≡ option_to_list left))
+    ⊎ ((told : Told) × Admits old told new × (came ≡ told ∷ []) × (gone ≡ []))
 
--- so often it did one of these, one behind the other
-abbrev pub AttendsFor : ℕ → ℕ → Accepting → Accepting → Type 0
-AttendsFor n zero old new = new ≡ old
-AttendsFor n (suc k) old new = (mid : Accepting) × AttendsFor n k old mid × Goes n mid new
+-- so often it did one of these, one behind the other; the wires of all clients that came meanwhile, and of those whose sessions ended
+abbrev pub AttendsFor : ℕ → ℕ → Accepting → Accepting → List Told → List Told → Type 0
+AttendsFor n zero old new came gone = (new ≡ old) × (came ≡ []) × (gone ≡ [])
+AttendsFor n (suc k) old new came gone =
+    (mid : Accepting) × (came_before came_now gone_before gone_now : List Told) × AttendsFor n k old mid came_before gone_before
+    × Goes n mid new came_now gone_now × (came ≡ came_before ++ came_now) × (gone ≡ gone_before ++ gone_now)
 
 -- it went on, with one client behind the other
-abbrev pub AttendsClients : ℕ → Accepting → Accepting → Type 0
-AttendsClients n old new = (k : ℕ) × AttendsFor n k old new
+abbrev pub AttendsClients : ℕ → Accepting → Accepting → List Told → List Told → Type 0
+AttendsClients n old new came gone = (k : ℕ) × AttendsFor n k old new came gone

@@ -13,3 +13,4 @@ pub mod Gateways
 pub mod Delivers
 pub mod Accepting
 pub mod AcceptingLaws
+pub mod Visits

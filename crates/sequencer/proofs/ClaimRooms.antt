@@ -1,10 +1,10 @@
 -- A claim by the processed value that was loaded last, or by one that is loaded for it.
-use Rattle.std.proofs.Common.{None, ◌≡◌, ℕ, ◌≤◌, List, ap, subst, ◌∙◌, arith}
+use Rattle.std.proofs.Common.{None, ◌≡◌, ℕ, ◌≤◌, List, [], ◌∷◌, ap, subst, ◌∙◌, arith}
 use Rattle.venue_model.specs.ListLaws.{at_longer}
 use Rattle.ring_words.specs.declared.view.Load.{Load}
 use Rattle.ring_words.specs.declared.view.Person.{Person}
 use Rattle.ring_words.specs.Places.{claim, processed}
-use Rattle.ring_words.specs.Seats.{looked, loading, with_claim}
+use Rattle.ring_words.specs.Seats.{load_of, looked, loading, with_claim}
 use Rattle.ring_words.specs.SeatLaws.{last_stays, claim_just_loaded}
 use Rattle.ring_words.specs.At.{At, Steps, seated}
 use Rattle.ring_words.specs.Steps.{ClaimsUpTo}
@@ -36,6 +36,12 @@ module _ {L : Type 0} (n : ℕ) (v a b : At L) (s : ℕ) (first : Steps v (looke
     pub claim_below_then : (x : ℕ) → ClaimsUpTo b.who x → s ≤ x
     claim_below_then x most = claim_below x
         (claims_earlier a.who ls x (subst (λ (z : At L). ClaimsUpTo z.who x) more most))
+
+    -- and on all that were loaded before
+    pub claims_before_then : (x : ℕ) → ClaimsUpTo b.who x → ClaimsUpTo v.who x
+    claims_before_then x most = claims_earlier v.who (load_of claim s ∷ []) x
+        (subst (λ (z : At L). ClaimsUpTo z.who x) first
+        (claims_earlier a.who ls x (subst (λ (z : At L). ClaimsUpTo z.who x) more most)))
 
     -- and then s was claimed
     pub claimed_then : Steps b (with_claim (looked b.who claim s) s) w

@@ -5,6 +5,7 @@ use Rattle.ring_words.specs.declared.view.Person.{Person}
 use Rattle.ring_words.specs.Places.{claim, processed}
 use Rattle.ring_words.specs.Seats.{load_of, looked, loading, with_claim, last_load}
 use Rattle.ring_words.specs.At.{At, Steps}
+use Rattle.ring_words.specs.Steps.{ClaimsUpTo}
 use Rattle.sequencer.specs.declared.claim.ClaimRefusal.{ClaimRefusal}
 use Rattle.sequencer.specs.declared.claim.ClaimRefusal.TheVariants.{Full, Contended, Exhausted}
 
@@ -28,11 +29,11 @@ SeesRoom n last s p ls = ((last ≡ Some p) × (ls ≡ [])) ⊎ (ShowsFull n las
 
 module _ {L : Type 0} where
   -- The seat claimed s. The claim word was s; then the processed value seen was some p that leaves room for s in n rows; then the claim word
-  -- still was s. Sequences are left, and all that the gateway knows lies below s
+  -- still was s. Sequences are left; all that the gateway knows lies below s, and no claim value that it had loaded before lies above
   abbrev pub Claimed : ℕ → At L → ℕ → At L → Type 0
   Claimed n v s w = (p : ℕ) × ((ls : List Load) × SeesRoom n (last_processed v.who.loads) s p ls
       × Steps v (with_claim (looked (loading (looked v.who claim s) ls) claim s) s) w
-      × (s < p + n) × (s < 2 ^ 48) × (length v.who.seen ≤ s))
+      × (s < p + n) × (s < 2 ^ 48) × (length v.who.seen ≤ s) × ClaimsUpTo v.who s)
 
   -- The seat claimed nothing, and only loaded.
   -- Full: the claim word was s, then the processed word was p, and the n rows from p on were claimed.

@@ -1,6 +1,7 @@
-use Rattle.std.proofs.Common.{ℕ, ◌+◌, ◌≤◌, refl, rules, arith}
+use Rattle.std.proofs.Common.{◌≡◌, ℕ, ◌+◌, ◌≤◌, refl, subst, rules, arith}
+use Rattle.ring_words.specs.Steps.{ClaimsUpTo}
 use Rattle.sequencer.proofs.ClaimRooms.{same_room, claim_below, both_loaded, claim_below_then, claimed_then}
-use Rattle.sequencer.proofs.ClaimRooms.{looked_then}
+use Rattle.sequencer.proofs.ClaimRooms.{looked_then, claims_before_then}
 use Rattle.sequencer.proofs.claim.try_claim.Goals as goal
 
 pub returns-then-not-sees_room-clause-refused : goal.returns-then-not-sees_room-clause-refused
@@ -32,7 +33,8 @@ returns-then-found-at-clause-refused g c = let at : ℕ = c.load_claim-at.result
 
 pub returns-clause-claimed : goal.returns-clause-claimed
 returns-clause-claimed g c = let at : ℕ = c.load_claim-at.result in let first = c.load_claim-at.ensures.step in
-    let room = c.if-not-sees_room.ensures.room refl in (
+    let room = c.if-not-sees_room.ensures.room refl in
+    let found : c.exchange_claim-found.result ≡ at = search rules in (
       room.0,
       (
         room.1.0,
@@ -41,5 +43,8 @@ returns-clause-claimed g c = let at : ℕ = c.load_claim-at.result in let first 
         room.1.3,
         search rules,
         search rules,
+        subst (λ (x : ℕ). ClaimsUpTo c.args.seat.now.who x) found
+            (claims_before_then g.row.N _ _ _ at first room.1.0 room.1.2 c.exchange_claim-found.new.seat _
+            c.exchange_claim-found.ensures.claims),
       ),
     )

@@ -1,0 +1,36 @@
+-- What the turns of a member's acceptor and the end of the venue come to, as it can be seen from outside.
+use Rattle.std.proofs.Common.{◌≡◌, ℕ, List, ◌++◌, length}
+use Rattle.std.specs.Prelude.{option_to_list}
+use Rattle.venue_model.specs.History.{History}
+use Rattle.venue_model.specs.Requests.{Limits}
+use Rattle.book.specs.Histories.{outputs_of}
+use Rattle.ring_words.specs.At.{Opened}
+use Rattle.ring_words.specs.Ending.{IsBeginning}
+use Rattle.ring_words.specs.Log.{sent_at, published_at}
+use Rattle.wires.specs.Wires.{Told}
+use Rattle.gateway.specs.Accepting.{Accepting, without_client, AttendsClients}
+use Rattle.gateway.specs.Visits.{Part, came_in, gone_in, StillThere, Serves}
+use Rattle.gateway.proofs.LifeLemmas.{life-begins}
+use Rattle.gateway.proofs.ServedLemmas.{lives, life-serves, life-gone, life-stays}
+
+-- An acceptor at rings that count the outputs of the history at the start took turns and let clients in, from the start
+-- on. One log begins with what its gateway has seen, and has what that gateway published just at its places. Then the
+-- member was served so by that log, and its clients are those whose wires came, and then are gone or still there.
+pub serves : (n : ℕ) (rings : Opened Limits) (k : ℕ) (end : Accepting) (came gone : List Told)
+    → rings.base_outputs ≡ length (outputs_of rings.logic rings.base)
+    → AttendsClients n (without_client rings k) end came gone
+    → (log : History)
+    → ((s : ℕ) → sent_at s end.gateway.seat.who.mine ≡ published_at (length rings.base) k log s)
+    → IsBeginning end.gateway.seat.who.seen log
+    → (parts : List Part) × Serves k rings.logic rings.base log parts
+    × (came_in parts ≡ came) × (gone_in parts ≡ gone ++ option_to_list end.wire)
+    × StillThere end.wire parts
+serves n rings k end came gone counted attends log mine seen =
+    let life = lives rings k n attends.0 (without_client rings k) end came gone
+    (life-begins rings k counted) attends.1 in (
+      life.done ++ life.running,
+      life-serves rings k n end came gone life log mine seen,
+      life.came_are,
+      life-gone rings k n end came gone life log mine seen,
+      life-stays rings k n end came gone life log mine seen,
+    )
