@@ -6,7 +6,7 @@ use Rattle.fix_orders.specs.Text.{Said}
 use Rattle.venue_model.specs.History.{History}
 use Rattle.venue_model.specs.Requests.{Limits}
 use Rattle.gateway.specs.Visits.{Entry, Act, Enters, Gives, Misses, entered_by, given_by, missed_by, reports_by}
-use Rattle.gateway.specs.Visits.{reports_for, AreBehind}
+use Rattle.gateway.specs.Visits.{reports_for, NoneOvertakes}
 
 -- a report goes to a client that is logged on, and else is passed over
 abbrev pub reporting : Bool → Said → Act
@@ -40,9 +40,9 @@ nothing_done (Gives said ∷ acts) unentered ungiven unmissed = cc
 nothing_done (Misses said ∷ acts) unentered ungiven unmissed = cc
 
 module _ (k : ℕ) (limits : Limits) (base log : History) where
-  pub behind-enters : (taken : ℕ) (acts : List Act) (entry : Entry) → AreBehind k limits base log taken acts
+  pub behind-enters : (taken : ℕ) (acts : List Act) (entry : Entry) → NoneOvertakes k limits base log taken acts
       → taken + length (flat_map reports_by acts) ≤ length (reports_for k limits base (take entry.place log))
-      → AreBehind k limits base log taken (acts ++ Enters entry ∷ [])
+      → NoneOvertakes k limits base log taken (acts ++ Enters entry ∷ [])
   behind-enters taken [] entry behind few = (omega (arith, few), tt)
   behind-enters taken (Enters e ∷ acts) entry (first, rest) few = (first, behind-enters taken acts entry rest few)
   behind-enters taken (Gives said ∷ acts) entry rest few = behind-enters (taken + 1) acts entry rest
@@ -51,15 +51,15 @@ module _ (k : ℕ) (limits : Limits) (base log : History) where
       (omega (arith, few))
 
   -- reports are behind whatever was before
-  behind-reporting_next : (taken : ℕ) (on : Bool) (these : List Said) → AreBehind k limits base log taken
+  behind-reporting_next : (taken : ℕ) (on : Bool) (these : List Said) → NoneOvertakes k limits base log taken
       (map (reporting on) these)
   behind-reporting_next taken on [] = tt
   behind-reporting_next taken true (said ∷ these) = behind-reporting_next (taken + 1) true these
   behind-reporting_next taken false (said ∷ these) = behind-reporting_next (taken + 1) false these
 
   pub behind-reporting : (taken : ℕ) (acts : List Act) (on : Bool) (these : List Said)
-      → AreBehind k limits base log taken acts
-      → AreBehind k limits base log taken (acts ++ map (reporting on) these)
+      → NoneOvertakes k limits base log taken acts
+      → NoneOvertakes k limits base log taken (acts ++ map (reporting on) these)
   behind-reporting taken [] on these behind = behind-reporting_next taken on these
   behind-reporting taken (Enters e ∷ acts) on these (first, rest) = (first, behind-reporting taken acts on these rest)
   behind-reporting taken (Gives said ∷ acts) on these rest = behind-reporting (taken + 1) acts on these rest

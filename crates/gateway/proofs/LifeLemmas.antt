@@ -15,7 +15,7 @@ use Rattle.gateway.specs.Accepting.{Accepting, without_client, WithoutClient, Ad
 use Rattle.gateway.specs.Gateways.{begun}
 use Rattle.gateway.specs.Seats.{texts_to}
 use Rattle.gateway.specs.Turns.{Front}
-use Rattle.gateway.specs.Visits.{Misses, Visit, IsVisit, Part, Away, There}
+use Rattle.gateway.specs.Visits.{Misses, Visit, IsVisit, DayPart, Away, There}
 use Rattle.gateway.specs.Visits.{acts_in, visits_in, came_in, gone_in}
 use Rattle.gateway.proofs.Lists.{flat_map-push}
 use Rattle.gateway.proofs.Opening.{at_beginning}
@@ -25,15 +25,15 @@ use Rattle.gateway.proofs.VisitLemmas.{Fits}
 use Rattle.wires.specs.WireLaws.{grown-nil}
 
 -- a visit goes on just where there is a wire
-abbrev pub Running : ℕ → Front → Option Told → List Part → Type 0
+abbrev pub Running : ℕ → Front → Option Told → List DayPart → Type 0
 Running k front None running = running ≡ []
 Running k front (Some wire) running = (v : Visit) × Fits k front wire v × (running ≡ There v ∷ [])
 
 -- The parts that are done, and the one that goes on, tell of all clients that came and are gone, and of all that the
 -- seat published and took.
 pub record Life (rings : Opened Limits) (k : ℕ) (a : Accepting) (came gone : List Told) : Type 0 where
-  pub done : List Part
-  pub running : List Part
+  pub done : List DayPart
+  pub running : List DayPart
   pub now : Running k a.gateway.front a.wire running
   pub visits : AllByRecursion (IsVisit k) (flat_map visits_in done)
   pub came_are : came_in (done ++ running) ≡ came
@@ -42,20 +42,20 @@ pub record Life (rings : Opened Limits) (k : ℕ) (a : Accepting) (came gone : L
   pub recorded : Recorded k rings.logic rings.base a.gateway.seat.who (flat_map acts_in (done ++ running))
 
 -- one visit more
-pub visits-push : (done : List Part) (v : Visit) → flat_map visits_in (done ++ There v ∷ [])
+pub visits-push : (done : List DayPart) (v : Visit) → flat_map visits_in (done ++ There v ∷ [])
     ≡ flat_map visits_in done ++ v ∷ []
 visits-push done v = flat_map-push visits_in done (There v)
 
-pub came-push : (done : List Part) (v : Visit) → came_in (done ++ There v ∷ []) ≡ came_in done ++ v.came ∷ []
+pub came-push : (done : List DayPart) (v : Visit) → came_in (done ++ There v ∷ []) ≡ came_in done ++ v.came ∷ []
 came-push done v = ap (map (λ (v : Visit). v.came)) (visits-push done v)
     ∙ map-append (λ (v : Visit). v.came) (flat_map visits_in done) (v ∷ [])
 
-pub gone-push : (done : List Part) (v : Visit) → gone_in (done ++ There v ∷ []) ≡ gone_in done ++ v.gone ∷ []
+pub gone-push : (done : List DayPart) (v : Visit) → gone_in (done ++ There v ∷ []) ≡ gone_in done ++ v.gone ∷ []
 gone-push done v = ap (map (λ (v : Visit). v.gone)) (visits-push done v)
     ∙ map-append (λ (v : Visit). v.gone) (flat_map visits_in done) (v ∷ [])
 
 -- no visit more
-visits-away : (done : List Part) (missed : List Said) → flat_map visits_in (done ++ Away missed ∷ [])
+visits-away : (done : List DayPart) (missed : List Said) → flat_map visits_in (done ++ Away missed ∷ [])
     ≡ flat_map visits_in done
 visits-away done missed = flat_map-push visits_in done (Away missed) ∙ append-nil (flat_map visits_in done)
 
@@ -93,7 +93,7 @@ module _ (rings : Opened Limits) (k : ℕ) where
       none_runs = subst (λ (w : Option Told). Running k old.gateway.front w life.running) free life.now
 
       all_done : life.done ++ life.running ≡ life.done
-      all_done = ap (λ (ps : List Part). life.done ++ ps) none_runs ∙ append-nil life.done
+      all_done = ap (λ (ps : List DayPart). life.done ++ ps) none_runs ∙ append-nil life.done
 
     -- a look without a client
     pub life-idles : (n : ℕ) (turned : Turned) (left : Option Told) → WithoutClient n old new turned left
@@ -117,7 +117,7 @@ module _ (rings : Opened Limits) (k : ℕ) where
           gone_are = ap (map (λ (v : Visit). v.gone)) (visits-away life.done missed) ∙ life.gone_are;
           sits = sits_still rings k old.gateway.seat new.gateway.seat life.sits without.looks.stays;
           recorded = subst (Recorded k rings.logic rings.base new.gateway.seat.who)
-              (ap (λ (ps : List Part). flat_map acts_in ps ++ map Misses missed) before
+              (ap (λ (ps : List DayPart). flat_map acts_in ps ++ map Misses missed) before
               ∙ sym (flat_map-push acts_in life.done (Away missed)) ∙ sym (ap (flat_map acts_in) after))
               looked.recorded;
         }

@@ -22,7 +22,7 @@ use Rattle.ring_words.specs.declared.view.Person.{Person}
 use Rattle.ring_words.specs.declared.view.Sent.{Sent}
 use Rattle.barrier.specs.Taking.{TakesNext}
 use Rattle.gateway.specs.Seats.{taken_by}
-use Rattle.gateway.specs.Visits.{Entry, Act, Enters, entered_by, reports_by, reports_for, AreBehind}
+use Rattle.gateway.specs.Visits.{Entry, Act, Enters, entered_by, reports_by, reports_for, NoneOvertakes}
 use Rattle.gateway.proofs.Lists.{flat_map-push}
 use Rattle.gateway.proofs.TakenLemmas.{still_within}
 use Rattle.gateway.proofs.SendLemmas.{RiseFrom, AreUpTo, entry_sent, rises-push, up_to-push}
@@ -39,7 +39,7 @@ pub record Recorded (k : ℕ) (limits : Limits) (base : History) (p : Person) (a
   pub claimed : (s : ℕ) → ClaimsUpTo p s → AreUpTo s p.mine
   pub entered : flat_map entered_by acts ≡ map entry_sent p.mine
   pub reports : flat_map reports_by acts ≡ taken_by k limits base p
-  pub behind : (log : History) → IsBeginning p.seen log → AreBehind k limits base log 0 acts
+  pub behind : (log : History) → IsBeginning p.seen log → NoneOvertakes k limits base log 0 acts
 
 -- the person only made loads
 pub record OnlyLooked (p q : Person) : Type 0 where

@@ -11,7 +11,7 @@ use Rattle.ring_words.specs.Log.{sent_at, published_at}
 use Rattle.wires.specs.Wires.{Told}
 use Rattle.gateway.specs.Accepting.{Accepting, TakesTurn, Goes, AttendsFor}
 use Rattle.gateway.specs.declared.ending.Turned.{Turned}
-use Rattle.gateway.specs.Visits.{IsVisit, Part, visits_in, gone_in, StillThere, Serves}
+use Rattle.gateway.specs.Visits.{IsVisit, DayPart, visits_in, gone_in, StillThere, WasServed}
 use Rattle.gateway.proofs.Lists.{AllByRecursion-push}
 use Rattle.gateway.proofs.LifeLemmas.{Running, Life, visits-push, gone-push, life-idles, life-admits}
 use Rattle.gateway.proofs.ReportLemmas.{taken_first}
@@ -67,36 +67,36 @@ module _ (rings : Opened Limits) (k n : ℕ) where
       (lives steps old mid came_before gone_before life before) step))
 
   -- the visit that goes on is the last one
-  module _ (done : List Part) (all : AllByRecursion (IsVisit k) (flat_map visits_in done)) where
-    all_visits : (end : Accepting) (wire : Option Told) (running : List Part) → Running k end.gateway.front wire running
+  module _ (done : List DayPart) (all : AllByRecursion (IsVisit k) (flat_map visits_in done)) where
+    all_visits : (end : Accepting) (wire : Option Told) (running : List DayPart) → Running k end.gateway.front wire running
         → AllByRecursion (IsVisit k) (flat_map visits_in (done ++ running))
-    all_visits end None running none = subst (λ (ps : List Part). AllByRecursion (IsVisit k) (flat_map visits_in ps))
-        (sym (ap (λ (ps : List Part). done ++ ps) none ∙ append-nil done)) all
-    all_visits end (Some wire) running (v, fits, is) = subst (λ (ps : List Part). AllByRecursion (IsVisit k)
+    all_visits end None running none = subst (λ (ps : List DayPart). AllByRecursion (IsVisit k) (flat_map visits_in ps))
+        (sym (ap (λ (ps : List DayPart). done ++ ps) none ∙ append-nil done)) all
+    all_visits end (Some wire) running (v, fits, is) = subst (λ (ps : List DayPart). AllByRecursion (IsVisit k)
         (flat_map visits_in (done ++ ps))) (sym is)
         (subst (AllByRecursion (IsVisit k)) (sym (visits-push done v))
         (AllByRecursion-push (IsVisit k) (flat_map visits_in done) v all fits.visit))
 
-  all_gone : (done : List Part) (end : Accepting) (wire : Option Told) (running : List Part)
+  all_gone : (done : List DayPart) (end : Accepting) (wire : Option Told) (running : List DayPart)
       → Running k end.gateway.front wire running → gone_in (done ++ running) ≡ gone_in done ++ option_to_list wire
   all_gone done end None running none =
-      ap gone_in (ap (λ (ps : List Part). done ++ ps) none ∙ append-nil done) ∙ sym (append-nil (gone_in done))
-  all_gone done end (Some wire) running (v, fits, is) = ap (λ (ps : List Part). gone_in (done ++ ps)) is
+      ap gone_in (ap (λ (ps : List DayPart). done ++ ps) none ∙ append-nil done) ∙ sym (append-nil (gone_in done))
+  all_gone done end (Some wire) running (v, fits, is) = ap (λ (ps : List DayPart). gone_in (done ++ ps)) is
       ∙ gone-push done v ∙ ap (λ (w : Told). gone_in done ++ w ∷ []) fits.gone
 
-  still_there : (done : List Part) (end : Accepting) (wire : Option Told) (running : List Part)
+  still_there : (done : List DayPart) (end : Accepting) (wire : Option Told) (running : List DayPart)
       → Running k end.gateway.front wire running
       → StillThere wire (done ++ running)
   still_there done end None running none = tt
-  still_there done end (Some wire) running (v, fits, is) = (done, v, ap (λ (ps : List Part). done ++ ps) is)
+  still_there done end (Some wire) running (v, fits, is) = (done, v, ap (λ (ps : List DayPart). done ++ ps) is)
 
   module _ (end : Accepting) (came gone : List Told) (life : Life rings k end came gone) (log : History)
       (mine : (s : ℕ) → sent_at s end.gateway.seat.who.mine ≡ published_at (length rings.base) k log s)
       (seen : IsBeginning end.gateway.seat.who.seen log) where
-    abbrev parts : List Part
+    abbrev parts : List DayPart
     parts = life.done ++ life.running
 
-    pub life-serves : Serves k rings.logic rings.base log parts
+    pub life-serves : WasServed k rings.logic rings.base log parts
     life-serves =
         let known = life.recorded in
         let first = taken_first k rings.logic rings.base end.gateway.seat.who known.from known.to log seen in record {

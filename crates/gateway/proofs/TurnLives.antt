@@ -15,7 +15,7 @@ use Rattle.gateway.specs.Accepting.{Accepting, WithClient, Leaves}
 use Rattle.gateway.specs.Gateways.{around}
 use Rattle.gateway.specs.Seats.{messages_of, taken_by}
 use Rattle.gateway.specs.Turns.{World, Turn}
-use Rattle.gateway.specs.Visits.{Act, Misses, given_by, missed_by, Visit, IsVisit, Part, There, acts_in}
+use Rattle.gateway.specs.Visits.{Act, Misses, given_by, missed_by, Visit, IsVisit, DayPart, There, acts_in}
 use Rattle.gateway.specs.Visits.{visits_in, came_in}
 use Rattle.gateway.proofs.ActLemmas.{reporting, reporting-enters, giving-gives, giving-misses}
 use Rattle.gateway.proofs.Lists.{flat_map-push, AllByRecursion-push}
@@ -69,7 +69,7 @@ module _ (rings : Opened Limits) (k n : ℕ) (old new : Accepting) (came gone : 
   acts_before = flat_map acts_in life.done ++ (map Misses visit.missed ++ visit.acts)
 
   parts_before : flat_map acts_in (life.done ++ life.running) ≡ acts_before
-  parts_before = ap (λ (ps : List Part). flat_map acts_in (life.done ++ ps)) running.2
+  parts_before = ap (λ (ps : List DayPart). flat_map acts_in (life.done ++ ps)) running.2
       ∙ flat_map-push acts_in life.done (There visit)
 
   recorded : Recorded k rings.logic rings.base seat.who acts_before
@@ -163,7 +163,7 @@ module _ (rings : Opened Limits) (k n : ℕ) (old new : Accepting) (came gone : 
   visit_after quiet = record after.0 { gone = record behind.wire { quiet = quiet } }
 
   came_before : came_in life.done ++ visit.came ∷ [] ≡ came
-  came_before = sym (ap (λ (ps : List Part). came_in (life.done ++ ps)) running.2 ∙ came-push life.done visit)
+  came_before = sym (ap (λ (ps : List DayPart). came_in (life.done ++ ps)) running.2 ∙ came-push life.done visit)
       ∙ life.came_are
 
   came_behind : (quiet : Bool) → came_in (life.done ++ There (visit_after quiet) ∷ []) ≡ came
@@ -203,7 +203,7 @@ module _ (rings : Opened Limits) (k n : ℕ) (old new : Accepting) (came gone : 
         came_are = ap came_in all ∙ came_behind true;
         gone_are = gone-push life.done v ∙ ap (λ (ws : List Told). ws ++ v.gone ∷ []) life.gone_are;
         sits = sits_after;
-        recorded = subst (λ (ps : List Part). Recorded k rings.logic rings.base seat_after.who (flat_map acts_in ps))
+        recorded = subst (λ (ps : List DayPart). Recorded k rings.logic rings.base seat_after.who (flat_map acts_in ps))
             (sym all) (recorded_behind true);
       }
 

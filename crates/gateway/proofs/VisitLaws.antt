@@ -9,7 +9,7 @@ use Rattle.ring_words.specs.Ending.{IsBeginning}
 use Rattle.ring_words.specs.Log.{sent_at, published_at}
 use Rattle.wires.specs.Wires.{Told}
 use Rattle.gateway.specs.Accepting.{Accepting, without_client, AttendsClients}
-use Rattle.gateway.specs.Visits.{Part, came_in, gone_in, StillThere, Serves}
+use Rattle.gateway.specs.Visits.{DayPart, came_in, gone_in, StillThere, WasServed}
 use Rattle.gateway.proofs.LifeLemmas.{life-begins}
 use Rattle.gateway.proofs.ServedLemmas.{lives, life-serves, life-gone, life-stays}
 
@@ -22,7 +22,7 @@ pub serves : (n : ℕ) (rings : Opened Limits) (k : ℕ) (end : Accepting) (came
     → (log : History)
     → ((s : ℕ) → sent_at s end.gateway.seat.who.mine ≡ published_at (length rings.base) k log s)
     → IsBeginning end.gateway.seat.who.seen log
-    → (parts : List Part) × Serves k rings.logic rings.base log parts
+    → (parts : List DayPart) × WasServed k rings.logic rings.base log parts
     × (came_in parts ≡ came) × (gone_in parts ≡ gone ++ option_to_list end.wire)
     × StillThere end.wire parts
 serves n rings k end came gone counted attends log mine seen =

@@ -68,29 +68,29 @@ pub record IsVisit (k : ℕ) (v : Visit) : Type 0 where
 
 -- all that happened between a member and the venue: reports passed over before a client came, what happened while it was there, and so on, and those
 -- passed over behind the last one
-pub data Part : Type 0 where
-  Away : List Said → Part
-  There : Visit → Part
+pub data DayPart : Type 0 where
+  Away : List Said → DayPart
+  There : Visit → DayPart
 
-abbrev pub acts_in : Part → List Act
+abbrev pub acts_in : DayPart → List Act
 acts_in (Away missed) = map Misses missed
 acts_in (There visit) = map Misses visit.missed ++ visit.acts
 
-abbrev pub visits_in : Part → List Visit
+abbrev pub visits_in : DayPart → List Visit
 visits_in (Away missed) = []
 visits_in (There visit) = visit ∷ []
 
 -- what the wires of all clients told as they came, and what they tell in the end
-abbrev pub came_in : List Part → List Told
+abbrev pub came_in : List DayPart → List Told
 came_in parts = map (λ v. v.came) (flat_map visits_in parts)
 
-abbrev pub gone_in : List Part → List Told
+abbrev pub gone_in : List DayPart → List Told
 gone_in parts = map (λ v. v.gone) (flat_map visits_in parts)
 
 -- a client that is still there is the last one, and nothing was passed over behind it
-abbrev pub StillThere : Option Told → List Part → Type 0
+abbrev pub StillThere : Option Told → List DayPart → Type 0
 StillThere None parts = ⊤
-StillThere (Some wire) parts = (before : List Part) × (visit : Visit) × (parts ≡ before ++ There visit ∷ [])
+StillThere (Some wire) parts = (before : List DayPart) × (visit : Visit) × (parts ≡ before ++ There visit ∷ [])
 
 -- the reports for member k of this history, behind those of the history at the start, in their order
 abbrev pub reports_for : ℕ → Limits → History → History → List Said
@@ -103,19 +103,19 @@ own_entries k place (m ∷ ms) =
     if m.gateway == k then record { place = place; bytes = m.bytes } ∷ own_entries k (place + 1) ms else own_entries k (place + 1) ms
 
 -- each message stands in the history behind all that brought about the reports that were taken before it; so many were taken so far
-abbrev pub AreBehind : ℕ → Limits → History → History → ℕ → List Act → Type 0
-AreBehind k limits base log taken [] = ⊤
-AreBehind k limits base log taken (Enters entry ∷ acts) =
-    (taken ≤ length (reports_for k limits base (take entry.place log))) × AreBehind k limits base log taken acts
-AreBehind k limits base log taken (Gives said ∷ acts) = AreBehind k limits base log (taken + 1) acts
-AreBehind k limits base log taken (Misses said ∷ acts) = AreBehind k limits base log (taken + 1) acts
+abbrev pub NoneOvertakes : ℕ → Limits → History → History → ℕ → List Act → Type 0
+NoneOvertakes k limits base log taken [] = ⊤
+NoneOvertakes k limits base log taken (Enters entry ∷ acts) =
+    (taken ≤ length (reports_for k limits base (take entry.place log))) × NoneOvertakes k limits base log taken acts
+NoneOvertakes k limits base log taken (Gives said ∷ acts) = NoneOvertakes k limits base log (taken + 1) acts
+NoneOvertakes k limits base log taken (Misses said ∷ acts) = NoneOvertakes k limits base log (taken + 1) acts
 
 -- Member k was served so, behind the history at the start: its clients' messages are the ones of the whole history that are its own, all of them, in their
 -- order; the reports that were given or passed over are the first of those for it, in their order, none left out; and no message overtook a report. What
 -- neither history nor bytes put in order, as a Logon and a report passed over, may be told in another order than it happened.
-pub record Serves (k : ℕ) (limits : Limits) (base log : History) (parts : List Part) : Type 0 where
+pub record WasServed (k : ℕ) (limits : Limits) (base log : History) (parts : List DayPart) : Type 0 where
   pub visits : AllByRecursion (IsVisit k) (flat_map visits_in parts)
   pub entered : flat_map entered_by (flat_map acts_in parts) ≡ own_entries k (length base) (drop (length base) log)
   pub later : List Said
   pub reports : flat_map reports_by (flat_map acts_in parts) ++ later ≡ reports_for k limits base log
-  pub behind : AreBehind k limits base log 0 (flat_map acts_in parts)
+  pub behind : NoneOvertakes k limits base log 0 (flat_map acts_in parts)

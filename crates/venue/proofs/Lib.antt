@@ -1,3 +1,4 @@
 pub mod OpenedLemmas
 pub mod ServingLemmas
 pub mod MemberLemmas
+mod ServedLemmas

@@ -8,7 +8,7 @@ use Rattle.stages.specs.Stations.{OneCrew, disk_of}
 use Rattle.stages.specs.Finishing.{Finished}
 use Rattle.stages.specs.Journalling.{JournalsOn}
 use Rattle.venue.specs.Faults.{status_of_end}
-use Rattle.venue.specs.Members.{AreBack}
+use Rattle.venue.specs.Members.{AreBack, AreServed}
 use Rattle.venue.specs.Opened.{AreBehind, IsNewCrew, ReadsByCut}
 use Rattle.stages.specs.Devices.{Device}
 use Rattle.venue.specs.declared.fault.ServeFault.{ServeFault}
@@ -38,6 +38,8 @@ module _ {D : Type 0} where
     pub journals : JournalsOn 1024 rings device begun.journaller ended.journaller
     pub back : AreBack rings seats × (length seats ≡ g)
     pub finished : Finished rings seats ended (device.honest new) (device.tells new) summary
+    -- each member was served so by that log
+    pub served : AreServed rings.logic rings.base finished.ended.log seats
     pub disk_is : new ≡ disk_of ended
     pub status_is : status ≡ status_of_end (end_of ended.journaller.journal.failed ready)
 

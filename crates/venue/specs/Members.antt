@@ -2,9 +2,12 @@
 use Rattle.std.specs.Prelude.{◌≡◌, ℕ, ◌+◌, List}
 use mathlib.Core.Option.{some}
 use lib.ListN.{get_elem?}
+use Rattle.venue_model.specs.History.{History}
 use Rattle.venue_model.specs.Requests.{Limits}
+use Rattle.gateway.specs.Visits.{DayPart, WasServed}
 use Rattle.ring_words.specs.At.{Opened, At}
-use Rattle.venue.specs.Trading.{without_client, IsBack}
+use Rattle.gateway.specs.Accepting.{without_client}
+use Rattle.venue.specs.Trading.{IsBack}
 use Rattle.venue.specs.declared.member.Post.{Post}
 
 -- the post of gateway k of these rings as they were opened
@@ -18,3 +21,7 @@ ArePosts rings posts = (i : ℕ) (p : Post) → get_elem? posts i ≡ some p →
 -- seats that came back, in the order of their gateways' numbers
 abbrev pub AreBack : Opened Limits → List (At Limits) → Type 0
 AreBack rings seats = (i : ℕ) (s : At Limits) → get_elem? seats i ≡ some s → IsBack rings (i + 1) s
+
+-- The member at each of these seats had a day by this log, behind the history at the start: each of its clients' sessions, and what it was told.
+abbrev pub AreServed : Limits → History → History → List (At Limits) → Type 0
+AreServed limits base log seats = (i : ℕ) (s : At Limits) → get_elem? seats i ≡ some s → (day : List DayPart) × WasServed (i + 1) limits base log day

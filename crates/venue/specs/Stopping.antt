@@ -5,9 +5,9 @@ use Rattle.venue.specs.declared.stop.Look.TheVariants.{There, Missing, Failed}
 use Rattle.venue.specs.declared.stop.StopFile.{StopFile}
 
 -- a look says yes where the sign was there, and no where it was missing or the look failed
-abbrev pub LooksOnce : {S : Type 0} → (Look → S → S → Type 0) → Bool → S → S → Type 0
-LooksOnce looked true old new = looked There old new
-LooksOnce looked false old new = looked Missing old new ⊎ looked Failed old new
+abbrev pub LooksForStop : {S : Type 0} → (Look → S → S → Type 0) → Bool → S → S → Type 0
+LooksForStop looked true old new = looked There old new
+LooksForStop looked false old new = looked Missing old new ⊎ looked Failed old new
 
 -- the file of the sign's name was removed, and no other
 abbrev pub removed_file : {N : Type 0} → (List ℕ → N → N → Type 0) → StopFile N → StopFile N → Type 0

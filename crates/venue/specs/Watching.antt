@@ -6,7 +6,7 @@ use Rattle.venue.specs.declared.stop.Look.{Look}
 use Rattle.venue.specs.declared.stop.Look.TheVariants.{There}
 use Rattle.venue.specs.declared.watch.WatchEnd.{WatchEnd}
 use Rattle.venue.specs.declared.watch.WatchEnd.TheVariants.{Told, Seen, LookedAll}
-use Rattle.venue.specs.Stopping.{LooksOnce}
+use Rattle.venue.specs.Stopping.{LooksForStop}
 
 -- what the signals answered: that all workers have begun, that one hasn't, that all are to end
 pub record Heard : Type 1 where
@@ -40,7 +40,7 @@ module _ {P : Type 0} (paused : Pause → P → P → Type 0) where
     -- so many looks that saw no sign, with a nap behind each
     abbrev pub LooksInVain : ℕ → Watch S P → Watch S P → Type 0
     LooksInVain zero old new = new ≡ old
-    LooksInVain (suc k) old new = (mid : Watch S P) × LooksInVain k old mid × LooksOnce looked false mid.sign new.sign
+    LooksInVain (suc k) old new = (mid : Watch S P) × LooksInVain k old mid × LooksForStop looked false mid.sign new.sign
         × paused (Nap 5000) mid.pauses new.pauses
 
     -- Why it ended: the signals said stop; a look saw the sign; or it had looked 2^64 - 1 times.

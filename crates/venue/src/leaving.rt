@@ -2,7 +2,6 @@
 //! lost: a connection that is closed while bytes of the client lie unread is reset, and then the client may lose what it hasn't read yet.
 
 use gateway::{ClientWire, TcpWire, TryRead, Wire};
-use std::net::Shutdown;
 
 /// For how many turns a client is waited for that doesn't take what it is told, or doesn't close its side: some seconds.
 const PATIENCE: u32 = 20_000;
@@ -47,7 +46,7 @@ impl Leaving {
     fn shut(&mut self) {
         if !self.is_shut {
             self.is_shut = true;
-            let _ = self.wire.below().stream().shutdown(Shutdown::Write);
+            self.wire.shut();
         }
     }
 }

@@ -1,7 +1,8 @@
 //! A member of the listening venue: its gateway, with the client that is connected, and the port at which its clients come in.
 ghost use Rattle.std.specs.Prelude.{◌≡◌, true, None};
 ghost use Rattle.ring_words.specs.At.{IsAt};
-ghost use Rattle.venue.specs.Trading.{TradesOn, IsBack, without_client};
+ghost use Rattle.gateway.specs.Accepting.{without_client};
+ghost use Rattle.venue.specs.Trading.{TradesOn, IsBack};
 ghost use Rattle.venue.specs.TradingLaws.{no_turn, more_turns};
 
 use crate::leaving::Leaving;
@@ -138,7 +139,7 @@ pub fn trade<C: Clock, Q: Gate, const G: usize>(
         post,
         leaving: None,
     };
-    work(clock, gate, station, &mut member, signals);
+    let _ended = work(clock, gate, station, &mut member, signals);
     let Member { post, .. } = member;
     let Post { acceptor, .. } = post;
     let (seat, _) = acceptor.end();

@@ -1,6 +1,6 @@
 //! How the venue is told to stop: by a file that appears beside its journal, since a program of this language can't catch signals.
 ghost use Rattle.std.specs.Prelude.{◌≡◌, ◌≢◌, ◌++◌, IfOk, codes, string_bytes};
-ghost use Rattle.venue.specs.Stopping.{LooksOnce};
+ghost use Rattle.venue.specs.Stopping.{LooksForStop};
 
 use std::alloc::AllocError;
 use std::fs::{self, Files};
@@ -32,7 +32,7 @@ pub trait StopSign {
 
     /// Whether it is there now, by one look: a look that fails has seen none.
     fn is_up(&mut self) -> bool
-        ensures { LooksOnce looked result self.old self.new };
+        ensures { LooksForStop looked result self.old self.new };
 }
 
 /// The names of files, as far as a file that stops a venue needs them. Code over any names knows these facts of its

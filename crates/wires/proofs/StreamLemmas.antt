@@ -10,7 +10,7 @@ use Rattle.wires.specs.declared.wire.TryWrite.{TryWrite}
 use Rattle.wires.specs.declared.wire.TryWrite.TheVariants as write
 use Rattle.wires.specs.Counting.{CountsRead, CountsWrite}
 use Rattle.wires.specs.StdWires.{IsPassing}
-use Rattle.wires.specs.Streams.{Moves}
+use Rattle.wires.specs.Streams.{MovesBytes}
 use Rattle.wires.specs.StreamWires.{MeansRead, MeansWrite}
 use Rattle.wires.specs.Wires.{telling, ReadTells, WriteTells}
 use Rattle.wires.specs.WireLaws.{grown-nil}
@@ -18,7 +18,7 @@ use Rattle.wires.specs.WireLaws.{grown-nil}
 -- a read of the stream, with what its answer means and counts
 pub read_moved : (gave gives took takes : Option (List ℕ)) (was is : Counts) (quiet : Bool) (buf : List ℕ)
     (result : Result ℕ Error) (answer : TryRead)
-    → Moves gave gives buf result → takes ≡ took → MeansRead result answer → CountsRead was is answer
+    → MovesBytes gave gives buf result → takes ≡ took → MeansRead result answer → CountsRead was is answer
     → ReadTells (telling gave took was quiet) (telling gives takes is quiet) buf answer
 read_moved gave gives took takes was is quiet buf (Ok zero) answer moved same means counted =
     let end = means.0 refl in
@@ -42,7 +42,7 @@ read_moved gave gives took takes was is quiet buf (Err error) read.Failed moved 
 -- and a write
 pub write_moved : (gave gives took takes : Option (List ℕ)) (was is : Counts) (quiet : Bool) (bytes : List ℕ)
     (result : Result ℕ Error) (answer : TryWrite)
-    → Moves took takes bytes result → gives ≡ gave → MeansWrite result answer → CountsWrite was is answer
+    → MovesBytes took takes bytes result → gives ≡ gave → MeansWrite result answer → CountsWrite was is answer
     → WriteTells (telling gave took was quiet) (telling gives takes is quiet) bytes answer
 write_moved gave gives took takes was is quiet bytes (Ok zero) answer moved same means counted =
     let failed = means.0 refl in

@@ -5,6 +5,6 @@ use Rattle.std.specs.declared.result.Result.{Result}
 use Rattle.wires.specs.Wires.{grown}
 
 -- a call with this result moved the first of these bytes, so many, and tells so; one that failed moved none
-abbrev pub Moves : Option (List ℕ) → Option (List ℕ) → List ℕ → Result ℕ Error → Type 0
-Moves old new bytes (Ok n) = (n ≤ length bytes) × (new ≡ grown old (take n bytes))
-Moves old new bytes (Err error) = new ≡ old
+abbrev pub MovesBytes : Option (List ℕ) → Option (List ℕ) → List ℕ → Result ℕ Error → Type 0
+MovesBytes old new bytes (Ok n) = (n ≤ length bytes) × (new ≡ grown old (take n bytes))
+MovesBytes old new bytes (Err error) = new ≡ old

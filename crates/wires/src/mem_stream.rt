@@ -1,7 +1,7 @@
 //! A stream in memory, for tests: it gives the bytes that it was made with, keeps those that it takes, and tells both.
 ghost use Rattle.std.specs.Prelude.{◌≡◌, ◌<◌, ◌≤◌, length, take, true, false, IfOk};
 ghost use Rattle.wires.specs.MemStreams.{new_stream, gave_of, took_of, GivesBytes, TakesBytes};
-ghost use Rattle.wires.specs.Streams.{Moves};
+ghost use Rattle.wires.specs.Streams.{MovesBytes};
 
 use crate::stream::Stream;
 use std::alloc::{AllocError, Global};
@@ -124,7 +124,7 @@ impl Stream for MemStream {
 
     fn read(&mut self, buf: &mut [u8]) -> io::Result<usize>
         requires { 0 < length buf.old }
-        ensures gives { Moves (gave_of self.old) (gave_of self.new) buf.new result }
+        ensures gives { MovesBytes (gave_of self.old) (gave_of self.new) buf.new result }
         ensures takes_none { took_of self.new ≡ took_of self.old }
         ensures bytes { GivesBytes self.old self.new (length buf.new) result }
     {
@@ -140,7 +140,7 @@ impl Stream for MemStream {
 
     fn write(&mut self, bytes: &[u8]) -> io::Result<usize>
         requires { 0 < length bytes.now }
-        ensures takes { Moves (took_of self.old) (took_of self.new) bytes.now result }
+        ensures takes { MovesBytes (took_of self.old) (took_of self.new) bytes.now result }
         ensures gives_none { gave_of self.new ≡ gave_of self.old }
         ensures bytes { TakesBytes self.old self.new bytes.now result }
     {

@@ -1,6 +1,6 @@
 //! One end of a client's connection, as far as a wire needs it.
 ghost use Rattle.std.specs.Prelude.{◌≡◌, ◌<◌, ℕ, List, Option, length};
-ghost use Rattle.wires.specs.Streams.{Moves};
+ghost use Rattle.wires.specs.Streams.{MovesBytes};
 
 use std::io;
 
@@ -18,13 +18,13 @@ pub trait Stream {
     /// What stands behind them in the buffer is unspecified.
     fn read(&mut self, buf: &mut [u8]) -> io::Result<usize>
         requires { 0 < length buf.old }
-        ensures gives { Moves (gave self.old) (gave self.new) buf.new result }
+        ensures gives { MovesBytes (gave self.old) (gave self.new) buf.new result }
         ensures takes_none { took self.new ≡ took self.old };
 
     /// Takes a front of the bytes, and says how many.
     fn write(&mut self, bytes: &[u8]) -> io::Result<usize>
         requires { 0 < length bytes.now }
-        ensures takes { Moves (took self.old) (took self.new) bytes.now result }
+        ensures takes { MovesBytes (took self.old) (took self.new) bytes.now result }
         ensures gives_none { gave self.new ≡ gave self.old };
 
     /// Says that nothing more is written: the other end then reads the end behind what was taken, and may still write.

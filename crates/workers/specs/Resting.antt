@@ -35,7 +35,6 @@ Asked paused (Some pause) x y = paused pause x y
 Asked paused None x y = y ≡ x
 
 -- a thread rested behind a turn that came to this
-pub record ThreadRests {P : Type 0} (paused : Pause → P → P → Type 0) (outcome : Outcome) (old new : Rest P) : Type 0
-  where
-    pub idle : new.idle ≡ idle_after old.idle outcome
-    pub asked : Asked paused (pause_after old.idle outcome) old.pauses new.pauses
+pub record ThreadRests {P : Type 0} (paused : Pause → P → P → Type 0) (outcome : Outcome) (old new : Rest P) : Type 0 where
+  pub idle : new.idle ≡ idle_after old.idle outcome
+  pub asked : Asked paused (pause_after old.idle outcome) old.pauses new.pauses

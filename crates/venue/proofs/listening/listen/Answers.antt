@@ -6,7 +6,9 @@ use Rattle.venue.specs.Faults.{status_of_end}
 use Rattle.venue.specs.Listening.{end_of}
 use Rattle.venue.specs.Serving.{LeavesFrom}
 use Rattle.venue.specs.Venues.{IsJournalBehind}
-use Rattle.venue.specs.CrashLaws.{LeftOrBehind, leaves_behind, new_behind, kept_honest, kept_leaves, unopened_kept, serve_leaves}
+use Rattle.venue.specs.CrashLaws.{LeftOrBehind, leaves_behind, new_behind, kept_honest, kept_leaves}
+use Rattle.venue.specs.CrashLaws.{unopened_kept, serve_leaves}
+use Rattle.venue.proofs.ServedLemmas.{are_served, counts_outputs}
 use Rattle.venue.proofs.listening.listen.Goals as goal
 
 pub returns-clause-ends : goal.returns-clause-ends
@@ -14,7 +16,7 @@ returns-clause-ends g c =
     let opened = c.in-Ok.ensures in let served = c.serve_members-crew in let seats = served.result.0.1 in
     let back = served.ensures.count in
     let posts = c.in-Ok-open_posts.ensures.count in
-    let all = opened.seats.0 in
+    let all = opened.seats.0 in let finished = c.close-disk.ensures.finished in
     let ok = seats.ok.0 in
     inr (record {
       rings = c.in-Ok.opened.0;
@@ -30,7 +32,9 @@ returns-clause-ends g c =
       opened = opened.disk;
       journals = served.ensures.crew.1;
       back = (served.ensures.back, omega (arith, back, posts, all, ok));
-      finished = c.close-disk.ensures.finished;
+      finished = finished;
+      served = are_served _ _ _ _ (counts_outputs _ _ _ opened.opened.0) finished.gateways_are finished.ended
+          served.ensures.back;
       disk_is = c.close-disk.ensures.disk;
       status_is = c.say_end.ensures
           ∙ ap status_of_end (c.end_of-end.ensures ∙ ap (λ failed. end_of failed served.result.1)
