@@ -31,8 +31,9 @@ are_served rings seats back summary counted are ended all i s there =
     let at : get_elem? seats.gateways.items i ≡ some s = ap (λ (l : List (At Limits)). get_elem? l i) are ∙ there in
     let k = ap number_of it.role in
     let served = serves 1024 rings (i + 1) it.end it.came it.gone counted it.attends ended.log
-    (λ p. subst (λ (e : At Limits). sent_at p e.who.mine ≡ published_at (length rings.base) (i + 1) ended.log p) it.seat_is
-        (subst (λ (n : ℕ). sent_at p s.who.mine ≡ published_at (length rings.base) n ended.log p) k
-        (ended.mine i s at p)))
+    (λ p. subst (λ (e : At Limits). sent_at p e.who.mine ≡ published_at (length rings.base) (i + 1) ended.log p)
+    it.seat_is
+    (subst (λ (n : ℕ). sent_at p s.who.mine ≡ published_at (length rings.base) n ended.log p) k
+    (ended.mine i s at p)))
     (subst (λ (e : At Limits). IsBeginning e.who.seen ended.log) it.seat_is (ended.seen i s at).0) in
     (served.0, served.1)
