@@ -191,7 +191,7 @@ def spellings() -> Iterator[tuple[str, Sent]]:
 def shapes() -> Iterator[tuple[str, Sent]]:
     """New orders, cancels and replaces with a field too few, too many, or twice, and with two faults at once."""
     forms = {"D": buy(3, 5, 60), "F": cut(3, 2), "G": change(3, 2, 6, 50), "M": market(3, 1, 5),
-             "D59": buy(3, 5, 60, more="59=0|")}
+             "D, day": buy(3, 5, 60, more="59=0|")}
     extra = ["1=x", "21=1", "40=2", "41=2", "44=50", "59=0", "59=3", "112=x", "99999=x"]
     for form, (kind, body) in forms.items():
         fields = body.split("|")[:-1]
