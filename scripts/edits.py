@@ -56,11 +56,12 @@ class BadEdit(Exception):
 class Function:
     """A function as it stands in a file, on the lines from first to last."""
 
-    def __init__(self, module, owner, name, file, first, last, text):
+    def __init__(self, module, owner, name, file, first, last, text, made_of=""):
         self.module, self.owner, self.name, self.file = module, owner or "", name, file
         self.first, self.last, self.text = first, last, text
-        # the end of its path as a check prints it: with its type and trait, or else its module
         self.short = "::".join([*([owner] if owner else module[-1:]), name])
+        # the end of its path as a check prints it: with its type, what that is made of, and its trait, or else its module
+        self.told_as = "::".join([*([owner + made_of] if owner else module[-1:]), name])
 
     def body(self):
         """Its text without its clauses, in front of a body's brace on a line of its own, and without comments."""
@@ -83,11 +84,13 @@ def functions_of(texts):
         if not file.startswith("src/") or not file.endswith(".rt"):
             continue
         module = [it for it in file[len("src/"):-len(".rt")].split("/") if it not in ("lib", "main")]
-        owner, lines, at = None, text.split("\n"), 0
+        owner, made_of, lines, at = None, "", text.split("\n"), 0
         while at < len(lines):
             line = lines[at]
             if kind := IMPL.match(line):
                 owner = kind["type"] + re.sub(r"\W", "", kind["trait"] or "")
+                words = re.findall(r"\b[A-Z]\w*", line[kind.end():]) if not kind["trait"] else []
+                made_of = "".join(f"+{it}" for it in words) if any(len(it) > 1 for it in words) else ""
             elif line == "}":
                 owner = None
             elif name := FUNCTION.match(line):
@@ -98,7 +101,8 @@ def functions_of(texts):
                     if not has_body and lines[at].endswith(";") and not lines[at + 1].startswith(margin + " "):
                         break  # A trait's function that it leaves to others.
                     at += 1
-                found.append(Function(module, owner, name[1], file, first + 1, at + 1, "\n".join(lines[first:at + 1])))
+                whole = "\n".join(lines[first:at + 1])
+                found.append(Function(module, owner, name[1], file, first + 1, at + 1, whole, made_of))
             at += 1
     return found
 
@@ -202,7 +206,7 @@ class Check:
 
     def told(self, function):
         """The path of a function, and what its line says."""
-        paths = [it for it in self.functions if it.endswith(f"::{function.short}")]
+        paths = [it for it in self.functions if it.endswith(f"::{function.told_as}")]
         whole = "::".join([self.crate, *function.module, function.name])
         path = paths[0] if len(paths) == 1 else whole
         return path, self.functions.get(path, "no line")
@@ -342,7 +346,7 @@ class Work:
     def check(self, kept, batch):
         """Checks a copy of the crate with these edits in it."""
         words = [f"{self.crate.kit}/bin/rattle", "check", *self.crate.words, "--incremental", kept]
-        for name in sorted({it.short for edit in batch for it in edit.changed}):
+        for name in sorted({it.told_as for edit in batch for it in edit.changed}):
             words += ["--only", name]
         with tempfile.TemporaryDirectory(prefix="edits-") as room:
             for path, text in all_in(self.crate, batch).items():
