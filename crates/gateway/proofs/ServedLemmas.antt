@@ -3,6 +3,7 @@ use Rattle.std.proofs.Common.{◌≡◌, inl, inr, ℕ, zero, suc, List, [], ◌
 use Rattle.std.proofs.Common.{sym, subst, ◌∙◌, append-nil, Option, Some, None}
 use Rattle.std.specs.Prelude.{option_to_list}
 use Rattle.std.specs.List.{flat_map, AllByRecursion}
+use Rattle.fix_orders.specs.Text.{Said}
 use Rattle.venue_model.specs.History.{History}
 use Rattle.venue_model.specs.Requests.{Limits}
 use Rattle.ring_words.specs.At.{Opened}
@@ -11,7 +12,8 @@ use Rattle.ring_words.specs.Log.{sent_at, published_at}
 use Rattle.wires.specs.Wires.{Told}
 use Rattle.gateway.specs.Accepting.{Accepting, TakesTurn, Goes, AttendsFor}
 use Rattle.gateway.specs.declared.ending.Turned.{Turned}
-use Rattle.gateway.specs.Visits.{IsVisit, DayPart, visits_in, gone_in, StillThere, WasServed}
+use Rattle.gateway.specs.Visits.{IsVisit, DayPart, acts_in, visits_in, gone_in, reports_by, reports_for}
+use Rattle.gateway.specs.Visits.{IsFirstOf, StillThere, WasServed}
 use Rattle.gateway.proofs.Lists.{AllByRecursion-push}
 use Rattle.gateway.proofs.LifeLemmas.{Running, Life, visits-push, gone-push, life-idles, life-admits}
 use Rattle.gateway.proofs.ReportLemmas.{taken_first}
@@ -90,6 +92,16 @@ module _ (rings : Opened Limits) (k n : ℕ) where
   still_there done end None running none = tt
   still_there done end (Some wire) running (v, fits, is) = (done, v, ap (λ (ps : List DayPart). done ++ ps) is)
 
+  -- what was taken of the reports is the first of those for the member, by each history that begins with what the
+  -- gateway has seen
+  pub life-kept : (end : Accepting) (came gone : List Told) (life : Life rings k end came gone) (h : History)
+      → IsBeginning end.gateway.seat.who.seen h
+      → IsFirstOf (flat_map reports_by (flat_map acts_in (life.done ++ life.running))) (reports_for k rings.logic rings.base h)
+  life-kept end came gone life h begins =
+      let known = life.recorded in
+      let first = taken_first k rings.logic rings.base end.gateway.seat.who known.from known.to h begins in
+      (first.0, ap (λ (os : List Said). os ++ first.0) known.reports ∙ first.1)
+
   module _ (end : Accepting) (came gone : List Told) (life : Life rings k end came gone) (log : History)
       (mine : (s : ℕ) → sent_at s end.gateway.seat.who.mine ≡ published_at (length rings.base) k log s)
       (seen : IsBeginning end.gateway.seat.who.seen log) where
@@ -98,12 +110,10 @@ module _ (rings : Opened Limits) (k n : ℕ) where
 
     pub life-serves : WasServed k rings.logic rings.base log parts
     life-serves =
-        let known = life.recorded in
-        let first = taken_first k rings.logic rings.base end.gateway.seat.who known.from known.to log seen in record {
+        let known = life.recorded in record {
           visits = all_visits life.done life.visits end end.wire life.running life.now;
           entered = known.entered ∙ sends_are k (length rings.base) log end.gateway.seat.who.mine known.rises mine;
-          later = first.0;
-          reports = ap (λ os. os ++ first.0) known.reports ∙ first.1;
+          reports = life-kept end came gone life log seen;
           behind = known.behind log seen;
         }
 

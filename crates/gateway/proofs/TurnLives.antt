@@ -12,8 +12,9 @@ use Rattle.wires.specs.Wires.{Told}
 use Rattle.gateway.specs.declared.ending.Turned.{Turned}
 use Rattle.gateway.specs.declared.ending.Turned.TheVariants.{Worked, Quiet, Ended}
 use Rattle.gateway.specs.Accepting.{Accepting, WithClient, Leaves}
+use Rattle.gateway.specs.Delivers.{Proceeds}
 use Rattle.gateway.specs.Gateways.{around}
-use Rattle.gateway.specs.Seats.{messages_of, taken_by}
+use Rattle.gateway.specs.Seats.{Uses, messages_of, taken_by}
 use Rattle.gateway.specs.Turns.{World, Turn}
 use Rattle.gateway.specs.Visits.{Act, Misses, given_by, missed_by, Visit, IsVisit, DayPart, There, acts_in}
 use Rattle.gateway.specs.Visits.{visits_in, came_in}
@@ -42,8 +43,9 @@ regrouped-missed done missed acts more reports none =
     ∙ append-nil (missed ++ reports)))
 
 module _ (rings : Opened Limits) (k n : ℕ) (old new : Accepting) (came gone : List Told)
-    (life : Life rings k old came gone)
-    (turned : Turned) (left : Option Told) (with_client : WithClient n old new turned left) where
+    (life : Life rings k old came gone) (turned : Turned) (now later : Told) (connected : old.wire ≡ Some now)
+    (proceeds : Proceeds n old.gateway new.gateway now later turned)
+    (uses : Uses n old.gateway.seat new.gateway.seat) where
   abbrev seat : At Limits
   seat = old.gateway.seat
 
@@ -51,16 +53,16 @@ module _ (rings : Opened Limits) (k n : ℕ) (old new : Accepting) (came gone : 
   seat_after = new.gateway.seat
 
   abbrev before : World
-  before = around n old.gateway with_client.before
+  before = around n old.gateway now
 
   abbrev behind : World
-  behind = around n new.gateway with_client.behind
+  behind = around n new.gateway later
 
   abbrev turn : Turn before behind turned
-  turn = with_client.proceeds.turn
+  turn = proceeds.turn
 
-  running : Running k old.gateway.front (Some with_client.before) life.running
-  running = subst (λ (w : Option Told). Running k old.gateway.front w life.running) with_client.connected life.now
+  running : Running k old.gateway.front (Some now) life.running
+  running = subst (λ (w : Option Told). Running k old.gateway.front w life.running) connected life.now
 
   abbrev visit : Visit
   visit = running.0
@@ -76,23 +78,23 @@ module _ (rings : Opened Limits) (k n : ℕ) (old new : Accepting) (came gone : 
   recorded = subst (Recorded k rings.logic rings.base seat.who) parts_before life.recorded
 
   abbrev between : At Limits
-  between = with_client.uses.between
+  between = uses.between
 
   entering : Entered rings k seat.who between.who acts_before
-  entering = entered rings k n seat between acts_before life.sits with_client.uses.enters recorded
+  entering = entered rings k n seat between acts_before life.sits uses.enters recorded
 
   sits_between : Sits rings k between
-  sits_between = sits-entered rings k n seat between acts_before life.sits with_client.uses.enters
+  sits_between = sits-entered rings k n seat between acts_before life.sits uses.enters
 
   sits_after : Sits rings k seat_after
-  sits_after = sits_still rings k seat seat_after life.sits with_client.uses.stays
+  sits_after = sits_still rings k seat seat_after life.sits uses.stays
 
   abbrev on : Bool
   on = behind.front.session.logged_on
 
   looking : Looked rings k on between.who seat_after.who (acts_before ++ entering.more)
   looking = looked_at rings k n between seat_after
-      (acts_before ++ entering.more) sits_between entering.recorded on with_client.uses.looks
+      (acts_before ++ entering.more) sits_between entering.recorded on uses.looks
 
   -- the reports that the look found are those that the turn took
   these_are : turn.takes.these ≡ looking.these
@@ -176,8 +178,8 @@ module _ (rings : Opened Limits) (k n : ℕ) (old new : Accepting) (came gone : 
   recorded_behind quiet = subst (Recorded k rings.logic rings.base seat_after.who)
       (after.1.acts_are ∙ sym (flat_map-push acts_in life.done (There (visit_after quiet)))) looking.recorded
 
-  -- it goes on
-  goes_on : (quiet : Bool) → new.wire ≡ Some (record behind.wire { quiet = quiet }) → Life rings k new came gone
+  -- it goes on, whether its wire is told to rest or not
+  pub goes_on : (quiet : Bool) → new.wire ≡ Some (record behind.wire { quiet = quiet }) → Life rings k new came gone
   goes_on quiet wire = record {
     done = life.done;
     running = There (visit_after quiet) ∷ [];
@@ -191,7 +193,7 @@ module _ (rings : Opened Limits) (k n : ℕ) (old new : Accepting) (came gone : 
   }
 
   -- or it is over
-  is_over : new.wire ≡ None → Life rings k new came (gone ++ record behind.wire { quiet = true } ∷ [])
+  pub is_over : new.wire ≡ None → Life rings k new came (gone ++ record behind.wire { quiet = true } ∷ [])
   is_over wire =
       let v = visit_after true in
       let all = append-nil (life.done ++ There v ∷ []) in record {
@@ -207,16 +209,33 @@ module _ (rings : Opened Limits) (k n : ℕ) (old new : Accepting) (came gone : 
             (sym all) (recorded_behind true);
       }
 
+module _ (rings : Opened Limits) (k n : ℕ) (old new : Accepting) (came gone : List Told)
+    (life : Life rings k old came gone)
+    (turned : Turned) (left : Option Told) (with_client : WithClient n old new turned left) where
+  abbrev now : Told
+  now = with_client.before
+
+  abbrev later : Told
+  later = with_client.behind
+
+  stays_on : (quiet : Bool) → new.wire ≡ Some (record later { quiet = quiet }) → Life rings k new came gone
+  stays_on = goes_on rings k n old new came gone life turned now later with_client.connected with_client.proceeds
+      with_client.uses
+
+  ends : new.wire ≡ None → Life rings k new came (gone ++ record later { quiet = true } ∷ [])
+  ends = is_over rings k n old new came gone life turned now later with_client.connected with_client.proceeds
+      with_client.uses
+
   without_more : left ≡ None → Life rings k new came gone → Life rings k new came (gone ++ option_to_list left)
   without_more none life_after = subst (λ (l : List Told). Life rings k new came l)
       (sym (append-nil gone) ∙ ap (λ (w : Option Told). gone ++ option_to_list w) (sym none)) life_after
 
-  leaves : (answer : Turned) → Leaves answer with_client.behind new.wire left
+  leaves : (answer : Turned) → Leaves answer later new.wire left
       → Life rings k new came (gone ++ option_to_list left)
-  leaves Worked (wire, none) = without_more none (goes_on false wire)
-  leaves Quiet (wire, none) = without_more none (goes_on true wire)
+  leaves Worked (wire, none) = without_more none (stays_on false wire)
+  leaves Quiet (wire, none) = without_more none (stays_on true wire)
   leaves (Ended reason) (wire, is) = subst (λ (w : Option Told). Life rings k new came (gone ++ option_to_list w))
-      (sym is) (is_over wire)
+      (sym is) (ends wire)
 
   pub life-turns : Life rings k new came (gone ++ option_to_list left)
   life-turns = leaves turned with_client.leaves

@@ -96,6 +96,10 @@ StillThere (Some wire) parts = (before : List DayPart) × (visit : Visit) × (pa
 abbrev pub reports_for : ℕ → Limits → History → History → List Said
 reports_for k limits base h = texts_to k (length (outputs_of limits base)) (drop (length (outputs_of limits base)) (outputs_of limits h))
 
+-- these come first, in their order, and others may follow
+abbrev pub IsFirstOf : List Said → List Said → Type 0
+IsFirstOf first all = (later : List Said) × (first ++ later ≡ all)
+
 -- the messages of member k among these, the first of which has this place
 abbrev pub own_entries : ℕ → ℕ → History → List Entry
 own_entries k place [] = []
@@ -116,6 +120,5 @@ NoneOvertakes k limits base log taken (Misses said ∷ acts) = NoneOvertakes k l
 pub record WasServed (k : ℕ) (limits : Limits) (base log : History) (parts : List DayPart) : Type 0 where
   pub visits : AllByRecursion (IsVisit k) (flat_map visits_in parts)
   pub entered : flat_map entered_by (flat_map acts_in parts) ≡ own_entries k (length base) (drop (length base) log)
-  pub later : List Said
-  pub reports : flat_map reports_by (flat_map acts_in parts) ++ later ≡ reports_for k limits base log
+  pub reports : IsFirstOf (flat_map reports_by (flat_map acts_in parts)) (reports_for k limits base log)
   pub behind : NoneOvertakes k limits base log 0 (flat_map acts_in parts)

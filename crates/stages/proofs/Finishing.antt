@@ -20,13 +20,13 @@ use Rattle.stages.specs.Stations.{OneCrew}
 use Rattle.stages.specs.Finishing.{Survives, Finished, people_of}
 
 -- what stands in a front stands in the whole, and what stands there early enough stands in the front
-in_front : (n : ℕ) (h : History) (s : ℕ) (e : Message) → get_elem? (take n h) s ≡ some e → get_elem? h s ≡ some e
+pub in_front : (n : ℕ) (h : History) (s : ℕ) (e : Message) → get_elem? (take n h) s ≡ some e → get_elem? h s ≡ some e
 in_front zero h s e at = absurd (some-ne-none e (sym at))
 in_front (suc n) [] s e at = at
 in_front (suc n) (m ∷ h) zero e at = at
 in_front (suc n) (m ∷ h) (suc s) e at = in_front n h s e at
 
-to_front : (n : ℕ) (h : History) (s : ℕ) (e : Message) → s < n → get_elem? h s ≡ some e
+pub to_front : (n : ℕ) (h : History) (s : ℕ) (e : Message) → s < n → get_elem? h s ≡ some e
     → get_elem? (take n h) s ≡ some e
 to_front zero h s e early at = absurd (omega (arith, early))
 to_front (suc n) [] s e early at = at

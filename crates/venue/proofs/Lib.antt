@@ -1,4 +1,11 @@
 pub mod OpenedLemmas
 pub mod ServingLemmas
 pub mod MemberLemmas
+mod HeadlineLemmas
 mod ServedLemmas
+mod ListeningLemmas
+mod ClientLemmas
+mod MemberTurns
+mod PortLemmas
+mod HomeLemmas
+mod TradeLemmas

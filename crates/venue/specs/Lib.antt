@@ -10,7 +10,9 @@ pub mod Crashes
 pub mod Rounds
 pub mod Serving
 pub mod CrashLaws
+pub mod Leaving
 pub mod Trading
 pub mod TradingLaws
 pub mod Members
+pub mod Headline
 pub mod Listening

@@ -8,7 +8,9 @@ use Rattle.stages.specs.Stations.{OneCrew, disk_of}
 use Rattle.stages.specs.Finishing.{Finished}
 use Rattle.stages.specs.Journalling.{JournalsOn}
 use Rattle.venue.specs.Faults.{status_of_end}
-use Rattle.venue.specs.Members.{AreBack, AreServed}
+use Rattle.venue.specs.Headline.{Boundary}
+use Rattle.venue.specs.Members.{AreBack, SamePorts}
+use Rattle.wires.specs.Ports.{Register}
 use Rattle.venue.specs.Opened.{AreBehind, IsNewCrew, ReadsByCut}
 use Rattle.stages.specs.Devices.{Device}
 use Rattle.venue.specs.declared.fault.ServeFault.{ServeFault}
@@ -20,10 +22,10 @@ end_of true ready = Err fault.JournalFailed
 end_of false true = Ok tt
 end_of false false = Err fault.Memory
 
-module _ {D : Type 0} where
-  -- Members were served behind the journal's history, which is read by the journal's cut. The stages went on from there, the journaller with all that it was told, and all g gateways'
-  -- seats came back; one log tells of all of them, of which the disk keeps what was answered.
-  pub record Listens (limits : Limits) (device : Device D) (g : ℕ) (old new : D) (status : ℕ) : Type 0 where
+module _ {D X : Type 0} where
+  -- Members were served behind the journal's history, which is read by the journal's cut. The stages went on from there, the journaller with all that it
+  -- was told, and all gateways' seats came back, and their ports; one log tells of all of them, of which the disk keeps what was answered.
+  pub record Listens (limits : Limits) (device : Device D) (tells : X → Register) (old new : Boundary D X) (status : ℕ) : Type 0 where
     pub rings : Opened Limits
     pub begun : OneCrew D
     pub ended : OneCrew D
@@ -33,19 +35,23 @@ module _ {D : Type 0} where
     pub behind : AreBehind (record limits { cut = rings.logic.cut }) rings.base rings
     pub cut : ReadsByCut (device.honest (disk_of begun)) (device.tells (disk_of begun)) rings
     pub crew : IsNewCrew rings begun
-    pub counts : device.failed (disk_of begun) ≡ device.failed old
-    pub opened : IsStarted (device.honest old) (device.honest (disk_of begun)) (device.tells old) (device.tells (disk_of begun)) limits rings.base
+    pub counts : device.failed (disk_of begun) ≡ device.failed old.disk
+    pub opened : IsStarted (device.honest old.disk) (device.honest (disk_of begun)) (device.tells old.disk) (device.tells (disk_of begun)) limits rings.base
     pub journals : JournalsOn 1024 rings device begun.journaller ended.journaller
-    pub back : AreBack rings seats × (length seats ≡ g)
-    pub finished : Finished rings seats ended (device.honest new) (device.tells new) summary
-    -- each member was served so by that log
-    pub served : AreServed rings.logic rings.base finished.ended.log seats
-    pub disk_is : new ≡ disk_of ended
+    pub back : AreBack rings tells old.ports seats new.ports
+    pub all : (length seats ≡ length old.ports) × (length new.ports ≡ length old.ports)
+    pub finished : Finished rings seats ended (device.honest new.disk) (device.tells new.disk) summary
+    pub disk_is : new.disk ≡ disk_of ended
     pub status_is : status ≡ status_of_end (end_of ended.journaller.journal.failed ready)
 
-  -- What the program's status says: 1 where nobody was served, and the disk was only read, or a snapshot that was due was added to the journal of the
-  -- same history, or not; and else how it ended.
-  abbrev pub EndsListening : Limits → Device D → ℕ → D → D → ℕ → Type 0
-  EndsListening limits device g old new status =
-      ((status ≡ 1) × KeepsHistory (device.honest old) (device.honest new) (device.tells old) (device.tells new) limits)
-      ⊎ Listens limits device g old new status
+  -- Nobody was served: the ports tell what they told, and the disk was only read, or a snapshot that was due was added to the journal of the same history,
+  -- or not.
+  pub record ServesNobody (limits : Limits) (device : Device D) (tells : X → Register) (old new : Boundary D X) : Type 0 where
+    pub disk : KeepsHistory (device.honest old.disk) (device.honest new.disk) (device.tells old.disk) (device.tells new.disk) limits
+    pub ports : SamePorts tells old.ports new.ports
+    pub all : length new.ports ≡ length old.ports
+
+  -- What the program's status says: 1 where nobody was served; and else how it ended.
+  abbrev pub EndsListening : Limits → Device D → (X → Register) → Boundary D X → Boundary D X → ℕ → Type 0
+  EndsListening limits device tells old new status =
+      ((status ≡ 1) × ServesNobody limits device tells old new) ⊎ Listens limits device tells old new status

@@ -1,27 +1,67 @@
--- The members of the listening venue: their posts, and the seats that come back from them.
-use Rattle.std.specs.Prelude.{◌≡◌, ℕ, ◌+◌, List}
+-- The members of the listening venue: their posts and ports, and the seats and ports that come back from them.
+use Rattle.std.specs.Prelude.{◌≡◌, ◌≤◌, ℕ, ◌+◌, false, List, [], ◌∷◌, ◌++◌, map, vec_len, None, Box}
+use Rattle.std.specs.Global.{Global}
+use Rattle.std.specs.Vec.{vec_capacity}
 use mathlib.Core.Option.{some}
 use lib.ListN.{get_elem?}
-use Rattle.venue_model.specs.History.{History}
 use Rattle.venue_model.specs.Requests.{Limits}
-use Rattle.gateway.specs.Visits.{DayPart, WasServed}
-use Rattle.ring_words.specs.At.{Opened, At}
+use Rattle.ring_words.specs.At.{Opened, At, IsAt}
+use Rattle.ring_words.specs.declared.view.Role.TheVariants.{Gateway}
 use Rattle.gateway.specs.Accepting.{without_client}
 use Rattle.venue.specs.Trading.{IsBack}
 use Rattle.venue.specs.declared.member.Post.{Post}
+use Rattle.venue.specs.declared.members.Home.{Home}
+use Rattle.venue.specs.declared.members.Members.{Members}
+use Rattle.venue.specs.Leaving.{told_leaving}
+use Rattle.wires.specs.Ports.{Register}
+use Rattle.wires.specs.Wires.{Told}
 
 -- the post of gateway k of these rings as they were opened
-abbrev pub IsPost : Opened Limits → ℕ → Post → Type 0
-IsPost rings k p = (p.number ≡ k) × (p.acceptor ≡ without_client rings k)
+abbrev pub IsPost : {W : Type 0} → Opened Limits → (W → Told) → ℕ → Post W → Type 0
+IsPost rings tells k p = (p.number ≡ k) × (p.desk.value.acceptor ≡ without_client rings k) × (told_leaving tells p.desk.value.leaving ≡ None)
 
 -- such posts, in the order of their gateways' numbers
-abbrev pub ArePosts : Opened Limits → List Post → Type 0
-ArePosts rings posts = (i : ℕ) (p : Post) → get_elem? posts i ≡ some p → IsPost rings (i + 1) p
+abbrev pub ArePosts : {W : Type 0} → Opened Limits → (W → Told) → List (Post W) → Type 0
+ArePosts rings tells posts = (i : ℕ) (p : Post _) → get_elem? posts i ≡ some p → IsPost rings tells (i + 1) p
 
--- seats that came back, in the order of their gateways' numbers
-abbrev pub AreBack : Opened Limits → List (At Limits) → Type 0
-AreBack rings seats = (i : ℕ) (s : At Limits) → get_elem? seats i ≡ some s → IsBack rings (i + 1) s
+-- what a port in a box tells
+abbrev pub in_box : {X : Type 0} → (X → Register) → Box X Global → Register
+in_box tells boxed = tells boxed.value
 
--- The member at each of these seats had a day by this log, behind the history at the start: each of its clients' sessions, and what it was told.
-abbrev pub AreServed : Limits → History → History → List (At Limits) → Type 0
-AreServed limits base log seats = (i : ℕ) (s : At Limits) → get_elem? seats i ≡ some s → (day : List DayPart) × WasServed (i + 1) limits base log day
+-- no client's wire is out at these ports
+abbrev pub AreFree : {X : Type 0} → (X → Register) → List X → Type 0
+AreFree tells ports = (i : ℕ) (x : _) → get_elem? ports i ≡ some x → (tells x).out ≡ false
+
+-- they tell what they told
+abbrev pub SamePorts : {X : Type 0} → (X → Register) → List X → List X → Type 0
+SamePorts tells old new = map tells new ≡ map tells old
+
+-- seats that came back, in the order of their gateways' numbers, and the ports of their clients, before and after
+abbrev pub AreBack : {X : Type 0} → Opened Limits → (X → Register) → List X → List (At Limits) → List X → Type 0
+AreBack rings tells old seats new = (i : ℕ) (s : At Limits) (x y : _) → get_elem? seats i ≡ some s → get_elem? old i ≡ some x
+    → get_elem? new i ≡ some y → IsBack rings (i + 1) s (tells x) (tells y)
+
+-- Members as they are before anybody is served: at these rings, each with its port, and with lists in which there is room for all seats and ports.
+pub record AreReady {W X : Type 0} (rings : Opened Limits) (wires : W → Told) (tells : X → Register) (m : Members W X) : Type 0 where
+  pub posts : ArePosts rings wires m.posts.items
+  pub ports : vec_len m.ports ≡ vec_len m.posts
+  pub free : AreFree (in_box tells) m.ports.items
+  pub empty : (m.home.seats.items ≡ []) × (m.home.ports.items ≡ [])
+  pub room : (vec_len m.posts ≤ vec_capacity m.home.seats) × (vec_len m.posts ≤ vec_capacity m.home.ports)
+
+-- the last of them has this port, and these are the others
+pub record IsLast {W X : Type 0} (all others : Members W X) (port : Box X Global) : Type 0 where
+  pub posts : vec_len all.posts ≡ vec_len others.posts + 1
+  pub ports : all.ports.items ≡ others.ports.items ++ port ∷ []
+  pub home : others.home ≡ all.home
+
+-- All of them have traded, and are home.
+pub record AreHome {W X : Type 0} (rings : Opened Limits) (tells : X → Register) (m : Members W X) (h : Home X) : Type 0 where
+  pub back : AreBack rings (in_box tells) m.ports.items h.seats.items h.ports.items
+  pub seats : vec_len h.seats ≡ vec_len m.posts
+  pub ports : vec_len h.ports ≡ vec_len m.posts
+  pub room : (vec_capacity h.seats ≡ vec_capacity m.home.seats) × (vec_capacity h.ports ≡ vec_capacity m.home.ports)
+
+-- the seats that came back are of these rings, have their gateways' numbers, and no claims
+abbrev pub AreReturned : Opened Limits → List (At Limits) → Type 0
+AreReturned rings seats = (i : ℕ) (s : At Limits) → get_elem? seats i ≡ some s → IsAt rings s × (s.who.role ≡ Gateway (i + 1)) × (s.who.claims ≡ [])

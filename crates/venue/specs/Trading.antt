@@ -1,26 +1,66 @@
--- What a member's worker comes to: its gateway goes on at its place, with one client behind the other.
-use Rattle.std.specs.Prelude.{◌≡◌, ℕ, List, []}
+-- What a member's worker comes to: its gateway goes on at its place, with one client behind the other, who come in at its port and leave there.
+use Rattle.std.specs.Prelude.{◌≡◌, ℕ, ◌+◌, Bool, false, if◌then◌else◌, List, [], ◌++◌, Option, Some, None, option_to_list}
 use Rattle.venue_model.specs.Requests.{Limits}
 use Rattle.gateway.specs.Accepting.{Accepting, AttendsClients, without_client}
 use Rattle.ring_words.specs.At.{Opened, At, IsAt}
 use Rattle.ring_words.specs.declared.view.Role.TheVariants.{Gateway}
+use Rattle.venue.specs.Leaving.{LeaveOn, told_leaving}
+use Rattle.venue.specs.declared.leaving.Leaving.{Leaving}
+use Rattle.wires.specs.Ports.{Register, with_more}
 use Rattle.wires.specs.Wires.{Told}
 
--- at the same rings, with the same number, it took turns and let clients in: the wires of those that came, and of those that are gone
-pub record TradesOn (rings : Opened Limits) (old : Accepting) (rings_after : Opened Limits) (new : Accepting) : Type 0 where
-  pub rings_are : rings_after ≡ rings
-  pub role : new.gateway.seat.who.role ≡ old.gateway.seat.who.role
-  pub came : List Told
-  pub gone : List Told
-  pub attends : AttendsClients 1024 old new came gone
+-- a member: its acceptor, what the wire of a client tells that leaves, and what its port tells
+pub record AtPort : Type 0 where
+  pub acceptor : Accepting
+  pub leaving : Option Told
+  pub register : Register
 
--- Clients of gateway k were served from then on, and this is its seat now: at these rings, with its number, and without claims.
-pub record IsBack (rings : Opened Limits) (k : ℕ) (seat : At Limits) : Type 0 where
+abbrev pub at_port : {W X : Type 0} → (W → Told) → (X → Register) → Accepting → Option (Leaving W) → X → AtPort
+at_port wire_tells port_tells acceptor leaving port =
+    record { acceptor = acceptor; leaving = told_leaving wire_tells leaving; register = port_tells port }
+
+-- how many there are of one who may be there
+abbrev pub present : Option Told → ℕ
+present None = 0
+present (Some told) = 1
+
+-- one client at most is there or leaves, and its wire is out just then
+abbrev pub HasClient : Option Told → Option Told → Bool → Type 0
+HasClient wire leaving out = present wire + present leaving ≡ (if out then 1 else 0)
+
+-- at the end the port is given back the wire of the client that leaves, or of the one that is there
+abbrev pub GivesBack : Register → Register → Option Told → Option Told → Type 0
+GivesBack old new leaving wire =
+    new ≡ record old { gone = with_more old.gone (option_to_list leaving ++ option_to_list wire); out = false }
+
+-- At the same rings, with the same number, it took turns and let clients in. These are the wires of the clients that came, as the port handed them out, of
+-- those whose sessions ended, as they were then, and of those that the port got back: all whose sessions ended, but for one that still leaves.
+pub record TradesOn (rings : Opened Limits) (old : AtPort) (rings_after : Opened Limits) (new : AtPort) : Type 0 where
+  pub rings_are : rings_after ≡ rings
+  pub role : new.acceptor.gateway.seat.who.role ≡ old.acceptor.gateway.seat.who.role
+  pub came : List Told
+  pub ended : List Told
+  pub gone : List Told
+  pub attends : AttendsClients 1024 old.acceptor new.acceptor came ended
+  pub number : new.register.number ≡ old.register.number
+  pub handed_out : new.register.came ≡ with_more old.register.came came
+  pub given_back : new.register.gone ≡ with_more old.register.gone gone
+  pub leave : LeaveOn (option_to_list old.leaving ++ ended) (gone ++ option_to_list new.leaving)
+
+-- Clients of gateway k were served from then on, and this is its seat now: at these rings, with its number, and without claims. They are those that came in
+-- at its port, in their order, and the port has all their wires back: nothing more was written to one whose session had ended, or that was still there at the end.
+pub record IsBack (rings : Opened Limits) (k : ℕ) (seat : At Limits) (old new : Register) : Type 0 where
   pub end : Accepting
   pub came : List Told
+  pub ended : List Told
   pub gone : List Told
-  pub attends : AttendsClients 1024 (without_client rings k) end came gone
+  pub attends : AttendsClients 1024 (without_client rings k) end came ended
+  pub number : new.number ≡ old.number
+  pub handed_out : new.came ≡ with_more old.came came
+  pub given_back : new.gone ≡ with_more old.gone gone
+  pub leave : LeaveOn (ended ++ option_to_list end.wire) gone
   pub seat_is : seat ≡ end.gateway.seat
   pub at : IsAt rings seat
   pub role : seat.who.role ≡ Gateway k
   pub spent : seat.who.claims ≡ []
+  pub free : new.out ≡ false

@@ -1,33 +1,34 @@
 //! The listening mode: gateways at ports of their own, each of them and each stage on a thread of its own, until the venue is told to stop.
-ghost use Rattle.std.specs.Prelude.{◌≡◌, ◌↔◌, ◌⊎◌, ◌+◌, ◌≤◌, [], true, false, vec_len};
-ghost use Rattle.std.specs.Vec.{vec_capacity};
+ghost use Rattle.std.specs.Prelude.{◌≡◌, ◌≤◌, ◌^◌, false, length, vec_len, IfOk, IfErr};
 ghost use Rattle.std.specs.Thread.{IsSync};
 ghost use denote.Param.Send.{IsSend};
 ghost use Rattle.disks.specs.Disk.{Both};
 ghost use Rattle.stages.specs.Stations.{disk_of};
 ghost use Rattle.stages.specs.Crews.{AreAt};
 ghost use Rattle.stages.specs.Journalling.{WorksOn};
-ghost use Rattle.venue.specs.Members.{ArePosts, AreBack};
+ghost use Rattle.ring_words.specs.Crew.{AreNewGateways};
+ghost use Rattle.venue.specs.Members.{AreFree, SamePorts, AreReady, AreHome, AreReturned, in_box};
+ghost use Rattle.venue.specs.Opened.{AreBehind};
 ghost use Rattle.venue.specs.Serving.{LeavesFrom};
 ghost use Rattle.stages.specs.Finishing.{Finished};
-ghost use Rattle.venue.specs.Faults.{status_of_end};
+ghost use Rattle.venue.specs.Faults.{had_served, status_of_end};
+ghost use Rattle.venue.specs.Headline.{SeenListening};
 ghost use Rattle.venue.specs.Listening.{EndsListening, end_of};
 ghost use Rattle.stages.specs.Devices.{device};
 
 use crate::fault::ServeFault;
-use crate::member::Post;
-use crate::members::{open_posts, trade_all};
+use crate::members::{Home, Members, open_ports, open_posts, trade_all};
 use crate::opening::open;
 use crate::rings::VenueRings;
 use crate::stop::StopSign;
 use crate::watch::{Recovered, watch};
 use book::BookLogic;
+use gateway::{ClientWire, Port};
 use journal::JournalDisk;
 use ring_words::{GatewaySeat, Summary};
 use stages::Crew;
 use std::alloc::Global;
 use std::io::Write;
-use std::net::{Net, TcpListener, TcpStream};
 use std::rt::Clock;
 use std::thread::{Threads, join};
 use venue_model::Limits;
@@ -36,14 +37,16 @@ use workers::{Gate, Signals, run};
 /// How many stages there are.
 const STAGES: u64 = 4;
 
-/// What the workers leave when they have ended: the stages, and all gateways' seats.
-type Left<D> = (Crew<D>, Vec<GatewaySeat<BookLogic>>);
+/// What the workers leave when they have ended: the stages, and all gateways' seats and ports.
+type Left<D, X> = (Crew<D>, Home<X>);
 
 /// Lets stages and members work, each on a thread of its own, until the signals say stop.
 fn work_all<
     R: Threads + Clock + Sync,
     Q: Gate + Sync,
     D: JournalDisk + Drop + Send,
+    W: ClientWire + Drop + Send,
+    X: Port<Wire = W> + Drop + Send,
     const G: usize,
 >(
     rt: &R,
@@ -51,26 +54,23 @@ fn work_all<
     alloc: Global,
     rings: &VenueRings<G>,
     crew: Crew<D>,
-    posts: Vec<Post>,
-    home: Vec<GatewaySeat<BookLogic>>,
+    members: Members<W, X>,
     signals: &Signals,
-) -> Left<D>
+) -> Left<D, X>
     requires crew { AreAt rings.now crew }
-    requires posts { ArePosts rings.now posts.items }
-    requires home { (home.items ≡ []) × (vec_len posts ≤ vec_capacity home) }
+    requires members { AreReady rings.now W.tells X.tells members }
     ensures crew { WorksOn 1024 rings.now (device D.honest D.tells D.failed) crew result.0 }
-    ensures back { AreBack rings.now result.1.items }
-    ensures count { vec_len result.1 ≡ vec_len posts }
+    ensures home { AreHome rings.now X.tells members result.1 }
 {
     run(
         rt,
         gate,
         rings,
         crew,
-        move || -> Vec<GatewaySeat<BookLogic>>
-            requires { IsSync R.row × IsSync Q.row × (ArePosts rings.now posts.items) × (home.items ≡ []) × (vec_len posts ≤ vec_capacity home) }
-            ensures { (AreBack rings.entry.now result.items) × (vec_len result ≡ vec_len posts) }
-        { trade_all(rt, gate, rings, alloc, posts, home, signals) },
+        move || -> Home<X>
+            requires { IsSync R.row × IsSync Q.row × IsSend W.row × IsSend X.row × AreReady rings.now W.tells X.tells members }
+            ensures { AreHome rings.entry.now X.tells members result }
+        { trade_all(rt, gate, rings, alloc, members, signals) },
         signals,
     )
 }
@@ -80,6 +80,8 @@ fn serve_members<
     R: Threads + Clock + Sync,
     Q: Gate + Sync,
     D: JournalDisk + Drop + Send,
+    W: ClientWire + Drop + Send,
+    X: Port<Wire = W> + Drop + Send,
     S: StopSign,
     O: Write,
     const G: usize,
@@ -89,18 +91,15 @@ fn serve_members<
     alloc: Global,
     rings: &VenueRings<G>,
     crew: Crew<D>,
-    posts: Vec<Post>,
-    home: Vec<GatewaySeat<BookLogic>>,
+    members: Members<W, X>,
     sign: &mut S,
     out: &mut O,
-) -> (Left<D>, bool)
+) -> (Left<D, X>, bool)
     requires gateways { G ≤ 8 }
     requires crew { AreAt rings.now crew }
-    requires posts { ArePosts rings.now posts.items }
-    requires home { (home.items ≡ []) × (vec_len posts ≤ vec_capacity home) }
+    requires members { AreReady rings.now W.tells X.tells members }
     ensures crew { WorksOn 1024 rings.now (device D.honest D.tells D.failed) crew result.0.0 }
-    ensures back { AreBack rings.now result.0.1.items }
-    ensures count { vec_len result.0.1 ≡ vec_len posts }
+    ensures home { AreHome rings.now X.tells members result.0.1 }
 {
     let recovered = Recovered {
         commands: crew.processor.next_seq(),
@@ -110,12 +109,12 @@ fn serve_members<
     let signals = &all;
     join(
         rt,
-        move || -> Left<D>
-            requires { IsSync R.row × IsSync Q.row × IsSend D.row × (AreAt rings.now crew) × (ArePosts rings.now posts.items)
-                × (home.items ≡ []) × (vec_len posts ≤ vec_capacity home) }
+        move || -> Left<D, X>
+            requires { IsSync R.row × IsSync Q.row × IsSend D.row × IsSend W.row × IsSend X.row × (AreAt rings.now crew)
+                × AreReady rings.now W.tells X.tells members }
             ensures { WorksOn 1024 rings.entry.now (device D.honest D.tells D.failed) crew result.0
-                × (AreBack rings.entry.now result.1.items) × (vec_len result.1 ≡ vec_len posts) }
-        { work_all(rt, gate, alloc, rings, crew, posts, home, signals) },
+                × AreHome rings.entry.now X.tells members result.1 }
+        { work_all(rt, gate, alloc, rings, crew, members, signals) },
         move || -> bool { watch(rt, signals, sign, out, recovered) },
     )
 }
@@ -171,7 +170,7 @@ fn close<D: JournalDisk, const G: usize>(
     seats: Vec<GatewaySeat<BookLogic>>,
 ) -> (Summary, D)
     requires crew { AreAt rings crew }
-    requires back { AreBack rings seats.items }
+    requires back { AreReturned rings seats.items }
     requires count { vec_len seats ≡ G }
     ensures disk { result.1 ≡ disk_of crew }
     ensures finished { Finished rings.entry seats.items crew (D.honest result.1) (D.tells result.1) result.0 }
@@ -179,15 +178,47 @@ fn close<D: JournalDisk, const G: usize>(
     crew.close(rings, seats)
 }
 
-/// Serves `G` members at the ports from `port` on, behind the history of the journal on the disk, until the sign to stop is there, and gives the
-/// disk back. Answers the program's status: 0; 1, with the fault's line, where the journal can't be opened, a port can't be had or room was
+/// The members of these seats, at these ports, which are open then; or the fault and the ports, which told nothing: 44, or a port that
+/// can't be had.
+fn open_members<W: ClientWire + Drop, X: Port<Wire = W> + Drop, const G: usize>(
+    alloc: Global,
+    rings: &VenueRings<G>,
+    seats: Vec<GatewaySeat<BookLogic>>,
+    mut ports: Vec<Box<X>>,
+) -> Result<Members<W, X>, (ServeFault, Vec<Box<X>>)>
+    requires behind { AreBehind rings.now.logic rings.now.base rings.now }
+    requires few { length rings.now.base ≤ 2 ^ 48 }
+    requires seats { AreNewGateways rings.now seats.items }
+    requires ports { (vec_len ports ≡ vec_len seats) × AreFree (in_box X.tells) ports.items }
+    ensures ready { IfOk result (AreReady rings.now W.tells X.tells) }
+    ensures ports { IfOk result (λ m. SamePorts (in_box X.tells) ports.items m.ports.items × (vec_len m.ports ≡ vec_len ports)) }
+    ensures back { IfErr result (λ e. SamePorts (in_box X.tells) ports.items e.1.items × (vec_len e.1 ≡ vec_len ports)) }
+    ensures fault { IfErr result (λ e. had_served e.0 ≡ false) }
+{
+    let Ok(room) = Vec::with_capacity(alloc, ports.len()) else {
+        return Err((ServeFault::Memory, ports));
+    };
+    let Ok((posts, seats)) = open_posts(alloc, rings, seats) else {
+        return Err((ServeFault::Memory, ports));
+    };
+    if let Err(fault) = open_ports(&mut ports) {
+        return Err((fault, ports));
+    }
+    let home = Home { seats, ports: room };
+    Ok(Members { posts, ports, home })
+}
+
+/// Serves `G` members, each at its port, behind the history of the journal on the disk, until the sign to stop is there, and gives disk and ports
+/// back. Answers the program's status: 0; 1, with the fault's line, where the journal can't be opened, a port can't be had or room was
 /// refused, before anybody was served; 2, with the line of the journal, where that failed. What is left of the sign from before is taken away
 /// first. All room but that of connections is taken before the first is let in. Market orders are read from the journal's cut on; that of the
 /// limits isn't used.
 pub fn listen<
-    R: Threads + Clock + Net<Listener = TcpListener, Stream = TcpStream> + AllocGlobal + Sync,
+    R: Threads + Clock + AllocGlobal + Sync,
     Q: Gate + Sync,
     D: JournalDisk + Drop + Send,
+    W: ClientWire + Drop + Send,
+    X: Port<Wire = W> + Drop + Send,
     S: StopSign,
     O: Write,
     E: Write,
@@ -196,39 +227,42 @@ pub fn listen<
     rt: &R,
     gate: &Q,
     limits: Limits,
-    port: u16,
+    ports: Vec<Box<X>>,
     disk: D,
     sign: &mut S,
     out: &mut O,
     err: &mut E,
-) -> (u8, D)
+) -> (u8, D, Vec<Box<X>>)
     requires gateways { (1 ≤ G) × (G ≤ 8) }
-    requires ports { port + G ≤ 65536 }
-    ensures ends { EndsListening limits (device D.honest D.tells D.failed) G disk result.1 result.0 }
+    requires ports { (vec_len ports ≡ G) × AreFree (in_box X.tells) ports.items }
+    ensures ends { EndsListening limits (device D.honest D.tells D.failed) (in_box X.tells) (record { disk = disk; ports = ports.items })
+        (record { disk = result.1; ports = result.2.items }) result.0 }
+    ensures seen { SeenListening limits (device D.honest D.tells D.failed) (in_box X.tells) (record { disk = disk; ports = ports.items })
+        (record { disk = result.1; ports = result.2.items }) result.0 }
     ensures honest { Both (D.honest disk) (D.honest result.1) }
     ensures any_moment { D.honest disk → LeavesFrom (D.tells disk) (D.tells result.1) }
 {
     sign.clear();
     let (rings, crew, seats) = match open::<D, G>(rt.alloc(), limits, disk) {
         Ok(opened) => opened,
-        Err((fault, disk)) => return (ServeFault::from(fault).say(err), disk),
+        Err((fault, disk)) => return (ServeFault::from(fault).say(err), disk, ports),
     };
-    let (posts, home) = match open_posts(rt, rt.alloc(), &rings, port, seats) {
-        Ok(opened) => opened,
-        Err(fault) => return (fault.say(err), unserved(crew)),
+    let members = match open_members(rt.alloc(), &rings, seats, ports) {
+        Ok(members) => members,
+        Err((fault, ports)) => return (fault.say(err), unserved(crew), ports),
     };
-    let ((crew, seats), ready) = serve_members(
+    let ((crew, home), ready) = serve_members(
         rt,
         gate,
         rt.alloc(),
         &rings,
         crew,
-        posts,
-        home,
+        members,
         sign,
         out,
     );
+    let Home { seats, ports } = home;
     let end = end_of(crew.journaller.has_failed(), ready);
     let (summary, disk) = close(rings, crew, seats);
-    (say_end(end, summary, out, err), disk)
+    (say_end(end, summary, out, err), disk, ports)
 }

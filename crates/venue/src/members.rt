@@ -1,12 +1,13 @@
-//! All members of the listening venue: their ports are bound and their gateways made before anybody is served, each trades on a thread
-//! of its own, and all seats come back.
-ghost use Rattle.std.specs.Prelude.{◌≡◌, ◌+◌, ◌≤◌, ◌<◌, ◌^◌, [], length, vec_len, false, IfOk, IfErr, IfSome, IfNone, MatchOption};
+//! All members of the listening venue: their gateways are made and their ports opened before anybody is served, each trades on a thread of
+//! its own, and all seats and ports come back.
+ghost use Rattle.std.specs.Prelude.{◌≡◌, ◌+◌, ◌≤◌, ◌<◌, ◌^◌, [], ◌∷◌, ◌++◌, length, vec_len, false, IfOk, IfErr, IfSome, IfNone, MatchOption, OnOk};
 ghost use Rattle.std.specs.Vec.{vec_capacity};
 ghost use Rattle.std.specs.Thread.{IsSync};
+ghost use denote.Param.Send.{IsSend};
 ghost use Rattle.ring_words.specs.At.{IsAt};
 ghost use Rattle.ring_words.specs.Crew.{AreNewGateways};
 ghost use Rattle.ring_words.specs.declared.view.Role.TheVariants.{Gateway};
-ghost use Rattle.venue.specs.Members.{IsPost, ArePosts, AreBack};
+ghost use Rattle.venue.specs.Members.{IsPost, ArePosts, IsLast, AreReady, AreHome, SamePorts, in_box};
 ghost use Rattle.gateway.specs.Accepting.{without_client};
 ghost use Rattle.venue.specs.Trading.{IsBack};
 ghost use Rattle.venue.specs.Faults.{had_served};
@@ -14,19 +15,33 @@ ghost use Rattle.venue.specs.Opened.{AreBehind};
 ghost use Rattle.venue.specs.VenueRings.{IsNew};
 
 use crate::fault::ServeFault;
-use crate::member::{Post, trade};
+use crate::member::{Desk, Post, trade};
 use crate::rings::VenueRings;
 use book::BookLogic;
-use gateway::Acceptor;
+use gateway::{Acceptor, ClientWire, Port};
 use ring_words::GatewaySeat;
 use std::alloc::Global;
-use std::net::{Ipv4Addr, Net, SocketAddr, SocketAddrV4, TcpListener, TcpStream};
 use std::rt::Clock;
 use std::thread::{Threads, join};
 use workers::{Gate, Signals};
 
 /// The posts of a venue's members, and an empty list that has room for all seats when they come back.
-pub type Posts = (Vec<Post>, Vec<GatewaySeat<BookLogic>>);
+pub type Posts<W> = (Vec<Post<W>>, Vec<GatewaySeat<BookLogic>>);
+
+/// What comes back of members: their seats and their ports, in the order of their numbers.
+#[derive(Drop)]
+pub struct Home<X> {
+    pub seats: Vec<GatewaySeat<BookLogic>>,
+    pub ports: Vec<Box<X>>,
+}
+
+/// All members, each with its post and its port, and the lists in which their seats and ports come back, which have room for them.
+#[derive(Drop)]
+pub struct Members<W: ClientWire + Drop, X> {
+    pub posts: Vec<Post<W>>,
+    pub ports: Vec<Box<X>>,
+    pub home: Home<X>,
+}
 
 /// The last seat.
 fn last_seat<const G: usize>(
@@ -45,63 +60,63 @@ fn last_seat<const G: usize>(
     Some(seat)
 }
 
-/// A listener at this port of the local host, whose calls don't wait.
-fn listen_at<R: Net<Listener = TcpListener, Stream = TcpStream>>(
-    rt: &R,
-    port: u16,
-) -> Result<TcpListener, ServeFault>
-    ensures { IfErr result (λ fault. fault ≡ ServeFault.CannotListen port) }
+/// Opens this port. The fault says that the venue can't listen there.
+fn open_port<X: Port>(port: &mut Box<X>) -> Result<(), ServeFault>
+    ensures tells { in_box X.tells port.new ≡ in_box X.tells port.old }
+    ensures fault { IfErr result (λ fault. had_served fault ≡ false) }
 {
-    let at = SocketAddr::V4(SocketAddrV4::new(Ipv4Addr::LOCALHOST, port));
-    let Ok(listener) = rt.bind(at) else {
-        return Err(ServeFault::CannotListen(port));
-    };
-    if listener.set_nonblocking(true).is_err() {
-        return Err(ServeFault::CannotListen(port));
+    if port.open() {
+        return Ok(());
     }
-    Ok(listener)
+    Err(ServeFault::CannotListen(port.number()))
 }
 
-/// The posts of these seats, that of gateway k at the port `first` + k - 1. The faults are a port at which the venue can't listen, and 44.
-pub fn open_posts<R: Net<Listener = TcpListener, Stream = TcpStream>, const G: usize>(
-    rt: &R,
+/// Opens all ports. The fault is one at which the venue can't listen: then some are open.
+pub fn open_ports<X: Port>(ports: &mut Vec<Box<X>>) -> Result<(), ServeFault>
+    ensures ports { SamePorts (in_box X.tells) ports.old.items ports.new.items }
+    ensures count { vec_len ports.new ≡ vec_len ports.old }
+    ensures fault { IfErr result (λ fault. had_served fault ≡ false) }
+{
+    for port in ports.iter_mut() {
+        open_port(port)?;
+    }
+    Ok(())
+}
+
+/// The posts of these seats. The fault is 44.
+pub fn open_posts<W: ClientWire + Drop, const G: usize>(
     alloc: Global,
     rings: &VenueRings<G>,
-    first: u16,
     mut seats: Vec<GatewaySeat<BookLogic>>,
-) -> Result<Posts, ServeFault>
+) -> Result<Posts<W>, ServeFault>
     requires behind { AreBehind rings.now.logic rings.now.base rings.now }
     requires few { length rings.now.base ≤ 2 ^ 48 }
     requires seats { AreNewGateways rings.now seats.items }
-    requires ports { first + vec_len seats ≤ 65536 }
-    ensures posts { IfOk result (λ r. ArePosts rings.now r.0.items) }
+    ensures posts { IfOk result (λ r. ArePosts rings.now W.tells r.0.items) }
     ensures count { IfOk result (λ r. vec_len r.0 ≡ vec_len seats) }
     ensures home { IfOk result (λ r. (r.1.items ≡ []) × (vec_capacity r.1 ≡ vec_capacity seats)) }
-    ensures fault { IfErr result (λ fault. had_served fault ≡ false) }
+    ensures fault { IfErr result (λ fault. fault ≡ ServeFault.Memory) }
 {
     let Some(seat) = last_seat(rings, &mut seats) else {
         return Ok((Vec::new(alloc), seats));
     };
-    let before = seats.len() as u16;
-    let (posts, home) = open_posts(rt, alloc, rings, first, seats)?;
-    let listener = listen_at(rt, first + before)?;
-    let posts = with_post(alloc, rings, posts, seat, listener)?;
+    let (posts, home) = open_posts(alloc, rings, seats)?;
+    let posts = with_post(alloc, rings, posts, seat)?;
     Ok((posts, home))
 }
 
-/// These posts and one more behind them, of this seat and listener.
-fn with_post<const G: usize>(
+/// These posts and one more behind them, of this seat.
+fn with_post<W: ClientWire + Drop, const G: usize>(
     alloc: Global,
     rings: &VenueRings<G>,
-    mut posts: Vec<Post>,
+    mut posts: Vec<Post<W>>,
     seat: GatewaySeat<BookLogic>,
-    listener: TcpListener,
-) -> Result<Vec<Post>, ServeFault>
+) -> Result<Vec<Post<W>>, ServeFault>
     requires behind { AreBehind rings.now.logic rings.now.base rings.now }
     requires few { length rings.now.base ≤ 2 ^ 48 }
-    requires posts { ArePosts rings.now posts.items }
+    requires posts { ArePosts rings.now W.tells posts.items }
     requires seat { IsNew rings.now (vec_len posts + 1) seat }
-    ensures posts { IfOk result (λ r. ArePosts rings.now r.items) }
+    ensures posts { IfOk result (λ r. ArePosts rings.now W.tells r.items) }
     ensures count { IfOk result (λ r. vec_len r ≡ vec_len posts + 1) }
     ensures fault { IfErr result (λ fault. fault ≡ ServeFault.Memory) }
 {
@@ -110,22 +125,29 @@ fn with_post<const G: usize>(
     let Ok(acceptor) = Acceptor::new(alloc, seat) else {
         return Err(ServeFault::Memory);
     };
-    let post = Post {
-        number,
-        acceptor,
-        listener,
+    let Ok(desk) = Box::new(
+        alloc,
+        Desk {
+            acceptor,
+            leaving: None,
+        },
+    ) else {
+        return Err(ServeFault::Memory);
     };
-    match posts.push(post) {
+    match posts.push(Post { number, desk }) {
         Ok(()) => Ok(posts),
         Err(_) => Err(ServeFault::Memory),
     }
 }
 
 /// The last post.
-fn last_post<const G: usize>(rings: &VenueRings<G>, posts: &mut Vec<Post>) -> Option<Post>
-    requires { ArePosts rings.now posts.old.items }
-    ensures left { ArePosts rings.now posts.new.items }
-    ensures last { IfSome result (λ post. IsPost rings.now (vec_len posts.old) post) }
+fn last_post<W: ClientWire + Drop, const G: usize>(
+    rings: &VenueRings<G>,
+    posts: &mut Vec<Post<W>>,
+) -> Option<Post<W>>
+    requires { ArePosts rings.now W.tells posts.old.items }
+    ensures left { ArePosts rings.now W.tells posts.new.items }
+    ensures last { IfSome result (λ post. IsPost rings.now W.tells (vec_len posts.old) post) }
     ensures count { MatchOption result (vec_len posts.old ≡ 0) (λ post. vec_len posts.old ≡ vec_len posts.new + 1) }
 {
     let _rings = rings;
@@ -133,53 +155,95 @@ fn last_post<const G: usize>(rings: &VenueRings<G>, posts: &mut Vec<Post>) -> Op
     Some(post)
 }
 
-/// The seats that came back, and the next one.
-fn with_seat<const G: usize>(
+/// What came back, and the next member's seat and port.
+fn with_member<X: Port, const G: usize>(
     rings: &VenueRings<G>,
-    mut seats: Vec<GatewaySeat<BookLogic>>,
+    home: Home<X>,
     seat: GatewaySeat<BookLogic>,
-) -> Vec<GatewaySeat<BookLogic>>
-    requires back { AreBack rings.now seats.items }
-    requires seat { IsBack rings.now (vec_len seats + 1) seat }
-    requires room { vec_len seats < vec_capacity seats }
-    ensures back { AreBack rings.now result.items }
-    ensures count { vec_len result ≡ vec_len seats + 1 }
-    ensures room { vec_capacity result ≡ vec_capacity seats }
+    port: Box<X>,
+) -> Home<X>
+    requires room { (vec_len home.seats < vec_capacity home.seats) × (vec_len home.ports < vec_capacity home.ports) }
+    ensures seats { result.seats.items ≡ home.seats.items ++ seat ∷ [] }
+    ensures ports { result.ports.items ≡ home.ports.items ++ port ∷ [] }
+    ensures room { (vec_capacity result.seats ≡ vec_capacity home.seats) × (vec_capacity result.ports ≡ vec_capacity home.ports) }
 {
     let _rings = rings;
+    let Home {
+        mut seats,
+        mut ports,
+    } = home;
     seats.push_reserved(seat);
-    seats
+    ports.push_reserved(port);
+    Home { seats, ports }
 }
 
-/// Lets all members trade, each on a thread of its own, until the signals say stop, and gives their seats back in this list, which is
-/// empty and has room for them. So no memory is taken while threads run.
-pub fn trade_all<R: Threads + Clock + Sync, Q: Gate + Sync, const G: usize>(
+/// The last member, with its port, and the others before it.
+#[derive(Drop)]
+struct Split<W: ClientWire + Drop, X> {
+    others: Members<W, X>,
+    post: Post<W>,
+    port: Box<X>,
+}
+
+/// Takes the last member from the others; or gives the lists back, where there is none.
+fn split_last<W: ClientWire + Drop, X: Port<Wire = W> + Drop, const G: usize>(
+    rings: &VenueRings<G>,
+    members: Members<W, X>,
+) -> Result<Split<W, X>, Home<X>>
+    requires { AreReady rings.now W.tells X.tells members }
+    ensures others { IfOk result (λ s. AreReady rings.now W.tells X.tells s.others) }
+    ensures post { IfOk result (λ s. IsPost rings.now W.tells (vec_len members.posts) s.post × ((X.tells s.port.value).out ≡ false)) }
+    ensures whole { IfOk result (λ s. IsLast members s.others s.port) }
+    ensures none { IfErr result (λ home. AreHome rings.now X.tells members home) }
+{
+    let Members {
+        mut posts,
+        mut ports,
+        home,
+    } = members;
+    let Some(post) = last_post(rings, &mut posts) else {
+        return Err(home);
+    };
+    let Some(port) = ports.pop() else {
+        return Err(home);
+    };
+    let others = Members { posts, ports, home };
+    Ok(Split { others, post, port })
+}
+
+/// Lets all members trade, each at its port on a thread of its own, until the signals say stop. No memory is taken while threads run.
+pub fn trade_all<
+    R: Threads + Clock + Sync,
+    Q: Gate + Sync,
+    W: ClientWire + Drop + Send,
+    X: Port<Wire = W> + Drop + Send,
+    const G: usize,
+>(
     rt: &R,
     gate: &Q,
     rings: &VenueRings<G>,
     alloc: Global,
-    mut posts: Vec<Post>,
-    home: Vec<GatewaySeat<BookLogic>>,
+    members: Members<W, X>,
     signals: &Signals,
-) -> Vec<GatewaySeat<BookLogic>>
-    requires posts { ArePosts rings.now posts.items }
-    requires home { (home.items ≡ []) × (vec_len posts ≤ vec_capacity home) }
-    ensures back { AreBack rings.now result.items }
-    ensures room { (vec_len result ≡ vec_len posts) × (vec_capacity result ≡ vec_capacity home) }
+) -> Home<X>
+    requires { AreReady rings.now W.tells X.tells members }
+    ensures { AreHome rings.now X.tells members result }
 {
-    let Some(post) = last_post(rings, &mut posts) else {
-        return home;
+    let Split { others, post, port } = match split_last(rings, members) {
+        Ok(split) => split,
+        Err(home) => return home,
     };
-    let (seats, seat) = join(
+    let (home, (seat, port)) = join(
         rt,
-        move || -> Vec<GatewaySeat<BookLogic>>
-            requires { IsSync R.row × IsSync Q.row × (ArePosts rings.now posts.items) × (home.items ≡ []) × (vec_len posts ≤ vec_capacity home) }
-            ensures { (AreBack rings.entry.now result.items) × (vec_len result ≡ vec_len posts) × (vec_capacity result ≡ vec_capacity home) }
-        { trade_all(rt, gate, rings, alloc, posts, home, signals) },
-        move || -> GatewaySeat<BookLogic>
-            requires { IsSync R.row × IsSync Q.row × (post.acceptor ≡ without_client rings.now post.number) }
-            ensures { IsBack rings.entry.now post.number result }
-        { trade(rt, gate, rings, alloc, post, signals) },
+        move || -> Home<X>
+            requires { IsSync R.row × IsSync Q.row × IsSend W.row × IsSend X.row × AreReady rings.now W.tells X.tells others }
+            ensures { AreHome rings.entry.now X.tells others result }
+        { trade_all(rt, gate, rings, alloc, others, signals) },
+        move || -> (GatewaySeat<BookLogic>, Box<X>)
+            requires { IsSync R.row × IsSync Q.row × IsSend W.row × IsSend X.row × IsPost rings.now W.tells post.number post
+                × ((X.tells port.value).out ≡ false) }
+            ensures { IsBack rings.entry.now post.number result.0 (X.tells port.value) (X.tells result.1.value) }
+        { trade(rt, gate, rings, alloc, post, port, signals) },
     );
-    with_seat(rings, seats, seat)
+    with_member(rings, home, seat, port)
 }

@@ -12,6 +12,7 @@ ghost use Rattle.stages.specs.Finishing.{Finished};
 ghost use Rattle.venue.specs.Faults.{status_of_end};
 ghost use Rattle.venue.specs.Rounds.{Served, DeliversOn};
 ghost use Rattle.venue.specs.Crashes.{Behind};
+ghost use Rattle.venue.specs.Headline.{SeenServing, seen};
 ghost use Rattle.venue.specs.Serving.{LeavesFrom, IsStatus, EndsWith};
 ghost use Rattle.venue.specs.VenueRings.{IsFirstSeat};
 ghost use Rattle.stages.specs.Devices.{device};
@@ -44,6 +45,7 @@ pub fn serve<D: JournalDisk, W: Wire, E: Write>(
     ensures untouched { result.0 ≡ 1 → wire.new ≡ wire.old }
     ensures served { EndsWith limits (device D.honest D.tells D.failed) (record { disk = disk; wire = W.tells wire.old })
         (record { disk = result.1; wire = W.tells wire.new }) result.0 }
+    ensures seen { SeenServing limits (D.honest disk) (seen (D.tells disk) (W.tells wire.old)) (seen (D.tells result.1) (W.tells wire.new)) result.0 }
     ensures honest { Both (D.honest disk) (D.honest result.1) }
     ensures any_moment { D.honest disk → LeavesFrom (D.tells disk) (D.tells result.1) }
 {

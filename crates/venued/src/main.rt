@@ -5,11 +5,13 @@ ghost use Rattle.std.specs.Prelude.{◌≡◌, ◌↔◌, IfOk};
 ghost use Rattle.venued.specs.Words.{IsInRange};
 ghost use Rattle.std.specs.IoError.{error_kind};
 
+mod ports;
 mod running;
 #[cfg(test)]
 mod tests;
 mod words;
 
+use crate::ports::local_ports;
 use crate::running::{run, run_for};
 use crate::words::{Mode, Words, WordsFault, refuse};
 use disks::{StandardStreams, SystemFolder};
@@ -79,7 +81,10 @@ fn start<
             status
         }
         Mode::Listening { port, gateways } => {
-            run_for(rt, limits, port, gateways, &mut folder, &mut sign, out, err)
+            let Ok(ports) = local_ports(rt, rt.alloc(), port, gateways) else {
+                return ServeFault::Memory.say(err);
+            };
+            run_for(rt, limits, ports, &mut folder, &mut sign, out, err)
         }
     }
 }

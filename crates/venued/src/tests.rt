@@ -2,9 +2,9 @@
 
 mod failing_sync;
 
+use gateway::{MemPort, MemWire};
 use journal::{MemDisk, format};
 use std::alloc::Global;
-use std::net::{Net, TcpListener, TcpStream};
 use std::rt::Clock;
 use std::sync::atomic::{AtomicBool, Ordering};
 use std::test::Fail;
@@ -16,9 +16,6 @@ use workers::{Gate, Station};
 
 /// How often a worker lets others run before it gives up waiting for them.
 const MOST_YIELDS: u64 = 10_000_000;
-
-/// How many pairs of ports are tried, since others may have some.
-const TRIES: u16 = 40;
 
 /// Where the six workers meet: a flag for each, and whether one of them waited in vain.
 #[derive(Drop)]
@@ -109,30 +106,34 @@ fn limits(alloc: Global) -> Result<Limits, Fail> {
     }
 }
 
-/// The venue's status behind the meeting, and what it printed, at some free ports.
-fn serve_two<
-    R: Threads + Clock + Net<Listener = TcpListener, Stream = TcpStream> + AllocGlobal + Sync,
->(rt: &R, meeting: &Meeting) -> Result<(u8, Vec<u8>), Fail> {
-    for at in 0..TRIES {
-        let mut disk = MemDisk::new(rt.alloc(), b"")?;
-        format(&mut disk, 1)?;
-        let (mut out, mut err) = (Vec::new(rt.alloc()), Vec::new(rt.alloc()));
-        let mut sign = WhenMet(meeting);
-        let (status, _) = listen::<R, Meeting, MemDisk, WhenMet<'_>, Vec<u8>, Vec<u8>, 2>(
-            rt,
-            meeting,
-            limits(rt.alloc())?,
-            20_000 + 997 * at,
-            disk,
-            &mut sign,
-            &mut out,
-            &mut err,
-        );
-        if meeting.is_over() {
-            return Ok((status, out));
-        }
-    }
-    Err(Fail::from("no ports"))
+/// The venue's status behind the meeting, and what it printed, at two ports at which nobody comes.
+fn serve_two<R: Threads + Clock + AllocGlobal + Sync>(
+    rt: &R,
+    meeting: &Meeting,
+) -> Result<(u8, Vec<u8>), Fail> {
+    let alloc = rt.alloc();
+    let mut disk = MemDisk::new(alloc, b"")?;
+    format(&mut disk, 1)?;
+    let (mut out, mut err) = (Vec::new(alloc), Vec::new(alloc));
+    let mut sign = WhenMet(meeting);
+    let mut ports = Vec::with_capacity(alloc, 2)?;
+    ports.push(Box::new(alloc, MemPort::new(alloc, 1, Vec::new(alloc))?)?)?;
+    ports.push(Box::new(alloc, MemPort::new(alloc, 2, Vec::new(alloc))?)?)?;
+    let limits = limits(alloc)?;
+    let (status, _, _) = listen::<
+        R,
+        Meeting,
+        MemDisk,
+        MemWire,
+        MemPort,
+        WhenMet<'_>,
+        Vec<u8>,
+        Vec<u8>,
+        2,
+    >(
+        rt, meeting, limits, ports, disk, &mut sign, &mut out, &mut err,
+    );
+    Ok((status, out))
 }
 
 #[test]

@@ -1,4 +1,5 @@
 mod MemWireLemmas
 mod BufferLemmas
+mod PortLemmas
 mod StreamLemmas
 mod GatheringLemmas

@@ -8,5 +8,7 @@ pub mod GatheringWires
 pub mod Streams
 pub mod MemStreams
 pub mod MemWires
+pub mod Ports
+pub mod TcpPorts
 pub mod StdWires
 pub mod StreamWires

@@ -8,8 +8,8 @@ close-requires g c = let back = c.requires.back in (
   (
     c.requires.crew,
     (
-      λ i s there. let is = back i s there in (is.at, is.role),
-      (c.requires.count, λ i s there. (back i s there).spent),
+      λ i s there. let is = back i s there in (is.0, is.1),
+      (c.requires.count, λ i s there. (back i s there).2),
     ),
   ),
 )

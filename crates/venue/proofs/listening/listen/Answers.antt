@@ -1,28 +1,49 @@
 -- What was opened was served from there on, by the journaller's run and the members' turns.
-use Rattle.std.proofs.Common.{◌∙◌, inr, arith, ap, subst, sym}
+use Rattle.std.proofs.Common.{◌∙◌, inl, inr, refl, arith, rules, ap, subst, sym}
 use Rattle.disks.specs.MomentLaws.{weaker}
+use Rattle.replay.specs.StartsUp.{KeepsHistory}
 use Rattle.stages.specs.Stations.{OneCrew, disk_of}
 use Rattle.venue.specs.Faults.{status_of_end}
-use Rattle.venue.specs.Listening.{end_of}
+use Rattle.venue.specs.Listening.{Listens, end_of}
+use Rattle.venue.specs.Members.{in_box}
 use Rattle.venue.specs.Serving.{LeavesFrom}
 use Rattle.venue.specs.Venues.{IsJournalBehind}
 use Rattle.venue.specs.CrashLaws.{LeftOrBehind, leaves_behind, new_behind, kept_honest, kept_leaves}
 use Rattle.venue.specs.CrashLaws.{unopened_kept, serve_leaves}
-use Rattle.venue.proofs.ServedLemmas.{are_served, counts_outputs}
+use Rattle.venue.proofs.HomeLemmas.{same_count, back_again, spent_again}
+use Rattle.venue.proofs.ListeningLemmas.{seen_listening}
 use Rattle.venue.proofs.listening.listen.Goals as goal
+
+pub close-disk-requires : goal.close-disk-requires
+close-disk-requires g c =
+    let members = c.in-Ok-open_members.members in let home = c.serve_members-crew.result.0.1 in
+    let back = c.serve_members-crew.ensures.home in let ready = c.in-Ok-open_members.ensures.ready in
+    let seats = back.seats in let ports = back.ports in let paired = ready.ports in
+    let ok_seats = home.seats.ok.0 in let ok_ports = home.ports.ok.0 in let ok_before = members.ports.ok.0 in
+    let same = c.in-Ok-open_members.ensures.ports.1 in let all = c.requires.ports.0 in (
+      omega arith,
+      (
+        c.serve_members-crew.ensures.crew.0,
+        (
+          spent_again (in_box g.X.Port.tells) c.in-Ok.opened.0 home.seats.items home.ports.items members.ports.items
+              (omega (arith, seats, paired, ok_seats, ok_before)) (omega (arith, ports, paired, ok_ports, ok_before)) back.back,
+          omega (arith, seats, paired, same, all),
+        ),
+      ),
+    )
 
 pub returns-clause-ends : goal.returns-clause-ends
 returns-clause-ends g c =
-    let opened = c.in-Ok.ensures in let served = c.serve_members-crew in let seats = served.result.0.1 in
-    let back = served.ensures.count in
-    let posts = c.in-Ok-open_posts.ensures.count in
-    let all = opened.seats.0 in let finished = c.close-disk.ensures.finished in
-    let ok = seats.ok.0 in
+    let opened = c.in-Ok.ensures in let served = c.serve_members-crew in let home = served.result.0.1 in
+    let members = c.in-Ok-open_members.members in let ready = c.in-Ok-open_members.ensures.ready in
+    let back = served.ensures.home in let same = c.in-Ok-open_members.ensures.ports in
+    let seats = back.seats in let ports = back.ports in let paired = ready.ports in let count = same.1 in
+    let ok_seats = home.seats.ok.0 in let ok_ports = home.ports.ok.0 in let ok_before = c.args.ports.ok.0 in
     inr (record {
       rings = c.in-Ok.opened.0;
       begun = c.in-Ok.opened.1;
       ended = served.result.0.0;
-      seats = seats.items;
+      seats = home.seats.items;
       ready = served.result.1;
       summary = c.close-disk.result.0;
       behind = opened.opened.0;
@@ -31,15 +52,18 @@ returns-clause-ends g c =
       counts = opened.counts;
       opened = opened.disk;
       journals = served.ensures.crew.1;
-      back = (served.ensures.back, omega (arith, back, posts, all, ok));
-      finished = finished;
-      served = are_served _ _ _ _ (counts_outputs _ _ _ opened.opened.0) finished.gateways_are finished.ended
-          served.ensures.back;
+      back = back_again (in_box g.X.Port.tells) c.in-Ok.opened.0 home.seats.items home.ports.items c.args.ports.items members.ports.items
+          same.0 back.back;
+      all = (omega (arith, seats, paired, count, ok_seats, ok_before), omega (arith, ports, paired, count, ok_ports, ok_before));
+      finished = c.close-disk.ensures.finished;
       disk_is = c.close-disk.ensures.disk;
       status_is = c.say_end.ensures
           ∙ ap status_of_end (c.end_of-end.ensures ∙ ap (λ failed. end_of failed served.result.1)
           (c.has_failed.ensures ∙ ap (λ (k : OneCrew g.row.D.Denot). k.journaller.journal.failed) c.crew.view_is));
     })
+
+pub returns-clause-seen : goal.returns-clause-seen
+returns-clause-seen g c = seen_listening _ _ _ _ _ _ (returns-clause-ends g c)
 
 pub returns-clause-any_moment : goal.returns-clause-any_moment
 returns-clause-any_moment g c = λ honest.
@@ -56,12 +80,36 @@ returns-clause-any_moment g c = λ honest.
     (journals.any_moment.leaves ((kept_honest _ _ _ _ _ opened.keeps).0 honest)))
     (λ c is. inr is)))
 
+pub returns-in-Err-clause-ends : goal.returns-in-Err-clause-ends
+returns-in-Err-clause-ends g c =
+    let kept = unopened_kept _ _ _ _ c.args.limits c.in-Err.fault c.in-Err.ensures.refused in
+    inl (search rules, record { disk = kept; ports = refl; all = refl })
+
+pub returns-in-Err-clause-seen : goal.returns-in-Err-clause-seen
+returns-in-Err-clause-seen g c = seen_listening _ _ _ _ _ _ (returns-in-Err-clause-ends g c)
+
 pub returns-in-Err-clause-any_moment : goal.returns-in-Err-clause-any_moment
 returns-in-Err-clause-any_moment g c = λ honest.
     kept_leaves _ _ _ _ c.args.limits (unopened_kept _ _ _ _ c.args.limits c.in-Err.fault c.in-Err.ensures.refused) honest
 
-pub returns-in-Err-open_posts-clause-any_moment : goal.returns-in-Err-open_posts-clause-any_moment
-returns-in-Err-open_posts-clause-any_moment g c = λ honest.
+pub returns-in-Err-open_members-clause-ends : goal.returns-in-Err-open_members-clause-ends
+returns-in-Err-open_members-clause-ends g c =
+    let count = c.in-Err-open_members.ensures.back.1 in
+    inl (
+      search rules,
+      record {
+        disk = subst (λ (d : g.row.D.Denot). KeepsHistory (g.D.JournalDisk.honest c.args.disk) (g.D.JournalDisk.honest d)
+            (g.D.JournalDisk.tells c.args.disk) (g.D.JournalDisk.tells d) c.args.limits) (sym c.unserved.ensures) c.in-Ok.ensures.disk.keeps;
+        ports = c.in-Err-open_members.ensures.back.0;
+        all = omega (arith, count, c.args.ports.ok.0, c.in-Err-open_members.ports.ok.0);
+      },
+    )
+
+pub returns-in-Err-open_members-clause-seen : goal.returns-in-Err-open_members-clause-seen
+returns-in-Err-open_members-clause-seen g c = seen_listening _ _ _ _ _ _ (returns-in-Err-open_members-clause-ends g c)
+
+pub returns-in-Err-open_members-clause-any_moment : goal.returns-in-Err-open_members-clause-any_moment
+returns-in-Err-open_members-clause-any_moment g c = λ honest.
     let tells = g.D.JournalDisk.tells in
     subst (λ (d : g.row.D.Denot). LeavesFrom (tells c.args.disk) (tells d)) (sym c.unserved.ensures)
     (kept_leaves _ _ _ _ c.args.limits c.in-Ok.ensures.disk.keeps honest)

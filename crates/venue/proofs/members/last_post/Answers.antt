@@ -11,5 +11,5 @@ returns-clause-left g c = λ i x there. c.requires i x
 
 pub returns-clause-last : goal.returns-clause-last
 returns-clause-last g c = let ok = c.args.posts.now.ok.0 in
-    of_last (IsPost c.args.rings.now) c.args.posts.now.items c.pop.new.self.items c.in_ok-post.post
+    of_last (IsPost c.args.rings.now g.W.Wire.tells) c.args.posts.now.items c.pop.new.self.items c.in_ok-post.post
     c.in_ok-post.ensures.items c.requires _ (omega (arith, ok))

@@ -1,15 +1,18 @@
 -- The seat is that of gateway 1, as the rings were opened with it; and what was opened was served from there on.
-use Rattle.std.proofs.Common.{[], ◌∷◌, inr, refl, subst, sym}
+use Rattle.std.proofs.Common.{[], ◌∷◌, inl, inr, refl, rules, subst, sym}
 use Rattle.gateway.specs.Delivers.{nothing_yet, starts}
 use Rattle.ring_words.specs.At.{At}
 use Rattle.venue_model.specs.Requests.{Limits}
 use Rattle.stages.specs.Stations.{disk_of}
 use Rattle.stages.specs.Finishing.{Finished}
+use Rattle.venue.specs.Headline.{KeepsSame}
 use Rattle.venue.specs.Serving.{LeavesFrom}
 use Rattle.venue.specs.VenueRings.{IsFirstSeat}
 use Rattle.venue.specs.Venues.{Venue}
 use Rattle.venue.specs.CrashLaws.{kept_honest, kept_leaves, unopened_kept, serve_leaves}
 use Rattle.venue.specs.OpenedLaws.{new_seen}
+use Rattle.venue.proofs.ClientLemmas.{seen_serving}
+use Rattle.venue.proofs.HeadlineLemmas.{kept_same}
 use Rattle.venue.proofs.ServingLemmas.{began}
 use Rattle.venue.proofs.serving.serve.Goals as goal
 
@@ -80,3 +83,20 @@ returns-in-Err-new-clause-any_moment g c = λ honest.
     let tells = g.D.JournalDisk.tells in
     subst (λ (d : g.row.D.Denot). LeavesFrom (tells c.args.disk) (tells d)) (sym c.finish-disk.ensures.disk)
     (kept_leaves _ _ _ _ c.args.limits c.in-Ok.ensures.disk.keeps honest)
+
+pub returns-clause-seen : goal.returns-clause-seen
+returns-clause-seen g c = seen_serving _ _ _ _ _ (λ disk honest file left. g.met.D.JournalDisk.only_now disk file honest left) (search rules)
+    (returns-clause-served g c)
+
+pub returns-in-Err-clause-seen : goal.returns-in-Err-clause-seen
+returns-in-Err-clause-seen g c =
+    inl (search rules, refl, kept_same _ _ _ _ c.args.limits (unopened_kept _ _ _ _ c.args.limits c.in-Err.fault c.in-Err.ensures.refused))
+
+pub returns-in-Err-new-clause-seen : goal.returns-in-Err-new-clause-seen
+returns-in-Err-new-clause-seen g c =
+    inl (
+      search rules,
+      refl,
+      subst (λ (d : g.row.D.Denot). KeepsSame (g.D.JournalDisk.honest c.args.disk) (g.D.JournalDisk.tells c.args.disk) (g.D.JournalDisk.tells d))
+          (sym c.finish-disk.ensures.disk) (kept_same _ _ _ _ c.args.limits c.in-Ok.ensures.disk.keeps),
+    )

@@ -6,3 +6,10 @@ pub returns-in-Ok-clause-journal : goal.returns-in-Ok-clause-journal
 returns-in-Ok-clause-journal g c honest =
     let opens = c.in-Ok.ensures.opened honest in
     runs _ _ _ _ opens _ (c.serve-status.ensures.any_moment opens.is_honest)
+
+pub returns-in-Ok-clause-served : goal.returns-in-Ok-clause-served
+returns-in-Ok-clause-served g c honest = record {
+  opened = c.in-Ok.disk;
+  opens = c.in-Ok.ensures.opened honest;
+  served = c.serve-status.ensures.seen;
+}

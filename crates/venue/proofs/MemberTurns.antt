@@ -1,0 +1,193 @@
+-- What one turn of a member does: its gateway's turn, a client that leaves or has left, and one that comes in.
+use Rattle.std.proofs.Common.{◌≡◌, ◌⊎◌, ℕ, Bool, true, false, List, [], ◌∷◌, ◌++◌, Option, Some, None, ⊎_elim, inl, inr, refl, ap, sym, subst, ◌∙◌, append-nil, arith}
+use Rattle.std.specs.Prelude.{option_to_list}
+use Rattle.venue_model.specs.Requests.{Limits}
+use Rattle.ring_words.specs.At.{Opened}
+use Rattle.gateway.specs.Accepting.{Accepting, Admits, TakesTurn, WithoutClient, WithClient, Leaves, AttendsClients}
+use Rattle.gateway.specs.AcceptingLaws.{still, one_step}
+use Rattle.gateway.specs.declared.ending.Turned.{Turned}
+use Rattle.gateway.specs.declared.ending.Turned.TheVariants.{Worked, Quiet, Ended}
+use Rattle.venue.specs.Leaving.{LeavesOn, LeaveOn}
+use Rattle.venue.specs.Trading.{AtPort, HasClient, TradesOn}
+use Rattle.venue.specs.TradingLaws.{stays, all_stay, more-nil}
+use Rattle.wires.specs.Ports.{Register, with_more}
+use Rattle.wires.specs.Wires.{Told}
+
+-- the client that leaves behind a turn: the one whose session ended in it, or the one that left before
+abbrev pub leaving_after : Option Told → Option Told → Option Told
+leaving_after leaving None = leaving
+leaving_after leaving (Some told) = Some told
+
+-- a member like this one but for its acceptor and the client that leaves
+abbrev pub at_door : Accepting → Option Told → Register → AtPort
+at_door acceptor leaving register = record { acceptor = acceptor; leaving = leaving; register = register }
+
+-- where a client is there, none leaves
+none_leaves : (told : Told) (leaving : Option Told) (out : Bool) → HasClient (Some told) leaving out → leaving ≡ None
+none_leaves told None out has = refl
+none_leaves told (Some other) true has = absurd (omega (arith, has))
+none_leaves told (Some other) false has = absurd (omega (arith, has))
+
+-- and its wire is out
+is_out : (told : Told) (out : Bool) → HasClient (Some told) None out → out ≡ true
+is_out told true has = refl
+is_out told false has = absurd (omega (arith, has))
+
+-- where one is gone behind a turn, one was there
+was_there : (n : ℕ) (old new : Accepting) (turned : Turned) (told : Told) → TakesTurn n old new turned (Some told)
+    → (before : Told) × (old.wire ≡ Some before)
+was_there n old new turned told (inl without) = absurd (cc without.no_wire)
+was_there n old new turned told (inr with_one) = (with_one.before, with_one.connected)
+
+-- so no other leaves then
+none_left : (n : ℕ) (old new : Accepting) (turned : Turned) (told : Told) (leaving : Option Told) (out : Bool) → TakesTurn n old new turned (Some told)
+    → HasClient old.wire leaving out → (leaving ≡ None) × (out ≡ true)
+none_left n old new turned told leaving out takes has =
+    let there = was_there n old new turned told takes in
+    let one : HasClient (Some there.0) leaving out = subst (λ (w : Option Told). HasClient w leaving out) there.1 has in
+    let none = none_leaves there.0 leaving out one in
+    (none, is_out there.0 out (subst (λ (l : Option Told). HasClient (Some there.0) l out) none one))
+
+-- a client is there, and none leaves
+here : (now leaving : Option Told) (out : Bool) (told : Told) → now ≡ Some told → (leaving ≡ None) × (out ≡ true) → HasClient now leaving out
+here now leaving out told is (none, one) =
+    subst (λ (w : Option Told). HasClient w leaving out) (sym is)
+    (subst (λ (l : Option Told). HasClient (Some told) l out) (sym none)
+    (subst (λ (o : Bool). HasClient (Some told) None o) (sym one) refl))
+
+-- the one that was there still is
+goes_on : (turned : Turned) (behind : Told) (now leaving : Option Told) (out : Bool) → Leaves turned behind now None
+    → (leaving ≡ None) × (out ≡ true) → HasClient now leaving out
+goes_on Worked behind now leaving out leaves is = here now leaving out _ leaves.0 is
+goes_on Quiet behind now leaving out leaves is = here now leaving out _ leaves.0 is
+goes_on (Ended reason) behind now leaving out leaves is = absurd (cc leaves.1)
+
+none_left_then : (told : Told) (leaving : Option Told) (out : Bool) → HasClient (Some told) leaving out → (leaving ≡ None) × (out ≡ true)
+none_left_then told leaving out has =
+    let none = none_leaves told leaving out has in
+    (none, is_out told out (subst (λ (l : Option Told). HasClient (Some told) l out) none has))
+
+-- where none is gone, the session went on, or there was none
+stays_there : (n : ℕ) (old new : Accepting) (turned : Turned) (leaving : Option Told) (out : Bool) → TakesTurn n old new turned None
+    → HasClient old.wire leaving out → HasClient new.wire leaving out
+stays_there n old new turned leaving out (inl without) has =
+    subst (λ (w : Option Told). HasClient w leaving out) (without.free ∙ sym without.still) has
+stays_there n old new turned leaving out (inr with_one) has = goes_on turned with_one.behind new.wire leaving out with_one.leaves
+    (none_left_then with_one.before leaving out (subst (λ (w : Option Told). HasClient w leaving out) with_one.connected has))
+
+-- The gateway took its turn, behind which this client is gone, or none.
+module _ (rings : Opened Limits) (old new : Accepting) (turned : Turned) (leaving : Option Told) (register : Register)
+    (role : new.gateway.seat.who.role ≡ old.gateway.seat.who.role) where
+  pub turn_taken : TakesTurn 1024 old new turned None → TradesOn rings (at_door old leaving register) rings (at_door new leaving register)
+  turn_taken takes = record {
+    rings_are = refl;
+    role = role;
+    came = [];
+    ended = [];
+    gone = [];
+    attends = one_step 1024 old new [] [] (inl (turned, None, takes, refl, refl));
+    number = refl;
+    handed_out = sym (more-nil register.came);
+    given_back = sym (more-nil register.gone);
+    leave = subst (λ (l : List Told). LeaveOn l (option_to_list leaving)) (sym (append-nil (option_to_list leaving)))
+        (all_stay (option_to_list leaving));
+  }
+
+  pub session_ended : (told : Told) → TakesTurn 1024 old new turned (Some told) → HasClient old.wire leaving register.out
+      → TradesOn rings (at_door old leaving register) rings (at_door new (Some told) register)
+  session_ended told takes has = record {
+    rings_are = refl;
+    role = role;
+    came = [];
+    ended = told ∷ [];
+    gone = [];
+    attends = one_step 1024 old new [] (told ∷ []) (inl (turned, Some told, takes, refl, refl));
+    number = refl;
+    handed_out = sym (more-nil register.came);
+    given_back = sym (more-nil register.gone);
+    leave = subst (λ (l : Option Told). LeaveOn (option_to_list l ++ told ∷ []) (told ∷ []))
+        (sym (none_left 1024 old new turned told leaving register.out takes has).0) (all_stay (told ∷ []));
+  }
+
+-- who is there behind it
+pub still_one : (old new : Accepting) (turned : Turned) (leaving : Option Told) (out : Bool) → TakesTurn 1024 old new turned None
+    → HasClient old.wire leaving out → HasClient new.wire leaving out
+still_one old new turned leaving out takes has = stays_there 1024 old new turned leaving out takes has
+
+-- and where a client is gone
+gone_now : (turned : Turned) (behind : Told) (now : Option Told) (told : Told) → Leaves turned behind now (Some told) → now ≡ None
+gone_now Worked behind now told leaves = absurd (cc leaves.1)
+gone_now Quiet behind now told leaves = absurd (cc leaves.1)
+gone_now (Ended reason) behind now told leaves = leaves.0
+
+none_there : (old new : Accepting) (turned : Turned) (told : Told) → TakesTurn 1024 old new turned (Some told) → new.wire ≡ None
+none_there old new turned told (inl without) = without.still
+none_there old new turned told (inr with_one) = gone_now turned with_one.behind new.wire told with_one.leaves
+
+pub leaves_now : (old new : Accepting) (turned : Turned) (told : Told) (leaving : Option Told) (out : Bool)
+    → TakesTurn 1024 old new turned (Some told) → HasClient old.wire leaving out → HasClient new.wire (Some told) out
+leaves_now old new turned told leaving out takes has =
+    subst (λ (w : Option Told). HasClient w (Some told) out) (sym (none_there old new turned told takes))
+    (subst (λ (o : Bool). HasClient None (Some told) o) (sym (none_left 1024 old new turned told leaving out takes has).1) refl)
+
+-- The client that leaves is still waited for.
+pub waited_for : (rings : Opened Limits) (a : Accepting) (before behind : Told) (register : Register) → LeavesOn before behind
+    → TradesOn rings (at_door a (Some before) register) rings (at_door a (Some behind) register)
+waited_for rings a before behind register leaves = record {
+  rings_are = refl;
+  role = refl;
+  came = [];
+  ended = [];
+  gone = [];
+  attends = still 1024 a;
+  number = refl;
+  handed_out = sym (more-nil register.came);
+  given_back = sym (more-nil register.gone);
+  leave = (leaves, tt);
+}
+
+-- It has left.
+pub has_left : (rings : Opened Limits) (a : Accepting) (before behind : Told) (register after : Register) → LeavesOn before behind
+    → after ≡ record register { gone = with_more register.gone (behind ∷ []); out = false }
+    → TradesOn rings (at_door a (Some before) register) rings (at_door a None after)
+has_left rings a before behind register after leaves is = record {
+  rings_are = refl;
+  role = refl;
+  came = [];
+  ended = [];
+  gone = behind ∷ [];
+  attends = still 1024 a;
+  number = ap (λ (r : Register). r.number) is;
+  handed_out = ap (λ (r : Register). r.came) is ∙ sym (more-nil register.came);
+  given_back = ap (λ (r : Register). r.gone) is;
+  leave = (leaves, tt);
+}
+
+-- A client came in.
+pub has_come : (rings : Opened Limits) (old new : Accepting) (told : Told) (register after : Register) → Admits old told new
+    → after ≡ record register { came = with_more register.came (told ∷ []); out = true }
+    → TradesOn rings (at_door old None register) rings (at_door new None after)
+has_come rings old new told register after admits is = record {
+  rings_are = refl;
+  role = ap (λ (a : Accepting). a.gateway.seat.who.role) admits.1;
+  came = told ∷ [];
+  ended = [];
+  gone = [];
+  attends = one_step 1024 old new (told ∷ []) [] (inr (told, admits, refl, refl));
+  number = ap (λ (r : Register). r.number) is;
+  handed_out = ap (λ (r : Register). r.came) is;
+  given_back = ap (λ (r : Register). r.gone) is ∙ sym (more-nil register.gone);
+  leave = tt;
+}
+
+-- where one leaves, none is there
+pub nobody_there : (wire : Option Told) (told : Told) (out : Bool) → HasClient wire (Some told) out → HasClient wire None false
+nobody_there None told out has = refl
+nobody_there (Some other) told true has = absurd (omega (arith, has))
+nobody_there (Some other) told false has = absurd (omega (arith, has))
+
+-- where none is there nor leaves, no wire is out; and one that came in is there
+pub comes_in : (wire leaving : Option Told) (told : Told) → wire ≡ Some told → leaving ≡ None → HasClient wire leaving true
+comes_in wire leaving told there none =
+    subst (λ (w : Option Told). HasClient w leaving true) (sym there)
+    (subst (λ (l : Option Told). HasClient (Some told) l true) (sym none) refl)

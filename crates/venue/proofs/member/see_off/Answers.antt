@@ -1,0 +1,57 @@
+-- The client that leaves was gone on with.
+use Rattle.std.proofs.Common.{◌≡◌, ◌∙◌, Bool, false, ap, sym, subst, Option, Some, None}
+use Rattle.venue.specs.Leaving.{told_leaving, LeavesOn}
+use Rattle.venue.specs.Trading.{TradesOn, HasClient}
+use Rattle.venue.specs.TradingLaws.{no_turn}
+use Rattle.venue.proofs.MemberTurns.{at_door, waited_for, has_left, nobody_there}
+use Rattle.wires.specs.Ports.{Register}
+use Rattle.wires.specs.Wires.{Told}
+use Rattle.venue.proofs.member.see_off.Goals as goal
+
+pub returns-in_default : goal.returns-in_default
+returns-in_default g c =
+    let desk = c.args.desk.now in let rings = c.args.rings.now in
+    let told = told_leaving g.W.Wire.tells in
+    let register = g.X.Port.tells c.args.port.now in
+    let same = ap told (sym c.take.ensures.value ∙ c.in_default.is ∙ sym c.take.ensures.after) in record {
+      goes = subst (λ (l : Option Told). TradesOn rings (at_door desk.acceptor (told desk.leaving) register) rings
+          (at_door desk.acceptor l register)) same (no_turn rings (at_door desk.acceptor (told desk.leaving) register));
+      at = c.requires.at;
+      one = subst (λ (l : Option Told). HasClient desk.acceptor.wire l register.out) same c.requires.one;
+    }
+
+pub returns-then-has_left : goal.returns-then-has_left
+returns-then-has_left g c =
+    let desk = c.args.desk.now in let rings = c.args.rings.now in
+    let tells = g.W.Wire.tells in let told = told_leaving tells in
+    let before = tells c.in-Some.client.wire in
+    let register = g.X.Port.tells c.args.port.now in let after = g.X.Port.tells c.take_back.new.self in
+    let there : told desk.leaving ≡ Some before = ap told (sym c.take.ensures.value ∙ c.in-Some.is) in
+    let none = ap told c.take.ensures.after in
+    let out = ap (λ (r : Register). r.out) c.take_back.ensures in record {
+      goes = subst (λ (l : Option Told). TradesOn rings (at_door desk.acceptor l register) rings
+          (at_door desk.acceptor (told c.take.new.self) after)) (sym there)
+          (subst (λ (l : Option Told). TradesOn rings (at_door desk.acceptor (Some before) register) rings
+          (at_door desk.acceptor l after)) (sym none)
+          (has_left rings desk.acceptor before (tells c.end.result) register after
+          (subst (λ w. LeavesOn before (tells w)) (sym c.end.ensures) c.has_left.ensures.leaves) c.take_back.ensures));
+      at = c.requires.at;
+      one = subst (λ (o : Bool). HasClient desk.acceptor.wire (told c.take.new.self) o) (sym out)
+          (subst (λ (l : Option Told). HasClient desk.acceptor.wire l false) (sym none)
+          (nobody_there desk.acceptor.wire before register.out
+          (subst (λ (l : Option Told). HasClient desk.acceptor.wire l register.out) there c.requires.one)));
+    }
+
+pub returns : goal.returns
+returns g c =
+    let desk = c.args.desk.now in let rings = c.args.rings.now in
+    let tells = g.W.Wire.tells in let told = told_leaving tells in
+    let before = tells c.in-Some.client.wire in let behind = tells c.has_left.new.self.wire in
+    let register = g.X.Port.tells c.args.port.now in
+    let there : told desk.leaving ≡ Some before = ap told (sym c.take.ensures.value ∙ c.in-Some.is) in record {
+      goes = subst (λ (l : Option Told). TradesOn rings (at_door desk.acceptor l register) rings
+          (at_door desk.acceptor (Some behind) register)) (sym there)
+          (waited_for rings desk.acceptor before behind register c.has_left.ensures.leaves);
+      at = c.requires.at;
+      one = subst (λ (l : Option Told). HasClient desk.acceptor.wire l register.out) there c.requires.one;
+    }

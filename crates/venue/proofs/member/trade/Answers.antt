@@ -1,0 +1,27 @@
+-- The member went on from its start, and the port was given back the wire that was left.
+use Rattle.std.proofs.Common.{◌∙◌, ap, subst}
+use Rattle.gateway.specs.Accepting.{told_by}
+use Rattle.venue.specs.Leaving.{told_leaving}
+use Rattle.venue.specs.Trading.{GivesBack}
+use Rattle.venue.specs.declared.member.Desk.{Desk}
+use Rattle.venue.proofs.TradeLemmas.{comes_back}
+use Rattle.wires.specs.Ports.{Register}
+use Rattle.venue.proofs.member.trade.Goals as goal
+
+pub returns : goal.returns
+returns g c =
+    let post = c.args.post.desk.value in let worker = c.work-ended.new.worker in
+    let tells = g.W.Wire.tells in let told = told_leaving tells in
+    let wire = told_by tells c.end-seat.result.1 in let after = g.X.Port.tells c.dismiss.new.port in
+    let whole = c.into_inner-acceptor.ensures in
+    let seat_is = c.end-seat.ensures.seat ∙ ap (λ (d : Desk _). d.acceptor.gateway.seat) whole in
+    let wire_is = c.end-seat.ensures.wire ∙ ap (λ (d : Desk _). d.acceptor.wire) whole in record {
+      back = comes_back c.args.rings.now worker.rings.now c.args.post.number post.acceptor worker.desk.value.acceptor
+          (told post.leaving) (told worker.desk.value.leaving) wire
+          (g.X.Port.tells c.args.port.value) (g.X.Port.tells worker.port.value) after
+          c.requires.begun.0 c.requires.begun.1 c.work-ended.ensures.goes c.end-seat.result.0 seat_is worker.fits wire_is
+          c.end-seat.ensures.seen.spent
+          (subst (λ (d : Desk _). GivesBack (g.X.Port.tells worker.port.value) after (told d.leaving) wire) whole
+          (subst (λ x. GivesBack (g.X.Port.tells x) after (told c.into_inner-acceptor.result.leaving) wire) c.deref_mut.ensures.value
+          c.dismiss.ensures));
+    }

@@ -1,0 +1,7 @@
+-- each port tells what it told
+use Rattle.std.specs.Prelude.{◌≡◌, length}
+use Rattle.venue.specs.Members.{SamePorts, in_box}
+use Rattle.venue.proofs.members.open_ports.Given as goal
+
+abbrev pub invariant-loop-port : goal.invariant-loop-port
+invariant-loop-port g l = SamePorts (in_box g.X.Port.tells) l.initial.port-items l.port-items

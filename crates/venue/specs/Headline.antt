@@ -1,0 +1,99 @@
+-- The headline, as it can be seen from outside (docs/HEADLINE.md): one history; for each member what its clients sent and were sent; and what the journal keeps.
+use Rattle.std.specs.Prelude.{◌≡◌, ◌⊎◌, ℕ, ◌+◌, ◌≤◌, List, [], ◌∷◌, length, map}
+use Rattle.std.specs.List.{flat_map}
+use mathlib.Core.Option.{some}
+use lib.ListN.{get_elem?}
+use Rattle.venue_model.specs.History.{History, Message}
+use Rattle.venue_model.specs.Requests.{Limits}
+use Rattle.disks.specs.Disk.{Told}
+use Rattle.journal.specs.Format.{IsJournal, HasCut}
+use Rattle.gateway.specs.Visits.{DayPart, WasServed, IsFirstOf, acts_in, reports_by, reports_for, came_in, gone_in}
+use Rattle.ring_words.specs.Ending.{IsBeginning}
+use Rattle.stages.specs.Devices.{Device}
+use Rattle.venue.specs.Leaving.{LeaveOn}
+use Rattle.wires.specs.Ports.{Register, with_more}
+use Rattle.wires.specs.Wires as wires
+
+-- The file is the journal of a beginning of the log, which is no shorter than the history at the start.
+pub record IsJournalOf (base log : History) (file : List ℕ) : Type 0 where
+  pub history : History
+  pub journal : IsJournal file history
+  pub begins : IsBeginning history log
+  pub behind : length base ≤ length history
+
+-- one journal and another, of the same history
+abbrev pub OfOneHistory : List ℕ → List ℕ → Type 0
+OfOneHistory old new = (history : History) × IsJournal old history × IsJournal new history
+
+-- a crash meanwhile leaves what it might have left before, or a journal of the same history
+abbrev pub KeepsSame : Type 0 → Told → Told → Type 0
+KeepsSame honest old new = honest → (file : List ℕ) → new.left_since old.moment file → old.may_leave file ⊎ OfOneHistory old.file file
+
+-- And it has all that brought about the reports that members were given, or that were passed over: they are the first ones for each member by what the file has.
+pub record KeepsTold (limits : Limits) (base log : History) (days : List (List DayPart)) (file : List ℕ) : Type 0 where
+  pub of_log : IsJournalOf base log file
+  pub told : (i : ℕ) (day : List DayPart) → get_elem? days i ≡ some day
+      → IsFirstOf (flat_map reports_by (flat_map acts_in day)) (reports_for (i + 1) limits base of_log.history)
+
+-- One history, the log: it begins with that of the journal at the start, by whose cut market orders are read, and each later message is one of a member's. Each
+-- member was served by it, on its day. A crash meanwhile leaves what it might have left before, or the journal of a beginning of it; and whatever a crash leaves from
+-- then on has all that members were told.
+pub record OneHistory (limits : Limits) (honest : Type 0) (old new : Told) (days : List (List DayPart)) : Type 0 where
+  pub base : History
+  pub log : History
+  pub cut : ℕ
+  pub journal : honest → IsJournal old.file base
+  pub by_cut : honest → HasCut old.file cut
+  pub begins : IsBeginning base log
+  pub later : (s : ℕ) (m : Message) → length base ≤ s → get_elem? log s ≡ some m → (1 ≤ m.gateway) × (m.gateway ≤ length days)
+  pub served : (i : ℕ) (day : List DayPart) → get_elem? days i ≡ some day → WasServed (i + 1) (record limits { cut = cut }) base log day
+  pub meanwhile : honest → (file : List ℕ) → new.left_since old.moment file → old.may_leave file ⊎ IsJournalOf base log file
+  pub keeps : honest → (file : List ℕ) → new.may_leave file → KeepsTold (record limits { cut = cut }) base log days file
+
+-- The clients of a day are those that came in at the port, in their order. The port has their wires back: nothing more was written over them, and what still
+-- came over them was read over.
+pub record CameIn (old new : Register) (day : List DayPart) : Type 0 where
+  pub came : new.came ≡ with_more old.came (came_in day)
+  pub back : List wires.Told
+  pub gone : new.gone ≡ with_more old.gone back
+  pub leave : LeaveOn (gone_in day) back
+
+-- What can be seen of a run that listens: its disk, and its members' ports.
+pub record Boundary (D X : Type 0) : Type 0 where
+  pub disk : D
+  pub ports : List X
+
+module _ {D X : Type 0} where
+  -- Members were served by one history, each by the clients that came in at its port.
+  pub record ServesMembers (limits : Limits) (device : Device D) (tells : X → Register) (old new : Boundary D X) : Type 0 where
+    pub days : List (List DayPart)
+    pub all : (length days ≡ length old.ports) × (length new.ports ≡ length old.ports)
+    pub history : OneHistory limits (device.honest old.disk) (device.tells old.disk) (device.tells new.disk) days
+    pub clients : (i : ℕ) (x y : X) (day : List DayPart) → get_elem? old.ports i ≡ some x → get_elem? new.ports i ≡ some y → get_elem? days i ≡ some day
+        → CameIn (tells x) (tells y) day
+
+  -- nobody was served: the ports tell what they told, the disk keeps its history, and the status is 1; or members were
+  abbrev pub SeenListening : Limits → Device D → (X → Register) → Boundary D X → Boundary D X → ℕ → Type 0
+  SeenListening limits device tells old new status =
+      ((status ≡ 1) × (map tells new.ports ≡ map tells old.ports) × KeepsSame (device.honest old.disk) (device.tells old.disk) (device.tells new.disk))
+      ⊎ ServesMembers limits device tells old new
+
+-- What can be seen of a run for one client: its disk, and its wire.
+pub record Seen : Type 1 where
+  pub disk : Told
+  pub wire : wires.Told
+
+abbrev pub seen : Told → wires.Told → Seen
+seen disk wire = record { disk = disk; wire = wire }
+
+-- The one client was served by one history, over this wire.
+pub record ServesClient (limits : Limits) (honest : Type 0) (old new : Seen) : Type 0 where
+  pub day : List DayPart
+  pub history : OneHistory limits honest old.disk new.disk (day ∷ [])
+  pub came : came_in day ≡ old.wire ∷ []
+  pub gone : gone_in day ≡ new.wire ∷ []
+
+-- nobody was served: the wire tells what it told, the disk keeps its history, and the status is 1; or the client was
+abbrev pub SeenServing : Limits → Type 0 → Seen → Seen → ℕ → Type 0
+SeenServing limits honest old new status =
+    ((status ≡ 1) × (new.wire ≡ old.wire) × KeepsSame honest old.disk new.disk) ⊎ ServesClient limits honest old new

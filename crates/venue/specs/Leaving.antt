@@ -1,0 +1,39 @@
+-- A client that leaves: what is done with its wire until that is given back.
+use Rattle.std.specs.Prelude.{◌≡◌, ◌⊎◌, ⊤, ℕ, ◌-◌, ◌<◌, Bool, true, false, List, [], ◌∷◌, Option, Some, None}
+use Rattle.venue_model.specs.Counts.{Rose}
+use Rattle.wires.specs.Wires.{Told, grown}
+use Rattle.venue.specs.declared.leaving.Leaving.{Leaving}
+
+-- nothing more is written to it; what it still sends is read over
+pub record LeavesOn (old new : Told) : Type 0 where
+  pub over : List ℕ
+  pub gave : new.gave ≡ grown old.gave over
+  pub took : new.took ≡ old.took
+
+-- those whose sessions had ended, each as it was then, and each of them in the same order as it is later
+abbrev pub LeaveOn : List Told → List Told → Type 0
+LeaveOn [] [] = ⊤
+LeaveOn [] (later ∷ laters) = ⊥
+LeaveOn (told ∷ tolds) [] = ⊥
+LeaveOn (told ∷ tolds) (later ∷ laters) = LeavesOn told later × LeaveOn tolds laters
+
+-- one look at what it sends: whether it has closed its side, or the wire failed
+pub record ReadsOver (old new : Told) (ended : Bool) : Type 0 where
+  pub leaves : LeavesOn old new
+  pub ends : ended ≡ true → Rose old.ends new.ends ⊎ Rose old.failures new.failures
+
+-- what the wire of a client that leaves tells, if one does
+abbrev pub told_leaving : {W : Type 0} → (W → Told) → Option (Leaving W) → Option Told
+told_leaving tells None = None
+told_leaving tells (Some leaving) = Some (tells leaving.wire)
+
+-- it is waited for in 20,000 turns, and was told nothing yet
+abbrev pub BeginsLeaving : {W : Type 0} → W → Leaving W → Type 0
+BeginsLeaving wire leaving = leaving ≡ record { wire = wire; turns_left = 20000; is_shut = false }
+
+-- One turn of it. It has left where it was waited for so long, or where it was told that nothing more comes, and then closed its side, or the wire failed.
+pub record GoesOnLeaving {W : Type 0} (tells : W → Told) (old new : Leaving W) (left : Bool) : Type 0 where
+  pub leaves : LeavesOn (tells old.wire) (tells new.wire)
+  pub waits : left ≡ false → (0 < old.turns_left) × (new.turns_left ≡ old.turns_left - 1)
+  pub ends : left ≡ true → (old.turns_left ≡ 0)
+      ⊎ ((new.is_shut ≡ true) × (Rose (tells old.wire).ends (tells new.wire).ends ⊎ Rose (tells old.wire).failures (tells new.wire).failures))
