@@ -74,7 +74,8 @@ no_last (b ∷ before) j is = cc
 
 none_held : (held : Option (List ℕ)) (closing : Option Reason) (messages : List (List ℕ))
     → Held held closing messages [] → messages ≡ []
-none_held (Some message) closing messages waits = absurd (no_last waits.before waits.last waits.judgements_are)
+none_held (Some message) (Some reason) messages waits = absurd waits
+none_held (Some message) None messages waits = absurd (no_last waits.before waits.last waits.judgements_are)
 none_held None None messages is = is
 none_held None (Some reason) messages (inl (other, is)) = is
 none_held None (Some reason) messages (inr (same, message, waits)) = absurd

@@ -70,7 +70,8 @@ module _ (rings : Opened Limits) (k n : ℕ) where
 
   -- the visit that goes on is the last one
   module _ (done : List DayPart) (all : AllByRecursion (IsVisit k) (flat_map visits_in done)) where
-    all_visits : (end : Accepting) (wire : Option Told) (running : List DayPart) → Running k end.gateway.front wire running
+    all_visits : (end : Accepting) (wire : Option Told) (running : List DayPart)
+        → Running k end.gateway.front wire running
         → AllByRecursion (IsVisit k) (flat_map visits_in (done ++ running))
     all_visits end None running none = subst (λ (ps : List DayPart). AllByRecursion (IsVisit k) (flat_map visits_in ps))
         (sym (ap (λ (ps : List DayPart). done ++ ps) none ∙ append-nil done)) all
@@ -96,7 +97,8 @@ module _ (rings : Opened Limits) (k n : ℕ) where
   -- gateway has seen
   pub life-kept : (end : Accepting) (came gone : List Told) (life : Life rings k end came gone) (h : History)
       → IsBeginning end.gateway.seat.who.seen h
-      → IsFirstOf (flat_map reports_by (flat_map acts_in (life.done ++ life.running))) (reports_for k rings.logic rings.base h)
+      → IsFirstOf (flat_map reports_by (flat_map acts_in (life.done ++ life.running)))
+      (reports_for k rings.logic rings.base h)
   life-kept end came gone life h begins =
       let known = life.recorded in
       let first = taken_first k rings.logic rings.base end.gateway.seat.who known.from known.to h begins in

@@ -128,9 +128,11 @@ pub record Waits (message : List ℕ) (messages : List (List ℕ)) (judgements :
   pub message_is : last.message ≡ message
   pub published : messages ≡ flat_map held_of before
 
--- the messages published and the one held are those to hold; but where the session closes since no sequence was left, the last of them is lost
+-- The messages published and the one held are those to hold. A session that closes holds none, since it hears nothing while it does; but where it closes
+-- since no sequence was left, the last of them is lost.
 abbrev pub Held : Option (List ℕ) → Option Reason → List (List ℕ) → List Judgement → Type 0
-Held (Some message) closing messages judgements = Waits message messages judgements
+Held (Some message) None messages judgements = Waits message messages judgements
+Held (Some message) (Some reason) messages judgements = ⊥
 Held None None messages judgements = messages ≡ flat_map held_of judgements
 Held None (Some reason) messages judgements =
     ((reason ≢ Exhausted) × (messages ≡ flat_map held_of judgements))

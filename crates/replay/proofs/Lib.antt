@@ -2,7 +2,7 @@ mod LineLemmas
 pub mod Taking
 mod Asking
 mod Telling
-mod Starting
+pub mod Starting
 mod NewestLemmas
 mod Recovery
 mod Whole
@@ -13,4 +13,4 @@ mod Shaping
 mod Added
 mod Reported
 mod StartLemmas
-mod Staying
+pub mod Staying

@@ -51,7 +51,8 @@ module _ (seen kept log : History) (sequence : ℕ) (of_log : IsBeginning seen l
       (subst (λ (m : Message). get_elem? kept s ≡ some m) same there.1)
 
 -- a journal from these entries on has them
-pub survives : (kept log : History) (sequence : ℕ) → IsBeginning kept log → (file : List ℕ) → IsJournalFrom sequence kept file
+pub survives : (kept log : History) (sequence : ℕ) → IsBeginning kept log → (file : List ℕ)
+    → IsJournalFrom sequence kept file
     → Survives log (take sequence kept) file
 survives kept log sequence of_log file (k, least, most, journal) = record {
   history = take k kept;
@@ -76,7 +77,8 @@ finished rings crew honest disk s seats unmarshal journal process marshal ended 
     let stages : stages_of seats ≡ people_of crew = λ k. process k ∷ unmarshal k ∷ journal k ∷ marshal k ∷ [] in
     let kept = ended.known 2 v (ap (λ (l : List Person). get_elem? l 2) stages) in
     let own : seats.journal.who.sequence ≡ v.sequence = ap (λ (p : Person). p.sequence) journal in
-    let known : v.sequence ≤ length v.seen = subst (λ (p : Person). p.sequence ≤ length p.seen) journal ended.released in
+    let known : v.sequence ≤ length v.seen =
+    subst (λ (p : Person). p.sequence ≤ length p.seen) journal ended.released in
     record {
       seats = seats;
       gateways_are = refl;
@@ -86,5 +88,6 @@ finished rings crew honest disk s seats unmarshal journal process marshal ended 
       outputs = outputs ∙ ap (λ (p : Person). p.row.sequence) process;
       survives = λ h file left. survives v.seen ended.log v.sequence kept file (keeps h file left);
       holds = λ i seat at. let seen = ended.seen i seat at in let most = seen.1 in
-          holds seat.who.seen v.seen ended.log v.sequence seen.0 (omega (arith, most, own)) kept v.sequence (omega arith) known;
+          holds seat.who.seen v.seen ended.log v.sequence seen.0 (omega (arith, most, own)) kept v.sequence
+          (omega arith) known;
     }

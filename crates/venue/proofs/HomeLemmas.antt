@@ -1,5 +1,6 @@
 -- Ports that tell what they told, and seats that came back from their members.
-use Rattle.std.proofs.Common.{◌≡◌, ℕ, zero, suc, ◌+◌, false, List, [], ◌∷◌, length, map, refl, ap, sym, subst, ◌∙◌, arith}
+use Rattle.std.proofs.Common.{◌≡◌, ℕ, zero, suc, ◌+◌, false, List, [], ◌∷◌, length, map, refl, ap, sym, subst, ◌∙◌}
+use Rattle.std.proofs.Common.{arith}
 use Rattle.std.proofs.lemmas.List.{length-map}
 use mathlib.Core.Option.{some, some-injective, some-ne-none}
 use lib.ListN.{get_elem?}
@@ -12,7 +13,8 @@ use Rattle.wires.specs.Ports.{Register}
 
 module _ {X : Type 0} (tells : X → Register) where
   -- what is told at the same place of two such lists
-  told_at : (old new : List X) → SamePorts tells old new → (i : ℕ) (x y : X) → get_elem? old i ≡ some x → get_elem? new i ≡ some y
+  told_at : (old new : List X) → SamePorts tells old new → (i : ℕ) (x y : X) → get_elem? old i ≡ some x
+      → get_elem? new i ≡ some y
       → tells y ≡ tells x
   told_at [] new same i x y in_old in_new = absurd (some-ne-none x (sym in_old))
   told_at (o ∷ os) [] same i x y in_old in_new = absurd (some-ne-none y (sym in_new))
@@ -33,14 +35,16 @@ module _ {X : Type 0} (tells : X → Register) where
 
   module _ (rings : Opened Limits) (seats : List (At Limits)) (after : List X) where
     -- whose ports were opened in between
-    pub back_again : (old new : List X) → SamePorts tells old new → AreBack rings tells new seats after → AreBack rings tells old seats after
+    pub back_again : (old new : List X) → SamePorts tells old new → AreBack rings tells new seats after
+        → AreBack rings tells old seats after
     back_again old new same back i s x z in_seats in_old in_after =
         let near = within old i x in_old in let y = stands new i (omega (arith, near, same_count old new same)) in
         subst (λ (r : Register). IsBack rings (i + 1) s r (tells z)) (told_at old new same i x y.0 in_old y.1)
         (back i s y.0 z in_seats y.1 in_after)
 
     -- the seats have no claims
-    pub spent_again : (old : List X) → length seats ≡ length old → length after ≡ length old → AreBack rings tells old seats after
+    pub spent_again : (old : List X) → length seats ≡ length old → length after ≡ length old
+        → AreBack rings tells old seats after
         → AreReturned rings seats
     spent_again old all same back i s there =
         let near = within seats i s there in let x = stands old i (omega (arith, near, all)) in

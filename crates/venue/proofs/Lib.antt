@@ -1,6 +1,7 @@
 pub mod OpenedLemmas
 pub mod ServingLemmas
 pub mod MemberLemmas
+mod KeepingLemmas
 mod HeadlineLemmas
 mod ServedLemmas
 mod ListeningLemmas

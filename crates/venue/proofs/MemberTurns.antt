@@ -1,5 +1,6 @@
 -- What one turn of a member does: its gateway's turn, a client that leaves or has left, and one that comes in.
-use Rattle.std.proofs.Common.{◌≡◌, ◌⊎◌, ℕ, Bool, true, false, List, [], ◌∷◌, ◌++◌, Option, Some, None, ⊎_elim, inl, inr, refl, ap, sym, subst, ◌∙◌, append-nil, arith}
+use Rattle.std.proofs.Common.{◌≡◌, ◌⊎◌, ℕ, Bool, true, false, List, [], ◌∷◌, ◌++◌, Option, Some, None, ⊎_elim, inl, inr}
+use Rattle.std.proofs.Common.{refl, ap, sym, subst, ◌∙◌, append-nil, arith}
 use Rattle.std.specs.Prelude.{option_to_list}
 use Rattle.venue_model.specs.Requests.{Limits}
 use Rattle.ring_words.specs.At.{Opened}
@@ -12,11 +13,6 @@ use Rattle.venue.specs.Trading.{AtPort, HasClient, TradesOn}
 use Rattle.venue.specs.TradingLaws.{stays, all_stay, more-nil}
 use Rattle.wires.specs.Ports.{Register, with_more}
 use Rattle.wires.specs.Wires.{Told}
-
--- the client that leaves behind a turn: the one whose session ended in it, or the one that left before
-abbrev pub leaving_after : Option Told → Option Told → Option Told
-leaving_after leaving None = leaving
-leaving_after leaving (Some told) = Some told
 
 -- a member like this one but for its acceptor and the client that leaves
 abbrev pub at_door : Accepting → Option Told → Register → AtPort
@@ -40,7 +36,8 @@ was_there n old new turned told (inl without) = absurd (cc without.no_wire)
 was_there n old new turned told (inr with_one) = (with_one.before, with_one.connected)
 
 -- so no other leaves then
-none_left : (n : ℕ) (old new : Accepting) (turned : Turned) (told : Told) (leaving : Option Told) (out : Bool) → TakesTurn n old new turned (Some told)
+none_left : (n : ℕ) (old new : Accepting) (turned : Turned) (told : Told) (leaving : Option Told) (out : Bool)
+    → TakesTurn n old new turned (Some told)
     → HasClient old.wire leaving out → (leaving ≡ None) × (out ≡ true)
 none_left n old new turned told leaving out takes has =
     let there = was_there n old new turned told takes in
@@ -49,7 +46,8 @@ none_left n old new turned told leaving out takes has =
     (none, is_out there.0 out (subst (λ (l : Option Told). HasClient (Some there.0) l out) none one))
 
 -- a client is there, and none leaves
-here : (now leaving : Option Told) (out : Bool) (told : Told) → now ≡ Some told → (leaving ≡ None) × (out ≡ true) → HasClient now leaving out
+here : (now leaving : Option Told) (out : Bool) (told : Told) → now ≡ Some told → (leaving ≡ None) × (out ≡ true)
+    → HasClient now leaving out
 here now leaving out told is (none, one) =
     subst (λ (w : Option Told). HasClient w leaving out) (sym is)
     (subst (λ (l : Option Told). HasClient (Some told) l out) (sym none)
@@ -62,23 +60,28 @@ goes_on Worked behind now leaving out leaves is = here now leaving out _ leaves.
 goes_on Quiet behind now leaving out leaves is = here now leaving out _ leaves.0 is
 goes_on (Ended reason) behind now leaving out leaves is = absurd (cc leaves.1)
 
-none_left_then : (told : Told) (leaving : Option Told) (out : Bool) → HasClient (Some told) leaving out → (leaving ≡ None) × (out ≡ true)
+none_left_then : (told : Told) (leaving : Option Told) (out : Bool) → HasClient (Some told) leaving out
+    → (leaving ≡ None) × (out ≡ true)
 none_left_then told leaving out has =
     let none = none_leaves told leaving out has in
     (none, is_out told out (subst (λ (l : Option Told). HasClient (Some told) l out) none has))
 
 -- where none is gone, the session went on, or there was none
-stays_there : (n : ℕ) (old new : Accepting) (turned : Turned) (leaving : Option Told) (out : Bool) → TakesTurn n old new turned None
+stays_there : (n : ℕ) (old new : Accepting) (turned : Turned) (leaving : Option Told) (out : Bool)
+    → TakesTurn n old new turned None
     → HasClient old.wire leaving out → HasClient new.wire leaving out
 stays_there n old new turned leaving out (inl without) has =
     subst (λ (w : Option Told). HasClient w leaving out) (without.free ∙ sym without.still) has
-stays_there n old new turned leaving out (inr with_one) has = goes_on turned with_one.behind new.wire leaving out with_one.leaves
-    (none_left_then with_one.before leaving out (subst (λ (w : Option Told). HasClient w leaving out) with_one.connected has))
+stays_there n old new turned leaving out (inr with_one) has =
+    goes_on turned with_one.behind new.wire leaving out with_one.leaves
+    (none_left_then with_one.before leaving out (subst
+    (λ (w : Option Told). HasClient w leaving out) with_one.connected has))
 
 -- The gateway took its turn, behind which this client is gone, or none.
 module _ (rings : Opened Limits) (old new : Accepting) (turned : Turned) (leaving : Option Told) (register : Register)
     (role : new.gateway.seat.who.role ≡ old.gateway.seat.who.role) where
-  pub turn_taken : TakesTurn 1024 old new turned None → TradesOn rings (at_door old leaving register) rings (at_door new leaving register)
+  pub turn_taken : TakesTurn 1024 old new turned None
+      → TradesOn rings (at_door old leaving register) rings (at_door new leaving register)
   turn_taken takes = record {
     rings_are = refl;
     role = role;
@@ -93,7 +96,8 @@ module _ (rings : Opened Limits) (old new : Accepting) (turned : Turned) (leavin
         (all_stay (option_to_list leaving));
   }
 
-  pub session_ended : (told : Told) → TakesTurn 1024 old new turned (Some told) → HasClient old.wire leaving register.out
+  pub session_ended : (told : Told) → TakesTurn 1024 old new turned (Some told)
+      → HasClient old.wire leaving register.out
       → TradesOn rings (at_door old leaving register) rings (at_door new (Some told) register)
   session_ended told takes has = record {
     rings_are = refl;
@@ -110,17 +114,20 @@ module _ (rings : Opened Limits) (old new : Accepting) (turned : Turned) (leavin
   }
 
 -- who is there behind it
-pub still_one : (old new : Accepting) (turned : Turned) (leaving : Option Told) (out : Bool) → TakesTurn 1024 old new turned None
+pub still_one : (old new : Accepting) (turned : Turned) (leaving : Option Told) (out : Bool)
+    → TakesTurn 1024 old new turned None
     → HasClient old.wire leaving out → HasClient new.wire leaving out
 still_one old new turned leaving out takes has = stays_there 1024 old new turned leaving out takes has
 
 -- and where a client is gone
-gone_now : (turned : Turned) (behind : Told) (now : Option Told) (told : Told) → Leaves turned behind now (Some told) → now ≡ None
+gone_now : (turned : Turned) (behind : Told) (now : Option Told) (told : Told) → Leaves turned behind now (Some told)
+    → now ≡ None
 gone_now Worked behind now told leaves = absurd (cc leaves.1)
 gone_now Quiet behind now told leaves = absurd (cc leaves.1)
 gone_now (Ended reason) behind now told leaves = leaves.0
 
-none_there : (old new : Accepting) (turned : Turned) (told : Told) → TakesTurn 1024 old new turned (Some told) → new.wire ≡ None
+none_there : (old new : Accepting) (turned : Turned) (told : Told) → TakesTurn 1024 old new turned (Some told)
+    → new.wire ≡ None
 none_there old new turned told (inl without) = without.still
 none_there old new turned told (inr with_one) = gone_now turned with_one.behind new.wire told with_one.leaves
 
@@ -128,10 +135,12 @@ pub leaves_now : (old new : Accepting) (turned : Turned) (told : Told) (leaving 
     → TakesTurn 1024 old new turned (Some told) → HasClient old.wire leaving out → HasClient new.wire (Some told) out
 leaves_now old new turned told leaving out takes has =
     subst (λ (w : Option Told). HasClient w (Some told) out) (sym (none_there old new turned told takes))
-    (subst (λ (o : Bool). HasClient None (Some told) o) (sym (none_left 1024 old new turned told leaving out takes has).1) refl)
+    (subst (λ (o : Bool). HasClient None (Some told) o)
+    (sym (none_left 1024 old new turned told leaving out takes has).1) refl)
 
 -- The client that leaves is still waited for.
-pub waited_for : (rings : Opened Limits) (a : Accepting) (before behind : Told) (register : Register) → LeavesOn before behind
+pub waited_for : (rings : Opened Limits) (a : Accepting) (before behind : Told) (register : Register)
+    → LeavesOn before behind
     → TradesOn rings (at_door a (Some before) register) rings (at_door a (Some behind) register)
 waited_for rings a before behind register leaves = record {
   rings_are = refl;
@@ -147,7 +156,8 @@ waited_for rings a before behind register leaves = record {
 }
 
 -- It has left.
-pub has_left : (rings : Opened Limits) (a : Accepting) (before behind : Told) (register after : Register) → LeavesOn before behind
+pub has_left : (rings : Opened Limits) (a : Accepting) (before behind : Told) (register after : Register)
+    → LeavesOn before behind
     → after ≡ record register { gone = with_more register.gone (behind ∷ []); out = false }
     → TradesOn rings (at_door a (Some before) register) rings (at_door a None after)
 has_left rings a before behind register after leaves is = record {
@@ -164,7 +174,8 @@ has_left rings a before behind register after leaves is = record {
 }
 
 -- A client came in.
-pub has_come : (rings : Opened Limits) (old new : Accepting) (told : Told) (register after : Register) → Admits old told new
+pub has_come : (rings : Opened Limits) (old new : Accepting) (told : Told) (register after : Register)
+    → Admits old told new
     → after ≡ record register { came = with_more register.came (told ∷ []); out = true }
     → TradesOn rings (at_door old None register) rings (at_door new None after)
 has_come rings old new told register after admits is = record {
@@ -181,13 +192,15 @@ has_come rings old new told register after admits is = record {
 }
 
 -- where one leaves, none is there
-pub nobody_there : (wire : Option Told) (told : Told) (out : Bool) → HasClient wire (Some told) out → HasClient wire None false
+pub nobody_there : (wire : Option Told) (told : Told) (out : Bool) → HasClient wire (Some told) out
+    → HasClient wire None false
 nobody_there None told out has = refl
 nobody_there (Some other) told true has = absurd (omega (arith, has))
 nobody_there (Some other) told false has = absurd (omega (arith, has))
 
 -- where none is there nor leaves, no wire is out; and one that came in is there
-pub comes_in : (wire leaving : Option Told) (told : Told) → wire ≡ Some told → leaving ≡ None → HasClient wire leaving true
+pub comes_in : (wire leaving : Option Told) (told : Told) → wire ≡ Some told → leaving ≡ None
+    → HasClient wire leaving true
 comes_in wire leaving told there none =
     subst (λ (w : Option Told). HasClient w leaving true) (sym there)
     (subst (λ (l : Option Told). HasClient (Some told) l true) (sym none) refl)

@@ -1,4 +1,5 @@
--- Each member whose seat came back was served by the log that all seats end with, by the clients that came in at its port.
+-- Each member whose seat came back was served by the log that all seats end with, by the clients that came in at its
+-- port.
 use Rattle.std.proofs.Common.{◌≡◌, ℕ, ◌+◌, ◌<◌, List, ◌++◌, length, ap, sym, subst, ◌∙◌, arith}
 use Rattle.std.specs.List.{flat_map}
 use mathlib.Core.Option.{some, some-injective}
@@ -30,8 +31,10 @@ pub counts_outputs : (limits : Limits) (base : History) (rings : Opened Limits) 
 counts_outputs limits base rings behind =
     behind.base_outputs ∙ ap (λ (l : Limits). length (outputs_of l base)) (sym behind.logic)
 
--- A day of the member of this seat and port; and what it was told is the first of the reports for it by each history that begins with what its gateway has seen.
-pub record IsDay (rings : Opened Limits) (log : History) (k : ℕ) (seat : At Limits) (ports : Register × Register) (day : List DayPart) : Type 0 where
+-- A day of the member of this seat and port; and what it was told is the first of the reports for it by each history
+-- that begins with what its gateway has seen.
+pub record IsDay (rings : Opened Limits) (log : History) (k : ℕ) (seat : At Limits) (ports : Register
+    × Register) (day : List DayPart) : Type 0 where
   pub served : WasServed k rings.logic rings.base log day
   pub came : CameIn ports.0 ports.1 day
   pub kept : (h : History) → IsBeginning seat.who.seen h
@@ -55,17 +58,20 @@ module _ (rings : Opened Limits) (seats : Seats Limits) (back : List (At Limits)
         record {
           served = served.1;
           came = record {
+            number = it.number;
             came = it.handed_out ∙ ap (with_more old.came) (sym served.2);
             back = it.gone;
             gone = it.given_back;
             leave = subst (λ (wires : List Told). LeaveOn wires it.gone) (sym served.3) it.leave;
+            free = it.free;
           };
           kept = λ h begins. served.5 h (subst (λ (e : At Limits). IsBeginning e.who.seen h) it.seat_is begins);
         },
       )
 
   -- the same at a place of these ports
-  module _ {X : Type 0} (tells : X → Register) (old new : List X) (all : length back ≡ length old) (same : length new ≡ length old)
+  module _ {X : Type 0} (tells : X
+      → Register) (old new : List X) (all : length back ≡ length old) (same : length new ≡ length old)
       (each : AreBack rings tells old back new) where
     pub record DayAt (i : ℕ) (day : List DayPart) : Type 0 where
       pub seat : At Limits
@@ -94,12 +100,15 @@ module _ (rings : Opened Limits) (seats : Seats Limits) (back : List (At Limits)
         )
 
     -- there is one for each member
-    pub days : (days : List (List DayPart)) × (length days ≡ length old) × ((i : ℕ) (day : List DayPart) → get_elem? days i ≡ some day → DayAt i day)
+    pub days : (days : List (List DayPart)) × (length days ≡ length old) × ((i : ℕ) (day : List DayPart)
+        → get_elem? days i ≡ some day → DayAt i day)
     days = choose DayAt (length old) day_at
 
     -- the clients of a day came in at its port
-    pub came_at : (i : ℕ) (day : List DayPart) → DayAt i day → (x y : X) → get_elem? old i ≡ some x → get_elem? new i ≡ some y
+    pub came_at : (i : ℕ) (day : List DayPart) → DayAt i day → (x y : X) → get_elem? old i ≡ some x
+        → get_elem? new i ≡ some y
         → CameIn (tells x) (tells y) day
     came_at i day at x y in_old in_new =
         subst (λ (z : X). CameIn (tells z) (tells y) day) (some-injective at.port x (sym at.port_at ∙ in_old))
-        (subst (λ (z : X). CameIn (tells at.port) (tells z) day) (some-injective at.port_after y (sym at.after_at ∙ in_new)) at.is.came)
+        (subst (λ (z : X). CameIn (tells at.port) (tells z) day) (some-injective at.port_after y (sym at.after_at
+        ∙ in_new)) at.is.came)

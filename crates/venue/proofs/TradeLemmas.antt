@@ -1,5 +1,6 @@
 -- A member that traded from its start on, and whose port was given back the wire that was left, has come back.
-use Rattle.std.proofs.Common.{◌≡◌, ℕ, false, List, [], ◌++◌, Option, Some, None, refl, ap, sym, subst, ◌∙◌, append_assoc}
+use Rattle.std.proofs.Common.{◌≡◌, ℕ, false, List, [], ◌++◌, Option, Some, None, refl, ap, sym, subst, ◌∙◌}
+use Rattle.std.proofs.Common.{append_assoc}
 use Rattle.std.specs.Prelude.{option_to_list}
 use Rattle.venue_model.specs.Requests.{Limits}
 use Rattle.gateway.specs.Accepting.{Accepting, AttendsClients, without_client}
@@ -12,18 +13,23 @@ use Rattle.venue.proofs.MemberTurns.{at_door}
 use Rattle.wires.specs.Ports.{Register, with_more}
 use Rattle.wires.specs.Wires.{Told}
 
-module _ (rings rings_after : Opened Limits) (k : ℕ) (start end : Accepting) (none leaving wire : Option Told) (old between after : Register) where
+module _ (rings rings_after : Opened Limits) (k : ℕ) (start end : Accepting) (none leaving wire : Option Told)
+    (old between after : Register) where
   pub comes_back : start ≡ without_client rings k → none ≡ None
       → TradesOn rings (at_door start none old) rings_after (at_door end leaving between)
-      → (seat : At Limits) → seat ≡ end.gateway.seat → IsAt rings_after end.gateway.seat → wire ≡ end.wire → seat.who.claims ≡ []
+      → (seat : At Limits) → seat ≡ end.gateway.seat → IsAt rings_after end.gateway.seat → wire ≡ end.wire
+      → seat.who.claims ≡ []
       → GivesBack between after leaving wire → IsBack rings k seat old after
   comes_back begun nobody goes seat seat_is fits wire_is spent gives =
       let left : List Told = option_to_list leaving ++ option_to_list wire in
       let first : LeaveOn (option_to_list none ++ goes.ended) (goes.gone ++ option_to_list leaving) = goes.leave in
       let ended : LeaveOn goes.ended (goes.gone ++ option_to_list leaving) =
-      subst (λ (l : Option Told). LeaveOn (option_to_list l ++ goes.ended) (goes.gone ++ option_to_list leaving)) nobody first in
-      let all : LeaveOn (goes.ended ++ option_to_list wire) ((goes.gone ++ option_to_list leaving) ++ option_to_list wire) =
-      all_both goes.ended (goes.gone ++ option_to_list leaving) (option_to_list wire) (option_to_list wire) ended (all_stay (option_to_list wire)) in
+      subst (λ (l : Option Told). LeaveOn (option_to_list l ++ goes.ended)
+      (goes.gone ++ option_to_list leaving)) nobody first in
+      let all : LeaveOn (goes.ended ++ option_to_list wire)
+      ((goes.gone ++ option_to_list leaving) ++ option_to_list wire) =
+      all_both goes.ended (goes.gone ++ option_to_list leaving) (option_to_list wire)
+      (option_to_list wire) ended (all_stay (option_to_list wire)) in
       record {
         end = end;
         came = goes.came;

@@ -1,37 +1,37 @@
 -- The headline, as it can be seen from outside (docs/HEADLINE.md): one history; for each member what its clients sent and were sent; and what the journal keeps.
-use Rattle.std.specs.Prelude.{◌≡◌, ◌⊎◌, ℕ, ◌+◌, ◌≤◌, List, [], ◌∷◌, length, map}
+use Rattle.std.specs.Prelude.{◌≡◌, ◌⊎◌, ℕ, ◌+◌, ◌≤◌, false, List, [], ◌∷◌, length, map}
 use Rattle.std.specs.List.{flat_map}
 use mathlib.Core.Option.{some}
 use lib.ListN.{get_elem?}
+use Rattle.venue_model.specs.Counts.{Rose}
 use Rattle.venue_model.specs.History.{History, Message}
 use Rattle.venue_model.specs.Requests.{Limits}
 use Rattle.disks.specs.Disk.{Told}
 use Rattle.journal.specs.Format.{IsJournal, HasCut}
 use Rattle.gateway.specs.Visits.{DayPart, WasServed, IsFirstOf, acts_in, reports_by, reports_for, came_in, gone_in}
+use Rattle.replay.specs.Starts.{HasTrueSnapshots}
 use Rattle.ring_words.specs.Ending.{IsBeginning}
 use Rattle.stages.specs.Devices.{Device}
 use Rattle.venue.specs.Leaving.{LeaveOn}
 use Rattle.wires.specs.Ports.{Register, with_more}
 use Rattle.wires.specs.Wires as wires
 
--- The file is the journal of a beginning of the log, which is no shorter than the history at the start.
-pub record IsJournalOf (base log : History) (file : List ℕ) : Type 0 where
-  pub history : History
+-- The file is the journal of this history, which is read by this cut, and its snapshots are true: each is that of the entries before it.
+pub record IsJournalBy (limits : Limits) (file : List ℕ) (history : History) : Type 0 where
   pub journal : IsJournal file history
+  pub by_cut : HasCut file limits.cut
+  pub trues : HasTrueSnapshots file limits history
+
+-- The file is the journal of a beginning of the log, which is no shorter than the history at the start.
+pub record IsJournalOf (limits : Limits) (base log : History) (file : List ℕ) : Type 0 where
+  pub history : History
+  pub journal : IsJournalBy limits file history
   pub begins : IsBeginning history log
   pub behind : length base ≤ length history
 
--- one journal and another, of the same history
-abbrev pub OfOneHistory : List ℕ → List ℕ → Type 0
-OfOneHistory old new = (history : History) × IsJournal old history × IsJournal new history
-
--- a crash meanwhile leaves what it might have left before, or a journal of the same history
-abbrev pub KeepsSame : Type 0 → Told → Told → Type 0
-KeepsSame honest old new = honest → (file : List ℕ) → new.left_since old.moment file → old.may_leave file ⊎ OfOneHistory old.file file
-
 -- And it has all that brought about the reports that members were given, or that were passed over: they are the first ones for each member by what the file has.
 pub record KeepsTold (limits : Limits) (base log : History) (days : List (List DayPart)) (file : List ℕ) : Type 0 where
-  pub of_log : IsJournalOf base log file
+  pub of_log : IsJournalOf limits base log file
   pub told : (i : ℕ) (day : List DayPart) → get_elem? days i ≡ some day
       → IsFirstOf (flat_map reports_by (flat_map acts_in day)) (reports_for (i + 1) limits base of_log.history)
 
@@ -42,30 +42,49 @@ pub record OneHistory (limits : Limits) (honest : Type 0) (old new : Told) (days
   pub base : History
   pub log : History
   pub cut : ℕ
-  pub journal : honest → IsJournal old.file base
-  pub by_cut : honest → HasCut old.file cut
+  pub journal : honest → IsJournalBy (record limits { cut = cut }) old.file base
   pub begins : IsBeginning base log
   pub later : (s : ℕ) (m : Message) → length base ≤ s → get_elem? log s ≡ some m → (1 ≤ m.gateway) × (m.gateway ≤ length days)
   pub served : (i : ℕ) (day : List DayPart) → get_elem? days i ≡ some day → WasServed (i + 1) (record limits { cut = cut }) base log day
-  pub meanwhile : honest → (file : List ℕ) → new.left_since old.moment file → old.may_leave file ⊎ IsJournalOf base log file
+  pub meanwhile : honest → (file : List ℕ) → new.left_since old.moment file
+      → old.may_leave file ⊎ IsJournalOf (record limits { cut = cut }) base log file
   pub keeps : honest → (file : List ℕ) → new.may_leave file → KeepsTold (record limits { cut = cut }) base log days file
+
+-- one journal, and another of the same history and cut, whose snapshots are true
+pub record OfOneHistory (limits : Limits) (old new : List ℕ) : Type 0 where
+  pub history : History
+  pub cut : ℕ
+  pub journal : IsJournal old history
+  pub by_cut : HasCut old cut
+  pub same : IsJournalBy (record limits { cut = cut }) new history
+
+-- a crash meanwhile leaves what it might have left before, or a journal of the same history
+abbrev pub KeepsSame : Limits → Type 0 → Told → Told → Type 0
+KeepsSame limits honest old new = honest → (file : List ℕ) → new.left_since old.moment file → old.may_leave file ⊎ OfOneHistory limits old.file file
 
 -- The clients of a day are those that came in at the port, in their order. The port has their wires back: nothing more was written over them, and what still
 -- came over them was read over.
 pub record CameIn (old new : Register) (day : List DayPart) : Type 0 where
+  pub number : new.number ≡ old.number
   pub came : new.came ≡ with_more old.came (came_in day)
   pub back : List wires.Told
   pub gone : new.gone ≡ with_more old.gone back
   pub leave : LeaveOn (gone_in day) back
+  pub free : new.out ≡ false
 
 -- What can be seen of a run that listens: its disk, and its members' ports.
 pub record Boundary (D X : Type 0) : Type 0 where
   pub disk : D
   pub ports : List X
 
+abbrev pub boundary : {D X : Type 0} → D → List X → Boundary D X
+boundary disk ports = record { disk = disk; ports = ports }
+
 module _ {D X : Type 0} where
-  -- Members were served by one history, each by the clients that came in at its port.
-  pub record ServesMembers (limits : Limits) (device : Device D) (tells : X → Register) (old new : Boundary D X) : Type 0 where
+  -- Members were served by one history, each by the clients that came in at its port. The status is 2 just where a call of the disk failed.
+  pub record ServesMembers (limits : Limits) (device : Device D) (tells : X → Register) (old new : Boundary D X) (status : ℕ) : Type 0 where
+    pub failed : ((status ≡ 2) × Rose (device.failed old.disk) (device.failed new.disk))
+        ⊎ ((status ≤ 1) × (device.failed new.disk ≡ device.failed old.disk))
     pub days : List (List DayPart)
     pub all : (length days ≡ length old.ports) × (length new.ports ≡ length old.ports)
     pub history : OneHistory limits (device.honest old.disk) (device.tells old.disk) (device.tells new.disk) days
@@ -75,8 +94,8 @@ module _ {D X : Type 0} where
   -- nobody was served: the ports tell what they told, the disk keeps its history, and the status is 1; or members were
   abbrev pub SeenListening : Limits → Device D → (X → Register) → Boundary D X → Boundary D X → ℕ → Type 0
   SeenListening limits device tells old new status =
-      ((status ≡ 1) × (map tells new.ports ≡ map tells old.ports) × KeepsSame (device.honest old.disk) (device.tells old.disk) (device.tells new.disk))
-      ⊎ ServesMembers limits device tells old new
+      ((status ≡ 1) × (map tells new.ports ≡ map tells old.ports) × KeepsSame limits (device.honest old.disk) (device.tells old.disk) (device.tells new.disk))
+      ⊎ ServesMembers limits device tells old new status
 
 -- What can be seen of a run for one client: its disk, and its wire.
 pub record Seen : Type 1 where
@@ -96,4 +115,4 @@ pub record ServesClient (limits : Limits) (honest : Type 0) (old new : Seen) : T
 -- nobody was served: the wire tells what it told, the disk keeps its history, and the status is 1; or the client was
 abbrev pub SeenServing : Limits → Type 0 → Seen → Seen → ℕ → Type 0
 SeenServing limits honest old new status =
-    ((status ≡ 1) × (new.wire ≡ old.wire) × KeepsSame honest old.disk new.disk) ⊎ ServesClient limits honest old new
+    ((status ≡ 1) × (new.wire ≡ old.wire) × KeepsSame limits honest old.disk new.disk) ⊎ ServesClient limits honest old new

@@ -12,7 +12,7 @@ ghost use Rattle.venue.specs.Opened.{AreBehind};
 ghost use Rattle.venue.specs.Serving.{LeavesFrom};
 ghost use Rattle.stages.specs.Finishing.{Finished};
 ghost use Rattle.venue.specs.Faults.{had_served, status_of_end};
-ghost use Rattle.venue.specs.Headline.{SeenListening};
+ghost use Rattle.venue.specs.Headline.{SeenListening, boundary};
 ghost use Rattle.venue.specs.Listening.{EndsListening, end_of};
 ghost use Rattle.stages.specs.Devices.{device};
 
@@ -235,10 +235,10 @@ pub fn listen<
 ) -> (u8, D, Vec<Box<X>>)
     requires gateways { (1 ≤ G) × (G ≤ 8) }
     requires ports { (vec_len ports ≡ G) × AreFree (in_box X.tells) ports.items }
-    ensures ends { EndsListening limits (device D.honest D.tells D.failed) (in_box X.tells) (record { disk = disk; ports = ports.items })
-        (record { disk = result.1; ports = result.2.items }) result.0 }
-    ensures seen { SeenListening limits (device D.honest D.tells D.failed) (in_box X.tells) (record { disk = disk; ports = ports.items })
-        (record { disk = result.1; ports = result.2.items }) result.0 }
+    ensures ends { EndsListening limits (device D.honest D.tells D.failed) (in_box X.tells) (boundary disk ports.items)
+        (boundary result.1 result.2.items) result.0 }
+    ensures seen { SeenListening limits (device D.honest D.tells D.failed) (in_box X.tells) (boundary disk ports.items)
+        (boundary result.1 result.2.items) result.0 }
     ensures honest { Both (D.honest disk) (D.honest result.1) }
     ensures any_moment { D.honest disk → LeavesFrom (D.tells disk) (D.tells result.1) }
 {

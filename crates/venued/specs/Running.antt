@@ -7,7 +7,7 @@ use Rattle.disks.specs.Places.{Place, IsLeft}
 use Rattle.journal.specs.Openings.{Opens}
 use Rattle.disks.specs.declared.file_disk.FileDisk.{FileDisk}
 use Rattle.stages.specs.Devices.{Device, device}
-use Rattle.venue.specs.Headline.{Boundary, SeenListening, SeenServing, seen}
+use Rattle.venue.specs.Headline.{Boundary, boundary, SeenListening, SeenServing, seen}
 use Rattle.venue.specs.Venues.{IsJournalBehind}
 use Rattle.venue_model.specs.Requests.{Limits}
 use Rattle.wires.specs.Ports.{Register}
@@ -34,15 +34,15 @@ abbrev pub on_file : {F : Type 0} → (F → Type 0) → (F → Told) → Device
 on_file honest tells = device (λ disk. honest disk.file) (λ disk. tells disk.file) (λ disk. disk.failures)
 
 -- what a run for one client is handed and leaves: what the folder of its journal tells, and what its wire tells
-pub record Surroundings : Type 1 where
+pub record Scene : Type 1 where
   pub place : Place
   pub wire : wires.Told
 
-abbrev pub surroundings : Place → wires.Told → Surroundings
-surroundings place wire = record { place = place; wire = wire }
+abbrev pub scene : Place → wires.Told → Scene
+scene place wire = record { place = place; wire = wire }
 
 -- The journal's file was opened, or made; and this was seen of a run for one client over it, to its end.
-pub record ServesIn {D : Type 0} (limits : Limits) (device : Device D) (old new : Surroundings) (disk : D) (status : ℕ) : Type 0 where
+pub record ServesIn {D : Type 0} (limits : Limits) (device : Device D) (old new : Scene) (disk : D) (status : ℕ) : Type 0 where
   pub opened : D
   pub opens : Opens old.place new.place (device.honest opened) (device.tells opened)
   pub served : SeenServing limits (device.honest opened) (seen (device.tells opened) old.wire) (seen (device.tells disk) new.wire) status
@@ -60,4 +60,4 @@ listener limits device tells = record { limits = limits; device = device; tells 
 pub record ListensIn {D X : Type 0} (venue : Listener D X) (old new : Place) (before : List X) (behind : Boundary D X) (status : ℕ) : Type 0 where
   pub opened : D
   pub opens : Opens old new (venue.device.honest opened) (venue.device.tells opened)
-  pub served : SeenListening venue.limits venue.device venue.tells (record { disk = opened; ports = before }) behind status
+  pub served : SeenListening venue.limits venue.device venue.tells (boundary opened before) behind status

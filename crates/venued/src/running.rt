@@ -4,7 +4,8 @@ ghost use Rattle.std.specs.Prelude.{◌≡◌, ◌≤◌, true, vec_len, IfNone,
 ghost use Rattle.venue_model.specs.Counts.{Rose};
 ghost use Rattle.disks.specs.Places.{LeavesUnder};
 ghost use Rattle.journal.specs.Openings.{LeftOrNew};
-ghost use Rattle.venued.specs.Running.{Runs, ServesIn, ListensIn, on_file, surroundings, listener};
+ghost use Rattle.venued.specs.Running.{Runs, ServesIn, ListensIn, on_file, scene, listener};
+ghost use Rattle.venue.specs.Headline.{boundary};
 ghost use Rattle.venue.specs.Members.{AreFree, in_box};
 ghost use Rattle.venue.specs.Serving.{IsStatus};
 
@@ -36,7 +37,7 @@ pub fn run<P: Folder, W: Wire, E: Write>(
         IsStatus (W.tells wire.old) (W.tells wire.new) 0 (⟦<FileDisk<P::File> as JournalDisk>⟧.failed disk) result.0) }
     ensures honest { P.honest folder.old → IfSome result.1 (λ disk. P.File.honest disk.file) }
     ensures served { P.honest folder.old → IfSome result.1 (λ disk. ServesIn limits (on_file P.File.honest P.File.tells)
-        (surroundings (P.tells folder.old) (W.tells wire.old)) (surroundings (P.tells folder.new) (W.tells wire.new)) disk result.0) }
+        (scene (P.tells folder.old) (W.tells wire.old)) (scene (P.tells folder.new) (W.tells wire.new)) disk result.0) }
     ensures journal { P.honest folder.old →
         IfSome result.1 (λ disk. Runs (P.tells folder.old) (P.tells folder.new) (P.File.tells disk.file)) }
     ensures any_moment { P.honest folder.old →
@@ -81,7 +82,7 @@ pub fn run_listening<
         IfNone result.1 (Rose (P.failures folder.old).all (P.failures folder.new).all) }
     ensures honest { P.honest folder.old → IfSome result.1 (λ disk. F.honest disk.file) }
     ensures served { P.honest folder.old → IfSome result.1 (λ disk. ListensIn (listener limits (on_file F.honest F.tells) (in_box X.tells))
-        (P.tells folder.old) (P.tells folder.new) ports.items (record { disk = disk; ports = result.2.items }) result.0) }
+        (P.tells folder.old) (P.tells folder.new) ports.items (boundary disk result.2.items) result.0) }
     ensures journal { P.honest folder.old →
         IfSome result.1 (λ disk. Runs (P.tells folder.old) (P.tells folder.new) (F.tells disk.file)) }
     ensures any_moment { P.honest folder.old →

@@ -13,7 +13,8 @@ replicate-more : {X : Type 0} (n : ℕ) (x : X) → replicate (suc n) x ≡ repl
 replicate-more zero x = refl
 replicate-more (suc n) x = ap (λ xs. x ∷ xs) (replicate-more n x)
 
-pub one_more : (n : ℕ) (coming left : List Memory) (wire : Memory) → AllByRecursion IsUnmoved coming → coming ≡ left ++ wire ∷ []
+pub one_more : (n : ℕ) (coming left : List Memory) (wire : Memory) → AllByRecursion IsUnmoved coming
+    → coming ≡ left ++ wire ∷ []
     → replicate (n + 1) unmoved ≡ replicate n unmoved ++ told_memory wire ∷ []
 one_more n coming left wire all is =
     let e : n + 1 ≡ suc n = omega arith in

@@ -26,7 +26,8 @@ close-disk-requires g c =
         c.serve_members-crew.ensures.crew.0,
         (
           spent_again (in_box g.X.Port.tells) c.in-Ok.opened.0 home.seats.items home.ports.items members.ports.items
-              (omega (arith, seats, paired, ok_seats, ok_before)) (omega (arith, ports, paired, ok_ports, ok_before)) back.back,
+              (omega (arith, seats, paired, ok_seats, ok_before))
+              (omega (arith, ports, paired, ok_ports, ok_before)) back.back,
           omega (arith, seats, paired, same, all),
         ),
       ),
@@ -52,9 +53,14 @@ returns-clause-ends g c =
       counts = opened.counts;
       opened = opened.disk;
       journals = served.ensures.crew.1;
-      back = back_again (in_box g.X.Port.tells) c.in-Ok.opened.0 home.seats.items home.ports.items c.args.ports.items members.ports.items
+      back = back_again (in_box g.X.Port.tells) c.in-Ok.opened.0 home.seats.items home.ports.items c.args.ports.items
+          members.ports.items
           same.0 back.back;
-      all = (omega (arith, seats, paired, count, ok_seats, ok_before), omega (arith, ports, paired, count, ok_ports, ok_before));
+      all = (
+        omega (arith, seats, paired, count, ok_seats, ok_before),
+        omega
+            (arith, ports, paired, count, ok_ports, ok_before),
+      );
       finished = c.close-disk.ensures.finished;
       disk_is = c.close-disk.ensures.disk;
       status_is = c.say_end.ensures
@@ -63,7 +69,13 @@ returns-clause-ends g c =
     })
 
 pub returns-clause-seen : goal.returns-clause-seen
-returns-clause-seen g c = seen_listening _ _ _ _ _ _ (returns-clause-ends g c)
+returns-clause-seen g c = seen_listening _ _ _ _ _ _ (λ disk honest file left.
+    (g.met.D.JournalDisk g.world.𝓛 g.world.𝓜 g.world.𝓡 (
+      (λ s x. x),
+      (λ x. x),
+      (λ x. x),
+      λ x. x,
+    )).only_now disk file honest left) (returns-clause-ends g c)
 
 pub returns-clause-any_moment : goal.returns-clause-any_moment
 returns-clause-any_moment g c = λ honest.
@@ -86,11 +98,18 @@ returns-in-Err-clause-ends g c =
     inl (search rules, record { disk = kept; ports = refl; all = refl })
 
 pub returns-in-Err-clause-seen : goal.returns-in-Err-clause-seen
-returns-in-Err-clause-seen g c = seen_listening _ _ _ _ _ _ (returns-in-Err-clause-ends g c)
+returns-in-Err-clause-seen g c = seen_listening _ _ _ _ _ _ (λ disk honest file left.
+    (g.met.D.JournalDisk g.world.𝓛 g.world.𝓜 g.world.𝓡 (
+      (λ s x. x),
+      (λ x. x),
+      (λ x. x),
+      λ x. x,
+    )).only_now disk file honest left) (returns-in-Err-clause-ends g c)
 
 pub returns-in-Err-clause-any_moment : goal.returns-in-Err-clause-any_moment
 returns-in-Err-clause-any_moment g c = λ honest.
-    kept_leaves _ _ _ _ c.args.limits (unopened_kept _ _ _ _ c.args.limits c.in-Err.fault c.in-Err.ensures.refused) honest
+    kept_leaves _ _ _ _ c.args.limits
+    (unopened_kept _ _ _ _ c.args.limits c.in-Err.fault c.in-Err.ensures.refused) honest
 
 pub returns-in-Err-open_members-clause-ends : goal.returns-in-Err-open_members-clause-ends
 returns-in-Err-open_members-clause-ends g c =
@@ -98,15 +117,23 @@ returns-in-Err-open_members-clause-ends g c =
     inl (
       search rules,
       record {
-        disk = subst (λ (d : g.row.D.Denot). KeepsHistory (g.D.JournalDisk.honest c.args.disk) (g.D.JournalDisk.honest d)
-            (g.D.JournalDisk.tells c.args.disk) (g.D.JournalDisk.tells d) c.args.limits) (sym c.unserved.ensures) c.in-Ok.ensures.disk.keeps;
+        disk = subst (λ (d : g.row.D.Denot). KeepsHistory (g.D.JournalDisk.honest c.args.disk)
+            (g.D.JournalDisk.honest d)
+            (g.D.JournalDisk.tells c.args.disk) (g.D.JournalDisk.tells d) c.args.limits)
+            (sym c.unserved.ensures) c.in-Ok.ensures.disk.keeps;
         ports = c.in-Err-open_members.ensures.back.0;
         all = omega (arith, count, c.args.ports.ok.0, c.in-Err-open_members.ports.ok.0);
       },
     )
 
 pub returns-in-Err-open_members-clause-seen : goal.returns-in-Err-open_members-clause-seen
-returns-in-Err-open_members-clause-seen g c = seen_listening _ _ _ _ _ _ (returns-in-Err-open_members-clause-ends g c)
+returns-in-Err-open_members-clause-seen g c = seen_listening _ _ _ _ _ _ (λ disk honest file left.
+    (g.met.D.JournalDisk g.world.𝓛 g.world.𝓜 g.world.𝓡 (
+      (λ s x. x),
+      (λ x. x),
+      (λ x. x),
+      λ x. x,
+    )).only_now disk file honest left) (returns-in-Err-open_members-clause-ends g c)
 
 pub returns-in-Err-open_members-clause-any_moment : goal.returns-in-Err-open_members-clause-any_moment
 returns-in-Err-open_members-clause-any_moment g c = λ honest.

@@ -11,7 +11,8 @@ returns-clause-ready g c =
     let room = c.in-Ok.ensures in record {
       posts = posts.posts;
       ports = omega (arith, all, made, kept);
-      free = free_again (in_box g.X.Port.tells) c.args.ports.items c.open_ports.new.ports.items opened.ports c.requires.ports.1;
+      free = free_again (in_box g.X.Port.tells) c.args.ports.items c.open_ports.new.ports.items opened.ports
+          c.requires.ports.1;
       empty = (home.0, room.items);
       room = (
         let same = home.1 in let within = c.args.seats.ok in omega (arith, made, same, within.1),

@@ -18,10 +18,12 @@ returns-in_default g c =
     let desk = c.args.desk.now in let rings = c.args.rings.now in
     let leaving = told_leaving g.W.Wire.tells desk.leaving in
     let register = g.X.Port.tells c.args.port.now in record {
-      goes = subst (λ (r : Register). TradesOn rings (at_door desk.acceptor leaving register) rings (at_door desk.acceptor leaving r))
+      goes = subst (λ (r : Register). TradesOn rings (at_door desk.acceptor leaving register) rings
+          (at_door desk.acceptor leaving r))
           (sym c.in_default.ensures) (no_turn rings (at_door desk.acceptor leaving register));
       at = c.requires.at;
-      one = subst (λ (r : Register). HasClient desk.acceptor.wire leaving r.out) (sym c.in_default.ensures) c.requires.one;
+      one = subst (λ (r : Register). HasClient desk.acceptor.wire leaving r.out)
+          (sym c.in_default.ensures) c.requires.one;
     }
 
 pub returns : goal.returns
@@ -32,7 +34,8 @@ returns g c =
     let told = g.W.Wire.tells c.in-Some.wire in
     let none = c.if-not-is_free.ensures.leaving refl in
     let out = ap (λ (r : Register). r.out) c.in-Some.ensures in record {
-      goes = subst (λ (l : Option Told). TradesOn rings (at_door desk.acceptor l register) rings (at_door now l after)) (sym none)
+      goes = subst (λ (l : Option Told). TradesOn rings (at_door desk.acceptor l register) rings (at_door now l after))
+          (sym none)
           (has_come rings desk.acceptor now told register after c.admit.ensures c.in-Some.ensures);
       at = subst (λ (a : Accepting). IsAt rings a.gateway.seat) (sym c.admit.ensures.1) c.requires.at;
       one = subst (λ (o : Bool). HasClient now.wire leaving o) (sym out)

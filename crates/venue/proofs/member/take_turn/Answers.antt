@@ -18,7 +18,8 @@ returns-in_default g c =
     (ap (told_by tells) c.in_default.is) c.turn-turned.ensures.turn in record {
       goes = turn_taken c.args.rings.now desk.acceptor now c.turn-turned.result.0 (told_leaving tells desk.leaving)
           (g.X.Port.tells c.args.port.now) c.turn-turned.ensures.stays.role takes;
-      at = c.turn-turned.ensures.stays.rings ∙ ap (λ (s : At Limits). record s { who = now.gateway.seat.who }) c.requires.at;
+      at = c.turn-turned.ensures.stays.rings
+          ∙ ap (λ (s : At Limits). record s { who = now.gateway.seat.who }) c.requires.at;
       one = still_one desk.acceptor now c.turn-turned.result.0 _ _ takes c.requires.one;
     }
 
@@ -31,8 +32,10 @@ returns g c =
     let register = g.X.Port.tells c.args.port.now in record {
       goes = subst (λ w. TradesOn c.args.rings.now (at_door desk.acceptor (told_leaving tells desk.leaving) register)
           c.args.rings.now (at_door now (Some (tells w)) register)) (sym (ap (λ (l : Leaving _). l.wire) c.of.ensures))
-          (session_ended c.args.rings.now desk.acceptor now c.turn-turned.result.0 (told_leaving tells desk.leaving) register
+          (session_ended c.args.rings.now desk.acceptor now c.turn-turned.result.0
+          (told_leaving tells desk.leaving) register
           c.turn-turned.ensures.stays.role (tells c.in-Some.wire) takes c.requires.one);
-      at = c.turn-turned.ensures.stays.rings ∙ ap (λ (s : At Limits). record s { who = now.gateway.seat.who }) c.requires.at;
+      at = c.turn-turned.ensures.stays.rings
+          ∙ ap (λ (s : At Limits). record s { who = now.gateway.seat.who }) c.requires.at;
       one = leaves_now desk.acceptor now c.turn-turned.result.0 (tells c.in-Some.wire) _ _ takes c.requires.one;
     }

@@ -19,9 +19,11 @@ returns g c =
       back = comes_back c.args.rings.now worker.rings.now c.args.post.number post.acceptor worker.desk.value.acceptor
           (told post.leaving) (told worker.desk.value.leaving) wire
           (g.X.Port.tells c.args.port.value) (g.X.Port.tells worker.port.value) after
-          c.requires.begun.0 c.requires.begun.1 c.work-ended.ensures.goes c.end-seat.result.0 seat_is worker.fits wire_is
+          c.requires.begun.0 c.requires.begun.1 c.work-ended.ensures.goes c.end-seat.result.0 seat_is worker.fits
+          wire_is
           c.end-seat.ensures.seen.spent
           (subst (λ (d : Desk _). GivesBack (g.X.Port.tells worker.port.value) after (told d.leaving) wire) whole
-          (subst (λ x. GivesBack (g.X.Port.tells x) after (told c.into_inner-acceptor.result.leaving) wire) c.deref_mut.ensures.value
+          (subst (λ x. GivesBack (g.X.Port.tells x) after
+          (told c.into_inner-acceptor.result.leaving) wire) c.deref_mut.ensures.value
           c.dismiss.ensures));
     }

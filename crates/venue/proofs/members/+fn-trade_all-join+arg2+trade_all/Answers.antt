@@ -24,10 +24,13 @@ returns g t c =
     let more_ports = ap length made.ports ∙ length-append home.ports.items (port ∷ []) in
     record {
       back = λ i s x y in_seats in_old in_new.
-          with_three (λ n r p q. IsBack c.args.rings.now n r (tells p) (tells q)) home.seats.items others.ports.items home.ports.items
-          seat c.in-Ok.split.port port (omega (arith, seats_ok, old_ok, seats, paired)) (omega (arith, ports_ok, old_ok, ports, paired))
+          with_three (λ n r p q. IsBack c.args.rings.now n r (tells p)
+          (tells q)) home.seats.items others.ports.items home.ports.items
+          seat c.in-Ok.split.port port (omega (arith, seats_ok, old_ok, seats, paired))
+          (omega (arith, ports_ok, old_ok, ports, paired))
           first.back c.in-Ok.split.post.number (omega (arith, number, one_more, paired, old_ok)) second i s x y
-          (subst (λ l. get_elem? l i ≡ some s) made.seats in_seats) (subst (λ l. get_elem? l i ≡ some x) whole.ports in_old)
+          (subst (λ l. get_elem? l i ≡ some s) made.seats in_seats)
+          (subst (λ l. get_elem? l i ≡ some x) whole.ports in_old)
           (subst (λ l. get_elem? l i ≡ some y) made.ports in_new);
       seats = omega (arith, all_seats_ok, seats_ok, seats, one_more, more_seats);
       ports = omega (arith, all_ports_ok, ports_ok, ports, one_more, more_ports);

@@ -13,7 +13,8 @@ returns-clause-others g c =
     let room = c.requires.room in let seats = room.0 in let ports = room.1 in record {
       posts = c.last_post.ensures.left;
       ports = omega (arith, all, fewer, popped);
-      free = λ i x there. c.requires.free i x (rw c.in-Some-pop.ensures.items (at_longer c.pop.new.self.items _ i x there));
+      free = λ i x there. c.requires.free i x (rw c.in-Some-pop.ensures.items
+          (at_longer c.pop.new.self.items _ i x there));
       empty = c.requires.empty;
       room = (omega (arith, seats, fewer), omega (arith, ports, fewer));
     }
@@ -21,6 +22,7 @@ returns-clause-others g c =
 pub returns-clause-post : goal.returns-clause-post
 returns-clause-post g c = (
   c.in-Some.ensures.last,
-  of_last (λ (n : ℕ) x. (in_box g.X.Port.tells x).out ≡ false) c.args.members.ports.items c.pop.new.self.items c.in-Some-pop.port
+  of_last (λ (n : ℕ) x. (in_box g.X.Port.tells x).out ≡ false) c.args.members.ports.items c.pop.new.self.items
+      c.in-Some-pop.port
       c.in-Some-pop.ensures.items (λ i x there. c.requires.free i x there) (length c.args.members.ports.items) refl,
 )

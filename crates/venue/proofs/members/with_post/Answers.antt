@@ -16,12 +16,14 @@ new-requires g c = new_seen _ _ _ _ _ c.requires.behind c.requires.seat c.requir
 
 pub returns-in-Ok-push-clause-posts : goal.returns-in-Ok-push-clause-posts
 returns-in-Ok-push-clause-posts g c = let ok = c.args.posts.ok.0 in
-    with_last (IsPost c.args.rings.now g.W.Wire.tells) c.push.new.self.items c.args.posts.items _ c.in-Ok-push.ensures.items
+    with_last (IsPost c.args.rings.now g.W.Wire.tells) c.push.new.self.items c.args.posts.items _
+    c.in-Ok-push.ensures.items
     c.requires.posts _ (omega (arith, ok)) (
       c.number-number.ensures.value ∙ ap (λ (s : At Limits). number s) c.requires.seat,
-      ap (λ (d : Desk _). d.acceptor) c.in-Ok-new.ensures.ok ∙ c.in-Ok.ensures.made ∙ ap {A = At Limits} {B = Accepting} (λ s. record {
-        gateway = record { front = record (begun (number s) 0) { live = false }; seat = s };
-        wire = None;
-      }) c.requires.seat,
+      ap (λ (d : Desk _). d.acceptor) c.in-Ok-new.ensures.ok ∙ c.in-Ok.ensures.made
+          ∙ ap {A = At Limits} {B = Accepting} (λ s. record {
+            gateway = record { front = record (begun (number s) 0) { live = false }; seat = s };
+            wire = None;
+          }) c.requires.seat,
       ap (λ (d : Desk _). told_leaving g.W.Wire.tells d.leaving) c.in-Ok-new.ensures.ok,
     )

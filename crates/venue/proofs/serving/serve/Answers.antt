@@ -71,12 +71,14 @@ pub returns-clause-any_moment : goal.returns-clause-any_moment
 returns-clause-any_moment g c = λ honest.
     let tells = g.D.JournalDisk.tells in let opened = c.in-Ok.ensures.disk in let crew = c.in-Ok.opened.1 in
     subst (λ (d : g.row.D.Denot). LeavesFrom (tells c.args.disk) (tells d)) (sym c.finish-disk-2.ensures.disk)
-    (serve_leaves _ _ (tells c.args.disk) (tells (disk_of crew)) (tells (disk_of c.take_turns.new.crew)) _ _ opened honest
+    (serve_leaves _ _ (tells c.args.disk) (tells (disk_of crew))
+    (tells (disk_of c.take_turns.new.crew)) _ _ opened honest
     (c.take_turns.ensures.any_moment ((kept_honest _ _ _ _ _ opened.keeps).0 honest)))
 
 pub returns-in-Err-clause-any_moment : goal.returns-in-Err-clause-any_moment
 returns-in-Err-clause-any_moment g c = λ honest.
-    kept_leaves _ _ _ _ c.args.limits (unopened_kept _ _ _ _ c.args.limits c.in-Err.fault c.in-Err.ensures.refused) honest
+    kept_leaves _ _ _ _ c.args.limits
+    (unopened_kept _ _ _ _ c.args.limits c.in-Err.fault c.in-Err.ensures.refused) honest
 
 pub returns-in-Err-new-clause-any_moment : goal.returns-in-Err-new-clause-any_moment
 returns-in-Err-new-clause-any_moment g c = λ honest.
@@ -85,18 +87,25 @@ returns-in-Err-new-clause-any_moment g c = λ honest.
     (kept_leaves _ _ _ _ c.args.limits c.in-Ok.ensures.disk.keeps honest)
 
 pub returns-clause-seen : goal.returns-clause-seen
-returns-clause-seen g c = seen_serving _ _ _ _ _ (λ disk honest file left. g.met.D.JournalDisk.only_now disk file honest left) (search rules)
+returns-clause-seen g c = seen_serving _ _ _ _ _
+    (λ disk honest file left. g.met.D.JournalDisk.only_now disk file honest left) (search rules)
     (returns-clause-served g c)
 
 pub returns-in-Err-clause-seen : goal.returns-in-Err-clause-seen
 returns-in-Err-clause-seen g c =
-    inl (search rules, refl, kept_same _ _ _ _ c.args.limits (unopened_kept _ _ _ _ c.args.limits c.in-Err.fault c.in-Err.ensures.refused))
+    inl (
+      search rules,
+      refl,
+      kept_same _ _ _ _ c.args.limits
+          (unopened_kept _ _ _ _ c.args.limits c.in-Err.fault c.in-Err.ensures.refused),
+    )
 
 pub returns-in-Err-new-clause-seen : goal.returns-in-Err-new-clause-seen
 returns-in-Err-new-clause-seen g c =
     inl (
       search rules,
       refl,
-      subst (λ (d : g.row.D.Denot). KeepsSame (g.D.JournalDisk.honest c.args.disk) (g.D.JournalDisk.tells c.args.disk) (g.D.JournalDisk.tells d))
+      subst (λ (d : g.row.D.Denot). KeepsSame c.args.limits (g.D.JournalDisk.honest c.args.disk)
+          (g.D.JournalDisk.tells c.args.disk) (g.D.JournalDisk.tells d))
           (sym c.finish-disk.ensures.disk) (kept_same _ _ _ _ c.args.limits c.in-Ok.ensures.disk.keeps),
     )

@@ -15,7 +15,8 @@ loop-at-preserved g c =
     let long = before.ok.0 in let count = c.loop-at.invariant.count in let more = c.in_ok-push.ensures.len in record {
       ports = λ i x there. ⊎_elim (λ inside. c.loop-at.invariant.ports i x inside)
           (λ end. let place : c.loop-at.at ≡ i = let at = end.0 in omega (arith, at, long, count) in
-          ap (λ (b : Box (TcpPort g.row.R.Denot) Global). told_port b.value) (sym end.1) ∙ ap told_port c.in_ok-new.ensures.ok ∙ c.new.ensures
+          ap (λ (b : Box (TcpPort g.row.R.Denot) Global). told_port b.value) (sym end.1)
+          ∙ ap told_port c.in_ok-new.ensures.ok ∙ c.new.ensures
           ∙ ap (λ (k : ℕ). record { number = c.args.first + k; came = None; gone = None; out = false }) place)
           (at_end before.items port x i (subst (λ l. get_elem? l i ≡ some x) all there));
       count = omega (arith, more, count);

@@ -5,6 +5,7 @@ use Rattle.wires.proofs.mem_port.MemPortPort.accept.Goals as goal
 
 pub returns-clause-tells : goal.returns-clause-tells
 returns-clause-tells c =
-    let more = one_more c.self.inside.came c.self.inside.coming.items c.pop.new.self.items c.in_ok-wire.wire c.self.invariant.0
+    let more = one_more c.self.inside.came c.self.inside.coming.items c.pop.new.self.items c.in_ok-wire.wire
+    c.self.invariant.0
     c.in_ok-wire.ensures.items in
     rw (← c.self.view_is) (rw more refl)
