@@ -1,0 +1,141 @@
+#!/usr/bin/env python3
+"""Counts the instructions of three fixed runs of the built programs: what makes one of them dearer is seen, whatever the
+machine does besides.
+
+    tests/instructions.py [--show]
+
+The runs, each of one thread, are
+
+- `session`: `venued -` reads 2,000 messages of a client, orders that trade by turns among them, and answers them;
+- `one_symbol`: `venue-replay` with `book` works off a day of 6,000 messages, of whose orders 2,000 rest, at one symbol;
+- `eight_symbols`: the same of 5,600 messages, of whose orders 4,000 rest, at 250 prices on each side of eight symbols.
+
+A count may be at most 2 in 100 above the one that stands here, and 4 below; where the code has become dearer or cheaper by
+more, whoever changed it puts the new one here (--show prints them) and says why. It counts for one build: the compilers of
+another kit make other code. Runs with a twentieth more input have to be refused. Valgrind counts (callgrind); where it
+isn't installed nothing is tried, and a line says so. The last line is `N passed, M failed`, and the status is 1 where one
+failed. Build both programs first, by scripts/build.
+"""
+import argparse
+import os
+import re
+import shutil
+import subprocess
+import sys
+import tempfile
+from typing import NamedTuple
+
+ROOT = os.path.dirname(os.path.dirname(os.path.abspath(__file__)))
+sys.path.insert(0, os.path.join(ROOT, "scripts"))
+
+import needs_python  # (in front of what an older Python can't read)
+import journals
+from journals import Entry
+from mixed_day import write_journal
+from venues import REPLAY, VENUED, Trouble, message, need_programs, order
+
+ABOVE, BELOW = 0.02, 0.04
+SYMBOLS = ["A", "BB", "CCC", "DDDD", "EEEEE", "F6", "G77", "H888"]
+COUNTED = re.compile(r"Collected : (\d+)")
+PATIENCE = 300  # Seconds for a run, which takes some fifty times as long as without a count.
+
+# How many instructions each run has.
+COUNTS = {"session": 27_183_000, "one_symbol": 30_322_000, "eight_symbols": 32_117_000}
+
+
+class Run(NamedTuple):
+    """A program with its words, and its standard input."""
+
+    words: list[str]
+    data: bytes = b""
+
+
+def session(folder: str, more: float) -> Run:
+    """By turns a buy and a sell that trade; each tenth message is a TestRequest."""
+    said = [message(1, 1, "A", "98=0|108=0|141=Y|")]
+    for at in range(int(2_000 * more)):
+        body = "112=still there?|" if at % 10 == 9 else order(at + 1, 1 + at % 2, 10, 50)
+        said.append(message(1, at + 2, "1" if at % 10 == 9 else "D", body))
+    return Run([VENUED, "-", os.path.join(folder, "venue.journal"), "1", "ABC"], b"".join(said))
+
+
+def one_symbol(folder: str, more: float) -> Run:
+    """A mixed day, over 64 prices."""
+    path = os.path.join(folder, "day.journal")
+    write_journal(path, int(6_000 * more), 2_000)
+    return Run([REPLAY, path, "book", "ABC"])
+
+
+def eight_symbols(folder: str, more: float) -> Run:
+    """Orders that come to rest far apart, the symbols by turns, and orders that trade with the best of them."""
+    rest = [(symbol, side, 10, 100_000 + 37 * at if side == 2 else 90_000 - 37 * at)
+            for at in range(250) for side in (1, 2) for symbol in SYMBOLS]
+    trade = [(symbol, side, 1, 200_000 if side == 1 else 1) for _ in range(int(100 * (1 + 3.5 * (more - 1))))
+             for side in (1, 2) for symbol in SYMBOLS]
+    entries = []
+    for at, (symbol, side, quantity, price) in enumerate(rest + trade):
+        terms = "59=3|" if at >= len(rest) else ""
+        entries.append(Entry(1, message(1, at + 2, "D", order(at + 1, side, quantity, price, symbol, terms))))
+    path = os.path.join(folder, "deep.journal")
+    with open(path, "wb") as file:
+        file.write(journals.header(1) + journals.in_blocks(1, entries, 64) + journals.CLOSED)
+    return Run([REPLAY, path, "book", *SYMBOLS])
+
+
+def counted(run: Run) -> int:
+    """How many instructions it takes; it has to end well."""
+    words = ["valgrind", "--tool=callgrind", "--callgrind-out-file=/dev/null", *run.words]
+    it = subprocess.run(words, input=run.data, capture_output=True, timeout=PATIENCE)
+    found = COUNTED.search(it.stderr.decode("utf-8", "replace"))
+    if it.returncode or not found:
+        raise Trouble(f"{' '.join(words)} ended with {it.returncode}: {it.stderr.decode('utf-8', 'replace')[-300:]}")
+    return int(found[1])
+
+
+def fits(name: str, count: int) -> bool:
+    """Whether the run is as dear as it was."""
+    return COUNTS[name] * (1 - BELOW) <= count <= COUNTS[name] * (1 + ABOVE)
+
+
+def tried(make) -> str:
+    """Counts a run as it is, and with more input."""
+    name = make.__name__
+    with tempfile.TemporaryDirectory(prefix="instructions-") as folder:
+        count = counted(make(folder, 1))
+    if not fits(name, count):
+        raise Trouble(f"expected {COUNTS[name]:,} instructions came {count:,}")
+    with tempfile.TemporaryDirectory(prefix="instructions-") as folder:
+        dearer = counted(make(folder, 1.05))
+    if fits(name, dearer):
+        raise Trouble(f"with a twentieth more input expected above {COUNTS[name] * (1 + ABOVE):,.0f} came {dearer:,}")
+    return f"{count:,} instructions, and {dearer:,} with more input are refused"
+
+
+def main() -> int:
+    parser = argparse.ArgumentParser(description=__doc__, formatter_class=argparse.RawDescriptionHelpFormatter)
+    parser.add_argument("--show", action="store_true", help="print the counts, and compare none")
+    asked = parser.parse_args()
+    if not shutil.which("valgrind"):
+        print("instructions: valgrind isn't installed: nothing was tried\n0 passed, 0 failed")
+        return 0
+    try:
+        need_programs()
+    except Trouble as why:
+        sys.exit(f"instructions: {why}")
+    runs, failed = (session, one_symbol, eight_symbols), 0
+    for make in runs:
+        try:
+            if asked.show:
+                with tempfile.TemporaryDirectory(prefix="instructions-") as folder:
+                    print(f"{make.__name__}: {counted(make(folder, 1))}", flush=True)
+            else:
+                print(f"{make.__name__}: {tried(make)}", flush=True)
+        except (Trouble, OSError, subprocess.TimeoutExpired) as why:
+            print(f"{make.__name__}: {why}", flush=True)
+            failed += 1
+    print(f"{len(runs) - failed} passed, {failed} failed")
+    return 1 if failed else 0
+
+
+if __name__ == "__main__":
+    sys.exit(main())
