@@ -26,7 +26,7 @@ FEWEST = 15
 
 def text_of(project: Project, name: str) -> str | None:
     """A definition's text, without its comment; None where there isn't just one of this name."""
-    found = sorted({it for _, it in project.candidates([name]) if isinstance(it, Entry)})
+    found = sorted({it for _, it in project.candidates(name.split("::")) if isinstance(it, Entry)})
     if len(found) != 1:
         return None
     entry = found[0]

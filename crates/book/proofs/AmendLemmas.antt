@@ -20,7 +20,7 @@ use Rattle.book.proofs.NameLemmas.{IsAmong, found, amended-are, amended-kept}
 use Rattle.book.proofs.BookLemmas.{not-mutual}
 use Rattle.book.proofs.StandingLemmas.{SamePlace, each-instead, standing-instead}
 
-and_first : (a b : Bool) → (a && b) ≡ true → a ≡ true
+pub and_first : (a b : Bool) → (a && b) ≡ true → a ≡ true
 and_first true b h = refl
 and_first false b h = h
 

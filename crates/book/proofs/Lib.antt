@@ -48,6 +48,7 @@ mod ListingLemmas
 mod ListedLemmas
 mod Examples
 mod LawSnapshots
+mod LawAnswers
 pub mod OneByOne
 mod RowLemmas
 mod SpelledRows

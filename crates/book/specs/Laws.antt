@@ -1,5 +1,5 @@
 -- Words of the laws of matching.
-use Rattle.std.specs.Prelude.{◌≡◌, ◌⊎◌, ⊤, ℕ, ◌-◌, ◌*◌, ◌<◌, ◌≤◌, true, false, not, List, length, slice_index, MatchOption, sum_by, ◌&&◌, if◌then◌else◌}
+use Rattle.std.specs.Prelude.{◌≡◌, ◌⊎◌, ⊤, ℕ, ◌-◌, ◌*◌, ◌<◌, ◌≤◌, true, false, not, List, ◌∷◌, length, slice_index, MatchOption, sum_by, ◌&&◌, if◌then◌else◌}
 use Rattle.std.specs.List.{AllByRecursion, Contains}
 use Rattle.std.specs.Str.{bytes_eq}
 use Rattle.fix_frame.specs.Grammar.{IsField}
@@ -61,6 +61,10 @@ HasPrice o = (o.is_market ≡ false) × (o.price ≤ 1000000)
 abbrev pub CrossesAnyPrice : Order → Order → Type 0
 CrossesAnyPrice incoming o =
     crosses incoming o ≡ (bytes_eq incoming.symbol o.symbol && not (same_side incoming.side o.side))
+
+-- there are outputs, and the first of them goes to this gateway
+abbrev pub AnswersFirst : ℕ → List Output → Type 0
+AnswersFirst gateway outputs = (first : Output) × (later : List Output) × (outputs ≡ first ∷ later) × (first.to ≡ gateway)
 
 -- a command comes through one of the eight gateways
 pub record IsFromGateway (r : Request) : Type 0 where

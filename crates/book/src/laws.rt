@@ -4,6 +4,7 @@ ghost use Rattle.std.specs.Prelude.{◌≡◌, ◌≢◌, ℕ, ◌+◌, ◌≤�
 ghost use Rattle.std.specs.List.{AllByRecursion};
 ghost use Rattle.std.specs.List.Sorted.{IsPermutation};
 ghost use Rattle.venue_model.specs.History.{History, IsMessage};
+ghost use Rattle.venue_model.specs.declared.commands.Command.TheVariants.{Void};
 ghost use Rattle.venue_model.specs.declared.commands.NewOrderSingle.{NewOrderSingle};
 ghost use Rattle.venue_model.specs.declared.commands.OrdType.TheVariants.{Market};
 ghost use Rattle.venue_model.specs.declared.commands.TimeInForce.TheVariants.{FillOrKill};
@@ -21,7 +22,7 @@ ghost use Rattle.book.specs.Snapshots.{SnapshotOf, SpellsBoth};
 ghost use Rattle.book.specs.Standing.{Rising, Below, InTime};
 ghost use Rattle.book.specs.TrueSnapshots.{written_snapshot, SpellsItsState};
 ghost use Rattle.venue_model.specs.Spelling.{AreSymbols};
-ghost use Rattle.book.specs.Laws.{AreCrossed, GoesFirst, IsAheadOf, HasPrice, CrossesAnyPrice, KeepsLimit, KeepsPrice, KeepsTotal, IsFromGateway, Pairwise, IsOrderly, IsUncrossed, TellsFields, quantity_traded, money_traded};
+ghost use Rattle.book.specs.Laws.{AnswersFirst, AreCrossed, GoesFirst, IsAheadOf, HasPrice, CrossesAnyPrice, KeepsLimit, KeepsPrice, KeepsTotal, IsFromGateway, Pairwise, IsOrderly, IsUncrossed, TellsFields, quantity_traded, money_traded};
 
 /// What was told stays told: a history's outputs begin with the outputs of each of its beginnings, and each command
 /// adds its own behind them. Its step begins at the state that those before it have left.
@@ -32,6 +33,13 @@ pub fn outputs_only_grow()
         outputs symbols (rs ++ r ∷ []) ≡ outputs symbols rs ++ (step symbols (state symbols rs) (length rs) r).outputs }
     ensures state { (symbols : Symbols) (rs : List Request) (r : Request) →
         state symbols (rs ++ r ∷ []) ≡ (step symbols (state symbols rs) (length rs) r).state }
+{}
+
+/// Whatever is asked is answered, and first to who has asked: the first output of a command goes to the gateway that it came
+/// through. Only a message that asks for nothing has none.
+pub fn each_command_is_answered_first()
+    ensures { (symbols : Symbols) (s : State) (sequence : ℕ) (r : Request) → r.command ≢ Void
+        → AnswersFirst r.gateway (step symbols s sequence r).outputs }
 {}
 
 /// After any history at most 4,096 orders rest, and a command has at most 8,194 outputs: that it was accepted, two for

@@ -17,10 +17,10 @@ mod snapshot;
 pub use book::Book;
 pub use laws::{
     a_snapshot_spells_one_state, a_state_can_be_a_snapshot, both_sides_trade_the_same,
-    every_text_is_fields, fill_or_kill_is_whole, fills_come_in_order,
-    market_orders_take_what_there_is, no_order_is_overfilled, outputs_only_grow, priority_holds,
-    stamps_are_sequences, the_book_is_bounded, the_book_is_never_crossed, trades_keep_limits,
-    what_is_bought_is_sold,
+    each_command_is_answered_first, every_text_is_fields, fill_or_kill_is_whole,
+    fills_come_in_order, market_orders_take_what_there_is, no_order_is_overfilled,
+    outputs_only_grow, priority_holds, stamps_are_sequences, the_book_is_bounded,
+    the_book_is_never_crossed, trades_keep_limits, what_is_bought_is_sold,
 };
 pub use listing::every_order_is_listed_once;
 pub use logic::BookLogic;

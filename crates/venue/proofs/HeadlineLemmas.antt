@@ -25,7 +25,7 @@ use Rattle.stages.specs.Processed.{entries_done}
 use Rattle.gateway.proofs.ReportLemmas.{begins_with_rest}
 use Rattle.venue.specs.CrashLaws.{front_is, kept_honest}
 use Rattle.venue.specs.Crashes.{Behind}
-use Rattle.venue.specs.Headline.{IsJournalBy, IsJournalOf, KeepsSame}
+use Rattle.venue.specs.Headline.{IsJournalBy, IsJournalOf, OfOneHistory, KeepsSame}
 use Rattle.venue.proofs.KeepingLemmas.{Same}
 
 -- Where there is one for each number below n, there is a list of them.
@@ -75,18 +75,26 @@ by_same old limits cut base file by_cut journal same =
     }
 
 -- nobody was served: the disk keeps its history
+of_added : (old : List ℕ) (limits : Limits) (file : List ℕ) → IsSameJournal old limits file → OfOneHistory limits old file
+of_added old limits file same = record {
+  history = same.added.history;
+  cut = same.added.cut;
+  journal = same.added.of_journal;
+  by_cut = same.added.by_cut;
+  same = by_same old limits same.added.cut same.added.history file same.added.by_cut same.added.of_journal same;
+}
+
 pub kept_same : (was is : Type 0) (old new : Told) (limits : Limits) → KeepsHistory was is old new limits
     → KeepsSame limits was old new
-kept_same was is old new limits (inl read) = λ there file left. inl ((read.any_moment.leaves there).each file left)
-kept_same was is old new limits (inr added) = λ there file left. ⊎_elim inl
-    (λ same. inr (record {
-      history = same.added.history;
-      cut = same.added.cut;
-      journal = same.added.of_journal;
-      by_cut = same.added.by_cut;
-      same = by_same old.file limits same.added.cut same.added.history file same.added.by_cut same.added.of_journal
-          same;
-    })) ((added.any_moment.leaves there).each file left)
+kept_same was is old new limits (inl read) = record {
+  file = λ there. inl (read.file there);
+  meanwhile = λ there file left. inl ((read.any_moment.leaves there).each file left);
+}
+kept_same was is old new limits (inr added) = record {
+  file = λ there. inr (of_added old.file limits new.file (added.file there));
+  meanwhile = λ there file left. ⊎_elim inl (λ same. inr (of_added old.file limits file same))
+      ((added.any_moment.leaves there).each file left);
+}
 
 -- A venue was started on a disk, and reads it by the cut of what stands there now.
 module _ (was is : Type 0) (old mid : Told) (limits : Limits) (base : History) (cut : ℕ)

@@ -58,9 +58,10 @@ pub record OfOneHistory (limits : Limits) (old new : List ℕ) : Type 0 where
   pub by_cut : HasCut old cut
   pub same : IsJournalBy (record limits { cut = cut }) new history
 
--- a crash meanwhile leaves what it might have left before, or a journal of the same history
-abbrev pub KeepsSame : Limits → Type 0 → Told → Told → Type 0
-KeepsSame limits honest old new = honest → (file : List ℕ) → new.left_since old.moment file → old.may_leave file ⊎ OfOneHistory limits old.file file
+-- The file is the same, or a journal of the same history; and a crash meanwhile leaves what it might have left before, or such a journal.
+pub record KeepsSame (limits : Limits) (honest : Type 0) (old new : Told) : Type 0 where
+  pub file : honest → (new.file ≡ old.file) ⊎ OfOneHistory limits old.file new.file
+  pub meanwhile : honest → (file : List ℕ) → new.left_since old.moment file → old.may_leave file ⊎ OfOneHistory limits old.file file
 
 -- The clients of a day are those that came in at the port, in their order. The port has their wires back: nothing more was written over them, and what still
 -- came over them was read over.
