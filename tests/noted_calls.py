@@ -5,7 +5,8 @@
 
 Each connection is set not to wait and to send at once, before a byte is read of it; bytes are read and written many in a
 call; a client whose session has ended is told so by a half close, and its connection is closed once it has closed its side.
-A look for the stop file that fails stops nothing, and the next one is made. The calls are noted, and looks refused, by
+A look for the stop file that fails stops nothing, and the next one is made. A worker that finds nothing sleeps as long as
+it is to, and longer each time; the watch sleeps between its looks. The calls are noted, and looks refused, by
 tests/refusals.c, which cc compiles into a folder of its own; without cc nothing is tried, and a line says so. The last line
 is `N passed, M failed`, and the status is 1 where one failed. Build both programs first, by scripts/build; others are taken
 by the environment's VENUED and VENUE_REPLAY.
@@ -22,6 +23,8 @@ from venues import COUNTS, Client, Trouble, Venue, free_port, message, order, va
 MANY = 300          # Orders that are sent in one go,
 MOST_READS = 60     # and in how many reads they come at most: one would do, and the system may cut them.
 SHUT_WRITE = 1
+NAPS = range(50, 2_001)  # How long a worker sleeps, in microseconds: each time one more, and then as long as the last.
+A_LOOK = 5_000           # How long the watch does.
 LOOKS = 3           # A look somewhere behind the first.
 
 Call = tuple[str, int, int]  # The name of a call, its descriptor, and how many bytes it moved or what it set.
@@ -156,7 +159,33 @@ def looks_that_fail(sweeps: Sweeps) -> str:
     return "one look, or all"
 
 
+def rises(naps: list[int]) -> bool:
+    """Whether these are naps of a worker: each is one longer than the one before, as long as naps get, or the first again."""
+    follows = all(it in (before + 1, NAPS[0]) or it == before == NAPS[-1] for before, it in zip(naps, naps[1:]))
+    return naps[0] == NAPS[0] and follows
+
+
+def sleeps_of_an_idle_venue(sweeps: Sweeps) -> str:
+    """Nobody comes to a venue of two members: each of its six workers sleeps, and so does the watch."""
+    with tempfile.TemporaryDirectory(dir=sweeps.folder) as folder:
+        path = os.path.join(folder, "slept")
+        venue = venue_of(folder, 2, {"LD_PRELOAD": sweeps.library, "SLEPT": path})
+        time.sleep(1)
+        venue.stop()
+        with open(path, encoding="ascii") as file:
+            lines = [tuple(map(int, line.split())) for line in file]
+    threads = {thread: [micros for other, micros in lines if other == thread] for thread, _ in lines}
+    looking = [naps for naps in threads.values() if set(naps) == {A_LOOK}]
+    working = [naps for naps in threads.values() if set(naps) != {A_LOOK}]
+    if len(looking) != 1 or len(working) != 6:
+        raise Trouble(f"expected a watch and 6 workers that sleep came {len(looking)} and {len(working)}")
+    for naps in working:
+        if not rises(naps):
+            raise Trouble(f"expected naps from {NAPS[0]} on came {naps[:5]} .. {naps[-5:]}")
+    return f"{len(lines)} sleeps of {len(threads)} threads"
+
+
 if __name__ == "__main__":
     if set(sys.argv[1:]) & {"-h", "--help"}:
         sys.exit(print(__doc__.strip()))
-    run_tests("noted_calls", [connections_of_clients, many_bytes_in_a_call, looks_that_fail])
+    run_tests("noted_calls", [connections_of_clients, many_bytes_in_a_call, looks_that_fail, sleeps_of_an_idle_venue])

@@ -15,6 +15,7 @@
 //
 //   NOTED        a file that gets a line for each such call that moves or sets something, in their order: its name, the
 //                descriptor, and how many bytes it moved, or what it set
+//   SLEPT        a file that gets a line for each sleep of a thread: the thread, and how many microseconds it asked for
 #define _GNU_SOURCE
 #include <dlfcn.h>
 #include <errno.h>
@@ -34,6 +35,7 @@
 #include <sys/socket.h>
 #include <sys/stat.h>
 #include <sys/syscall.h>
+#include <time.h>
 #include <unistd.h>
 
 extern void *__libc_malloc(size_t), *__libc_calloc(size_t, size_t), *__libc_realloc(void *, size_t);
@@ -43,7 +45,7 @@ enum how { ONCE, ON, SHORT, BEFORE, AFTER, SWAP, NOTE, PASSES };
 
 enum { MOST_FILES = 4096 };
 
-static const char *group, *told, *noted;
+static const char *group, *told, *noted, *slept;
 static long refused_at;
 static atomic_char accepted[MOST_FILES];  // Whether a descriptor is that of a connection that was accepted.
 static enum how how = PASSES;
@@ -55,6 +57,7 @@ __attribute__((constructor)) static void begin(void) {
     group = getenv("REFUSE");
     told = getenv("REFUSE_TOLD");
     noted = getenv("NOTED");
+    slept = getenv("SLEPT");
     if (!group || !at || !word || !told)
         return;
     refused_at = atol(at);
@@ -294,6 +297,16 @@ int close(int file) {
     if (file >= 0 && file < MOST_FILES)
         atomic_store(&accepted[file], 0);
     return real(file);
+}
+
+int nanosleep(const struct timespec *asked, struct timespec *left) {
+    REAL(int, nanosleep, const struct timespec *, struct timespec *);
+    if (slept) {
+        char line[64];
+        snprintf(line, sizeof line, "%ld %ld\n", syscall(SYS_gettid), asked->tv_sec * 1000000 + asked->tv_nsec / 1000);
+        add(slept, line);
+    }
+    return real(asked, left);
 }
 
 // Those that move nothing, as where nothing is there yet, aren't noted.
