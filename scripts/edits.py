@@ -249,7 +249,8 @@ class Check:
             said = "\n".join([error[3], *self.lines[at + 1:more]])
             forms = FORMS.match(said)
             is_other = forms and "as far as they go" not in said and head(forms[1]) != head(forms[2])
-            is_shape = is_other or GONE.search(re.sub(r"`[^`]*`", "``", said))
+            is_nothing = forms and head(forms[1]) == "Unit"  # (nothing is owed there any more)
+            is_shape = is_other or is_nothing or GONE.search(re.sub(r"`[^`]*`", "``", said))
             if error[2] and not is_shape:
                 goals.append(error[2])
             elif not goals or error[1].split(":")[0] in proofs:

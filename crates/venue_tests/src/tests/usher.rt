@@ -1,0 +1,277 @@
+//! The usher, whom each worker passes at each turn: it keeps a client from coming or leaving too early, whatever the
+//! schedule, and sees when all is told. It lets nobody wait for ever.
+
+use super::clients::Member;
+use std::sync::atomic::{AtomicBool, AtomicU64, Ordering};
+use std::thread;
+use venue::StopSign;
+use workers::{Gate, Station};
+
+/// Behind so many turns the clients of the first two members are logged on.
+const LOGGED_ON: u64 = 20;
+
+/// At this turn the clients of the other two haven't sent an order yet.
+const MORNING: u64 = 2;
+
+/// Up to this turn the third member's client sends its orders, at most one in four turns.
+const BUSY: u64 = 160;
+
+/// At this turn a client that is to leave has sent its orders, and not yet its Logout.
+const NOON: u64 = 100;
+
+/// In so many turns a gateway takes all outputs that are there.
+const SETTLED: u64 = 120;
+
+/// How often a gateway that waits lets others run at most, on a day on which nothing is to fail, and on one on which
+/// the disk is.
+const PATIENCE: u64 = 10_000_000;
+
+const LITTLE_PATIENCE: u64 = 20_000;
+
+/// How often the journaller lets others run behind each of its turns, before it is told that its journal has failed.
+const LINGERING: u64 = 100;
+
+/// How often the venue asks at most whether it is to stop: for some ten seconds.
+const MOST_LOOKS: u64 = 2_000;
+
+/// What is to come of a day.
+#[derive(Clone, Copy)]
+pub struct Plan {
+    /// How many commands there are when the first clients leave.
+    early: u64,
+    /// How many there are in the end.
+    all: u64,
+    /// Which members have a client that leaves.
+    leave: [bool; 4],
+    /// How often a gateway that waits lets others run at most.
+    patience: u64,
+}
+
+impl Plan {
+    /// The day of these members behind so many commands, and whether nothing is to fail.
+    pub fn of(members: &[Member; 4], before: u64, is_whole: bool) -> Plan {
+        let (mut early, mut all) = (before, before);
+        for member in members {
+            early = early.wrapping_add(member.early);
+            all = all.wrapping_add(member.count);
+        }
+        let [first, second, third, fourth] = members;
+        Plan {
+            early,
+            all,
+            leave: [
+                first.has_two(),
+                second.has_two(),
+                third.has_two(),
+                fourth.has_two(),
+            ],
+            patience: if is_whole { PATIENCE } else { LITTLE_PATIENCE },
+        }
+    }
+}
+
+/// What the usher has seen.
+#[derive(Drop)]
+pub struct Usher {
+    plan: Plan,
+    /// Which workers have come, by their numbers.
+    here: [AtomicBool; 8],
+    /// How many turns the journaller began, and ended.
+    begun: AtomicU64,
+    ended: AtomicU64,
+    /// How many commands are processed, and how many were when the marshaller's turn began.
+    processed: AtomicU64,
+    telling: AtomicU64,
+    /// Whether the marshaller has had a turn behind what is early, and behind all.
+    early_told: AtomicBool,
+    all_told: AtomicBool,
+    /// How many turns each gateway has had, and how many of them since all was told.
+    turns: [AtomicU64; 4],
+    settled: [AtomicU64; 4],
+}
+
+/// The number of a worker among all eight; of a gateway it is that among the gateways too.
+fn number_of(worker: Station) -> usize {
+    match worker {
+        Station::Gateway(member) => (member.wrapping_sub(1) % 4) as usize,
+        Station::Unmarshaller => 4,
+        Station::Journaller => 5,
+        Station::Processor => 6,
+        Station::Marshaller => 7,
+    }
+}
+
+/// Four counts of nothing.
+fn counts() -> [AtomicU64; 4] {
+    [
+        AtomicU64::new(0),
+        AtomicU64::new(0),
+        AtomicU64::new(0),
+        AtomicU64::new(0),
+    ]
+}
+
+/// Eight flags that are down.
+fn flags() -> [AtomicBool; 8] {
+    [
+        AtomicBool::new(false),
+        AtomicBool::new(false),
+        AtomicBool::new(false),
+        AtomicBool::new(false),
+        AtomicBool::new(false),
+        AtomicBool::new(false),
+        AtomicBool::new(false),
+        AtomicBool::new(false),
+    ]
+}
+
+impl Usher {
+    /// Nobody has passed by yet.
+    pub fn new(plan: Plan) -> Usher {
+        Usher {
+            plan,
+            here: flags(),
+            begun: AtomicU64::new(0),
+            ended: AtomicU64::new(0),
+            processed: AtomicU64::new(0),
+            telling: AtomicU64::new(0),
+            early_told: AtomicBool::new(false),
+            all_told: AtomicBool::new(false),
+            turns: counts(),
+            settled: counts(),
+        }
+    }
+
+    /// Whether all workers have come.
+    fn are_all_here(&self) -> bool {
+        let mut all = true;
+        for flag in &self.here {
+            all = all && flag.load(Ordering::SeqCst);
+        }
+        all
+    }
+
+    /// Whether the first two members are logged on.
+    fn is_morning(&self) -> bool {
+        let [first, second, _, _] = &self.turns;
+        LOGGED_ON <= first.load(Ordering::SeqCst) && LOGGED_ON <= second.load(Ordering::SeqCst)
+    }
+
+    /// Whether all is told, and each gateway has taken it.
+    fn is_over(&self) -> bool {
+        let mut all = true;
+        for turns in &self.settled {
+            all = all && SETTLED <= turns.load(Ordering::SeqCst);
+        }
+        all
+    }
+
+    /// Whether the journaller has had a whole turn since it had begun so many.
+    fn has_journalled(&self, begun: u64) -> bool {
+        begun < self.ended.load(Ordering::SeqCst)
+    }
+
+    /// Whether a gateway may begin its turn of this number, before which the journaller had begun so many. No client
+    /// comes before all workers are there. The third member's orders come into blocks of their own. Reports would be
+    /// passed over where their client isn't logged on yet, or has left already.
+    fn may_begin(&self, gateway: usize, turn: u64, begun: u64) -> bool {
+        match turn {
+            0 => self.are_all_here(),
+            MORNING => gateway < 2 || self.is_morning(),
+            NOON => !self.plan.leave[gateway % 4] || self.early_told.load(Ordering::SeqCst),
+            _ => gateway != 2 || turn % 4 != 0 || BUSY < turn || self.has_journalled(begun),
+        }
+    }
+
+    /// Waits until the gateway may begin its turn of this number, or its patience is at an end.
+    fn wait(&self, gateway: usize, turn: u64) {
+        let begun = self.begun.load(Ordering::SeqCst);
+        for _ in 0..self.plan.patience {
+            if self.all_told.load(Ordering::SeqCst) || self.may_begin(gateway, turn, begun) {
+                return;
+            }
+            thread::yield_now();
+        }
+    }
+
+    /// The journaller has had its turn. Who takes more from it than it has kept goes on, before all are to end.
+    fn linger(&self) {
+        self.ended.fetch_add(1, Ordering::SeqCst);
+        for _ in 0..LINGERING {
+            thread::yield_now();
+        }
+    }
+
+    /// The marshaller begins a turn: it tells what comes of all that is processed by now.
+    fn begin_telling(&self) {
+        let processed = self.processed.load(Ordering::SeqCst);
+        self.telling.store(processed, Ordering::SeqCst);
+    }
+
+    /// The marshaller has had its turn.
+    fn end_telling(&self) {
+        let told = self.telling.load(Ordering::SeqCst);
+        if self.plan.early <= told {
+            self.early_told.store(true, Ordering::SeqCst);
+        }
+        if self.plan.all <= told {
+            self.all_told.store(true, Ordering::SeqCst);
+        }
+    }
+
+    /// A gateway has had its turn of this number.
+    fn count(&self, gateway: usize, turn: u64) {
+        self.turns[gateway % 4].store(turn, Ordering::SeqCst);
+        if self.all_told.load(Ordering::SeqCst) {
+            self.settled[gateway % 4].fetch_add(1, Ordering::SeqCst);
+        }
+    }
+}
+
+impl Gate for Usher {
+    fn enter(&self, worker: Station, seq: u64) {
+        let number = number_of(worker);
+        self.here[number % 8].store(true, Ordering::SeqCst);
+        match worker {
+            Station::Gateway(_) => self.wait(number, seq),
+            Station::Journaller => {
+                self.begun.fetch_add(1, Ordering::SeqCst);
+            }
+            Station::Marshaller => self.begin_telling(),
+            Station::Unmarshaller | Station::Processor => {}
+        }
+    }
+
+    fn leave(&self, worker: Station, seq: u64) {
+        match worker {
+            Station::Gateway(_) => self.count(number_of(worker), seq),
+            Station::Journaller => self.linger(),
+            Station::Processor => self.processed.store(seq, Ordering::SeqCst),
+            Station::Marshaller => self.end_telling(),
+            Station::Unmarshaller => {}
+        }
+    }
+}
+
+/// The venue is to stop when the usher has seen that the day is over, or behind so many looks.
+#[derive(Drop)]
+pub struct WhenOver<'a> {
+    usher: &'a Usher,
+    looks: u64,
+}
+
+impl<'a> WhenOver<'a> {
+    /// The venue hasn't asked yet.
+    pub fn of(usher: &'a Usher) -> WhenOver<'a> {
+        WhenOver { usher, looks: 0 }
+    }
+}
+
+impl StopSign for WhenOver<'_> {
+    fn clear(&mut self) {}
+
+    fn is_up(&mut self) -> bool {
+        self.looks = self.looks.saturating_add(1);
+        self.usher.is_over() || MOST_LOOKS < self.looks
+    }
+}
