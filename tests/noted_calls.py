@@ -4,7 +4,8 @@
     tests/noted_calls.py
 
 Each connection is set not to wait and to send at once, before a byte is read of it; bytes are read and written many in a
-call; a client whose session has ended is told so by a half close, and its connection is closed once it has closed its side.
+call; a client whose session has ended is told so by a half close, behind the last byte that it is told and however late it
+takes that one, and its connection is closed once it has closed its side.
 A look for the stop file that fails stops nothing, and the next one is made. A worker that finds nothing sleeps as long as
 it is to, and longer each time; the watch sleeps between its looks. The calls are noted, and looks refused, by
 tests/refusals.c, which cc compiles into a folder of its own; without cc nothing is tried, and a line says so. The last line
@@ -18,13 +19,14 @@ import time
 from collections.abc import Callable
 
 from refusals import Refusal, Sweeps, run_tests
-from venues import COUNTS, Client, Trouble, Venue, free_port, message, order, value
+from venues import COUNTS, PATIENCE, Client, Trouble, Venue, free_port, message, order, value
 
 MANY = 300          # Orders that are sent in one go,
 MOST_READS = 60     # and in how many reads they come at most: one would do, and the system may cut them.
 SHUT_WRITE = 1
 NAPS = range(50, 2_001)  # How long a worker sleeps, in microseconds: each time one more, and then as long as the last.
 A_LOOK = 5_000           # How long the watch does.
+WORKERS = 6              # Four stages, and two gateways.
 LOOKS = 3           # A look somewhere behind the first.
 
 Call = tuple[str, int, int]  # The name of a call, its descriptor, and how many bytes it moved or what it set.
@@ -39,11 +41,11 @@ def venue_of(folder: str, gateways: int, more: dict[str, str]) -> Venue:
     return venue
 
 
-def noted(sweeps: Sweeps, gateways: int, use: Callable[[Venue], None]) -> list[list[Call]]:
+def noted(sweeps: Sweeps, gateways: int, use: Callable[[Venue], None], **more: str) -> list[list[Call]]:
     """The calls at each connection of a venue that is used so, up to its stop, in the order in which they came in."""
     with tempfile.TemporaryDirectory(dir=sweeps.folder) as folder:
         path = os.path.join(folder, "noted")
-        venue = venue_of(folder, gateways, {"LD_PRELOAD": sweeps.library, "NOTED": path})
+        venue = venue_of(folder, gateways, {"LD_PRELOAD": sweeps.library, "NOTED": path, **more})
         use(venue)
         venue.stop()
         with open(path, encoding="ascii") as file:
@@ -83,6 +85,16 @@ def check_left(calls: list[Call]) -> None:
 
 def connections_of_clients(sweeps: Sweeps) -> str:
     """A client that trades and logs out, one that is refused and sends more, and one of another member."""
+    return clients_who_leave(sweeps)
+
+
+def last_words_that_wait(sweeps: Sweeps) -> str:
+    """The same where two of three writes move nothing: what a client is told last goes out before its side is shut."""
+    return clients_who_leave(sweeps, LATE="1")
+
+
+def clients_who_leave(sweeps: Sweeps, **more: str) -> str:
+    """Each is told all, and its connection is set at first and shut at last; this is added to the environment."""
 
     def use(venue: Venue) -> None:
         client = Client(venue.port, 1).log_on()
@@ -105,7 +117,7 @@ def connections_of_clients(sweeps: Sweeps) -> str:
         Client(venue.port, 1).log_on()  # The first port has seen its clients off by now,
         Client(venue.port, 2).log_on()  # and so has the second.
 
-    found = noted(sweeps, 2, use)
+    found = noted(sweeps, 2, use, **more)
     if len(found) != 5:
         raise Trouble(f"expected 5 connections came {len(found)}")
     for calls in found:
@@ -160,32 +172,49 @@ def looks_that_fail(sweeps: Sweeps) -> str:
 
 
 def rises(naps: list[int]) -> bool:
-    """Whether these are naps of a worker: each is one longer than the one before, as long as naps get, or the first again."""
+    """Whether these are a worker's naps: each one longer than the one before, or as long as naps get, or the first again."""
     follows = all(it in (before + 1, NAPS[0]) or it == before == NAPS[-1] for before, it in zip(naps, naps[1:]))
     return naps[0] == NAPS[0] and follows
 
 
+def sleeps(path: str) -> tuple[dict[int, list[int]], set[int]]:
+    """Of each thread that slept how long each time, and which threads let others run."""
+    if not os.path.exists(path):
+        return {}, set()
+    with open(path, encoding="ascii") as file:
+        lines = [tuple(map(int, line.split())) for line in file if line.endswith("\n")]
+    naps: dict[int, list[int]] = {}
+    for thread, micros in lines:
+        if micros:
+            naps.setdefault(thread, []).append(micros)
+    return naps, {thread for thread, micros in lines if not micros}
+
+
 def sleeps_of_an_idle_venue(sweeps: Sweeps) -> str:
-    """Nobody comes to a venue of two members: each of its six workers sleeps, and so does the watch."""
+    """Nobody comes to a venue of two members: each of its six workers lets others run and then sleeps, and so does the
+    watch. On a busy machine that takes them a while."""
     with tempfile.TemporaryDirectory(dir=sweeps.folder) as folder:
         path = os.path.join(folder, "slept")
         venue = venue_of(folder, 2, {"LD_PRELOAD": sweeps.library, "SLEPT": path})
-        time.sleep(1)
+        end = time.monotonic() + 2 * PATIENCE
+        while len(sleeps(path)[0]) < 1 + WORKERS and time.monotonic() < end:
+            time.sleep(0.1)
+        time.sleep(0.5)
         venue.stop()
-        with open(path, encoding="ascii") as file:
-            lines = [tuple(map(int, line.split())) for line in file]
-    threads = {thread: [micros for other, micros in lines if other == thread] for thread, _ in lines}
-    looking = [naps for naps in threads.values() if set(naps) == {A_LOOK}]
-    working = [naps for naps in threads.values() if set(naps) != {A_LOOK}]
-    if len(looking) != 1 or len(working) != 6:
-        raise Trouble(f"expected a watch and 6 workers that sleep came {len(looking)} and {len(working)}")
-    for naps in working:
-        if not rises(naps):
-            raise Trouble(f"expected naps from {NAPS[0]} on came {naps[:5]} .. {naps[-5:]}")
-    return f"{len(lines)} sleeps of {len(threads)} threads"
+        naps, yielded = sleeps(path)
+    working = {thread: them for thread, them in naps.items() if set(them) != {A_LOOK}}
+    if len(working) != WORKERS or len(naps) != 1 + WORKERS:
+        raise Trouble(f"expected a watch and {WORKERS} workers came {len(naps) - len(working)} and {len(working)}")
+    for thread, them in working.items():
+        if thread not in yielded:
+            raise Trouble("expected that a worker lets others run before it sleeps")
+        if not rises(them):
+            raise Trouble(f"expected naps from {NAPS[0]} on came {them[:5]} .. {them[-5:]}")
+    return f"{sum(map(len, naps.values()))} sleeps of {len(naps)} threads"
 
 
 if __name__ == "__main__":
     if set(sys.argv[1:]) & {"-h", "--help"}:
         sys.exit(print(__doc__.strip()))
-    run_tests("noted_calls", [connections_of_clients, many_bytes_in_a_call, looks_that_fail, sleeps_of_an_idle_venue])
+    run_tests("noted_calls", [connections_of_clients, last_words_that_wait, many_bytes_in_a_call, looks_that_fail,
+                              sleeps_of_an_idle_venue])

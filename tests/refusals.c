@@ -15,7 +15,10 @@
 //
 //   NOTED        a file that gets a line for each such call that moves or sets something, in their order: its name, the
 //                descriptor, and how many bytes it moved, or what it set
-//   SLEPT        a file that gets a line for each sleep of a thread: the thread, and how many microseconds it asked for
+//   SLEPT        a file that gets a line for each sleep of a thread: the thread, and how many microseconds it asked for; and
+//                one with 0 where it let others run for the first time
+//
+// And where LATE is set, at these connections two of three writes move nothing, as to a client that is slow to read.
 #define _GNU_SOURCE
 #include <dlfcn.h>
 #include <errno.h>
@@ -45,7 +48,7 @@ enum how { ONCE, ON, SHORT, BEFORE, AFTER, SWAP, NOTE, PASSES };
 
 enum { MOST_FILES = 4096 };
 
-static const char *group, *told, *noted, *slept;
+static const char *group, *told, *noted, *slept, *late;
 static long refused_at;
 static atomic_char accepted[MOST_FILES];  // Whether a descriptor is that of a connection that was accepted.
 static enum how how = PASSES;
@@ -58,6 +61,7 @@ __attribute__((constructor)) static void begin(void) {
     told = getenv("REFUSE_TOLD");
     noted = getenv("NOTED");
     slept = getenv("SLEPT");
+    late = getenv("LATE");
     if (!group || !at || !word || !told)
         return;
     refused_at = atol(at);
@@ -309,6 +313,27 @@ int nanosleep(const struct timespec *asked, struct timespec *left) {
     return real(asked, left);
 }
 
+int sched_yield(void) {
+    REAL(int, sched_yield, void);
+    static _Thread_local char has_yielded;
+    if (slept && !has_yielded) {
+        char line[64];
+        has_yielded = 1;
+        snprintf(line, sizeof line, "%ld 0\n", syscall(SYS_gettid));
+        add(slept, line);
+    }
+    return real();
+}
+
+// Whether a write at this descriptor is one that moves nothing.
+static int is_late(int file) {
+    static atomic_long writes;
+    if (!late || file < 0 || file >= MOST_FILES || !atomic_load(&accepted[file]) || atomic_fetch_add(&writes, 1) % 3 == 2)
+        return 0;
+    errno = EAGAIN;
+    return 1;
+}
+
 // Those that move nothing, as where nothing is there yet, aren't noted.
 #define MOVES(name, what, kind, ...) \
     REAL(ssize_t, name, __VA_ARGS__); \
@@ -326,14 +351,22 @@ ssize_t recvfrom(int file, void *data, size_t size, int flags, struct sockaddr *
 }
 
 ssize_t send(int file, const void *data, size_t size, int flags) {
+    if (is_late(file))
+        return -1;
     MOVES(send, real(file, data, size, flags), "write", int, const void *, size_t, int);
 }
 
 ssize_t sendto(int file, const void *data, size_t size, int flags, const struct sockaddr *to, socklen_t length) {
+    if (is_late(file))
+        return -1;
     MOVES(sendto, real(file, data, size, flags, to, length), "write", int, const void *, size_t, int, const struct sockaddr *,
           socklen_t);
 }
 
 ssize_t read(int file, void *data, size_t size) { MOVES(read, real(file, data, size), "read", int, void *, size_t); }
 
-ssize_t write(int file, const void *data, size_t size) { MOVES(write, real(file, data, size), "write", int, const void *, size_t); }
+ssize_t write(int file, const void *data, size_t size) {
+    if (is_late(file))
+        return -1;
+    MOVES(write, real(file, data, size), "write", int, const void *, size_t);
+}
