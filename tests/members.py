@@ -14,6 +14,7 @@ import struct
 import subprocess
 import sys
 import tempfile
+import threading
 import time
 
 ROOT = os.path.dirname(os.path.dirname(os.path.abspath(__file__)))
@@ -31,6 +32,7 @@ JOURNAL = "venue.journal"
 SOON, LONG = 10, 90             # Seconds for what has to come without a wait for somebody else, and behind one.
 FALLS_ASLEEP, A_REST = 4.0, 2.0  # Seconds until an idle venue's workers rest for long, and for which it is watched then;
 MOST_IDLE = 0.25                # and what it may take of a core meanwhile.
+BEATS, BIDS = 1_000_000, 200_000  # What members send without a pause: more than is read before a stop.
 EMPTY, OLD_EMPTY = journals.empty(), journals.empty(1)  # Without entries, as venued makes one and as it did at first.
 PROFILE = os.path.join(ROOT, "docs", "PROFILE.md")
 USAGE = "usage: venued PORT JOURNAL GATEWAYS SYMBOL..."
@@ -584,6 +586,37 @@ def a_stop_with_members():
         hears(client, None)
 
 
+def a_stop_while_members_send():
+    """A stop waits neither for a member who never pauses nor for one who reads no report: both are cut off. The next start
+    carries out what stood in the journal by then and not in the book."""
+    venue = started(JOURNAL, 2)
+    clients = [trades_once(venue, member, 1) for member in (1, 2)]
+    beats = b"".join(message(1, number, "0") for number in range(3, BEATS))
+    bids = b"".join(message(2, number, "D", order(number, 1, 1, 1)) for number in range(3, BIDS))
+    sent_all = []
+
+    def pour(client, data):
+        try:
+            client.send_bytes(data)
+            sent_all.append(client.member)
+        except OSError:
+            pass  # The venue has closed the connection.
+
+    floods = [threading.Thread(target=pour, args=it) for it in zip(clients, (beats, bids))]
+    for flood in floods:
+        flood.start()
+    begun = time.monotonic()
+    counts = venue.stop()
+    in_time(begun, "the stop")
+    for flood in floods:
+        flood.join()
+    expect(sent_all, [])
+    whole = replay(JOURNAL, "book")[1]
+    if whole < counts:
+        raise Trouble(f"expected at least {counts} in the journal came {whole}")
+    expect(Venue(venue.port, JOURNAL, 1).ready(), whole)
+
+
 def wrong_words():
     """Wrong words are answered by the usage line, and make no journal."""
     free = str(free_port(1))
@@ -600,7 +633,8 @@ TESTS = [the_worked_example, worked_days, market_orders_of_the_profile, rejected
          no_other_member, vanishing_clients, half_closed_behind_an_order, in_single_bytes, a_wrong_logon,
          a_client_that_stays, a_client_that_sends_on, each_count_of_gateways, an_idle_venue, a_taken_port,
          the_local_host_alone, the_ports_of_another_venue, one_venue_a_journal,
-         a_stop_file_of_before, start_after_stop, a_stop_with_members, wrong_words]
+         a_stop_file_of_before, start_after_stop, a_stop_with_members, a_stop_while_members_send,
+         wrong_words]
 
 
 def passes(test):
