@@ -1,25 +1,24 @@
 -- What a run for one client came to, as it can be seen from outside.
 use Rattle.std.proofs.Common.{◌≡◌, ◌⊎◌, inl, inr, ⊎_elim, ℕ, zero, suc, ◌+◌, Bool, false, List, [], ◌∷◌, ◌++◌, Some}
-use Rattle.std.proofs.Common.{Option, length, refl, ap, sym, subst, ◌∙◌, arith, append-nil}
+use Rattle.std.proofs.Common.{length, refl, ap, sym, subst, ◌∙◌, arith, append-nil}
 use Rattle.std.specs.Prelude.{Result, Ok, Err}
 use Rattle.std.specs.List.{flat_map}
 use mathlib.Core.Option.{some, some-injective, some-ne-none}
 use lib.ListN.{get_elem?}
-use Rattle.venue_model.specs.History.{History, Message}
+use Rattle.venue_model.specs.History.{History}
 use Rattle.venue_model.specs.Requests.{Limits}
-use Rattle.disks.specs.Disk.{Told, LeavesOnly, Both}
+use Rattle.disks.specs.Disk.{Told, LeavesOnly}
 use Rattle.disks.specs.MomentLaws.{started, joined, weaker}
-use Rattle.book.specs.Histories.{outputs_of}
 use Rattle.gateway.specs.Accepting.{Accepting, without_client}
 use Rattle.gateway.specs.Gateways.{AtRings, begun}
 use Rattle.gateway.specs.Turns.{Front}
-use Rattle.gateway.specs.Visits.{DayPart, WasServed, IsFirstOf, acts_in, reports_by, reports_for, came_in, gone_in}
+use Rattle.gateway.specs.Visits.{DayPart, WasServed, IsFirstOf, acts_in, reports_by, reports_for}
 use Rattle.gateway.specs.declared.ending.Turned.{Turned}
 use Rattle.gateway.proofs.LifeLemmas.{Life, life-begins, life-admits}
 use Rattle.gateway.proofs.ServedLemmas.{life-serves, life-kept, life-gone}
 use Rattle.gateway.proofs.TurnLives.{goes_on}
 use Rattle.journal.specs.Journals.{IsJournalFrom}
-use Rattle.ring_words.specs.At.{Opened, At, number}
+use Rattle.ring_words.specs.At.{Opened, At}
 use Rattle.ring_words.specs.Ending.{IsBeginning}
 use Rattle.ring_words.specs.Log.{sent_at, published_at}
 use Rattle.ring_words.specs.declared.view.Person.{Person}
@@ -31,7 +30,7 @@ use Rattle.stages.specs.Stations.{OneCrew, disk_of}
 use Rattle.stages.specs.declared.crew.Turns.{Turns}
 use Rattle.venue.specs.CrashLaws.{kept_honest, new_behind, still_behind}
 use Rattle.venue.specs.Crashes.{Behind}
-use Rattle.venue.specs.Headline.{Seen, IsJournalBy, IsJournalOf, KeepsTold, OneHistory, ServesClient, SeenServing}
+use Rattle.venue.specs.Headline.{IsJournalBy, IsJournalOf, KeepsTold, OneHistory, ServesClient, SeenServing}
 use Rattle.venue.specs.Rounds.{TakesGatewayTurn, TakesPolls, Round, Rounds, Finale}
 use Rattle.venue.specs.Serving.{Outside, Serves, EndsWith}
 use Rattle.venue.specs.Venues.{Venue}

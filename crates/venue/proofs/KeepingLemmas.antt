@@ -1,6 +1,5 @@
 -- The version of a journal and its snapshots, while a venue serves: no poll of the journaller changes them.
 use Rattle.std.proofs.Common.{◌≡◌, ◌⊎◌, inl, inr, ⊎_elim, Bool, true, false, ℕ, zero, suc, List, refl, ap, sym, subst}
-use Rattle.std.proofs.Common.{◌∙◌}
 use Rattle.venue_model.specs.History.{History}
 use Rattle.venue_model.specs.Requests.{Limits}
 use Rattle.disks.specs.Disk.{Told, Only, LeavesOnly}

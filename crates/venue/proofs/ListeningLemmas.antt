@@ -11,7 +11,6 @@ use Rattle.disks.specs.Disk.{LeavesOnly}
 use Rattle.disks.specs.MomentLaws.{weaker}
 use Rattle.gateway.specs.Visits.{DayPart, WasServed, IsFirstOf, acts_in, reports_by, reports_for}
 use Rattle.journal.specs.Journals.{IsJournalFrom}
-use Rattle.ring_words.specs.At.{At}
 use Rattle.ring_words.specs.Ending.{IsBeginning}
 use Rattle.ring_words.specs.declared.view.Person.{Person}
 use Rattle.stages.specs.Devices.{Device}

@@ -1,16 +1,16 @@
 -- What one turn of a member does: its gateway's turn, a client that leaves or has left, and one that comes in.
-use Rattle.std.proofs.Common.{◌≡◌, ◌⊎◌, ℕ, Bool, true, false, List, [], ◌∷◌, ◌++◌, Option, Some, None, ⊎_elim, inl, inr}
+use Rattle.std.proofs.Common.{◌≡◌, ℕ, Bool, true, false, List, [], ◌∷◌, ◌++◌, Option, Some, None, inl, inr}
 use Rattle.std.proofs.Common.{refl, ap, sym, subst, ◌∙◌, append-nil, arith}
 use Rattle.std.specs.Prelude.{option_to_list}
 use Rattle.venue_model.specs.Requests.{Limits}
 use Rattle.ring_words.specs.At.{Opened}
-use Rattle.gateway.specs.Accepting.{Accepting, Admits, TakesTurn, WithoutClient, WithClient, Leaves, AttendsClients}
+use Rattle.gateway.specs.Accepting.{Accepting, Admits, TakesTurn, Leaves}
 use Rattle.gateway.specs.AcceptingLaws.{still, one_step}
 use Rattle.gateway.specs.declared.ending.Turned.{Turned}
 use Rattle.gateway.specs.declared.ending.Turned.TheVariants.{Worked, Quiet, Ended}
 use Rattle.venue.specs.Leaving.{LeavesOn, LeaveOn}
 use Rattle.venue.specs.Trading.{AtPort, HasClient, TradesOn}
-use Rattle.venue.specs.TradingLaws.{stays, all_stay, more-nil}
+use Rattle.venue.specs.TradingLaws.{all_stay, more-nil}
 use Rattle.wires.specs.Ports.{Register, with_more}
 use Rattle.wires.specs.Wires.{Told}
 

@@ -1,6 +1,6 @@
 -- Each member whose seat came back was served by the log that all seats end with, by the clients that came in at its
 -- port.
-use Rattle.std.proofs.Common.{◌≡◌, ℕ, ◌+◌, ◌<◌, List, ◌++◌, length, ap, sym, subst, ◌∙◌, arith}
+use Rattle.std.proofs.Common.{◌≡◌, ℕ, ◌+◌, ◌<◌, List, length, ap, sym, subst, ◌∙◌, arith}
 use Rattle.std.specs.List.{flat_map}
 use mathlib.Core.Option.{some, some-injective}
 use lib.ListN.{get_elem?}

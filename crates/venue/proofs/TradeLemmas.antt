@@ -1,11 +1,10 @@
 -- A member that traded from its start on, and whose port was given back the wire that was left, has come back.
-use Rattle.std.proofs.Common.{◌≡◌, ℕ, false, List, [], ◌++◌, Option, Some, None, refl, ap, sym, subst, ◌∙◌}
+use Rattle.std.proofs.Common.{◌≡◌, ℕ, List, [], ◌++◌, Option, None, ap, sym, subst, ◌∙◌}
 use Rattle.std.proofs.Common.{append_assoc}
 use Rattle.std.specs.Prelude.{option_to_list}
 use Rattle.venue_model.specs.Requests.{Limits}
 use Rattle.gateway.specs.Accepting.{Accepting, AttendsClients, without_client}
 use Rattle.ring_words.specs.At.{Opened, At, IsAt}
-use Rattle.ring_words.specs.declared.view.Role.TheVariants.{Gateway}
 use Rattle.venue.specs.Leaving.{LeaveOn}
 use Rattle.venue.specs.Trading.{TradesOn, GivesBack, IsBack}
 use Rattle.venue.specs.TradingLaws.{all_stay, all_both, more-append}

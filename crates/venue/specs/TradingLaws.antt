@@ -2,7 +2,6 @@
 use Rattle.std.specs.Prelude.{◌≡◌, List, [], ◌∷◌, ◌++◌, Option, Some, None, option_to_list}
 use Rattle.std.proofs.Common.{refl, ap, sym, subst, ◌∙◌, append_assoc, append-nil}
 use Rattle.venue_model.specs.Requests.{Limits}
-use Rattle.gateway.specs.Accepting.{Accepting, AttendsClients}
 use Rattle.gateway.specs.AcceptingLaws.{still, further}
 use Rattle.ring_words.specs.At.{Opened}
 use Rattle.venue.specs.Leaving.{LeavesOn, LeaveOn}

@@ -4,13 +4,13 @@ use Rattle.disks.specs.MomentLaws.{weaker}
 use Rattle.replay.specs.StartsUp.{KeepsHistory}
 use Rattle.stages.specs.Stations.{OneCrew, disk_of}
 use Rattle.venue.specs.Faults.{status_of_end}
-use Rattle.venue.specs.Listening.{Listens, end_of}
+use Rattle.venue.specs.Listening.{end_of}
 use Rattle.venue.specs.Members.{in_box}
 use Rattle.venue.specs.Serving.{LeavesFrom}
 use Rattle.venue.specs.Venues.{IsJournalBehind}
 use Rattle.venue.specs.CrashLaws.{LeftOrBehind, leaves_behind, new_behind, kept_honest, kept_leaves}
 use Rattle.venue.specs.CrashLaws.{unopened_kept, serve_leaves}
-use Rattle.venue.proofs.HomeLemmas.{same_count, back_again, spent_again}
+use Rattle.venue.proofs.HomeLemmas.{back_again, spent_again}
 use Rattle.venue.proofs.ListeningLemmas.{seen_listening}
 use Rattle.venue.proofs.listening.listen.Goals as goal
 

@@ -1,5 +1,5 @@
 -- The client that leaves was gone on with.
-use Rattle.std.proofs.Common.{◌≡◌, ◌∙◌, Bool, false, ap, sym, subst, Option, Some, None}
+use Rattle.std.proofs.Common.{◌≡◌, ◌∙◌, Bool, false, ap, sym, subst, Option, Some}
 use Rattle.venue.specs.Leaving.{told_leaving, LeavesOn}
 use Rattle.venue.specs.Trading.{TradesOn, HasClient}
 use Rattle.venue.specs.TradingLaws.{no_turn}

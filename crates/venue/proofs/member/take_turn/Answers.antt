@@ -1,5 +1,5 @@
 -- It took one turn, and the client whose session ended leaves from now on.
-use Rattle.std.proofs.Common.{◌∙◌, ap, sym, subst, Option, Some, None}
+use Rattle.std.proofs.Common.{◌∙◌, ap, sym, subst, Option, Some}
 use Rattle.gateway.specs.Accepting.{TakesTurn, told_by}
 use Rattle.ring_words.specs.At.{At}
 use Rattle.venue.specs.Leaving.{told_leaving}

@@ -5,7 +5,6 @@ use Rattle.venue.specs.Leaving.{told_leaving}
 use Rattle.venue.specs.Trading.{GivesBack}
 use Rattle.venue.specs.declared.member.Desk.{Desk}
 use Rattle.venue.proofs.TradeLemmas.{comes_back}
-use Rattle.wires.specs.Ports.{Register}
 use Rattle.venue.proofs.member.trade.Goals as goal
 
 pub returns : goal.returns

@@ -1,5 +1,5 @@
 -- Each port tells what it told.
-use Rattle.std.proofs.Common.{◌∙◌, ap, arith, map, refl, length}
+use Rattle.std.proofs.Common.{◌∙◌, ap, arith, map, length}
 use lib.ListN.{set}
 use Rattle.venue.specs.Members.{in_box}
 use Rattle.venue.proofs.PortLemmas.{map-set, same_length, written}

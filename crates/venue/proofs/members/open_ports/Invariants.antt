@@ -1,5 +1,4 @@
 -- each port tells what it told
-use Rattle.std.specs.Prelude.{◌≡◌, length}
 use Rattle.venue.specs.Members.{SamePorts, in_box}
 use Rattle.venue.proofs.members.open_ports.Given as goal
 

@@ -1,5 +1,5 @@
 -- The seat is as the rings were opened, and so is its acceptor; behind the posts that stood there stands the new one.
-use Rattle.std.proofs.Common.{◌∙◌, arith, ap, refl, false, None}
+use Rattle.std.proofs.Common.{◌∙◌, arith, ap, false, None}
 use Rattle.venue_model.specs.Requests.{Limits}
 use Rattle.gateway.specs.Accepting.{Accepting}
 use Rattle.gateway.specs.Gateways.{begun}

@@ -1,10 +1,9 @@
 -- Behind the ports so far stands the next one.
-use Rattle.std.proofs.Common.{◌≡◌, ◌+◌, ℕ, ⊎_elim, None, false, Box, List, ap, subst, sym, ◌∙◌, arith}
+use Rattle.std.proofs.Common.{◌≡◌, ◌+◌, ℕ, ⊎_elim, None, false, Box, ap, subst, sym, ◌∙◌, arith}
 use Rattle.std.specs.Global.{Global}
 use mathlib.Core.Option.{some}
 use lib.ListN.{get_elem?}
 use Rattle.venue_model.specs.ListLaws.{at_end}
-use Rattle.wires.specs.Ports.{Register}
 use Rattle.wires.specs.TcpPorts.{told_port}
 use Rattle.wires.specs.declared.tcp_port.TcpPort.{TcpPort}
 use Rattle.venued.proofs.ports.local_ports.Goals as goal
