@@ -89,6 +89,8 @@ fn all_is_told<A: Abort>(
     Ok(())
 }
 
+/// Of ABC the third member sells 25, one by one, and the fourth 2, and the others want more. In the afternoon each of
+/// these two is bought from once.
 #[test]
 fn four_members_trade(rt: HostRuntime) -> Result<(), Fail> {
     let members = first_day(rt.alloc())?;
@@ -193,6 +195,7 @@ fn second_day_behind<R: Threads + Clock + AllocGlobal + Sync + Abort>(
     Ok(ledger)
 }
 
+/// The first day ends at the seventh block, whose gate isn't synced; at the gate of the tenth one; or whole.
 #[test]
 fn the_day_behind_a_crash(rt: HostRuntime) -> Result<(), Fail> {
     for (call, fill) in [(28, None), (39, Some(0xAA))] {

@@ -195,11 +195,6 @@ impl Member {
         }
         MemPort::new(alloc, u16::from(self.number), coming)
     }
-
-    /// Whether a client of it leaves while the day goes on.
-    pub fn has_two(&self) -> bool {
-        self.first.is_some()
-    }
 }
 
 /// The first day: in the morning two members buy what the two others sell, and want more. Then the clients of the first

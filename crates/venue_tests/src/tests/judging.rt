@@ -23,9 +23,9 @@ pub struct Ledger {
     old_outputs: usize,
 }
 
-/// How many outputs a client was told, and the place behind the last of them.
+/// How many outputs a client was given, and the place behind the last of them.
 #[derive(Clone, Copy)]
-struct Heard {
+struct Given {
     count: usize,
     behind: usize,
 }
@@ -110,31 +110,31 @@ impl Ledger {
     }
 
     /// How many outputs of the day the member's clients were told, one client behind the other. Each was told its Logon,
-    /// then one output to the member behind the other, and maybe its Logout, and nothing else. Some may be missing
-    /// before the first that a client was told.
+    /// then one output to the member behind the other, and maybe its Logout, and nothing else. Before a client's first
+    /// one there may be some that nobody was told, and behind its last.
     pub fn told(&self, member: u8, wires: &[MemWire]) -> Result<usize, Fail> {
-        let mut all = Heard {
+        let mut all = Given {
             count: 0,
             behind: self.old_outputs,
         };
         for wire in wires {
-            let heard = self.told_by(member, wire.taken(), all.behind)?;
-            all = Heard {
-                count: all.count.wrapping_add(heard.count),
-                behind: heard.behind,
+            let given = self.told_by(member, wire.taken(), all.behind)?;
+            all = Given {
+                count: all.count.wrapping_add(given.count),
+                behind: given.behind,
             };
         }
         Ok(all.count)
     }
 
     /// The same of one client, which was told these bytes, of the outputs from this place on.
-    fn told_by(&self, member: u8, bytes: &[u8], from: usize) -> Result<Heard, Fail> {
-        let mut heard = Heard {
+    fn told_by(&self, member: u8, bytes: &[u8], from: usize) -> Result<Given, Fail> {
+        let mut given = Given {
             count: 0,
             behind: from,
         };
         if bytes.is_empty() {
-            return Ok(heard);
+            return Ok(given);
         }
         let logon = from_venue(self.alloc, member, 'A', 1, b"98=0\x01108=0\x01141=Y\x01")?;
         let Some(mut rest) = bytes.strip_prefix(logon.as_slice()) else {
@@ -144,21 +144,21 @@ impl Ledger {
             if output.to != member {
                 continue;
             }
-            let report = self.report(output, place, heard.number())?;
+            let report = self.report(output, place, given.number())?;
             if let Some(others) = rest.strip_prefix(report.as_slice()) {
                 rest = others;
-                heard = heard.with(place);
-            } else if 0 < heard.count {
+                given = given.with(place);
+            } else if 0 < given.count {
                 break;
             }
         }
-        let logout = from_venue(self.alloc, member, '5', heard.number(), b"")?;
+        let logout = from_venue(self.alloc, member, '5', given.number(), b"")?;
         if rest.is_empty() || rest == logout.as_slice() {
-            return Ok(heard);
+            return Ok(given);
         }
         Err(Fail::new(format_args!(
             "C{member} was told what isn't in the journal, behind {} reports",
-            heard.count
+            given.count
         )))
     }
 
@@ -175,15 +175,15 @@ impl Ledger {
     }
 }
 
-impl Heard {
+impl Given {
     /// The MsgSeqNum of the next message, where the first is the Logon's.
     fn number(self) -> u64 {
         (self.count as u64).wrapping_add(2)
     }
 
     /// One output more, of this place.
-    fn with(self, place: usize) -> Heard {
-        Heard {
+    fn with(self, place: usize) -> Given {
+        Given {
             count: self.count.wrapping_add(1),
             behind: place.wrapping_add(1),
         }

@@ -7,6 +7,9 @@ use std::thread;
 use venue::StopSign;
 use workers::{Gate, Station};
 
+/// A bit for each of the eight workers.
+const ALL_WORKERS: u64 = 0xFF;
+
 /// Behind so many turns the clients of the first two members are logged on.
 const LOGGED_ON: u64 = 20;
 
@@ -16,19 +19,19 @@ const MORNING: u64 = 2;
 /// Up to this turn the third member's client sends its orders, at most one in four turns.
 const BUSY: u64 = 160;
 
-/// At this turn a client that is to leave has sent its orders, and not yet its Logout.
+/// At this turn each client of the first two members has sent its orders, and not yet its Logout.
 const NOON: u64 = 100;
 
 /// In so many turns a gateway takes all outputs that are there.
 const SETTLED: u64 = 120;
 
-/// How often a gateway that waits lets others run at most, on a day on which nothing is to fail, and on one on which
-/// the disk is.
+/// How often a gateway that waits lets others run at most, on a day on which nothing is to fail.
 const PATIENCE: u64 = 10_000_000;
 
+/// The same on a day on which the disk is to fail: then what it waits for may never come.
 const LITTLE_PATIENCE: u64 = 20_000;
 
-/// How often the journaller lets others run behind each of its turns, before it is told that its journal has failed.
+/// How often the journaller lets others run behind each of its turns, also where its journal has failed.
 const LINGERING: u64 = 100;
 
 /// How often the venue asks at most whether it is to stop: for some ten seconds.
@@ -41,8 +44,6 @@ pub struct Plan {
     early: u64,
     /// How many there are in the end.
     all: u64,
-    /// Which members have a client that leaves.
-    leave: [bool; 4],
     /// How often a gateway that waits lets others run at most.
     patience: u64,
 }
@@ -55,16 +56,9 @@ impl Plan {
             early = early.wrapping_add(member.early);
             all = all.wrapping_add(member.count);
         }
-        let [first, second, third, fourth] = members;
         Plan {
             early,
             all,
-            leave: [
-                first.has_two(),
-                second.has_two(),
-                third.has_two(),
-                fourth.has_two(),
-            ],
             patience: if is_whole { PATIENCE } else { LITTLE_PATIENCE },
         }
     }
@@ -74,8 +68,8 @@ impl Plan {
 #[derive(Drop)]
 pub struct Usher {
     plan: Plan,
-    /// Which workers have come, by their numbers.
-    here: [AtomicBool; 8],
+    /// Which workers have come: a bit for each, by its number.
+    here: AtomicU64,
     /// How many turns the journaller began, and ended.
     begun: AtomicU64,
     ended: AtomicU64,
@@ -85,7 +79,7 @@ pub struct Usher {
     /// Whether the marshaller has had a turn behind what is early, and behind all.
     early_told: AtomicBool,
     all_told: AtomicBool,
-    /// How many turns each gateway has had, and how many of them since all was told.
+    /// The number of each gateway's last turn, and how many turns it has had since all was told.
     turns: [AtomicU64; 4],
     settled: [AtomicU64; 4],
 }
@@ -111,26 +105,12 @@ fn counts() -> [AtomicU64; 4] {
     ]
 }
 
-/// Eight flags that are down.
-fn flags() -> [AtomicBool; 8] {
-    [
-        AtomicBool::new(false),
-        AtomicBool::new(false),
-        AtomicBool::new(false),
-        AtomicBool::new(false),
-        AtomicBool::new(false),
-        AtomicBool::new(false),
-        AtomicBool::new(false),
-        AtomicBool::new(false),
-    ]
-}
-
 impl Usher {
     /// Nobody has passed by yet.
     pub fn new(plan: Plan) -> Usher {
         Usher {
             plan,
-            here: flags(),
+            here: AtomicU64::new(0),
             begun: AtomicU64::new(0),
             ended: AtomicU64::new(0),
             processed: AtomicU64::new(0),
@@ -144,11 +124,7 @@ impl Usher {
 
     /// Whether all workers have come.
     fn are_all_here(&self) -> bool {
-        let mut all = true;
-        for flag in &self.here {
-            all = all && flag.load(Ordering::SeqCst);
-        }
-        all
+        self.here.load(Ordering::SeqCst) == ALL_WORKERS
     }
 
     /// Whether the first two members are logged on.
@@ -178,7 +154,7 @@ impl Usher {
         match turn {
             0 => self.are_all_here(),
             MORNING => gateway < 2 || self.is_morning(),
-            NOON => !self.plan.leave[gateway % 4] || self.early_told.load(Ordering::SeqCst),
+            NOON => 2 <= gateway || self.early_told.load(Ordering::SeqCst),
             _ => gateway != 2 || turn % 4 != 0 || BUSY < turn || self.has_journalled(begun),
         }
     }
@@ -194,7 +170,7 @@ impl Usher {
         }
     }
 
-    /// The journaller has had its turn. Who takes more from it than it has kept goes on, before all are to end.
+    /// The journaller has had its turn. What it has handed on is told, before all are to end where its journal has failed.
     fn linger(&self) {
         self.ended.fetch_add(1, Ordering::SeqCst);
         for _ in 0..LINGERING {
@@ -231,7 +207,7 @@ impl Usher {
 impl Gate for Usher {
     fn enter(&self, worker: Station, seq: u64) {
         let number = number_of(worker);
-        self.here[number % 8].store(true, Ordering::SeqCst);
+        self.here.fetch_or(1 << (number % 8), Ordering::SeqCst);
         match worker {
             Station::Gateway(_) => self.wait(number, seq),
             Station::Journaller => {
