@@ -2,13 +2,16 @@
 import os
 import random
 import re
+import socket
 import threading
 import time
 
 import journals
-from venues import PATIENCE, TIME, Trouble, Venue, check_snapshots, market_order, message, order, parted, replay, value
+from venues import HOST, PATIENCE, TIME, Client, Trouble, Venue, check_snapshots, market_order, message, order, parted
+from venues import replay, value
 
 BURST = 32     # Requests that a member sends in one go, so that many are under way at a kill.
+A_SIP = 1024   # So many bytes a slow client takes at once.
 A_ROUND = 1_000  # Requests that are answered between two starts at least: the next start then writes a snapshot.
 PLACE = re.compile(r"\|17=(\d+)\|")
 ANSWERS = re.compile(rb"\x01150=[058]\x01|\x0135=9\x01")  # Of all but cancels.
@@ -32,6 +35,27 @@ def is_answer(report):
     """Whether a report answers a request, and isn't one of a fill or of what is left of an order."""
     kind = value(report, "150")
     return kind in ("0", "5", "8") or kind == "4" and value(report, "41") is not None or report.startswith("35=9|")
+
+
+def narrow_client(port, member):
+    """A client with hardly any room for what comes, which is logged on."""
+    client = Client(port, member)
+    client.socket.close()
+    client.socket = socket.socket()
+    client.socket.setsockopt(socket.SOL_SOCKET, socket.SO_RCVBUF, A_SIP)
+    client.socket.settimeout(PATIENCE)
+    client.socket.connect((HOST, port + member - 1))
+    return client.log_on()
+
+
+def sip(client, pause, taken):
+    """Takes little of what comes, with pauses of so many seconds, until nothing does: notes how many bytes."""
+    try:
+        while piece := client.socket.recv(A_SIP):
+            taken.append(len(piece))
+            time.sleep(pause)
+    except OSError:
+        pass
 
 
 class Member:

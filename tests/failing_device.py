@@ -319,6 +319,25 @@ def carried_over(sweeps):
     return said_of(sweeps, ends, [("done", 1), ("failed", 0), ("failed", 1), ("killed", 0), ("killed", 1)])
 
 
+def anothers_file(sweeps):
+    """A file of somebody's where the new one would be made: it stays as it is, whichever call is refused, and the old one too."""
+    whose = b"somebody's file, which is longer than a new journal"
+
+    def check(refusal):
+        old, new = refusal.journal, f"{refusal.journal}.3"
+        put(old, before)
+        put(f"{new}.new", whose)
+        came = refusal.ran([REPLAY, old, "carry", new])
+        left = contents(f"{new}.new"), contents(old), contents(new)
+        put(f"{new}.new", None)
+        if came[0] != 1 or left != (whose, before, None):
+            raise Trouble(f"expected status 1 and both files as they were came {came} and {left}")
+
+    before = journal_of(orders(1, ORDERS), 1)
+    sweeps.sweep(check, "device", "once")
+    return sweeps.said()
+
+
 def shown(noting, call):
     """A call in words."""
     name, file, more = call
@@ -403,4 +422,4 @@ if __name__ == "__main__":
     if set(sys.argv[1:]) & {"-h", "--help"}:
         sys.exit(print(__doc__.strip()))
     run_tests("failing_device", [standard_session, snapshot_at_the_start, first_sync, listening, replays, added_snapshots,
-                                 carried_over, calls_asked, lock_raced])
+                                 carried_over, anothers_file, calls_asked, lock_raced])

@@ -8,7 +8,9 @@ to refuse every one.
 from the right ones at a session of tests/corners.py. `wrong_answers`: the bytes that are due in a session, with one byte, one
 message, their order, a number or a price changed. `wrong_lines`: the same of what venue-replay prints. `wrong_venues` and
 `wrong_replays`: tests/members.py, tests/hostile_bytes.py, tests/worked_journals.py and tests/journals_by_chance.py, with
-programs in the place of the built ones that do as these do, but for one thing (tests/wrong_program.py).
+programs in the place of the built ones that do as these do, but for one thing (tests/wrong_program.py). `wrong_tools`:
+tests/tools.py, with commands of gikvand that are wrong in one thing (tests/wrong_tools.py). `wrong_packages`: tests/package.py,
+with pages, words for bash, services and packages that are (tests/wrong_package.py).
 
 What isn't refused has a line. The last line is `N passed, M failed`, and the status is 1 where one failed. Build both
 programs first, by scripts/build; others are taken by the environment's VENUED and VENUE_REPLAY.
@@ -20,7 +22,7 @@ import subprocess
 import sys
 import tempfile
 import types
-from collections.abc import Iterator
+from collections.abc import Callable, Iterator
 from unittest import mock
 
 ROOT = os.path.dirname(os.path.dirname(os.path.abspath(__file__)))
@@ -36,7 +38,9 @@ from hostile_bytes import kept_difference
 from replay_rules import line_of
 from rules import Judged, sealed, told
 from venues import REPLAY, VENUED, Trouble, need_programs
+from wrong_package import WRONG as WRONG_PACKAGES
 from wrong_rules import WRONG
+from wrong_tools import WRONG as WRONG_TOOLS
 
 TESTS = os.path.dirname(os.path.abspath(__file__))
 TOGETHER = os.cpu_count() or 1
@@ -181,15 +185,20 @@ def wrong_lines() -> tuple[int, list[str]]:
 
 def refuses(words: list[str], program: str, wrong: str) -> tuple[str, str | None]:
     """Runs a test of ours with a program that is wrong: its name, and why that is no refusal, or None."""
-    name = f"{' '.join(words)} with {wrong or 'nothing wrong'}"
     with tempfile.TemporaryDirectory(prefix="known-bad-") as folder:
         which = "VENUED" if program == os.path.abspath(VENUED) else "VENUE_REPLAY"
-        environment = {**os.environ, which: put_in_place(folder, wrong, program), "VENUE_PATIENCE": "10" if wrong else "30"}
-        try:
-            it = subprocess.run([sys.executable, os.path.join(TESTS, words[0]), *words[1:]], env=environment, timeout=LONG,
-                                stdout=subprocess.PIPE, stderr=subprocess.STDOUT, text=True)
-        except subprocess.TimeoutExpired:
-            return name, f"hasn't ended within {LONG} seconds"
+        return refused(words, wrong, {which: put_in_place(folder, wrong, program)})
+
+
+def refused(words: list[str], wrong: str, settings: dict[str, str]) -> tuple[str, str | None]:
+    """Runs a test of ours with these settings, by which something is wrong: its name, and why that is no refusal, or None."""
+    name = f"{' '.join(words)} with {wrong or 'nothing wrong'}"
+    environment = {**os.environ, **settings, "VENUE_PATIENCE": "10" if wrong else "30"}
+    try:
+        it = subprocess.run([sys.executable, os.path.join(TESTS, words[0]), *words[1:]], env=environment, timeout=LONG,
+                            stdout=subprocess.PIPE, stderr=subprocess.STDOUT, text=True)
+    except subprocess.TimeoutExpired:
+        return name, f"hasn't ended within {LONG} seconds"
     counted = re.fullmatch(r"(\d+) passed, (\d+) failed", (it.stdout.splitlines() or [""])[-1])
     if not counted:
         return name, f"ended without its last line: {it.stdout[-300:]}"
@@ -200,7 +209,7 @@ def refuses(words: list[str], program: str, wrong: str) -> tuple[str, str | None
     return name, None
 
 
-def all_refuse(runs: list[tuple[list[str], str, str]]) -> tuple[int, list[str]]:
+def all_refuse(runs: list[tuple], refuses: Callable = refuses) -> tuple[int, list[str]]:
     """Tries these, some side by side."""
     with concurrent.futures.ThreadPoolExecutor(TOGETHER) as pool:
         said = list(pool.map(lambda it: refuses(*it), runs))
@@ -248,6 +257,33 @@ def wrong_replays() -> tuple[int, list[str]]:
     return all_refuse([(it, os.path.abspath(REPLAY), wrong) for it in tests for wrong in wrong_program.REPLAYS])
 
 
+def refuses_tool(wrong: str) -> tuple[str, str | None]:
+    """Runs tests of the commands of gikvand with this wrong one: its name, and why that is no refusal, or None."""
+    programs = {"VENUED": os.path.abspath(VENUED), "VENUE_REPLAY": os.path.abspath(REPLAY)}
+    it = WRONG_TOOLS[wrong]
+    with tempfile.TemporaryDirectory(prefix="known-bad-") as folder:
+        settings = {**programs, "TOOLS": it.put(os.path.join(ROOT, "tools"), folder)}
+        return refused(["tools.py", *it.tests.split()], wrong, settings)
+
+
+def wrong_tools() -> tuple[int, list[str]]:
+    """Commands of gikvand that are wrong in one thing. (That the right ones pass is what tests/tools.py says.)"""
+    return all_refuse([(wrong,) for wrong in WRONG_TOOLS], refuses_tool)
+
+
+def refuses_package(wrong: str) -> tuple[str, str | None]:
+    """Runs tests of the package in a copy of what it takes that is wrong so: its name, and why that is no refusal, or None."""
+    programs = {"VENUED": os.path.abspath(VENUED), "VENUE_REPLAY": os.path.abspath(REPLAY)}
+    it = WRONG_PACKAGES[wrong]
+    with tempfile.TemporaryDirectory(prefix="known-bad-") as folder:
+        return refused([it.put(ROOT, folder), *it.tests.split()], wrong, programs)
+
+
+def wrong_packages() -> tuple[int, list[str]]:
+    """Packages that are wrong in one thing. (That the right one passes is what tests/package.py says.)"""
+    return all_refuse([(wrong,) for wrong, it in WRONG_PACKAGES.items() if it.can_be_seen()], refuses_package)
+
+
 def main() -> None:
     if set(sys.argv[1:]) & {"-h", "--help"}:
         print(__doc__.strip())
@@ -256,7 +292,7 @@ def main() -> None:
         need_programs()
     except Trouble as why:
         sys.exit(f"known_bad: {why}")
-    tests = [wrong_rules, wrong_answers, wrong_lines, wrong_venues, wrong_replays]
+    tests = [wrong_rules, wrong_answers, wrong_lines, wrong_venues, wrong_replays, wrong_tools, wrong_packages]
     chosen = [it for it in tests if not sys.argv[1:] or any(word in it.__name__ for word in sys.argv[1:])]
     failed = 0
     for test in chosen:

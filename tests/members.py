@@ -13,7 +13,6 @@ import socket
 import struct
 import subprocess
 import sys
-import tempfile
 import threading
 import time
 
@@ -22,16 +21,18 @@ sys.path.insert(0, os.path.join(ROOT, "scripts"))
 
 import needs_python  # (in front of what an older Python can't read)
 import journals
-from venues import HOST, PATIENCE, VENUED, Client, Trouble, Venue, framed, free_port, kill_all, market_order, message
-from venues import need_programs, order, replay, started, value
+from traders import Member, check_told, narrow_client, sip
+from venues import HOST, PATIENCE, VENUED, Client, Trouble, Venue, framed, free_port, in_a_folder, main_of, market_order
+from venues import message, order, replay, started, value
 
 UNPRINTED = re.compile(r"\|(?:8|9|34|49|56|10)=[^|]*(?=\|)")
 DAYS = ["first_trade", "time_priority", "sweep_two_levels", "fill_or_kill", "replace_and_place_in_queue",
         "replace_crosses", "replace_below_filled", "market_order_without_match", "market_sweep"]
 JOURNAL = "venue.journal"
 SOON, LONG = 10, 90             # Seconds for what has to come without a wait for somebody else, and behind one.
-FALLS_ASLEEP, A_REST = 4.0, 2.0  # Seconds until an idle venue's workers rest for long, and for which it is watched then;
-MOST_IDLE = 0.25                # and what it may take of a core meanwhile.
+FALLS_ASLEEP, A_REST = 1.0, 2.0  # Seconds until all workers of an idle venue rest, and for which it is watched then;
+MOST_IDLE = 0.05                # and what it may take of a core meanwhile.
+TOO_MUCH = 5_000                # Orders of a member that doesn't take its reports.
 BEATS, BIDS = 1_000_000, 200_000  # What members send without a pause: more than is read before a stop.
 EMPTY, OLD_EMPTY = journals.empty(), journals.empty(1)  # Without entries, as venued makes one and as it did at first.
 PROFILE = os.path.join(ROOT, "docs", "PROFILE.md")
@@ -132,6 +133,43 @@ def trades_of_eight():
         expect(client.is_quiet(0), True)
         expect(len(replay(JOURNAL, f"C{client.member}")[0]), 2)
     expect(venue.stop(), (8, 16))
+
+
+def two_slow_of_eight():
+    """Of eight members one takes none of its reports, and one takes few: the six others lose none, and don't wait for them."""
+    venue = started(JOURNAL, 8)
+    deaf, slow = narrow_client(venue.port, 7), narrow_client(venue.port, 8)
+    threading.Thread(target=sip, args=(slow, 0.1, []), daemon=True).start()
+    traders = [Member(Client(venue.port, it).socket, it, 1, pause=0.2) for it in range(1, 7)]
+    time.sleep(0.5)
+    for it in traders:
+        it.longest, it.heard_at = 0.0, time.monotonic()
+    for client in (deaf, slow):
+        client.send_bytes(b"".join(message(client.member, 2 + at, "D", order(1 + at, 1, 1, 1, more="59=3|"))
+                                   for at in range(TOO_MUCH)))
+    time.sleep(2)
+    silence = max(it.silence() for it in traders)
+    for it in traders:
+        it.cease()
+    kept = {it.member: replay(JOURNAL, f"C{it.member}")[0] for it in traders}
+    for it in traders:
+        awaits(it, len(kept[it.member]))
+    venue.stop()
+    for it in traders:
+        told = it.reports()
+        check_told(it, told, kept[it.member])
+        expect(len(told), len(kept[it.member]))
+    if silence > 1:
+        raise Trouble(f"expected an answer within a second came none for {silence:.1f} s")
+
+
+def awaits(trader, count):
+    """Waits until a member has heard so many reports, behind its Logon."""
+    end = time.monotonic() + PATIENCE
+    while trader.got.count(b"8=FIX.4.4\x01") <= count:
+        if time.monotonic() > end:
+            raise Trouble(f"expected {count} reports to C{trader.member} came fewer")
+        time.sleep(0.01)
 
 
 def played(name):
@@ -629,7 +667,7 @@ def wrong_words():
 
 
 TESTS = [the_worked_example, worked_days, market_orders_of_the_profile, rejected_market_orders_of_the_profile,
-         an_old_journal, a_full_book, trades_of_eight, a_report_without_a_session, one_at_a_time,
+         an_old_journal, a_full_book, trades_of_eight, two_slow_of_eight, a_report_without_a_session, one_at_a_time,
          no_other_member, vanishing_clients, half_closed_behind_an_order, in_single_bytes, a_wrong_logon,
          a_client_that_stays, a_client_that_sends_on, each_count_of_gateways, an_idle_venue, a_taken_port,
          the_local_host_alone, the_ports_of_another_venue, one_venue_a_journal,
@@ -637,34 +675,5 @@ TESTS = [the_worked_example, worked_days, market_orders_of_the_profile, rejected
          wrong_words]
 
 
-def passes(test):
-    """Runs a test in a folder of its own, and says whether it passed."""
-    with tempfile.TemporaryDirectory() as folder:
-        os.chdir(folder)
-        try:
-            test()
-        except (Trouble, OSError) as why:
-            print(f"{test.__name__}: {why}")
-            return False
-        finally:
-            kill_all()
-            os.chdir(ROOT)
-    return True
-
-
-def main():
-    if set(sys.argv[1:]) & {"-h", "--help"}:
-        print(__doc__.strip())
-        return
-    chosen = [it for it in TESTS if not sys.argv[1:] or any(word in it.__name__ for word in sys.argv[1:])]
-    try:
-        need_programs()
-    except Trouble as why:
-        sys.exit(f"members: {why}")
-    failed = sum(not passes(test) for test in chosen)
-    print(f"{len(chosen) - failed} passed, {failed} failed")
-    sys.exit(1 if failed else 0)
-
-
 if __name__ == "__main__":
-    main()
+    sys.exit(main_of("members", __doc__, [in_a_folder(it) for it in TESTS]))

@@ -6,11 +6,12 @@
 Each connection is set not to wait and to send at once, before a byte is read of it; bytes are read and written many in a
 call; a client whose session has ended is told so by a half close, behind the last byte that it is told and however late it
 takes that one, and its connection is closed once it has closed its side.
-A look for the stop file that fails stops nothing, and the next one is made. A worker that finds nothing sleeps as long as
-it is to, and longer each time; the watch sleeps between its looks. The calls are noted, and looks refused, by
-tests/refusals.c, which cc compiles into a folder of its own; without cc nothing is tried, and a line says so. The last line
-is `N passed, M failed`, and the status is 1 where one failed. Build both programs first, by scripts/build; others are taken
-by the environment's VENUED and VENUE_REPLAY.
+A look for the stop file that fails stops nothing, and the next one is made. A worker that finds nothing parks, each time no
+longer than it is to, and is woken for an order that comes; the watch sleeps between its looks. One that can't have what it
+parks with sleeps for short in its place, and the venue serves. The calls are noted, and some refused, by tests/refusals.c,
+which cc compiles into a folder of its own; without cc nothing is tried, and a line says so. The last line is
+`N passed, M failed`, and the status is 1 where one failed. Build both programs first, by scripts/build; others are taken by
+the environment's VENUED and VENUE_REPLAY.
 """
 import os
 import sys
@@ -21,13 +22,19 @@ from collections.abc import Callable
 from refusals import Refusal, Sweeps, run_tests
 from venues import COUNTS, PATIENCE, Client, Trouble, Venue, free_port, message, order, value
 
-MANY = 300          # Orders that are sent in one go,
-MOST_READS = 60     # and in how many reads they come at most: one would do, and the system may cut them.
+MANY = 300            # Orders that are sent in one go,
+MOST_READS = 60       # and in how many reads they come at most: one would do, and the system may cut them.
 SHUT_WRITE = 1
-NAPS = range(50, 2_001)  # How long a worker sleeps, in microseconds: each time one more, and then as long as the last.
-A_LOOK = 5_000           # How long the watch does.
-WORKERS = 6              # Four stages, and two gateways.
-LOOKS = 3           # A look somewhere behind the first.
+PARKS = 100           # How long a worker parks at most, in milliseconds,
+MOST_PARKS = 10       # and how often in each second in which nothing happens.
+MOST_YIELDS = 2_000   # How often a thread lets others run, at most, before it parks.
+A_NAP = 2_000         # How long one sleeps that can't park, in microseconds;
+A_LOOK = 5_000        # and how long the watch does.
+WORKERS = 6           # Four stages, and two gateways.
+ORDERS = 20           # So many orders are sent, each behind a silence of so many seconds;
+A_SILENCE = 0.2
+SOON = 0.02           # and most of them are answered as soon: far sooner than a worker that isn't woken looks again.
+LOOKS = 3             # A look somewhere behind the first.
 
 Call = tuple[str, int, int]  # The name of a call, its descriptor, and how many bytes it moved or what it set.
 
@@ -171,50 +178,98 @@ def looks_that_fail(sweeps: Sweeps) -> str:
     return "one look, or all"
 
 
-def rises(naps: list[int]) -> bool:
-    """Whether these are a worker's naps: each one longer than the one before, or as long as naps get, or the first again."""
-    follows = all(it in (before + 1, NAPS[0]) or it == before == NAPS[-1] for before, it in zip(naps, naps[1:]))
-    return naps[0] == NAPS[0] and follows
+def rests(path: str) -> dict[str, dict[int, list[int]]]:
+    """Of each kind of rest the threads that rested so, and how long each time."""
+    found: dict[str, dict[int, list[int]]] = {"nap": {}, "park": {}, "yield": {}}
+    if os.path.exists(path):
+        with open(path, encoding="ascii") as file:
+            for thread, kind, long in (line.split() for line in file if line.endswith("\n")):
+                found[kind].setdefault(int(thread), []).append(int(long))
+    return found
 
 
-def sleeps(path: str) -> tuple[dict[int, list[int]], set[int]]:
-    """Of each thread that slept how long each time, and which threads let others run."""
-    if not os.path.exists(path):
-        return {}, set()
-    with open(path, encoding="ascii") as file:
-        lines = [tuple(map(int, line.split())) for line in file if line.endswith("\n")]
-    naps: dict[int, list[int]] = {}
-    for thread, micros in lines:
-        if micros:
-            naps.setdefault(thread, []).append(micros)
-    return naps, {thread for thread, micros in lines if not micros}
-
-
-def sleeps_of_an_idle_venue(sweeps: Sweeps) -> str:
-    """Nobody comes to a venue of two members: each of its six workers lets others run and then sleeps, and so does the
-    watch. On a busy machine that takes them a while."""
+def rests_of_an_idle_venue(sweeps: Sweeps) -> str:
+    """Nobody comes to a venue of two members: each of its six workers lets others run for a while, and from then on parks, for a
+    tenth of a second each time, and the watch sleeps. No thread lets others run between two of its rests. (One that rests while
+    others haven't begun is woken as the last one has.)"""
     with tempfile.TemporaryDirectory(dir=sweeps.folder) as folder:
         path = os.path.join(folder, "slept")
         venue = venue_of(folder, 2, {"LD_PRELOAD": sweeps.library, "SLEPT": path})
         end = time.monotonic() + 2 * PATIENCE
-        while len(sleeps(path)[0]) < 1 + WORKERS and time.monotonic() < end:
+        while len(rests(path)["park"]) < WORKERS and time.monotonic() < end:
             time.sleep(0.1)
-        time.sleep(0.5)
+        time.sleep(1)
+        before, begun = rests(path), time.monotonic()
+        time.sleep(1)
+        found, most = rests(path), MOST_PARKS * (time.monotonic() - begun) + 3
         venue.stop()
-        naps, yielded = sleeps(path)
-    working = {thread: them for thread, them in naps.items() if set(them) != {A_LOOK}}
-    if len(working) != WORKERS or len(naps) != 1 + WORKERS:
-        raise Trouble(f"expected a watch and {WORKERS} workers came {len(naps) - len(working)} and {len(working)}")
-    for thread, them in working.items():
-        if thread not in yielded:
-            raise Trouble("expected that a worker lets others run before it sleeps")
-        if not rises(them):
-            raise Trouble(f"expected naps from {NAPS[0]} on came {them[:5]} .. {them[-5:]}")
-    return f"{sum(map(len, naps.values()))} sleeps of {len(naps)} threads"
+    if len(found["park"]) != WORKERS or [set(them) for them in found["nap"].values()] != [{A_LOOK}]:
+        raise Trouble(f"expected {WORKERS} workers that park, and a watch came {found}")
+    for thread, them in found["yield"].items():
+        if max(them) > MOST_YIELDS or len(them) > 2 or them != before["yield"].get(thread):
+            raise Trouble(f"expected at most {MOST_YIELDS} turns that let others run, and all before a rest came {them[:5]}")
+    for thread, them in found["park"].items():
+        if set(them) != {PARKS}:
+            raise Trouble(f"expected a worker to park for {PARKS} milliseconds came {them[:5]}")
+        if not 0 < len(them) - len(before["park"][thread]) <= most:
+            raise Trouble(f"expected at most {most:.0f} rests came {len(them) - len(before['park'][thread])}")
+    return f"{sum(map(len, found['park'].values()))} rests of {WORKERS} threads"
+
+
+def check_woken(venue: Venue) -> float:
+    """Sends orders behind silences, most of which have to be answered soon: the median."""
+    client, took = Client(venue.port, 1).log_on(), []
+    for name in range(1, ORDERS + 1):
+        time.sleep(A_SILENCE)
+        begun = time.monotonic()
+        client.send("D", order(name, 1, 10, 50))
+        if value(client.next() or "nothing", "150") != "0":
+            raise Trouble("expected an acknowledgement")
+        took.append(time.monotonic() - begun)
+    median = sorted(took)[ORDERS // 2]
+    if median > SOON:
+        raise Trouble(f"expected an answer within {SOON} seconds came it within {median:.3f}")
+    client.close()
+    return median
+
+
+def workers_are_woken(sweeps: Sweeps) -> str:
+    """An order that comes while all workers rest is answered soon: each of them is woken."""
+    with tempfile.TemporaryDirectory(dir=sweeps.folder) as folder:
+        venue = venue_of(folder, 2, {})
+        median = check_woken(venue)
+        venue.stop()
+    return f"{ORDERS} orders, half of them within {1000 * median:.1f} ms"
+
+
+def rests_refused(sweeps: Sweeps) -> str:
+    """Where the system gives no descriptors to rest with, to one of them or to all, those threads sleep for short in its place, and
+    the venue serves as ever."""
+    for how, at in [("once", at) for at in range(1, 2 * WORKERS + 1)] + [("on", 1)]:
+        with tempfile.TemporaryDirectory(dir=sweeps.folder) as folder:
+            path = os.path.join(folder, "slept")
+            refusal = Refusal(sweeps.library, folder, "rests", at, how)
+            venue = venue_of(folder, 2, {**refusal.set, "SLEPT": path})
+            if refusal.came() not in ("epoll_create1", "eventfd"):
+                raise Trouble(f"expected a rest refused came {refusal.came()}")
+            if how == "on":
+                check_woken(venue)
+            client = Client(venue.port, 2).log_on()
+            client.send("D", order(1, 1, 10, 50))
+            if value(client.next() or "nothing", "150") != "0":
+                raise Trouble("expected an acknowledgement where a rest was refused")
+            naps, end = set(), time.monotonic() + PATIENCE
+            while A_NAP not in naps and time.monotonic() < end:
+                time.sleep(0.05)
+                naps = {it for them in rests(path)["nap"].values() for it in them}
+            if A_NAP not in naps:
+                raise Trouble(f"expected naps of {A_NAP} microseconds came {naps}")
+            venue.stop()
+    return "each descriptor but the copy that a port keeps, or all"
 
 
 if __name__ == "__main__":
     if set(sys.argv[1:]) & {"-h", "--help"}:
         sys.exit(print(__doc__.strip()))
     run_tests("noted_calls", [connections_of_clients, last_words_that_wait, many_bytes_in_a_call, looks_that_fail,
-                              sleeps_of_an_idle_venue])
+                              rests_of_an_idle_venue, workers_are_woken, rests_refused])

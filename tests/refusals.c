@@ -1,6 +1,6 @@
 // Refuses calls of the system to a program that it is loaded into by LD_PRELOAD. tests/refusals.py builds and sets it:
 //
-//   REFUSE       which calls are counted: memory, threads, device, or look, for the stop file
+//   REFUSE       which calls are counted: memory, threads, device, rests, or look, for the stop file
 //   REFUSE_AT    the number of the call that is refused, from 1
 //   REFUSE_HOW   once: that call fails; on: and so do all behind it; short: it moves half of its bytes;
 //                before: the program is killed in its place; after: the program is killed behind it;
@@ -9,14 +9,16 @@
 //   REFUSE_TOLD  a file that is made where the call came, with its name; or those that are written down, one a line: its
 //                name, the file's, and the flags, the operation, the bytes that moved or the other name
 //
-// Requests for memory are answered with none; a thread by EAGAIN; the calls of the journal's device and a look by EIO.
+// Requests for memory are answered with none; a thread by EAGAIN; what a thread rests with by EMFILE; the calls of the
+// journal's device and a look by EIO.
 //
 // It also notes what a program does at the connections that it has accepted:
 //
 //   NOTED        a file that gets a line for each such call that moves or sets something, in their order: its name, the
 //                descriptor, and how many bytes it moved, or what it set
-//   SLEPT        a file that gets a line for each sleep of a thread: the thread, and how many microseconds it asked for; and
-//                one with 0 where it let others run for the first time
+//   SLEPT        a file that gets a line for each rest of a thread: the thread, and `nap` with how many microseconds it asked
+//                for, or `park` with how many milliseconds; before it `yield` with how often it let others run since its last
+//                rest, if it did
 //
 // And where LATE is set, at these connections two of three writes move nothing, as to a client that is slow to read.
 #define _GNU_SOURCE
@@ -33,6 +35,8 @@
 #include <stdio.h>
 #include <stdlib.h>
 #include <string.h>
+#include <sys/epoll.h>
+#include <sys/eventfd.h>
 #include <sys/file.h>
 #include <sys/ioctl.h>
 #include <sys/socket.h>
@@ -303,25 +307,48 @@ int close(int file) {
     return real(file);
 }
 
+// How often this thread has let others run since its last rest.
+static _Thread_local long yields;
+
+// Notes how this thread rests, and how often it let others run before.
+static void note_rest(const char *how_it_rests, long how_long) {
+    char line[64];
+    if (!slept)
+        return;
+    if (yields) {
+        snprintf(line, sizeof line, "%ld yield %ld\n", syscall(SYS_gettid), yields);
+        add(slept, line);
+        yields = 0;
+    }
+    snprintf(line, sizeof line, "%ld %s %ld\n", syscall(SYS_gettid), how_it_rests, how_long);
+    add(slept, line);
+}
+
 int nanosleep(const struct timespec *asked, struct timespec *left) {
     REAL(int, nanosleep, const struct timespec *, struct timespec *);
-    if (slept) {
-        char line[64];
-        snprintf(line, sizeof line, "%ld %ld\n", syscall(SYS_gettid), asked->tv_sec * 1000000 + asked->tv_nsec / 1000);
-        add(slept, line);
-    }
+    note_rest("nap", asked->tv_sec * 1000000 + asked->tv_nsec / 1000);
     return real(asked, left);
+}
+
+int epoll_wait(int file, struct epoll_event *events, int most, int longest) {
+    REAL(int, epoll_wait, int, struct epoll_event *, int, int);
+    note_rest("park", longest);
+    return real(file, events, most, longest);
+}
+
+int epoll_create1(int flags) {
+    REAL(int, epoll_create1, int);
+    return fails(decided("rests", "epoll_create1")) ? (errno = EMFILE, -1) : real(flags);
+}
+
+int eventfd(unsigned count, int flags) {
+    REAL(int, eventfd, unsigned, int);
+    return fails(decided("rests", "eventfd")) ? (errno = EMFILE, -1) : real(count, flags);
 }
 
 int sched_yield(void) {
     REAL(int, sched_yield, void);
-    static _Thread_local char has_yielded;
-    if (slept && !has_yielded) {
-        char line[64];
-        has_yielded = 1;
-        snprintf(line, sizeof line, "%ld 0\n", syscall(SYS_gettid));
-        add(slept, line);
-    }
+    ++yields;
     return real();
 }
 

@@ -1,5 +1,5 @@
 //! Measures how many commands a second the book does on one thread, with so many orders resting.
-ghost use Rattle.std.specs.Prelude.{◌↔◌, ◌+◌, ◌≤◌, IsTrue, OnOk};
+ghost use Rattle.std.specs.Prelude.{◌↔◌, ◌+◌, ◌≤◌, IfOk, IsTrue, OnOk};
 ghost use Rattle.std.specs.List.{All};
 ghost use Rattle.book.specs.Standing.{Below};
 ghost use Rattle.bench.specs.Fits.{Fits};
@@ -62,12 +62,9 @@ fn choose_and_time<R: Clock + AllocGlobal>(
 ) -> Result<(u64, Duration), Fault>
     requires { resting ≤ all }
 {
-    let limits = limits_of(rt.alloc(), &SYMBOLS)?;
-    let mut out = Vec::with_capacity(rt.alloc(), MOST_OUTPUTS)?;
     let mut chosen = Vec::new(rt.alloc());
-    let flow = Flow::new(rt.alloc(), resting, asks_market)?;
-    let expected = choose(rt.alloc(), &limits, flow, all, &mut chosen, &mut out)?;
-    let (filled, outputs, took) = time(rt, &limits, resting, all, &chosen, &mut out)?;
+    let expected = choose(rt.alloc(), resting, all, asks_market, &mut chosen)?;
+    let (filled, outputs, took) = time(rt, resting, all, &chosen)?;
     if filled.wrapping_add(outputs) != expected {
         return Err(Fault::Wrong);
     }
@@ -77,14 +74,23 @@ fn choose_and_time<R: Clock + AllocGlobal>(
 /// Chooses so many commands by what a new book answers to those before, and answers how many outputs they have.
 fn choose(
     alloc: Global,
-    limits: &Limits,
-    mut flow: Flow,
+    resting: u32,
     all: u32,
+    asks_market: bool,
     chosen: &mut Vec<Asked>,
-    out: &mut Vec<Output>,
 ) -> Result<u64, Fault> {
-    let mut book = Book::new(alloc, limits)?;
-    choose_by(&mut book, &mut flow, all, chosen, out)
+    let mut flow = Flow::new(alloc, resting, asks_market)?;
+    let mut book = new_book(alloc)?;
+    let mut out = Vec::with_capacity(alloc, MOST_OUTPUTS)?;
+    choose_by(&mut book, &mut flow, all, chosen, &mut out)
+}
+
+/// A book of the venue's symbols, which has done nothing.
+fn new_book(alloc: Global) -> Result<Book, Fault>
+    ensures { IfOk result (λ book. Below 0 book.state.orders) }
+{
+    let limits = limits_of(alloc, &SYMBOLS)?;
+    Ok(Book::new(alloc, &limits)?)
 }
 
 /// The same by this book, which has done nothing.
@@ -116,16 +122,15 @@ fn choose_by(
 /// had, and how long these took.
 fn time<R: Clock + AllocGlobal>(
     rt: &R,
-    limits: &Limits,
     resting: u32,
     all: u32,
     chosen: &[Asked],
-    out: &mut Vec<Output>,
 ) -> Result<(u64, u64, Duration), Fault>
     requires { resting ≤ all }
 {
-    let mut book = Book::new(rt.alloc(), limits)?;
-    time_by(rt, &mut book, resting, all, chosen, out)
+    let mut book = new_book(rt.alloc())?;
+    let mut out = Vec::with_capacity(rt.alloc(), MOST_OUTPUTS)?;
+    time_by(rt, &mut book, resting, all, chosen, &mut out)
 }
 
 /// The same by this book, which has done nothing.

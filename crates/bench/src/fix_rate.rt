@@ -4,7 +4,7 @@ mod reading;
 mod writing;
 
 use crate::fault::Fault;
-use crate::rate::times_in;
+use crate::rate::{print_messages, times_in};
 use fix_frame::Framer;
 pub use reading::ORDER;
 use reading::{SUM, read_orders};
@@ -34,11 +34,7 @@ fn measure_reading<R: Clock + Print + AllocGlobal>(rt: &R, messages: u32) -> Res
     if sum != u64::from(messages).wrapping_mul(SUM) {
         return Err(Fault::Wrong);
     }
-    println!(rt;
-        "fix.parse.project: {}.{:02} Mmsg/s",
-        rate / 100,
-        rate % 100
-    )?;
+    print_messages(rt, "fix.parse", rate)?;
     Ok(sum)
 }
 
@@ -52,10 +48,6 @@ fn measure_writing<R: Clock + Print>(rt: &R, messages: u32) -> Result<u64, Fault
     let begun = Instant::now(rt)?;
     let bytes = write_bodies(&mut body, &reports, messages);
     let rate = times_in(100_000, messages, begun.elapsed(rt)?);
-    println!(rt;
-        "fix.report.project: {}.{:02} Mmsg/s",
-        rate / 100,
-        rate % 100
-    )?;
+    print_messages(rt, "fix.report", rate)?;
     Ok(bytes)
 }

@@ -31,10 +31,21 @@ pub fn measure<R: Clock + Files<File = File> + Print + AllocGlobal>(
         let Some(block) = orders.get(..count) else {
             return Err(Fault::Wrong);
         };
-        let path = format!(in rt.alloc(); "{folder}/bench_journal.b{count}")?;
-        let rate = rate_of(rt, path.as_str(), block)?;
-        println!(rt; "journal.project.b{count}: {rate} blocks/s")?;
+        measure_blocks(rt, folder, block)?;
     }
+    Ok(())
+}
+
+/// Measures blocks of these entries in this folder.
+fn measure_blocks<R: Clock + Files<File = File> + Print + AllocGlobal>(
+    rt: &R,
+    folder: &str,
+    block: &[Entry],
+) -> Result<(), Fault> {
+    let count = block.len();
+    let path = format!(in rt.alloc(); "{folder}/bench_journal.b{count}")?;
+    let rate = rate_of(rt, path.as_str(), block)?;
+    println!(rt; "journal.project.b{count}: {rate} blocks/s")?;
     Ok(())
 }
 

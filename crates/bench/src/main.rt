@@ -16,6 +16,7 @@ use std::fs::{File, Files};
 use std::process::ExitCode;
 use std::rt::{Clock, Env};
 use std::thread::Threads;
+use workers::Parks;
 
 /// The number from 1 to `most` that a word says.
 fn number_to(most: u32, word: &String) -> Result<u32, Fault>
@@ -28,10 +29,9 @@ fn number_to(most: u32, word: &String) -> Result<u32, Fault>
 }
 
 /// Measures the part that the first word names, as the words behind it say.
-fn measure<R: Env + Clock + Threads + Files<File = File> + Print + Eprint + AllocGlobal + Sync>(
-    rt: &R,
-    words: &[String],
-) -> Result<(), Fault> {
+fn measure<
+    R: Env + Clock + Threads + Parks + Files<File = File> + Print + Eprint + AllocGlobal + Sync,
+>(rt: &R, words: &[String]) -> Result<(), Fault> {
     match words {
         [part, word] => measure_one(rt, part.as_str(), word),
         [part, first, second] => measure_two(rt, part.as_str(), first, second),
@@ -53,7 +53,7 @@ fn measure_one<R: Clock + Files<File = File> + Print + Eprint + AllocGlobal>(
 }
 
 /// Measures a part that two numbers describe, the second or the first of which is how many commands there are.
-fn measure_two<R: Clock + Threads + Print + Eprint + AllocGlobal + Sync>(
+fn measure_two<R: Clock + Threads + Parks + Print + Eprint + AllocGlobal + Sync>(
     rt: &R,
     part: &str,
     first: &String,
@@ -70,7 +70,7 @@ fn measure_two<R: Clock + Threads + Print + Eprint + AllocGlobal + Sync>(
 }
 
 /// Reads the words of the command line, and measures what they ask for.
-fn run<R: Env + Clock + Threads + Files<File = File> + Print + Eprint + AllocGlobal + Sync>(
+fn run<R: Env + Clock + Threads + Parks + Files<File = File> + Print + Eprint + AllocGlobal + Sync>(
     rt: &R,
 ) -> Result<(), Fault> {
     let words: Vec<String> = env::args(rt)?.skip(1).collect(rt.alloc())?;

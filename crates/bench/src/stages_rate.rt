@@ -18,6 +18,7 @@ use std::rt::Clock;
 use std::thread::Threads;
 use std::time::Duration;
 use venue_model::Limits;
+use workers::Parks;
 
 /// The rings of so many gateways. There are no others: each gateway must take or pass over each output, or the
 /// processor would wait for it.
@@ -25,7 +26,7 @@ type VenueRings<const G: usize> = Rings<BookLogic, 1024, 1024, G>;
 
 /// Measures so many commands, 1 to 10,000,000, of so many gateways, 1 to 8. The message of each takes some 340 bytes of
 /// memory.
-pub fn measure<R: Clock + Print + AllocGlobal + Threads + Sync>(
+pub fn measure<R: Clock + Print + AllocGlobal + Threads + Parks + Sync>(
     rt: &R,
     commands: u32,
     gateways: u32,
@@ -43,7 +44,7 @@ pub fn measure<R: Clock + Print + AllocGlobal + Threads + Sync>(
 }
 
 /// How long the commands of so many gateways take on threads, and on one.
-fn times<R: Clock + AllocGlobal + Threads + Sync>(
+fn times<R: Clock + AllocGlobal + Threads + Parks + Sync>(
     rt: &R,
     commands: u32,
     gateways: u32,
@@ -61,7 +62,7 @@ fn times<R: Clock + AllocGlobal + Threads + Sync>(
 }
 
 /// The same of this many gateways.
-fn times_of<R: Clock + AllocGlobal + Threads + Sync, const G: usize>(
+fn times_of<R: Clock + AllocGlobal + Threads + Parks + Sync, const G: usize>(
     rt: &R,
     commands: u32,
 ) -> Result<(Duration, Duration), Fault>
@@ -73,7 +74,7 @@ fn times_of<R: Clock + AllocGlobal + Threads + Sync, const G: usize>(
 }
 
 /// How long the commands take, with a thread for each gateway and each stage or with one thread.
-fn time<R: Clock + AllocGlobal + Threads + Sync, const G: usize>(
+fn time<R: Clock + AllocGlobal + Threads + Parks + Sync, const G: usize>(
     rt: &R,
     commands: u32,
     on_threads: bool,
@@ -100,7 +101,7 @@ fn open<const G: usize>(
 }
 
 /// The same at these new rings, whose table of symbols is given.
-fn time_at<R: Clock + AllocGlobal + Threads + Sync, const G: usize>(
+fn time_at<R: Clock + AllocGlobal + Threads + Parks + Sync, const G: usize>(
     rt: &R,
     rings: &VenueRings<G>,
     seats: Seats<BookLogic>,

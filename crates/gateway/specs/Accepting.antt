@@ -1,6 +1,6 @@
 -- An acceptor: its gateway, and the wire of the client that is connected; and what one turn of it does.
-use Rattle.std.specs.Prelude.{◌≡◌, ◌⊎◌, ℕ, zero, suc, Bool, true, false, List, [], ◌∷◌, ◌++◌, Option, Some, None, option_to_list}
-use Rattle.gateway.specs.Gateways.{AtRings, Idles}
+use Rattle.std.specs.Prelude.{◌≡◌, ◌≢◌, ◌↔◌, ◌⊎◌, ℕ, zero, suc, Bool, true, false, List, [], ◌∷◌, ◌++◌, Option, Some, None, option_to_list}
+use Rattle.gateway.specs.Gateways.{AtRings, AwaitsClient, Idles}
 use Rattle.gateway.specs.Delivers.{Proceeds}
 use Rattle.gateway.specs.Gateways.{begun}
 use Rattle.gateway.specs.Seats.{Uses, LooksOnce, ledger_of}
@@ -36,6 +36,11 @@ told_by tells (Some wire) = Some (tells wire)
 abbrev pub KeepsWire : {W : Type 0} → Bool → Option W → Type 0
 KeepsWire live None = live ≡ false
 KeepsWire live (Some wire) = live ≡ true
+
+-- whether a client is connected that is awaited, for its Logon or the rest of a message; a session that closes hears nothing more
+abbrev pub IsAwaited : Accepting → Bool → Type 0
+IsAwaited a awaited =
+    a.gateway.front.session.closing ≡ None → (awaited ≡ true ↔ ((a.wire ≢ None) × AwaitsClient a.gateway.front.session))
 
 -- no client is connected, and the gateway looked once; there is no wire to hand back
 pub record WithoutClient (n : ℕ) (old new : Accepting) (turned : Turned) (gone : Option Told) : Type 0 where

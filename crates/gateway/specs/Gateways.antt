@@ -1,5 +1,5 @@
 -- A gateway at its rings: what contracts see of it, and what its fields stand for.
-use Rattle.std.specs.Prelude.{◌≡◌, ℕ, ◌<◌, true, false, []}
+use Rattle.std.specs.Prelude.{◌≡◌, ◌≢◌, ◌⊎◌, ℕ, ◌<◌, Bool, true, false, not, ◌||◌, ◌==◌, length, is_some, []}
 use Rattle.venue_model.specs.Requests.{Limits}
 use Rattle.ring_words.specs.At.{At, number}
 use Rattle.gateway.specs.declared.ending.Turned.{Turned}
@@ -8,6 +8,7 @@ use Rattle.gateway.specs.declared.gateway.Gateway.TheInside.{Inside}
 use Rattle.wires.specs.Wires.{Told}
 use Rattle.gateway.specs.Ledgers.{Ledger}
 use Rattle.gateway.specs.SessionCalls.{fresh}
+use Rattle.gateway.specs.Standing.{Standing}
 use Rattle.gateway.specs.Seats.{HasSeen, ledger_of}
 use Rattle.gateway.specs.Turns.{Front, World, world, GoesWith}
 use Rattle.gateway.specs.TurnParts.{PassesOver}
@@ -56,8 +57,16 @@ begun gateway passed = record {
   live = true;
 }
 
+-- the client hasn't logged on, or is in the middle of a message
+abbrev pub AwaitsClient : Standing → Type 0
+AwaitsClient s = (s.logged_on ≡ false) ⊎ (s.under_way ≢ [])
+
 -- what it comes to that a gateway without a session looks once: it passed an output over, or there was none
 abbrev pub Idles : Front → Front → Ledger → Ledger → Turned → Type 0
 Idles old new desk desk_after Worked = PassesOver old new desk desk_after true
 Idles old new desk desk_after Quiet = PassesOver old new desk desk_after false
 Idles old new desk desk_after (Ended reason) = ⊥
+
+-- it has to go on by itself: a message waits for room, bytes stand to be written, or the client has closed its side
+abbrev pub is_pressed : Front → Bool
+is_pressed f = f.closed || (is_some f.session.held || not (length f.session.outgoing == 0))

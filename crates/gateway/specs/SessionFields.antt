@@ -1,5 +1,5 @@
 -- What the fields of a session stand for.
-use Rattle.std.specs.Prelude.{◌≡◌, ◌≤◌, None, IfSome, ⊤}
+use Rattle.std.specs.Prelude.{◌≡◌, ◌↔◌, ◌≤◌, false, [], None, IfSome, ⊤}
 use Rattle.fix_frame.specs.Stream.{BeginsNoFrame}
 use Rattle.fix_orders.specs.Formats.{time_text}
 use Rattle.gateway.specs.declared.session.Session.TheInside.{Inside}
@@ -30,7 +30,7 @@ ClosesItself WireFailed = ⊥
 ClosesItself Stalled = ⊥
 
 -- A gateway is one of eight; fewer messages were accepted than MsgSeqNum counts. While the
--- session isn't closing its framer has found no fault, and no whole frame waits in it.
+-- session isn't closing its framer has found no fault, no whole frame waits in it, and it is known whether it holds bytes.
 pub record KeepsSession (s : Inside) : Type 0 where
   pub from : 1 ≤ s.gateway
   pub to_eight : s.gateway ≤ 8
@@ -38,3 +38,4 @@ pub record KeepsSession (s : Inside) : Type 0 where
   pub own : IfSome s.closing ClosesItself
   pub unbroken : s.closing ≡ None → s.framer.fault ≡ None
   pub partial : s.closing ≡ None → BeginsNoFrame s.framer.held
+  pub midway : s.closing ≡ None → (s.midway ≡ false ↔ s.framer.held ≡ [])

@@ -11,7 +11,7 @@ use book::BookLogic;
 use ring_words::{GatewaySeat, Rings};
 use std::alloc::{AllocError, Global};
 use std::marker::Model;
-use wires::Wire;
+use wires::{ClientWire, Wire};
 
 /// A gateway with its client's wire, if there is a client. Contracts see an `Accepting`.
 #[derive(Drop)]
@@ -32,8 +32,9 @@ impl<W: Wire + Drop> Model for Acceptor<W> {
 
 impl<W: Wire + Drop> Acceptor<W> {
     ghost use Rattle.ring_words.specs.At.{number};
-    ghost use Rattle.gateway.specs.Accepting.{Admits, TakesTurn, told_by};
-    ghost use Rattle.gateway.specs.Gateways.{begun};
+    ghost use Rattle.gateway.specs.Accepting.{Admits, IsAwaited, TakesTurn, told_by};
+    ghost use Rattle.std.specs.Prelude.{◌&&◌, is_some};
+    ghost use Rattle.gateway.specs.Gateways.{begun, is_pressed};
     ghost use Rattle.gateway.specs.Seats.{HasSeen, StaysSeated};
 
     /// The acceptor of a seat that `Rings::open` made, without a client. All room of its sessions is made here; that of a wire is the wire's. Where
@@ -61,6 +62,16 @@ impl<W: Wire + Drop> Acceptor<W> {
         ensures { result ≡ true ↔ self.now.wire ≡ None }
     {
         self.wire.is_none()
+    }
+
+    /// Whether a client is connected that is awaited: for its Logon, or for the rest of a message.
+    pub fn awaits_client(&self) -> bool
+        ensures { IsAwaited self.now result }
+    {
+        match self.wire {
+            Some(_) => self.gateway.awaits_client(),
+            None => false,
+        }
     }
 
     /// A client has come: its session begins.
@@ -96,6 +107,20 @@ impl<W: Wire + Drop> Acceptor<W> {
         (turned, None)
     }
 
+    /// Whether a client's message waits to be published.
+    pub fn is_holding(&self) -> bool
+        ensures { result ≡ is_some self.now.gateway.front.session.held }
+    {
+        self.gateway.is_holding()
+    }
+
+    /// Whether a client is connected with whom the gateway has to go on by itself.
+    pub fn is_pressed(&self) -> bool
+        ensures { result ≡ (is_some self.now.wire && is_pressed self.now.gateway.front) }
+    {
+        self.wire.is_some() && self.gateway.is_pressed()
+    }
+
     /// How many outputs to the client were passed over, since it wasn't logged on.
     pub fn passed(&self) -> u64
         ensures { result ≡ self.now.gateway.front.passed }
@@ -113,5 +138,32 @@ impl<W: Wire + Drop> Acceptor<W> {
     {
         let Acceptor { gateway, wire } = self;
         (gateway.end(), wire)
+    }
+}
+
+impl<W: ClientWire + Drop> Acceptor<W> {
+    ghost use Rattle.gateway.specs.Accepting.{IsAwaited};
+
+    /// Sends what the client's wire holds, as far as that is taken now. (Behind a turn in which nothing moved it was told to rest, and sent it.)
+    pub fn flush(&mut self)
+        ensures { self.new ≡ self.old }
+    {
+        let Some(mut wire) = self.wire.take() else {
+            return;
+        };
+        wire.flush();
+        self.wire = Some(wire);
+    }
+
+    /// Lets go of a client that is awaited: as soon as its session looks for what it sends, the wire has failed.
+    pub fn give_up(&mut self)
+        requires { IsAwaited self.old true }
+        ensures { self.new ≡ self.old }
+    {
+        let Some(mut wire) = self.wire.take() else {
+            return;
+        };
+        wire.give_up();
+        self.wire = Some(wire);
     }
 }

@@ -1,6 +1,6 @@
 //! A gateway: the sessions of one client, at a seat of the rings. Each turn writes, reads, hears, publishes and hands on a little, so that
 //! one thread can take the turns of several. Without a session it passes its outputs over, so that the output ring doesn't wait for it.
-ghost use Rattle.std.specs.Prelude.{◌≡◌, ◌≢◌, ◌≤◌, ◌<◌, ◌^◌, [], None, true, false, length, IfOk, IfErr};
+ghost use Rattle.std.specs.Prelude.{◌≡◌, ◌≢◌, ◌↔◌, ◌≤◌, ◌<◌, ◌^◌, [], None, true, false, length, IfOk, IfErr};
 
 use crate::ending::{Reason, Turned};
 use crate::flushing::flush;
@@ -61,7 +61,8 @@ enum Found {
 
 impl Gateway {
     ghost use Rattle.ring_words.specs.At.{IsAt, number};
-    ghost use Rattle.gateway.specs.Gateways.{around, Idles};
+    ghost use Rattle.std.specs.Prelude.{is_some};
+    ghost use Rattle.gateway.specs.Gateways.{around, AwaitsClient, Idles, is_pressed};
     ghost use Rattle.gateway.specs.Delivers.{BeginsSession, Proceeds};
     ghost use Rattle.gateway.specs.Gateways.{begun};
     ghost use Rattle.gateway.specs.TurnParts.{Hears, Publishes, Reads, HandsOn, Rests, Stuck};
@@ -156,6 +157,27 @@ impl Gateway {
             Take::Passed => Turned::Worked,
             Take::Nothing => Turned::Quiet,
         }
+    }
+
+    /// Whether it waits for its client: for the Logon, or for the rest of a message.
+    pub fn awaits_client(&self) -> bool
+        ensures { self.now.front.session.closing ≡ None → (result ≡ true ↔ AwaitsClient self.now.front.session) }
+    {
+        !self.session.is_logged_on() || self.session.is_midway()
+    }
+
+    /// Whether a message waits to be published.
+    pub fn is_holding(&self) -> bool
+        ensures { result ≡ is_some self.now.front.session.held }
+    {
+        self.session.is_holding()
+    }
+
+    /// Whether it has to go on by itself: a message waits for room, bytes stand to be written, or the client has closed its side.
+    pub fn is_pressed(&self) -> bool
+        ensures { result ≡ is_pressed self.now.front }
+    {
+        self.closed || self.session.is_holding() || !self.session.unsent().is_empty()
     }
 
     /// How many outputs to the client were passed over, since it wasn't logged on.

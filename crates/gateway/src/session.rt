@@ -1,6 +1,6 @@
 //! The pure session: it hears a client's frames one by one, answers them, holds an order message until it is published, and
 //! numbers all that is written. It knows no wire and no ring.
-ghost use Rattle.std.specs.Prelude.{◌≡◌, ◌≢◌, ◌+◌, ◌≤◌, ◌<◌, ◌^◌, [], Some, None, IfOk, length, drop, is_some};
+ghost use Rattle.std.specs.Prelude.{◌≡◌, ◌≢◌, ◌↔◌, ◌+◌, ◌≤◌, ◌<◌, ◌^◌, [], Some, None, false, IfOk, length, drop, is_some};
 ghost use Rattle.fix_orders.specs.Text.{Said};
 
 use crate::ending::Reason;
@@ -18,6 +18,7 @@ use std::marker::Model;
 pub struct Session {
     gateway: u8,
     framer: Framer,
+    midway: bool,
     held: Held,
     accepted: u32,
     time: u64,
@@ -60,6 +61,7 @@ impl Session {
         Ok(Session {
             gateway,
             framer: Framer::new(alloc)?,
+            midway: false,
             held: Held::new(),
             accepted: 0,
             time: 0,
@@ -93,6 +95,13 @@ impl Session {
         self.logged_on
     }
 
+    /// Whether the client is in the middle of a message.
+    pub fn is_midway(&self) -> bool
+        ensures { self.now.closing ≡ None → (result ≡ false ↔ self.now.under_way ≡ []) }
+    {
+        self.midway
+    }
+
     /// The bytes that stand to be written.
     pub fn unsent(&self) -> &[u8]
         ensures { result.now ≡ self.now.outgoing }
@@ -113,6 +122,7 @@ impl Session {
         ensures { self.new ≡ fresh self.old.gateway }
     {
         self.framer.reset();
+        self.midway = false;
         self.held.release();
         self.accepted = 0;
         self.time = 0;
@@ -144,11 +154,15 @@ impl Session {
         };
         let heard = match self.framer.next() {
             Some(frame) => {
+                self.midway = false;
                 let heard = hear(&frame, self.gateway, self.accepted, self.time);
                 self.held.hold_as(frame.text(), &heard.verdict);
                 heard
             }
-            None => return fed,
+            None => {
+                self.midway = true;
+                return fed;
+            }
         };
         self.answer(heard);
         fed

@@ -1,16 +1,18 @@
 -- What one turn of a member does: its gateway's turn, a client that leaves or has left, and one that comes in.
 use Rattle.std.proofs.Common.{◌≡◌, ℕ, Bool, true, false, List, [], ◌∷◌, ◌++◌, Option, Some, None, inl, inr}
 use Rattle.std.proofs.Common.{refl, ap, sym, subst, ◌∙◌, append-nil, arith}
-use Rattle.std.specs.Prelude.{option_to_list}
+use Rattle.std.specs.Prelude.{IfSome, option_to_list}
 use Rattle.venue_model.specs.Requests.{Limits}
 use Rattle.ring_words.specs.At.{Opened}
 use Rattle.gateway.specs.Accepting.{Accepting, Admits, TakesTurn, Leaves}
 use Rattle.gateway.specs.AcceptingLaws.{still, one_step}
 use Rattle.gateway.specs.declared.ending.Turned.{Turned}
 use Rattle.gateway.specs.declared.ending.Turned.TheVariants.{Worked, Quiet, Ended}
-use Rattle.venue.specs.Leaving.{LeavesOn, LeaveOn}
+use Rattle.venue.specs.Leaving.{LeavesOn, LeaveOn, IsSeenOff, told_leaving}
+use Rattle.venue.specs.declared.leaving.Leaving.{Leaving}
 use Rattle.venue.specs.Trading.{AtPort, HasClient, TradesOn}
 use Rattle.venue.specs.TradingLaws.{all_stay, more-nil}
+use Rattle.venue.specs.Turning.{IsAtRest, outcome_at}
 use Rattle.wires.specs.Ports.{Register, with_more}
 use Rattle.wires.specs.Wires.{Told}
 
@@ -36,7 +38,7 @@ was_there n old new turned told (inl without) = absurd (cc without.no_wire)
 was_there n old new turned told (inr with_one) = (with_one.before, with_one.connected)
 
 -- so no other leaves then
-none_left : (n : ℕ) (old new : Accepting) (turned : Turned) (told : Told) (leaving : Option Told) (out : Bool)
+pub none_left : (n : ℕ) (old new : Accepting) (turned : Turned) (told : Told) (leaving : Option Told) (out : Bool)
     → TakesTurn n old new turned (Some told)
     → HasClient old.wire leaving out → (leaving ≡ None) × (out ≡ true)
 none_left n old new turned told leaving out takes has =
@@ -204,3 +206,48 @@ pub comes_in : (wire leaving : Option Told) (told : Told) → wire ≡ Some told
 comes_in wire leaving told there none =
     subst (λ (w : Option Told). HasClient w leaving true) (sym there)
     (subst (λ (l : Option Told). HasClient (Some told) l true) (sym none) refl)
+
+-- A turn behind which a client is gone found something.
+gone_not_quiet : (turned : Turned) (behind : Told) (now : Option Told) (told : Told)
+    → Leaves turned behind now (Some told) → turned ≡ Quiet → ⊥
+gone_not_quiet Worked behind now told leaves e = cc leaves.1
+gone_not_quiet Quiet behind now told leaves e = cc leaves.1
+gone_not_quiet (Ended reason) behind now told leaves e = cc
+
+pub ended_not_quiet : (n : ℕ) (old new : Accepting) (turned : Turned) (told : Told)
+    → TakesTurn n old new turned (Some told) → turned ≡ Quiet → ⊥
+ended_not_quiet n old new turned told (inl without) e = cc without.no_wire
+ended_not_quiet n old new turned told (inr with_one) e =
+    gone_not_quiet turned with_one.behind new.wire told with_one.leaves e
+
+-- It is the same as it was: of who leaves, if one does.
+pub same_if_some : {A : Type 0} (o : Option A) → IfSome o (λ x. o ≡ Some x)
+same_if_some None = tt
+same_if_some (Some x) = refl
+
+-- Nothing has to hold of who leaves, where none does.
+pub of_none : {W : Type 0} (tells : W → Told) (o : Option (Leaving W)) (P : Leaving W → Type 0)
+    → told_leaving tells o ≡ None → IfSome o P
+of_none tells None P none = tt
+of_none tells (Some leaving) P none = absurd (cc none)
+
+-- Who left before a turn is the one who is seen off in it.
+pub seen_off : {W : Type 0} (tells : W → Told) (old mid now new : Option (Leaving W))
+    → IfSome old (λ client. mid ≡ Some client) → now ≡ mid → IsSeenOff tells now new → IfSome old (λ client. IsSeenOff tells (Some client) new)
+seen_off tells None mid now new is same off = tt
+seen_off tells (Some client) mid now new is same off =
+    subst (λ (l : Option (Leaving _)). IsSeenOff tells l new) (same ∙ is) off
+
+-- A member came to what is the same in all that it tells.
+pub same_door : (rings : Opened Limits) (x : AtPort) (a b : Accepting) (l k : Option Told) (r s : Register)
+    → b ≡ a → k ≡ l → s ≡ r → TradesOn rings x rings (at_door a l r) → TradesOn rings x rings (at_door b k s)
+same_door rings x a b l k r s same_a same_l same_r trades =
+    subst (λ (c : Accepting). TradesOn rings x rings (at_door c k s)) (sym same_a)
+    (subst (λ (m : Option Told). TradesOn rings x rings (at_door a m s)) (sym same_l)
+    (subst (λ (t : Register). TradesOn rings x rings (at_door a l t)) (sym same_r) trades))
+
+-- Where its thread rests behind a turn, nothing moved in it.
+pub rest_is_quiet : (held moved pressed wanted : Bool) → IsAtRest (outcome_at held moved pressed wanted) → moved ≡ false
+rest_is_quiet true true pressed wanted rests = absurd rests
+rest_is_quiet false true pressed wanted rests = absurd rests
+rest_is_quiet held false pressed wanted rests = refl

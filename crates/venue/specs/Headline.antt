@@ -1,5 +1,6 @@
 -- The headline, as it can be seen from outside (docs/HEADLINE.md): one history; for each member what its clients sent and were sent; and what the journal keeps.
-use Rattle.std.specs.Prelude.{◌≡◌, ◌⊎◌, ℕ, ◌+◌, ◌≤◌, false, List, [], ◌∷◌, length, map}
+use Rattle.std.specs.Prelude.{◌≡◌, ◌⊎◌, ℕ, ◌+◌, ◌≤◌, false, List, [], ◌∷◌, length, map, Box}
+use Rattle.std.specs.Global.{Global}
 use Rattle.std.specs.List.{flat_map}
 use mathlib.Core.Option.{some}
 use lib.ListN.{get_elem?}
@@ -72,6 +73,10 @@ pub record CameIn (old new : Register) (day : List DayPart) : Type 0 where
   pub gone : new.gone ≡ with_more old.gone back
   pub leave : LeaveOn (gone_in day) back
   pub free : new.out ≡ false
+
+-- what a port in a box tells
+abbrev pub in_box : {X : Type 0} → (X → Register) → Box X Global → Register
+in_box tells boxed = tells boxed.value
 
 -- What can be seen of a run that listens: its disk, and its members' ports.
 pub record Boundary (D X : Type 0) : Type 0 where

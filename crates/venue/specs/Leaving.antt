@@ -21,19 +21,28 @@ LeaveOn (told ∷ tolds) (later ∷ laters) = LeavesOn told later × LeaveOn tol
 pub record ReadsOver (old new : Told) (ended : Bool) : Type 0 where
   pub leaves : LeavesOn old new
   pub ends : ended ≡ true → Rose old.ends new.ends ⊎ Rose old.failures new.failures
+  pub stands : ended ≡ false → (new.ends ≡ old.ends) × (new.failures ≡ old.failures)
 
 -- what the wire of a client that leaves tells, if one does
 abbrev pub told_leaving : {W : Type 0} → (W → Told) → Option (Leaving W) → Option Told
 told_leaving tells None = None
 told_leaving tells (Some leaving) = Some (tells leaving.wire)
 
--- it is waited for in 20,000 turns, and was told nothing yet
+-- it is waited for in 50,000 turns, and was told nothing yet
 abbrev pub BeginsLeaving : {W : Type 0} → W → Leaving W → Type 0
-BeginsLeaving wire leaving = leaving ≡ record { wire = wire; turns_left = 20000; is_shut = false }
+BeginsLeaving wire leaving = leaving ≡ record { wire = wire; turns_left = 50000; is_shut = false }
 
--- One turn of it. It has left where it was waited for so long, or where it was told that nothing more comes, and then closed its side, or the wire failed.
+-- One turn of it. It has left where it was waited for so long, or where it was told that nothing more comes, and then closed its side, or the wire failed;
+-- and then it isn't waited for any more.
 pub record GoesOnLeaving {W : Type 0} (tells : W → Told) (old new : Leaving W) (left : Bool) : Type 0 where
   pub leaves : LeavesOn (tells old.wire) (tells new.wire)
   pub waits : left ≡ false → (0 < old.turns_left) × (new.turns_left ≡ old.turns_left - 1)
   pub ends : left ≡ true → (old.turns_left ≡ 0)
       ⊎ ((new.is_shut ≡ true) × (Rose (tells old.wire).ends (tells new.wire).ends ⊎ Rose (tells old.wire).failures (tells new.wire).failures))
+  pub stands : left ≡ false → ((tells new.wire).ends ≡ (tells old.wire).ends) × ((tells new.wire).failures ≡ (tells old.wire).failures)
+
+-- one turn of the one that leaves, if one does: it is still waited for, or has left
+abbrev pub IsSeenOff : {W : Type 0} → (W → Told) → Option (Leaving W) → Option (Leaving W) → Type 0
+IsSeenOff tells None new = new ≡ None
+IsSeenOff tells (Some old) None = (gone : Leaving _) × GoesOnLeaving tells old gone true
+IsSeenOff tells (Some old) (Some new) = GoesOnLeaving tells old new false

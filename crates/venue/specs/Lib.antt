@@ -11,7 +11,9 @@ pub mod Rounds
 pub mod Serving
 pub mod CrashLaws
 pub mod Leaving
+pub mod Silences
 pub mod Trading
+pub mod Turning
 pub mod TradingLaws
 pub mod Members
 pub mod Headline

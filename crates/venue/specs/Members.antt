@@ -8,6 +8,7 @@ use Rattle.venue_model.specs.Requests.{Limits}
 use Rattle.ring_words.specs.At.{Opened, At, IsAt}
 use Rattle.ring_words.specs.declared.view.Role.TheVariants.{Gateway}
 use Rattle.gateway.specs.Accepting.{without_client}
+use Rattle.venue.specs.Headline.{in_box}
 use Rattle.venue.specs.Trading.{IsBack}
 use Rattle.venue.specs.declared.member.Post.{Post}
 use Rattle.venue.specs.declared.members.Home.{Home}
@@ -23,10 +24,6 @@ IsPost rings tells k p = (p.number ≡ k) × (p.desk.value.acceptor ≡ without_
 -- such posts, in the order of their gateways' numbers
 abbrev pub ArePosts : {W : Type 0} → Opened Limits → (W → Told) → List (Post W) → Type 0
 ArePosts rings tells posts = (i : ℕ) (p : Post _) → get_elem? posts i ≡ some p → IsPost rings tells (i + 1) p
-
--- what a port in a box tells
-abbrev pub in_box : {X : Type 0} → (X → Register) → Box X Global → Register
-in_box tells boxed = tells boxed.value
 
 -- no client's wire is out at these ports
 abbrev pub AreFree : {X : Type 0} → (X → Register) → List X → Type 0

@@ -1,7 +1,9 @@
 -- What a member's worker comes to: its gateway goes on at its place, with one client behind the other, who come in at its port and leave there.
-use Rattle.std.specs.Prelude.{◌≡◌, ℕ, ◌+◌, Bool, false, if◌then◌else◌, List, [], ◌++◌, Option, Some, None, option_to_list}
+use Rattle.std.specs.Prelude.{◌≡◌, ◌↔◌, ℕ, ◌+◌, Bool, false, if◌then◌else◌, List, [], ◌++◌, Option, Some, None, option_to_list}
 use Rattle.venue_model.specs.Requests.{Limits}
-use Rattle.gateway.specs.Accepting.{Accepting, AttendsClients, without_client}
+use Rattle.gateway.specs.Accepting.{Accepting, AttendsClients, TakesTurn, without_client}
+use Rattle.gateway.specs.declared.ending.Turned.{Turned}
+use Rattle.gateway.specs.declared.ending.Turned.TheVariants.{Quiet}
 use Rattle.ring_words.specs.At.{Opened, At, IsAt}
 use Rattle.ring_words.specs.declared.view.Role.TheVariants.{Gateway}
 use Rattle.venue.specs.Leaving.{LeaveOn, told_leaving}
@@ -23,6 +25,14 @@ at_port wire_tells port_tells acceptor leaving port =
 abbrev pub present : Option Told → ℕ
 present None = 0
 present (Some told) = 1
+
+-- the gateway took one turn, and this is whether it found something to do
+abbrev pub TookTurn : Accepting → Accepting → Bool → Type 0
+TookTurn old new moved = (turned : Turned) × (gone : Option Told) × TakesTurn 1024 old new turned gone × (moved ≡ false ↔ turned ≡ Quiet)
+
+-- a look at the port that showed no client was the last thing there
+abbrev pub LookedLast : {X : Type 0} → (X → X → Type 0) → X → Type 0
+LookedLast looked new = (before : _) × looked before new
 
 -- one client at most is there or leaves, and its wire is out just then
 abbrev pub HasClient : Option Told → Option Told → Bool → Type 0

@@ -5,8 +5,9 @@ ghost use Rattle.venue.specs.Leaving.{BeginsLeaving, GoesOnLeaving, ReadsOver};
 
 use gateway::{ClientWire, TryRead};
 
-/// For how many turns a client is waited for that doesn't take what it is told, or doesn't close its side: some seconds.
-const PATIENCE: u32 = 20_000;
+/// For how many turns a client is waited for that doesn't take what it is told, or doesn't close its side: some seconds
+/// in an idle venue, and a fraction of one beside others who trade, whose outputs leave no time to rest.
+const PATIENCE: u32 = 50_000;
 
 /// The wire of a client that leaves.
 #[derive(Drop)]
@@ -28,8 +29,8 @@ impl<W: ClientWire + Drop> Leaving<W> {
         }
     }
 
-    /// Sends what is left, says that this was all, and reads over what the client still sends. Says whether the client has closed its side too, or
-    /// was waited for long enough.
+    /// Sends what is left, says that this was all, and reads over what the client still sends. Says whether the client has closed its side too, its
+    /// wire failed, or it was waited for long enough.
     pub fn has_left(&mut self) -> bool
         ensures { GoesOnLeaving W.tells self.old self.new result }
     {

@@ -11,6 +11,7 @@ mod opening;
 mod rings;
 mod scripted;
 mod serving;
+mod silence;
 mod stop;
 mod watch;
 

@@ -7,12 +7,12 @@ ghost use Rattle.stages.specs.Stations.{disk_of};
 ghost use Rattle.stages.specs.Crews.{AreAt};
 ghost use Rattle.stages.specs.Journalling.{WorksOn};
 ghost use Rattle.ring_words.specs.Crew.{AreNewGateways};
-ghost use Rattle.venue.specs.Members.{AreFree, SamePorts, AreReady, AreHome, AreReturned, in_box};
+ghost use Rattle.venue.specs.Members.{AreFree, SamePorts, AreReady, AreHome, AreReturned};
 ghost use Rattle.venue.specs.Opened.{AreBehind};
 ghost use Rattle.venue.specs.Serving.{LeavesFrom};
 ghost use Rattle.stages.specs.Finishing.{Finished};
 ghost use Rattle.venue.specs.Faults.{had_served, status_of_end};
-ghost use Rattle.venue.specs.Headline.{SeenListening, boundary};
+ghost use Rattle.venue.specs.Headline.{SeenListening, boundary, in_box};
 ghost use Rattle.venue.specs.Listening.{EndsListening, end_of};
 ghost use Rattle.stages.specs.Devices.{device};
 
@@ -32,7 +32,7 @@ use std::io::Write;
 use std::rt::Clock;
 use std::thread::{Threads, join};
 use venue_model::Limits;
-use workers::{Gate, Signals, run};
+use workers::{Gate, Parks, Signals, run};
 
 /// How many stages there are.
 const STAGES: u64 = 4;
@@ -42,7 +42,7 @@ type Left<D, X> = (Crew<D>, Home<X>);
 
 /// Lets stages and members work, each on a thread of its own, until the signals say stop.
 fn work_all<
-    R: Threads + Clock + Sync,
+    R: Threads + Clock + Parks + Sync,
     Q: Gate + Sync,
     D: JournalDisk + Drop + Send,
     W: ClientWire + Drop + Send,
@@ -77,7 +77,7 @@ fn work_all<
 
 /// Lets them work under a watch, which says when the venue is ready, and tells them to stop; says whether all of them have begun.
 fn serve_members<
-    R: Threads + Clock + Sync,
+    R: Threads + Clock + Parks + Sync,
     Q: Gate + Sync,
     D: JournalDisk + Drop + Send,
     W: ClientWire + Drop + Send,
@@ -214,7 +214,7 @@ fn open_members<W: ClientWire + Drop, X: Port<Wire = W> + Drop, const G: usize>(
 /// first. All room but that of connections is taken before the first is let in. Market orders are read from the journal's cut on; that of the
 /// limits isn't used.
 pub fn listen<
-    R: Threads + Clock + AllocGlobal + Sync,
+    R: Threads + Clock + Parks + AllocGlobal + Sync,
     Q: Gate + Sync,
     D: JournalDisk + Drop + Send,
     W: ClientWire + Drop + Send,

@@ -1,25 +1,39 @@
 //! A member of the listening venue: its gateway, with the client that is connected, and the port at which its clients come in.
-ghost use Rattle.std.specs.Prelude.{◌≡◌, true, false, None};
+ghost use Rattle.std.specs.Prelude.{◌≡◌, ◌↔◌, true, false, Some, None, IfSome};
 ghost use Rattle.ring_words.specs.At.{IsAt};
 ghost use Rattle.gateway.specs.Accepting.{told_by, without_client};
-ghost use Rattle.venue.specs.Leaving.{told_leaving};
-ghost use Rattle.venue.specs.Trading.{HasClient, TradesOn, IsBack, at_port, GivesBack};
+ghost use Rattle.venue.specs.Leaving.{told_leaving, IsSeenOff};
+ghost use Rattle.venue.specs.Trading.{HasClient, TookTurn, LookedLast, TradesOn, IsBack, at_port, GivesBack};
 ghost use Rattle.venue.specs.TradingLaws.{no_turn, more_turns};
+ghost use Rattle.venue.specs.Headline.{in_box};
+ghost use Rattle.venue.specs.Turning.{IsAtRest, is_pressed_at, outcome_at};
 
 use crate::leaving::Leaving;
 use crate::rings::VenueRings;
+use crate::silence::{Silence, seconds};
 use book::BookLogic;
 use gateway::{Acceptor, ClientWire, Port, Turned};
+use mio::Waker;
 use ring_words::GatewaySeat;
 use std::alloc::Global;
 use std::rt::Clock;
-use workers::{Gate, Outcome, Signals, Station, Worker, work};
+use workers::{Gate, Outcome, Parking, Parks, Signals, Station, Worker, work};
 
-/// A member's gateway with its clients: the one that is connected, and the one whose session ended last, while it leaves.
+/// Each so many turns, a millisecond or two, what waits in the client's wire is sent, also where something moves in all of them: while others'
+/// outputs come by without a pause, no turn is quiet. Sent more often, it would go out in smaller pieces while many messages are under way.
+const SENDS: u16 = 1_024;
+
+/// A member's gateway with its clients: the one that is connected, and since when it has kept the gateway waiting; and the one whose
+/// session ended last, while it leaves.
 #[derive(Drop)]
 pub struct Desk<W: ClientWire + Drop> {
     pub acceptor: Acceptor<W>,
+    pub silence: Silence,
     pub leaving: Option<Leaving<W>>,
+    /// How many turns it has taken, modulo 65,536.
+    pub turns: u16,
+    /// Whether the session of the client that is connected is ending, and another one waits at the port.
+    pub is_wanted: bool,
 }
 
 /// A member's place in the venue, made before anybody is served. What a wire takes of memory lies in a box, whatever its size.
@@ -42,6 +56,8 @@ fn take_turn<W: ClientWire + Drop, X: Port<Wire = W>, const G: usize>(
         rings.now (at_port W.tells X.tells desk.new.acceptor desk.new.leaving port.now) }
     ensures at { IsAt rings.now desk.new.acceptor.gateway.seat }
     ensures one { HasClient desk.new.acceptor.wire (told_leaving W.tells desk.new.leaving) (X.tells port.now).out }
+    ensures took { TookTurn desk.old.acceptor desk.new.acceptor result }
+    ensures leaving { IfSome desk.old.leaving (λ client. desk.new.leaving ≡ Some client) }
 {
     let _port = port;
     let (turned, gone) = desk.acceptor.turn(rings);
@@ -64,6 +80,8 @@ fn see_off<W: ClientWire + Drop, X: Port<Wire = W>, const G: usize>(
         rings.now (at_port W.tells X.tells desk.new.acceptor desk.new.leaving port.new) }
     ensures at { IsAt rings.now desk.new.acceptor.gateway.seat }
     ensures one { HasClient desk.new.acceptor.wire (told_leaving W.tells desk.new.leaving) (X.tells port.new).out }
+    ensures off { IsSeenOff W.tells desk.old.leaving desk.new.leaving }
+    ensures acceptor { desk.new.acceptor ≡ desk.old.acceptor }
 {
     let _rings = rings;
     let Some(mut client) = desk.leaving.take() else {
@@ -79,8 +97,7 @@ fn see_off<W: ClientWire + Drop, X: Port<Wire = W>, const G: usize>(
 
 /// Whether no client is there, nor leaves.
 fn is_free<W: ClientWire + Drop>(desk: &Desk<W>) -> bool
-    ensures wire { result ≡ true → desk.now.acceptor.wire ≡ None }
-    ensures leaving { result ≡ true → told_leaving W.tells desk.now.leaving ≡ None }
+    ensures free { result ≡ true ↔ (desk.now.acceptor.wire ≡ None) × (told_leaving W.tells desk.now.leaving ≡ None) }
 {
     desk.acceptor.is_free() && desk.leaving.is_none()
 }
@@ -98,6 +115,9 @@ fn admit<W: ClientWire + Drop, X: Port<Wire = W>, const G: usize>(
         rings.now (at_port W.tells X.tells desk.new.acceptor desk.new.leaving port.new) }
     ensures at { IsAt rings.now desk.new.acceptor.gateway.seat }
     ensures one { HasClient desk.new.acceptor.wire (told_leaving W.tells desk.new.leaving) (X.tells port.new).out }
+    ensures leaving { desk.new.leaving ≡ desk.old.leaving }
+    ensures none { result ≡ false → desk.new.acceptor ≡ desk.old.acceptor }
+    ensures looked { desk.new.acceptor.wire ≡ None → told_leaving W.tells desk.new.leaving ≡ None → X.looked port.old port.new }
 {
     let _rings = rings;
     if !is_free(desk) {
@@ -110,8 +130,66 @@ fn admit<W: ClientWire + Drop, X: Port<Wire = W>, const G: usize>(
     true
 }
 
-/// One turn of the gateway, and of the client that leaves; where clients may come, also a look at the port. Says whether something moved.
-fn attend<W: ClientWire + Drop, X: Port<Wire = W>, const G: usize>(
+/// Lets go of a client that has kept its gateway waiting for too long, where another one waits at the port.
+fn let_go_of_silent<C: Clock, W: ClientWire + Drop, X: Port<Wire = W>>(
+    clock: &C,
+    desk: &mut Desk<W>,
+    port: &mut X,
+)
+    ensures acceptor { desk.new.acceptor ≡ desk.old.acceptor }
+    ensures leaving { desk.new.leaving ≡ desk.old.leaving }
+    ensures port { X.tells port.new ≡ X.tells port.old }
+{
+    if !desk.acceptor.awaits_client() {
+        desk.silence.end();
+        return;
+    }
+    let Some(now) = seconds(clock) else {
+        return;
+    };
+    if desk.silence.lasts(now) && port.is_wanted() {
+        desk.acceptor.give_up();
+    }
+}
+
+/// Counts a turn, and sends what waits in the client's wire behind each 1,024th.
+fn send_on<W: ClientWire + Drop>(desk: &mut Desk<W>)
+    ensures acceptor { desk.new.acceptor ≡ desk.old.acceptor }
+    ensures leaving { desk.new.leaving ≡ desk.old.leaving }
+{
+    desk.turns = desk.turns.wrapping_add(1);
+    if desk.turns % SENDS == 0 {
+        desk.acceptor.flush();
+    }
+}
+
+/// Whether, behind a turn in which nothing moved, the session of the client that is connected is on its way to its end: the client has closed its
+/// side, or doesn't take what it is told.
+fn is_ending<W: ClientWire + Drop>(desk: &Desk<W>) -> bool {
+    desk.leaving.is_none() && desk.acceptor.is_pressed() && !desk.acceptor.is_holding()
+}
+
+/// Behind the gateway's turn, in which something moved or not: what waits is sent, if it is time to, a client that is silent is let go, and the
+/// port is looked at where the session is ending.
+fn tend<C: Clock, W: ClientWire + Drop, X: Port<Wire = W>>(
+    clock: &C,
+    desk: &mut Desk<W>,
+    port: &mut X,
+    has_moved: bool,
+)
+    ensures acceptor { desk.new.acceptor ≡ desk.old.acceptor }
+    ensures leaving { desk.new.leaving ≡ desk.old.leaving }
+    ensures port { X.tells port.new ≡ X.tells port.old }
+{
+    send_on(desk);
+    let_go_of_silent(clock, desk, port);
+    desk.is_wanted = !has_moved && is_ending(desk) && port.is_wanted();
+}
+
+/// One turn of the gateway, and of the client that leaves; where clients may come, also a look at the port, unless one is there or leaves.
+/// Says whether something moved.
+fn attend<C: Clock, W: ClientWire + Drop, X: Port<Wire = W>, const G: usize>(
+    clock: &C,
     rings: &VenueRings<G>,
     desk: &mut Desk<W>,
     port: &mut X,
@@ -124,8 +202,13 @@ fn attend<W: ClientWire + Drop, X: Port<Wire = W>, const G: usize>(
         rings.now (at_port W.tells X.tells desk.new.acceptor desk.new.leaving port.new) }
     ensures at { IsAt rings.now desk.new.acceptor.gateway.seat }
     ensures one { HasClient desk.new.acceptor.wire (told_leaving W.tells desk.new.leaving) (X.tells port.new).out }
+    ensures idle { result ≡ false → TookTurn desk.old.acceptor desk.new.acceptor false }
+    ensures off { IfSome desk.old.leaving (λ client. IsSeenOff W.tells (Some client) desk.new.leaving) }
+    ensures looked { may_come ≡ true → desk.new.acceptor.wire ≡ None → told_leaving W.tells desk.new.leaving ≡ None →
+        LookedLast X.looked port.new }
 {
     let has_moved = take_turn(rings, desk, port);
+    tend(clock, desk, port, has_moved);
     let has_left = see_off(rings, desk, port);
     if !may_come {
         return has_moved || has_left;
@@ -134,9 +217,38 @@ fn attend<W: ClientWire + Drop, X: Port<Wire = W>, const G: usize>(
     has_moved || has_left || has_come
 }
 
+/// Whether the desk has to go on by itself: with the client that leaves, or with the one that is connected.
+fn is_pressed<W: ClientWire + Drop>(desk: &Desk<W>) -> bool
+    ensures { result ≡ is_pressed_at desk.now }
+{
+    desk.leaving.is_some() || desk.acceptor.is_pressed()
+}
+
+/// What a turn of this desk came to for its thread, in which something moved or not, and which began with a message held or not.
+fn outcome<W: ClientWire + Drop>(desk: &Desk<W>, held: bool, has_moved: bool) -> Outcome
+    ensures { result ≡ outcome_at held has_moved (is_pressed_at desk.now) desk.now.is_wanted }
+{
+    if has_moved {
+        return if held {
+            Outcome::Worked
+        } else {
+            Outcome::Moved
+        };
+    }
+    if !is_pressed(desk) {
+        return Outcome::Idle;
+    }
+    if desk.is_wanted {
+        Outcome::Moved
+    } else {
+        Outcome::Pressed
+    }
+}
+
 /// A member at its rings and its port.
 #[derive(Drop)]
-struct Member<'a, W: ClientWire + Drop, X: Port<Wire = W> + Drop, const G: usize> {
+struct Member<'a, C: Clock, W: ClientWire + Drop, X: Port<Wire = W> + Drop, const G: usize> {
+    clock: &'a C,
     rings: &'a VenueRings<G>,
     signals: &'a Signals,
     alloc: Global,
@@ -146,8 +258,8 @@ struct Member<'a, W: ClientWire + Drop, X: Port<Wire = W> + Drop, const G: usize
     ghost one: { HasClient desk.value.acceptor.wire (told_leaving W.tells desk.value.leaving) (X.tells port.value).out },
 }
 
-impl<W: ClientWire + Drop, X: Port<Wire = W> + Drop, const G: usize> Worker
-    for Member<'_, W, X, G> {
+impl<C: Clock, W: ClientWire + Drop, X: Port<Wire = W> + Drop, const G: usize> Worker
+    for Member<'_, C, W, X, G> {
     ghost goes = { λ x y. TradesOn x.rings.now (at_port W.tells X.tells x.desk.value.acceptor x.desk.value.leaving x.port.value)
         y.rings.now (at_port W.tells X.tells y.desk.value.acceptor y.desk.value.leaving y.port.value) };
 
@@ -158,19 +270,22 @@ impl<W: ClientWire + Drop, X: Port<Wire = W> + Drop, const G: usize> Worker
         (at_port W.tells X.tells y.desk.value.acceptor y.desk.value.leaving y.port.value)
         (at_port W.tells X.tells z.desk.value.acceptor z.desk.value.leaving z.port.value) };
 
+    ghost took = { λ outcome x y. (IsAtRest outcome → TookTurn x.desk.value.acceptor y.desk.value.acceptor false)
+        × IfSome x.desk.value.leaving (λ client. IsSeenOff W.tells (Some client) y.desk.value.leaving) };
+
     /// A turn at the desk. Clients may come once all workers have begun.
     fn turn(&mut self) -> Outcome {
         let may_come = self.signals.have_all_begun();
-        if attend(
+        let held = self.desk.acceptor.is_holding();
+        let has_moved = attend(
+            self.clock,
             self.rings,
             &mut *self.desk,
             &mut *self.port,
             self.alloc,
             may_come,
-        ) {
-            return Outcome::Worked;
-        }
-        Outcome::Idle
+        );
+        outcome(&self.desk, held, has_moved)
     }
 }
 
@@ -192,15 +307,30 @@ fn dismiss<W: ClientWire + Drop, X: Port<Wire = W>>(
     }
 }
 
+/// A place to rest for the thread of this port, if one can be had, which the port's sockets end too.
+fn park_at<R: Parks, X: Port>(rt: &R, port: &mut Box<X>) -> Option<(Parking, Waker)>
+    ensures { in_box X.tells port.new ≡ in_box X.tells port.old }
+{
+    let (parking, waker) = rt.parking()?;
+    port.watch(parking.registry());
+    Some((parking, waker))
+}
+
 /// Lets the member's clients trade, one after another, until the signals say stop, and gives its seat back, and its port, which has all
 /// their wires.
-pub fn trade<C: Clock, Q: Gate, W: ClientWire + Drop, X: Port<Wire = W> + Drop, const G: usize>(
-    clock: &C,
+pub fn trade<
+    R: Clock + Parks,
+    Q: Gate,
+    W: ClientWire + Drop,
+    X: Port<Wire = W> + Drop,
+    const G: usize,
+>(
+    rt: &R,
     gate: &Q,
     rings: &VenueRings<G>,
     alloc: Global,
     post: Post<W>,
-    port: Box<X>,
+    mut port: Box<X>,
     signals: &Signals,
 ) -> (GatewaySeat<BookLogic>, Box<X>)
     requires begun { (post.desk.value.acceptor ≡ without_client rings.now post.number) × (told_leaving W.tells post.desk.value.leaving ≡ None) }
@@ -209,16 +339,22 @@ pub fn trade<C: Clock, Q: Gate, W: ClientWire + Drop, X: Port<Wire = W> + Drop, 
 {
     let Post { number, desk } = post;
     let station = Station::Gateway(number);
+    let parking = park_at(rt, &mut port);
     let mut member = Member {
+        clock: rt,
         rings,
         signals,
         alloc,
         desk,
         port,
     };
-    let _ended = work(clock, gate, station, &mut member, signals);
+    let _ended = work(rt, gate, station, &mut member, parking, signals);
     let Member { desk, mut port, .. } = member;
-    let Desk { acceptor, leaving } = Box::into_inner(desk);
+    let Desk {
+        acceptor,
+        leaving,
+        ..
+    } = Box::into_inner(desk);
     let (seat, wire) = acceptor.end();
     dismiss(&mut *port, leaving, wire);
     (seat, port)

@@ -7,7 +7,8 @@ ghost use denote.Param.Send.{IsSend};
 ghost use Rattle.ring_words.specs.At.{IsAt};
 ghost use Rattle.ring_words.specs.Crew.{AreNewGateways};
 ghost use Rattle.ring_words.specs.declared.view.Role.TheVariants.{Gateway};
-ghost use Rattle.venue.specs.Members.{IsPost, ArePosts, IsLast, AreReady, AreHome, SamePorts, in_box};
+ghost use Rattle.venue.specs.Members.{IsPost, ArePosts, IsLast, AreReady, AreHome, SamePorts};
+ghost use Rattle.venue.specs.Headline.{in_box};
 ghost use Rattle.gateway.specs.Accepting.{without_client};
 ghost use Rattle.venue.specs.Trading.{IsBack};
 ghost use Rattle.venue.specs.Faults.{had_served};
@@ -17,13 +18,14 @@ ghost use Rattle.venue.specs.VenueRings.{IsNew};
 use crate::fault::ServeFault;
 use crate::member::{Desk, Post, trade};
 use crate::rings::VenueRings;
+use crate::silence::Silence;
 use book::BookLogic;
 use gateway::{Acceptor, ClientWire, Port};
 use ring_words::GatewaySeat;
 use std::alloc::Global;
 use std::rt::Clock;
 use std::thread::{Threads, join};
-use workers::{Gate, Signals};
+use workers::{Gate, Parks, Signals};
 
 /// The posts of a venue's members, and an empty list that has room for all seats when they come back.
 pub type Posts<W> = (Vec<Post<W>>, Vec<GatewaySeat<BookLogic>>);
@@ -130,6 +132,9 @@ fn with_post<W: ClientWire + Drop, const G: usize>(
         Desk {
             acceptor,
             leaving: None,
+            silence: Silence::none(),
+            turns: 0,
+            is_wanted: false,
         },
     ) else {
         return Err(ServeFault::Memory);
@@ -211,9 +216,10 @@ fn split_last<W: ClientWire + Drop, X: Port<Wire = W> + Drop, const G: usize>(
     Ok(Split { others, post, port })
 }
 
-/// Lets all members trade, each at its port on a thread of its own, until the signals say stop. No memory is taken while threads run.
+/// Lets all members trade, each at its port on a thread of its own, until the signals say stop. While threads run no memory is
+/// taken but for connections, and a little as each begins, for its rest.
 pub fn trade_all<
-    R: Threads + Clock + Sync,
+    R: Threads + Clock + Parks + Sync,
     Q: Gate + Sync,
     W: ClientWire + Drop + Send,
     X: Port<Wire = W> + Drop + Send,

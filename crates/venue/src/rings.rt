@@ -12,6 +12,12 @@ use venue_model::{Limits, Past};
 /// Rings of 1,024 rows each for so many gateways.
 pub type VenueRings<const G: usize> = Rings<BookLogic, 1024, 1024, G>;
 
+/// Both rings have 1,024 rows: it is proved, and nothing is done.
+fn have_their_rows<const G: usize>(rings: &VenueRings<G>) {
+    let (rows, output_rows) = (rings.rows(), rings.output_rows());
+    prove!(rows == 1024 && output_rows == 1024);
+}
+
 /// The rings of the venue of these symbols behind a history of so many commands and outputs, with all seats.
 pub fn open<const G: usize>(
     alloc: Global,
@@ -27,7 +33,10 @@ pub fn open<const G: usize>(
     ensures seats { IfOk result (λ r. AreNew G r.0 r.1) }
 {
     match VenueRings::open_behind(alloc, BookLogic::of(limits), past, commands, outputs) {
-        Ok(opened) => Ok(opened),
+        Ok(opened) => {
+            have_their_rows(&opened.0);
+            Ok(opened)
+        }
         Err(OpenError::Memory) => Err(AllocError),
         Err(OpenError::NotPowerOfTwo) => unreachable!(),
     }

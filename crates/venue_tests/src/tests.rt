@@ -20,6 +20,7 @@ use std::test::Fail;
 use std::thread::Threads;
 use trading_days::{Day, play};
 use usher::Plan;
+use workers::Parks;
 
 /// How many blocks a day has at least.
 const BLOCKS: u64 = 20;
@@ -59,7 +60,7 @@ fn opening(disk: &MemDisk) -> u64 {
 }
 
 /// The first day, of which this call of the disk takes long and fails, or none where it is 0.
-fn first_day_until<R: Threads + Clock + AllocGlobal + Sync>(
+fn first_day_until<R: Threads + Clock + Parks + AllocGlobal + Sync>(
     rt: &R,
     members: &[Member; 4],
     call: u64,
@@ -132,7 +133,7 @@ fn told_is_kept<A: Abort>(
 /// Of each block this one of its calls fails, from the first block on, until a day has no such block; a day that came
 /// to fewer than twenty blocks is played again. `rt try` wants some minutes for it (`--seconds 300`): with its checks
 /// the room of each journal that is opened is made slowly.
-fn crash_in_each_block<R: Threads + Clock + AllocGlobal + Sync + Abort>(
+fn crash_in_each_block<R: Threads + Clock + Parks + AllocGlobal + Sync + Abort>(
     rt: &R,
     call: u64,
 ) -> Result<(), Fail> {
@@ -177,7 +178,7 @@ fn crash_at_the_sync_of_each_gate(rt: HostRuntime) -> Result<(), Fail> {
 
 /// The day behind a first one of which this call fails, over what a crash leaves of it: sequences, ExecIDs and the book
 /// go on.
-fn second_day_behind<R: Threads + Clock + AllocGlobal + Sync + Abort>(
+fn second_day_behind<R: Threads + Clock + Parks + AllocGlobal + Sync + Abort>(
     rt: &R,
     call: u64,
     fill: Option<u8>,

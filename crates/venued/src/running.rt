@@ -5,8 +5,8 @@ ghost use Rattle.venue_model.specs.Counts.{Rose};
 ghost use Rattle.disks.specs.Places.{LeavesUnder};
 ghost use Rattle.journal.specs.Openings.{LeftOrNew};
 ghost use Rattle.venued.specs.Running.{Runs, ServesIn, ListensIn, on_file, scene, listener};
-ghost use Rattle.venue.specs.Headline.{boundary};
-ghost use Rattle.venue.specs.Members.{AreFree, in_box};
+ghost use Rattle.venue.specs.Headline.{boundary, in_box};
+ghost use Rattle.venue.specs.Members.{AreFree};
 ghost use Rattle.venue.specs.Serving.{IsStatus};
 
 use disks::{FileDisk, Folder, JournalDisk, RawFile};
@@ -18,7 +18,7 @@ use std::rt::Clock;
 use std::thread::Threads;
 use venue::{ServeFault, StopSign, listen, serve};
 use venue_model::Limits;
-use workers::{Gate, NoGate};
+use workers::{Gate, NoGate, Parks};
 
 /// Opens the file of the journal, or makes it, and serves over it: the program's status, and the disk if the file could
 /// be opened. The status is that of `serve`, or 1, with the fault's line, where the file couldn't be opened.
@@ -55,7 +55,7 @@ pub fn run<P: Folder, W: Wire, E: Write>(
 /// Opens the file of the journal, or makes it, and listens over it for `G` members at these ports: the program's status, the disk if the
 /// file could be opened, and the ports. The status is that of `listen`, or 1, with the fault's line, where the file couldn't be opened.
 pub fn run_listening<
-    R: Threads + Clock + AllocGlobal + Sync,
+    R: Threads + Clock + Parks + AllocGlobal + Sync,
     Q: Gate + Sync,
     F: RawFile + Send,
     P: Folder<File = F>,
@@ -101,7 +101,7 @@ pub fn run_listening<
 
 /// Listens so at as many ports as there are, 1 to 8, and answers the program's status.
 pub fn run_for<
-    R: Threads + Clock + AllocGlobal + Sync,
+    R: Threads + Clock + Parks + AllocGlobal + Sync,
     F: RawFile + Send,
     P: Folder<File = F>,
     W: ClientWire + Drop + Send,

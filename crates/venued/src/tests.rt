@@ -12,7 +12,7 @@ use std::thread;
 use std::thread::Threads;
 use venue::{StopSign, listen};
 use venue_model::Limits;
-use workers::{Gate, Station};
+use workers::{Gate, Parks, Station};
 
 /// How often a worker lets others run before it gives up waiting for them.
 const MOST_YIELDS: u64 = 10_000_000;
@@ -107,7 +107,7 @@ fn limits(alloc: Global) -> Result<Limits, Fail> {
 }
 
 /// The venue's status behind the meeting, and what it printed, at two ports at which nobody comes.
-fn serve_two<R: Threads + Clock + AllocGlobal + Sync>(
+fn serve_two<R: Threads + Clock + Parks + AllocGlobal + Sync>(
     rt: &R,
     meeting: &Meeting,
 ) -> Result<(u8, Vec<u8>), Fail> {

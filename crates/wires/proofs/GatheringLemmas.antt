@@ -1,12 +1,12 @@
 -- What a wire that gathers tells of a read: what it hands out of the bytes held ahead.
-use Rattle.std.proofs.Common.{◌≡◌, ℕ, ◌≤◌, Bool, List, ◌++◌, length, take, Option, refl, sym, ap, ◌∙◌}
+use Rattle.std.proofs.Common.{◌≡◌, ℕ, ◌≤◌, Bool, true, List, [], ◌++◌, length, take, Option, refl, sym, ap, ◌∙◌}
 use Rattle.wires.specs.declared.counts.Counts.{Counts}
 use Rattle.wires.specs.declared.wire.TryRead.{TryRead}
 use Rattle.wires.specs.declared.wire.TryRead.TheVariants as read
 use Rattle.wires.specs.Counting.{CountsRead}
 use Rattle.wires.specs.Gatherings.{HandsOut, IfGot}
-use Rattle.wires.specs.WireLaws.{grown-append, before_last-grown}
-use Rattle.wires.specs.Wires.{Told, telling, grown, before_last, AreLast, ReadTells}
+use Rattle.wires.specs.WireLaws.{grown-append, grown-nil, before_last-grown}
+use Rattle.wires.specs.Wires.{Told, telling, uncounted, grown, before_last, AreLast, ReadTells}
 
 -- the bytes that the wire below gave are those in front of what was held, those handed out, and those left
 handed_out : (old : Option (List ℕ)) (front : Option (List ℕ)) (held more out left : List ℕ) → old ≡ grown front held
@@ -36,7 +36,8 @@ pub read_told : (old new : Told) (held left waiting buf : List ℕ) (was is : Co
     → ReadTells (telling (before_last old.gave held) (grown old.took waiting) was quiet)
     (telling (before_last new.gave left) (grown new.took waiting) is quiet) buf answer
 read_told old new held left waiting buf was is quiet (read.Got n) hands some last counted =
-    let before : before_last old.gave held ≡ last.0 = ap (λ t. before_last t held) last.1 ∙ before_last-grown last.0 held in
+    let before : before_last old.gave held ≡ last.0 =
+    ap (λ t. before_last t held) last.1 ∙ before_last-grown last.0 held in
     let out = take n buf in
     let gave : before_last (grown old.gave hands.0) left ≡ grown (before_last old.gave held) out =
     ap (λ t. before_last t left) (handed_out old.gave last.0 held hands.0 out left last.1 hands.2)
@@ -48,3 +49,12 @@ read_told old new held left waiting buf was is quiet read.End hands some last co
     (counted.0, rw (hands.0, hands.1, hands.2.1, counted.1) refl)
 read_told old new held left waiting buf was is quiet read.Failed hands some last counted =
     (counted.0, rw (hands.0, hands.1, hands.2.1, counted.1) refl)
+
+-- where nothing is held yet it tells what the wire below tells, and counted nothing
+pub fresh_told : (gave took : Option (List ℕ)) (ahead waiting : List ℕ) (counts : Counts) → ahead ≡ [] → waiting ≡ []
+    → counts ≡ record { failures = 0; empty_reads = 0; full_writes = 0; ends = 0 }
+    → telling (before_last gave ahead) (grown took waiting) counts true ≡ uncounted gave took
+fresh_told gave took ahead waiting counts none no_more zero =
+    let all : before_last gave [] ≡ gave =
+    ap (λ t. before_last t []) (sym (grown-nil gave)) ∙ before_last-grown gave [] in
+    rw (none, no_more, zero, all, grown-nil took) refl

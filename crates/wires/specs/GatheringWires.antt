@@ -1,5 +1,6 @@
 -- A wire that gathers in front of another one: what it is, what it tells and holds, and what its calls do.
-use Rattle.std.specs.Prelude.{◌≡◌, ◌↔◌, ℕ, Bool, true, false, List, []}
+use Rattle.std.specs.Prelude.{◌≡◌, ◌↔◌, ℕ, ◌+◌, ◌<◌, ◌≤◌, Bool, true, false, List, [], length}
+use Rattle.wires.specs.declared.buffers.TheConstants.{BACKLOG, CAUGHT_UP, MOST_LATE}
 use Rattle.wires.specs.declared.counts.Counts.{Counts}
 use Rattle.wires.specs.declared.flushed.Flushed.{Flushed}
 use Rattle.wires.specs.declared.flushed.Flushed.TheVariants.{Failed}
@@ -11,14 +12,15 @@ use Rattle.wires.specs.Flushing.{Flushes}
 use Rattle.wires.specs.Gatherings.{HandsOut, Gathers}
 
 -- the wire below; the bytes that it gave, and that were not handed out yet; those that were taken, and that it did not
--- take yet; the counts; whether it was last told to rest; and whether a write of the wire below failed: from then on each
--- read and write fails, and that wire moves no bytes
+-- take yet; the counts; whether it was last told to rest; how many writes in a row came too late; and whether it is
+-- broken: from then on each read and write fails, and the wire below moves no bytes
 pub record Gathering (W : Type 0) : Type 0 where
   pub below : W
   pub ahead : List ℕ
   pub waiting : List ℕ
   pub counts : Counts
   pub quiet : Bool
+  pub late : ℕ
   pub broken : Bool
 
 -- where the wire below tells so: it gave what that gave, but for what is held ahead, and took what that took, and then
@@ -36,6 +38,9 @@ ahead_of g = g.ahead
 abbrev pub waiting_of : {W : Type 0} → Gathering W → List ℕ
 waiting_of g = g.waiting
 
+abbrev pub late_of : {W : Type 0} → Gathering W → ℕ
+late_of g = g.late
+
 abbrev pub broken_of : {W : Type 0} → Gathering W → Bool
 broken_of g = g.broken
 
@@ -44,16 +49,19 @@ pub record Holding : Type 0 where
   pub below : Told
   pub ahead : List ℕ
   pub waiting : List ℕ
+  pub late : ℕ
   pub broken : Bool
 
 -- where the wire below tells so
 abbrev pub holding : {W : Type 0} → (W → Told) → Gathering W → Holding
-holding tells g = record { below = tells g.below; ahead = g.ahead; waiting = g.waiting; broken = g.broken }
+holding tells g =
+    record { below = tells g.below; ahead = g.ahead; waiting = g.waiting; late = g.late; broken = g.broken }
 
 -- as it is made: it holds nothing, tells of bytes what the wire below tells, and counted nothing
 pub record IsFresh {W : Type 0} (tells : W → Told) (g : Gathering W) : Type 0 where
   pub ahead : ahead_of g ≡ []
   pub waiting : waiting_of g ≡ []
+  pub late : late_of g ≡ 0
   pub broken : broken_of g ≡ false
   pub told : told_gathering tells g ≡ uncounted (tells g.below).gave (tells g.below).took
 
@@ -62,6 +70,7 @@ pub record HoldsSame {W : Type 0} (old new : Gathering W) : Type 0 where
   pub below : below_of new ≡ below_of old
   pub ahead : ahead_of new ≡ ahead_of old
   pub waiting : waiting_of new ≡ waiting_of old
+  pub late : late_of new ≡ late_of old
   pub broken : broken_of new ≡ broken_of old
 
 -- the wire below was told whether to rest
@@ -74,12 +83,26 @@ ReadsGathering old new buf answer =
     HandsOut old.below new.below old.ahead new.ahead buf answer
     × (new ≡ record old { below = new.below; ahead = new.ahead })
 
--- what a write of these bytes with this answer does, where the wire isn't broken: it is, once the wire below has failed
-abbrev pub Writes : Holding → Holding → List ℕ → TryWrite → Type 0
-Writes old new bytes answer =
-    Gathers old.below new.below old.waiting new.waiting bytes answer
-    × ((new.broken ≡ true) ↔ (answer ≡ write.Failed))
-    × (new ≡ record old { below = new.below; waiting = new.waiting; broken = new.broken })
+-- how many writes came too late before and with a write that finds so many bytes waiting: they count from one on that
+-- finds the backlog full, until one finds that the client has caught up
+pub record CountsLate (waits old new : ℕ) : Type 0 where
+  pub caught_up : waits < CAUGHT_UP → new ≡ 0
+  pub begins : waits ≡ BACKLOG → old ≡ 0 → new ≡ 1
+  pub goes_on : CAUGHT_UP ≤ waits → 0 < old → new ≡ old + 1
+  pub never_full : waits < BACKLOG → old ≡ 0 → new ≡ 0
+
+-- a wire is broken before more writes come too late
+abbrev pub MayBeLate : ℕ → Bool → Type 0
+MayBeLate late broken = (late ≤ MOST_LATE) × (broken ≡ false → late < MOST_LATE)
+
+-- what a write of these bytes with this answer does, where the wire isn't broken: it is, once too many came too late, the
+-- wire below has failed, or it took none where there was no room
+pub record Writes (old new : Holding) (bytes : List ℕ) (answer : TryWrite) : Type 0 where
+  pub counts : CountsLate (length old.waiting) old.late new.late
+  pub gathers : new.late < MOST_LATE → Gathers old.below new.below old.waiting new.waiting bytes answer
+  pub gives_up : new.late ≡ MOST_LATE → (answer ≡ write.Failed) × (new.below ≡ old.below) × (new.waiting ≡ old.waiting)
+  pub breaks : (new.broken ≡ true) ↔ (answer ≡ write.Failed)
+  pub ahead : new.ahead ≡ old.ahead
 
 -- what sending all that waits does, where the wire isn't broken: it is, once the wire below has failed
 abbrev pub Sends : Holding → Holding → Type 0

@@ -1,10 +1,10 @@
 -- Bytes held between a session and the wire below: what moving them does to them, and to what that wire tells.
-use Rattle.std.specs.Prelude.{◌≡◌, ℕ, ◌<◌, List, [], ◌++◌, length, take, ⊤}
+use Rattle.std.specs.Prelude.{◌≡◌, ◌⊎◌, ℕ, ◌+◌, ◌-◌, ◌<◌, ◌≤◌, List, [], ◌++◌, length, take, min, ⊤}
 use Rattle.wires.specs.declared.wire.TryRead.{TryRead}
 use Rattle.wires.specs.declared.wire.TryRead.TheVariants as read
 use Rattle.wires.specs.declared.wire.TryWrite.{TryWrite}
 use Rattle.wires.specs.declared.wire.TryWrite.TheVariants as write
-use Rattle.wires.specs.declared.buffers.TheConstants.{GATHERED}
+use Rattle.wires.specs.declared.buffers.TheConstants.{GATHERED, BACKLOG}
 use Rattle.wires.specs.Wires.{Told, grown, ReadTells, WriteTells}
 
 -- what one read of the wire below with this answer tells, where these bytes are held ahead then, and none were before
@@ -31,25 +31,29 @@ SendsSome old new waited waits (write.Put n) =
 SendsSome old new waited waits write.Nothing = (waits ≡ waited) × WriteTells old new [] write.Nothing
 SendsSome old new waited waits write.Failed = (waits ≡ waited) × WriteTells old new [] write.Failed
 
+-- what the write of the wire below in front of another one, which is made just where many waited, tells: that wire took
+-- these bytes, or none
+abbrev pub TakesFirst : Told → Told → List ℕ → List ℕ → Type 0
+TakesFirst old new waited sent =
+    (length waited < GATHERED → (sent ≡ []) × (new ≡ old))
+    × (GATHERED ≤ length waited → ((0 < length sent) × (new ≡ record old { took = grown old.took sent }))
+    ⊎ ((sent ≡ []) × WriteTells old new [] write.Nothing))
+
 -- what a write of these bytes does to the wire below, and to the bytes that waited, now those that wait: that wire took
--- the first of them, and the bytes put wait behind the others; or there was no room, and the answer is as that wire's
+-- the first of them, and the bytes put wait behind the others, all or as many as there is room for; or it failed, or took
+-- none where there was no room
 abbrev pub Gathers : Told → Told → List ℕ → List ℕ → List ℕ → TryWrite → Type 0
 Gathers old new waited waits bytes (write.Put n) =
-    (sent : List ℕ) × (length waited < GATHERED → sent ≡ []) × (sent ++ waits ≡ waited ++ take n bytes)
-    × (new ≡ record old { took = grown old.took sent })
-Gathers old new waited waits bytes write.Nothing =
-    (length waited ≡ GATHERED) × (waits ≡ waited) × WriteTells old new [] write.Nothing
+    (sent : List ℕ) × TakesFirst old new waited sent × (sent ++ waits ≡ waited ++ take n bytes)
+    × (1 ≤ n) × (n ≡ min (BACKLOG + length sent - length waited) (length bytes))
+Gathers old new waited waits bytes write.Nothing = ⊥
 Gathers old new waited waits bytes write.Failed =
-    (length waited ≡ GATHERED) × (waits ≡ waited) × WriteTells old new [] write.Failed
+    (waits ≡ waited) × (((GATHERED ≤ length waited) × WriteTells old new [] write.Failed)
+    ⊎ ((length waited ≡ BACKLOG) × WriteTells old new [] write.Nothing))
 
--- what holds of the number of bytes that were read, or put
+-- what holds of the number of bytes that were read
 abbrev pub IfGot : TryRead → (ℕ → Type 0) → Type 0
 IfGot (read.Got n) P = P n
 IfGot read.Nothing P = ⊤
 IfGot read.End P = ⊤
 IfGot read.Failed P = ⊤
-
-abbrev pub IfPut : TryWrite → (ℕ → Type 0) → Type 0
-IfPut (write.Put n) P = P n
-IfPut write.Nothing P = ⊤
-IfPut write.Failed P = ⊤

@@ -2,7 +2,7 @@
 //! all its memory as it is made.
 ghost use Rattle.std.specs.Prelude.{◌≡◌, ◌≤◌, ◌-◌, ◌<◌, ◌↔◌, [], ◌++◌, length, take, drop, min, IfOk, IsTrue};
 ghost use Rattle.wires.specs.Flushing.{Flushes};
-ghost use Rattle.wires.specs.Gatherings.{ReadsAhead, HandsOut, SendsSome, Gathers, IfGot, IfPut};
+ghost use Rattle.wires.specs.Gatherings.{ReadsAhead, HandsOut, SendsSome, Gathers, IfGot};
 
 use crate::flushed::Flushed;
 use crate::wire::{TryRead, TryWrite, Wire};
@@ -12,8 +12,17 @@ use std::marker::Model;
 /// At most so many bytes are read ahead.
 pub const AHEAD: usize = 16_384;
 
-/// At most so many bytes wait to be sent.
+/// Where at least so many bytes wait, a write first lets the wire below take some.
 pub const GATHERED: usize = 65_536;
+
+/// At most so many bytes wait to be sent.
+pub const BACKLOG: usize = 16_777_216;
+
+/// Where fewer bytes wait, a client whose bytes filled the backlog has caught up.
+pub const CAUGHT_UP: usize = 8_388_608;
+
+/// Within so many writes it has to.
+pub const MOST_LATE: u32 = 100_000;
 
 /// Bytes that were read, and are not yet handed out. Contracts see them in order.
 #[derive(Drop)]
@@ -93,21 +102,24 @@ impl ReadAhead {
     }
 }
 
-/// Bytes that wait to be sent. Contracts see them in order.
+/// Bytes that wait to be sent. Contracts see them in order. There is room for twice as many as may wait: those that were
+/// sent stay in front of them until they are as many, so that no more bytes are moved than were sent.
 #[derive(Drop)]
 pub struct Waiting {
     bytes: Vec<u8>,
+    from: usize,
 }
 
 impl Model for Waiting {
-    ghost use Rattle.std.specs.Prelude.{ℕ, List, ◌≤◌, length, vec_capacity};
-    ghost use Rattle.wires.specs.declared.buffers.TheConstants.{GATHERED};
+    ghost use Rattle.std.specs.Prelude.{ℕ, List, ◌+◌, ◌-◌, ◌*◌, ◌≤◌, drop, length, vec_capacity};
+    ghost use Rattle.wires.specs.declared.buffers.TheConstants.{BACKLOG};
 
     ghost Value = { List ℕ };
 
-    ghost view = { λ w. w.bytes.items };
+    ghost view = { λ w. drop w.from w.bytes.items };
 
-    ghost invariant = { λ w. (length w.bytes.items ≤ GATHERED) × (GATHERED ≤ vec_capacity w.bytes) };
+    ghost invariant = { λ w. (w.from + w.from ≤ length w.bytes.items) × (length w.bytes.items ≤ w.from + BACKLOG)
+        × (2 * BACKLOG ≤ vec_capacity w.bytes) };
 }
 
 impl Waiting {
@@ -116,42 +128,44 @@ impl Waiting {
         ensures { IfOk result (λ waiting. waiting ≡ []) }
     {
         Ok(Waiting {
-            bytes: Vec::with_capacity(alloc, GATHERED)?,
+            bytes: Vec::with_capacity(alloc, 2 * BACKLOG)?,
+            from: 0,
         })
     }
 
     pub fn is_empty(&self) -> bool
         ensures { IsTrue result ↔ (self.now ≡ []) }
     {
-        self.bytes.is_empty()
+        self.len() == 0
     }
 
-    pub fn is_full(&self) -> bool
-        ensures full { IsTrue result ↔ (length self.now ≡ GATHERED) }
-        ensures within { length self.now ≤ GATHERED }
+    /// How many wait.
+    pub fn len(&self) -> usize
+        ensures len { result ≡ length self.now }
+        ensures within { result ≤ BACKLOG }
     {
-        self.bytes.len() == GATHERED
+        self.bytes.len() - self.from
     }
 
     pub fn as_slice(&self) -> &[u8]
         ensures { result.now ≡ self.now }
     {
-        self.bytes.as_slice()
+        &self.bytes[self.from..]
     }
 
-    /// Writes some of the first of these bytes, which aren't none: they wait too. Only where there is no room the wire
-    /// is to take some that wait, by one write.
+    /// Writes some of the first of these bytes, which aren't none: they wait too, as far as there is room. Where many
+    /// wait the wire is first to take some, by one write; it fails where that does, and where no room is left then.
     pub fn write<W: Wire>(&mut self, wire: &mut W, bytes: &[u8]) -> TryWrite
         requires { 0 < length bytes.now }
         ensures gathers { Gathers (W.tells wire.old) (W.tells wire.new) self.old self.new bytes.now result }
-        ensures count { IfPut result (λ n. (1 ≤ n) × (n ≤ length bytes.now)) }
         ensures room { length self.old < GATHERED → wire.new ≡ wire.old }
     {
-        if self.is_full() {
-            let answer = self.send_some(wire);
-            if !matches!(answer, TryWrite::Put(_)) {
-                return answer;
-            }
+        let many = self.len() >= GATHERED;
+        if many && self.send_some(wire) == TryWrite::Failed {
+            return TryWrite::Failed;
+        }
+        if self.len() == BACKLOG {
+            return TryWrite::Failed;
         }
         TryWrite::Put(self.put(bytes))
     }
@@ -184,23 +198,25 @@ impl Waiting {
 
     /// Lets the first of these bytes wait too, as many as there is room for, and says how many.
     pub fn put(&mut self, bytes: &[u8]) -> usize
-        ensures count { result ≡ min (GATHERED - length self.old) (length bytes.now) }
+        ensures count { result ≡ min (BACKLOG - length self.old) (length bytes.now) }
         ensures puts { self.new ≡ self.old ++ take result bytes.now }
     {
-        let count = (GATHERED - self.bytes.len()).min(bytes.len());
+        let count = (BACKLOG - self.len()).min(bytes.len());
         self.bytes.extend_from_slice(&bytes[..count]).unwrap();
         count
     }
 
-    /// So many of the first bytes wait no more.
-    pub fn skip(&mut self, count: usize)
-        requires { count ≤ length self.old }
-        ensures { self.new ≡ drop count self.old }
+    /// So many of the first bytes were sent: they wait no more.
+    pub fn skip(&mut self, sent: usize)
+        requires { sent ≤ length self.old }
+        ensures { self.new ≡ drop sent self.old }
     {
-        if count == self.bytes.len() {
-            self.bytes.clear();
-        } else {
-            self.bytes.drain(..count);
+        self.from += sent;
+        let waits = self.bytes.len() - self.from;
+        if waits <= self.from {
+            self.bytes.copy_within(self.from.., 0);
+            self.bytes.truncate(waits);
+            self.from = 0;
         }
     }
 }

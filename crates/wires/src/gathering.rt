@@ -1,12 +1,12 @@
-//! A wire that gathers: it reads ahead of the session, and what is written waits until it is sent together. It stands
-//! in front of a wire that never waits, as that of a client that came over TCP.
+//! A wire that gathers: it reads ahead of the session, and what is written waits until it is sent together, or until a
+//! slow client takes it. It stands in front of a wire that never waits, as that of a client that came over TCP.
 ghost use Rattle.std.specs.Prelude.{◌≡◌, ◌<◌, ◌↔◌, ◌⊎◌, [], true, false, length, IfOk, IfErr, IsTrue};
 ghost use Rattle.wires.specs.Wires.{ReadTells, WriteTells, counts_of};
-ghost use Rattle.wires.specs.GatheringWires.{told_gathering, below_of, ahead_of, waiting_of, broken_of, IsFresh, HoldsSame};
-ghost use Rattle.wires.specs.GatheringWires.{holding, rested, ReadsGathering, Writes, Sends};
-ghost use Rattle.wires.specs.declared.buffers.TheConstants.{GATHERED};
+ghost use Rattle.wires.specs.GatheringWires.{told_gathering, below_of, ahead_of, waiting_of, late_of, broken_of, IsFresh, HoldsSame};
+ghost use Rattle.wires.specs.GatheringWires.{holding, rested, ReadsGathering, CountsLate, Writes, Sends};
+ghost use Rattle.wires.specs.declared.buffers.TheConstants.{GATHERED, BACKLOG, MOST_LATE};
 
-use crate::buffers::{ReadAhead, Waiting};
+use crate::buffers::{BACKLOG, CAUGHT_UP, MOST_LATE, ReadAhead, Waiting};
 use crate::client::ClientWire;
 use crate::counts::Counts;
 use crate::flushed::Flushed;
@@ -16,10 +16,11 @@ use std::marker::Model;
 
 /// A wire in front of another one. A read hands out what was read ahead, and the wire below is read only where that is
 /// nothing. What is written waits: it is sent by `flush`, by `rest` where it is told to rest, and, as far as one write
-/// of the wire below takes it, by a write that finds no room. Once a write of the wire below has failed, this one is
-/// broken: each later read and write fails. Bytes that wait as it is dropped are lost. It tells the
-/// bytes that the wire below tells: those that it handed out of what that gave, and those that went out or wait. Contracts
-/// see a `Gathering`.
+/// of the wire below takes it, by a write that finds many bytes waiting. So a write never answers `Nothing`. Once a write
+/// of the wire below has failed, this one is broken: each later read and write fails. So it is once a write finds all
+/// room taken of which the wire below takes none, and where, once that was so full, too many writes in a row find that
+/// its client hasn't caught up, or once its client is given up. Bytes that wait as it is dropped are lost. It tells the bytes that the wire below tells:
+/// those that it handed out of what that gave, and those that went out or wait. Contracts see a `Gathering`.
 #[derive(Drop)]
 pub struct GatheringWire<W: Wire + Drop> {
     below: W,
@@ -27,12 +28,13 @@ pub struct GatheringWire<W: Wire + Drop> {
     waiting: Waiting,
     counts: Counts,
     quiet: bool,
+    late: u32,
     broken: bool,
 }
 
 impl<W: Wire + Drop> Model for GatheringWire<W> {
     ghost use Rattle.wires.specs.Wires.{AreLast};
-    ghost use Rattle.wires.specs.GatheringWires.{Gathering};
+    ghost use Rattle.wires.specs.GatheringWires.{Gathering, MayBeLate};
 
     ghost Value = { Gathering W };
 
@@ -42,10 +44,11 @@ impl<W: Wire + Drop> Model for GatheringWire<W> {
       waiting = g.waiting;
       counts = g.counts;
       quiet = g.quiet;
+      late = g.late;
       broken = g.broken;
     } };
 
-    ghost invariant = { λ g. AreLast (W.tells g.below).gave g.ahead };
+    ghost invariant = { λ g. AreLast (W.tells g.below).gave g.ahead × MayBeLate g.late g.broken };
 }
 
 impl<W: Wire + Drop> GatheringWire<W> {
@@ -64,6 +67,7 @@ impl<W: Wire + Drop> GatheringWire<W> {
             waiting,
             counts: Counts::new(),
             quiet: true,
+            late: 0,
             broken: false,
         })
     }
@@ -75,17 +79,36 @@ impl<W: Wire + Drop> GatheringWire<W> {
         &self.below
     }
 
-    /// Sends what waits, as far as the wire below takes it, and says whether nothing waits any more.
+    /// Counts a write that comes before the client has caught up since its bytes filled the backlog. Once there were too
+    /// many the wire is broken; says whether it is.
+    fn is_too_late(&mut self) -> bool
+        requires { broken_of self.old ≡ false }
+        ensures counts { CountsLate (length (waiting_of self.old)) (late_of self.old) (late_of self.new) }
+        ensures breaks { (IsTrue result ↔ late_of self.new ≡ MOST_LATE) × (result ≡ broken_of self.new) }
+        ensures others { self.new ≡ record self.old { late = late_of self.new; broken = broken_of self.new } }
+    {
+        let waits = self.waiting.len();
+        if waits < CAUGHT_UP {
+            self.late = 0;
+        } else if self.late > 0 || waits == BACKLOG {
+            self.late += 1;
+        }
+        self.broken = self.late == MOST_LATE;
+        self.broken
+    }
+
+    /// Sends what waits, as far as the wire below takes it, and says whether it sends nothing more: nothing waits, or it
+    /// is broken.
     fn send_waiting(&mut self) -> bool
         ensures told { told_gathering W.tells self.new ≡ told_gathering W.tells self.old }
         ensures sends { broken_of self.old ≡ false → Sends (holding W.tells self.old) (holding W.tells self.new) }
-        ensures all { IsTrue result ↔ (waiting_of self.new ≡ []) }
+        ensures all { IsTrue result ↔ (waiting_of self.new ≡ []) ⊎ (broken_of self.new ≡ true) }
         ensures broken { broken_of self.old ≡ true → self.new ≡ self.old }
     {
         if !self.broken {
             self.broken = self.waiting.send(&mut self.below) == Flushed::Failed;
         }
-        self.waiting.is_empty()
+        self.broken || self.waiting.is_empty()
     }
 }
 
@@ -117,7 +140,7 @@ impl<W: Wire + Drop> Wire for GatheringWire<W> {
         ensures room { length (waiting_of self.old) < GATHERED → below_of self.new ≡ below_of self.old }
         ensures fails { broken_of self.old ≡ true → (result ≡ TryWrite.Failed) × HoldsSame self.old self.new }
     {
-        let answer = if self.broken {
+        let answer = if self.broken || self.is_too_late() {
             TryWrite::Failed
         } else {
             self.waiting.write(&mut self.below, bytes)
@@ -152,7 +175,7 @@ impl<W: ClientWire + Drop> ClientWire for GatheringWire<W> {
     fn flush(&mut self) -> bool
         ensures told { told_gathering W.tells self.new ≡ told_gathering W.tells self.old }
         ensures sends { broken_of self.old ≡ false → Sends (holding W.tells self.old) (holding W.tells self.new) }
-        ensures all { IsTrue result ↔ (waiting_of self.new ≡ []) }
+        ensures all { IsTrue result ↔ (waiting_of self.new ≡ []) ⊎ (broken_of self.new ≡ true) }
         ensures broken { broken_of self.old ≡ true → self.new ≡ self.old }
     {
         self.send_waiting()
@@ -163,5 +186,12 @@ impl<W: ClientWire + Drop> ClientWire for GatheringWire<W> {
         ensures holds { holding W.tells self.new ≡ holding W.tells self.old }
     {
         self.below.shut();
+    }
+
+    fn give_up(&mut self)
+        ensures told { told_gathering W.tells self.new ≡ told_gathering W.tells self.old }
+        ensures broken { broken_of self.new ≡ true }
+    {
+        self.broken = true;
     }
 }

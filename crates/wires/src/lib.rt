@@ -19,6 +19,7 @@ mod stream;
 mod stream_wire;
 mod tcp;
 mod tcp_port;
+mod vanishing;
 mod wire;
 
 pub use client::ClientWire;

@@ -163,4 +163,9 @@ impl ClientWire for MemWire {
     {
         self.stream.shut();
     }
+
+    /// It stays as it is.
+    fn give_up(&mut self)
+        ensures { self.new ≡ self.old }
+    {}
 }

@@ -1,11 +1,12 @@
 //! A port in memory, for tests: its clients are known before, and their wires are kept when they have left.
-ghost use Rattle.std.specs.Prelude.{◌≡◌, ◌++◌, ◌∷◌, [], true, false, IfOk, IfErr};
+ghost use Rattle.std.specs.Prelude.{◌≡◌, ◌↔◌, ◌++◌, ◌∷◌, [], true, false, None, IfOk, IfErr, IfNone};
 ghost use Rattle.std.specs.List.{AllByRecursion};
 ghost use Rattle.wires.specs.Ports.{LetsIn, LetsMemoryIn, SeesLeave, IsUnmoved, told_register};
 ghost use Rattle.wires.specs.MemWires.{told_memory};
 
 use crate::mem::MemWire;
 use crate::port::Port;
+use mio::Registry;
 use std::alloc::{AllocError, Global};
 use std::marker::Model;
 
@@ -71,6 +72,8 @@ impl Port for MemPort {
 
     ghost tells = { told_register };
 
+    ghost looked = { λ x y. LetsMemoryIn x y None };
+
     fn number(&self) -> u16 {
         self.number
     }
@@ -83,9 +86,14 @@ impl Port for MemPort {
         true
     }
 
+    fn watch(&mut self, _registry: &Registry)
+        ensures { self.new ≡ self.old }
+    {}
+
     fn accept(&mut self, _alloc: Global) -> Option<MemWire>
         requires one { self.old.out ≡ false }
         ensures tells { LetsIn told_memory (told_register self.old) (told_register self.new) result }
+        ensures looked { IfNone result (LetsMemoryIn self.old self.new None) }
         ensures lets_in { LetsMemoryIn self.old self.new result }
     {
         if !self.is_open {
@@ -95,6 +103,13 @@ impl Port for MemPort {
         self.came += 1;
         self.out = true;
         Some(wire)
+    }
+
+    fn is_wanted(&mut self) -> bool
+        ensures tells { self.new ≡ self.old }
+        ensures wanted { result ≡ false ↔ LetsMemoryIn self.old self.new None }
+    {
+        self.is_open && !self.coming.is_empty()
     }
 
     fn take_back(&mut self, wire: MemWire)

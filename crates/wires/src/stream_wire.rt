@@ -102,4 +102,9 @@ impl<S: Stream + Drop> ClientWire for StreamWire<S> {
     fn shut(&mut self) {
         self.stream.shut();
     }
+
+    /// It stays as it is: who gathers in front of it lets go.
+    fn give_up(&mut self)
+        ensures { self.new ≡ self.old }
+    {}
 }

@@ -7,6 +7,7 @@ ghost use Rattle.wires.specs.StreamWires.{stream_of};
 use crate::gathering::GatheringWire;
 use crate::stream::Stream;
 use crate::stream_wire::StreamWire;
+use crate::vanishing::end_if_it_vanishes;
 use crate::wire::Wire;
 use std::alloc::{AllocFailed, Global};
 use std::io;
@@ -29,13 +30,14 @@ pub fn wire_over<S: Stream + Drop>(
     GatheringWire::new(alloc, StreamWire::new(stream))
 }
 
-/// The wire over a stream that was accepted: from now on that never waits, and sends at once what it is given. It is
-/// closed where it can't be set so, or there is no memory.
+/// The wire over a stream that was accepted: from now on that never waits, sends at once what it is given, and ends where the
+/// client's machine has vanished. It is closed where it can't be set so, or there is no memory.
 pub fn tcp_wire(alloc: Global, stream: TcpStream) -> io::Result<TcpWire>
     ensures fresh { IfOk result (IsFresh ⟦<StreamWire<TcpStream> as Wire>⟧.tells) }
     ensures stream { IfOk result (λ wire. stream_of (below_of wire) ≡ stream) }
 {
     stream.set_nonblocking(true)?;
     stream.set_nodelay(true)?;
+    end_if_it_vanishes(&stream)?;
     Ok(wire_over(alloc, stream)?)
 }

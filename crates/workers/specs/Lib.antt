@@ -1,5 +1,6 @@
 pub mod Counted
 pub mod Resting
+pub mod Waking
 pub mod Working
 pub mod Polling
 pub mod Running

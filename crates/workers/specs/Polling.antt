@@ -3,14 +3,14 @@ use Rattle.std.specs.Prelude.{◌≡◌}
 use Rattle.stages.specs.declared.turn.Turn.{Turn}
 use Rattle.stages.specs.declared.turn.Turn.TheVariants as turn
 use Rattle.workers.specs.declared.worker.Outcome.{Outcome}
-use Rattle.workers.specs.declared.worker.Outcome.TheVariants.{Worked, Idle, Over}
+use Rattle.workers.specs.declared.worker.Outcome.TheVariants.{Worked, Idle, Pressed, Over}
 
--- What a poll came to for its thread: where the output ring has no room it can only wait, and where the journal failed
--- there is no more to do.
+-- What a poll came to for its thread: where the output ring has no room it is to look again soon, and where the journal
+-- failed there is no more to do.
 abbrev pub outcome_of : Turn → Outcome
 outcome_of (turn.Did count) = Worked
 outcome_of turn.Idle = Idle
-outcome_of turn.OutFull = Idle
+outcome_of turn.OutFull = Pressed
 outcome_of turn.JournalFailed = Over
 
 -- a poll, which came to this for its thread

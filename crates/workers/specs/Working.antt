@@ -1,5 +1,5 @@
 -- The turns of a worker, with the rests of its thread between them, and why they ended.
-use Rattle.std.specs.Prelude.{◌≡◌, ℕ, zero, suc, ◌-◌, ◌^◌, true}
+use Rattle.std.specs.Prelude.{◌≡◌, ℕ, zero, suc, ◌-◌, ◌^◌, Bool, true}
 use Rattle.workers.specs.declared.worker.Outcome.{Outcome}
 use Rattle.workers.specs.declared.worker.Outcome.TheVariants.{Over}
 use Rattle.workers.specs.declared.worker.Ended.{Ended}
@@ -32,6 +32,6 @@ thread worker rest = record { worker = worker; rest = rest }
 
 -- a turn, and the rest that it asks for
 pub record TurnAndRest {W P : Type 0} (took : Outcome → W → W → Type 0) (paused : Pause → P → P → Type 0)
-    (outcome : Outcome) (old new : Thread W P) : Type 0 where
+    (parked : ℕ → Bool → P → P → Type 0) (outcome : Outcome) (old new : Thread W P) : Type 0 where
   pub takes : took outcome old.worker new.worker
-  pub rests : ThreadRests paused outcome old.rest new.rest
+  pub rests : ThreadRests paused parked outcome old.rest new.rest

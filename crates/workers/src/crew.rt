@@ -9,6 +9,7 @@ ghost use Rattle.workers.specs.Running.{UnmarshallerWorks, JournallerWorks, Proc
 ghost use denote.Param.Send.{IsSend, IsSync};
 
 use crate::gate::{Gate, Station};
+use crate::parking::Parks;
 use crate::signals::Signalling;
 use crate::station::staff;
 use crate::worker::Ended;
@@ -22,7 +23,7 @@ use std::thread::{Threads, join};
 /// Lets two stages work at their stations, each on a thread of its own, until the signals say stop, and says why each
 /// took no more polls.
 fn side_by_side<
-    T: Threads + Clock + Sync,
+    T: Threads + Clock + Parks + Sync,
     Q: Gate + Sync,
     R: Sync,
     A: Stage<R> + Drop + Send,
@@ -63,7 +64,7 @@ fn side_by_side<
 /// Lets the stages work, each on a thread of its own, until the signals say stop or the journal fails. Then the
 /// signals say stop.
 pub(crate) fn run_stages<
-    R: Threads + Clock + Sync,
+    R: Threads + Clock + Parks + Sync,
     Q: Gate + Sync,
     D: JournalDisk + Drop + Send,
     S: Signalling + Sync,

@@ -5,14 +5,18 @@
 mod counted;
 mod crew;
 mod gate;
+mod parking;
 mod rest;
 mod signals;
+mod sleeper;
 mod station;
 mod threads;
+mod waking;
 mod worker;
 
 pub use counted::CountedPauses;
 pub use gate::{Gate, NoGate, Station};
+pub use parking::{Parking, Parks};
 pub use rest::{Machine, Pause, Pauses, Rest};
 pub use signals::{Signalling, Signals};
 pub use threads::run;

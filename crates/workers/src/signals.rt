@@ -1,6 +1,12 @@
-//! What the threads of a venue tell each other beside the rings: that all of them have begun, and that all are to end.
-ghost use Rattle.std.specs.Prelude.{◌≡◌, true, false};
+//! What the threads of a venue tell each other beside the rings: that all of them have begun, that one rests and is to be woken, and that
+//! all are to end.
+ghost use Rattle.std.specs.Prelude.{◌≡◌, ◌<◌, true, false};
+ghost use Rattle.workers.specs.declared.waking.TheConstants.{PLACES};
 
+use crate::gate::Station;
+use crate::waking::{PLACES, own, place, wakes};
+use mio::Waker;
+use std::sync::OnceLock;
 use std::sync::atomic::{AtomicBool, AtomicU64, Ordering};
 
 /// What workers and their watch tell each other. Code over any signals knows these facts of its calls alone.
@@ -17,8 +23,8 @@ pub trait Signalling {
     /// That it was asked whether all workers are to end, and answered that they are.
     ghost told: { Self → Type 0 };
 
-    /// A worker has begun.
-    fn begin(&self);
+    /// This worker has begun, and its thread is woken so, if it can be.
+    fn begin(&self, worker: Station, waker: Option<Waker>);
 
     /// Whether all workers have begun. A worker for which the system makes no thread begins only when another has
     /// ended.
@@ -26,7 +32,13 @@ pub trait Signalling {
         ensures begun { result ≡ true → begun self.now }
         ensures awaited { result ≡ false → awaited self.now };
 
-    /// Tells all workers to end behind their turns.
+    /// This worker rests from now on: it is to be woken where there may be work for it.
+    fn announce(&self, worker: Station);
+
+    /// This worker did something, and rests no more: those that rest and may have work by that are woken.
+    fn rouse(&self, worker: Station);
+
+    /// Tells all workers to end behind their turns. Those that rest are woken.
     fn stop(&self)
         ensures { stopped self.now };
 
@@ -35,13 +47,18 @@ pub trait Signalling {
         ensures { result ≡ true → told self.now };
 }
 
-/// The two signals of a program. They are atomics, of which no clause says what they hold: that a stop which was said
-/// stays said, the code shows, since nothing stores anything else there.
+/// The signals of a program. They are atomics, of which no clause says what they hold: that a stop which was said
+/// stays said, the code shows, since nothing stores anything else there. It shows, too, that no wake-up is missed: all
+/// words here and in the rings have one order, so of a worker that sets its bit and then looks at the rings once more,
+/// and one that did something there and then looks at the bits, one sees what the other did.
 #[derive(Drop)]
 pub struct Signals {
     workers: u64,
     begun: AtomicU64,
     stop: AtomicBool,
+    /// A bit for each worker that rests.
+    asleep: AtomicU64,
+    wakers: [OnceLock<Waker>; PLACES],
 }
 
 impl Signals {
@@ -51,6 +68,32 @@ impl Signals {
             workers,
             begun: AtomicU64::new(0),
             stop: AtomicBool::new(false),
+            asleep: AtomicU64::new(0),
+            wakers: [
+                OnceLock::new(),
+                OnceLock::new(),
+                OnceLock::new(),
+                OnceLock::new(),
+                OnceLock::new(),
+                OnceLock::new(),
+                OnceLock::new(),
+                OnceLock::new(),
+                OnceLock::new(),
+                OnceLock::new(),
+                OnceLock::new(),
+                OnceLock::new(),
+            ],
+        }
+    }
+
+    /// This worker has begun, and its thread is woken so, if it can be. The last one wakes the others, which wait for it.
+    pub fn begin(&self, worker: Station, waker: Option<Waker>) {
+        if let Some(waker) = waker {
+            let _ = self.wakers[place(worker)].try_set(waker);
+        }
+        self.begun.fetch_add(1, Ordering::SeqCst);
+        if self.have_all_begun() {
+            self.wake(u64::MAX);
         }
     }
 
@@ -60,9 +103,46 @@ impl Signals {
         self.begun.load(Ordering::SeqCst) >= self.workers
     }
 
-    /// Tells all workers to end behind their turns.
+    /// This worker rests from now on: it is to be woken where there may be work for it.
+    pub fn announce(&self, worker: Station) {
+        self.asleep.fetch_or(own(worker), Ordering::SeqCst);
+    }
+
+    /// This worker did something, and rests no more: those that rest and may have work by that are woken. Where none does
+    /// this is one load.
+    pub fn rouse(&self, worker: Station) {
+        let resting = self.asleep.load(Ordering::SeqCst);
+        if resting & own(worker) != 0 {
+            self.asleep.fetch_and(!own(worker), Ordering::SeqCst);
+        }
+        if resting & wakes(worker) != 0 {
+            self.wake(wakes(worker));
+        }
+    }
+
+    /// Wakes those of these that rest, each of them once: who clears its bit wakes it.
+    fn wake(&self, them: u64) {
+        let rested = self.asleep.fetch_and(!them, Ordering::SeqCst) & them;
+        for at in 0..PLACES {
+            if rested & 1 << at != 0 {
+                self.wake_at(at);
+            }
+        }
+    }
+
+    /// Wakes the thread of the worker that has this place, if it can be. One that can't wakes by itself soon.
+    fn wake_at(&self, at: usize)
+        requires { at < PLACES }
+    {
+        if let Some(waker) = self.wakers[at].get() {
+            let _ = waker.wake();
+        }
+    }
+
+    /// Tells all workers to end behind their turns. Those that rest are woken.
     pub fn stop(&self) {
         self.stop.store(true, Ordering::SeqCst);
+        self.wake(u64::MAX);
     }
 
     /// Whether all workers are to end.
@@ -80,12 +160,20 @@ impl Signalling for Signals {
 
     ghost told = { λ signals. Unit {0} };
 
-    fn begin(&self) {
-        self.begun.fetch_add(1, Ordering::SeqCst);
+    fn begin(&self, worker: Station, waker: Option<Waker>) {
+        self.begin(worker, waker);
     }
 
     fn have_all_begun(&self) -> bool {
         self.have_all_begun()
+    }
+
+    fn announce(&self, worker: Station) {
+        self.announce(worker);
+    }
+
+    fn rouse(&self, worker: Station) {
+        self.rouse(worker);
     }
 
     fn stop(&self) {

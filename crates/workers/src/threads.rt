@@ -8,6 +8,7 @@ ghost use denote.Param.Send.{IsSend, IsSync};
 
 use crate::crew::run_stages;
 use crate::gate::Gate;
+use crate::parking::Parks;
 use crate::signals::Signalling;
 use book::BookLogic;
 use journal::JournalDisk;
@@ -21,7 +22,7 @@ use std::thread::{Threads, join};
 /// which they do once the others are over, once the journal has failed, or when the caller's own code says so: else
 /// only behind 2^64 - 1 polls. No clause says that a run ends.
 pub fn run<
-    R: Threads + Clock + Sync,
+    R: Threads + Clock + Parks + Sync,
     Q: Gate + Sync,
     D: JournalDisk + Drop + Send,
     F: FnOnce() -> X,

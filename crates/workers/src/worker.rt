@@ -4,17 +4,24 @@ ghost use Rattle.std.specs.Prelude.{◌≡◌};
 ghost use Rattle.workers.specs.Working.{Ends, TurnAndRest, thread};
 
 use crate::gate::{Gate, Station};
-use crate::rest::{Machine, Pauses, Rest};
+use crate::parking::Parking;
+use crate::rest::{Pauses, Rest};
 use crate::signals::Signalling;
+use crate::sleeper::Sleeper;
+use mio::Waker;
 use std::rt::Clock;
 
 /// What one turn of a worker came to.
 #[derive(Clone, Copy, Debug, PartialEq, Eq)]
 pub enum Outcome {
-    /// It did something.
+    /// It did something, by which others may have work.
     Worked,
+    /// It did something, by which nobody else has more to do.
+    Moved,
     /// There was nothing to do.
     Idle,
+    /// There was nothing to do, and it is to look again soon: nobody wakes it for what it waits for.
+    Pressed,
     /// It has ended: no turn does anything more.
     Over,
 }
@@ -73,7 +80,7 @@ fn work_on<P: Pauses, Q: Gate, W: Worker, S: Signalling>(
     signals: &S,
 ) -> Ended
     ensures goes { W.goes worker.old worker.new }
-    ensures ends { Ends (TurnAndRest W.took P.paused) (S.told signals.now) result
+    ensures ends { Ends (TurnAndRest W.took P.paused P.parked) (S.told signals.now) result
         (thread worker.old rest.old) (thread worker.new rest.new) }
 {
     for turns in 0..u64::MAX {
@@ -88,18 +95,19 @@ fn work_on<P: Pauses, Q: Gate, W: Worker, S: Signalling>(
     Ended::TookAll
 }
 
-/// Lets the worker of this station take turns until it is over or the signals say stop, and says why it took no more.
+/// Lets the worker of this station take turns until it is over or the signals say stop, and says why it took no more. Where its thread has a
+/// place to rest, it is woken there; else it sleeps for short.
 pub fn work<C: Clock, Q: Gate, W: Worker, S: Signalling>(
     clock: &C,
     gate: &Q,
     station: Station,
     worker: &mut W,
+    parking: Option<(Parking, Waker)>,
     signals: &S,
 ) -> Ended
     ensures goes { W.goes worker.old worker.new }
     ensures ends { Ends W.took (S.told signals.now) result worker.old worker.new }
 {
-    signals.begin();
-    let mut rest = Rest::new(Machine::new(clock));
+    let mut rest = Rest::new(Sleeper::of(clock, signals, station, parking));
     work_on(&mut rest, gate, station, worker, signals)
 }

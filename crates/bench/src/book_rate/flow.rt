@@ -102,16 +102,23 @@ impl Flow {
     pub fn next(&mut self, turn: u32) -> Result<Asked, Fault> {
         let place = self.chance() % u64::from(self.wanted.max(1));
         let kind = self.chance() % 100;
-        match self.known.get(place as usize) {
-            Some(Some(order)) if turn >= self.wanted && kind < 25 => Ok(cancel(turn, place, order)),
-            Some(Some(order)) if turn >= self.wanted && kind < 40 => {
-                let order = *order;
+        if turn < self.wanted {
+            return self.next_new(turn);
+        }
+        match self.known_at(place) {
+            Some(order) if kind < 25 => Ok(cancel(turn, place, &order)),
+            Some(order) if kind < 40 => {
                 let price = resting_price(order.side, self.chance());
                 Ok(replace(turn, place, &order, price))
             }
-            _ if turn >= self.wanted && kind >= 95 && self.asks_market => self.next_market(turn),
+            _ if kind >= 95 && self.asks_market => self.next_market(turn),
             _ => self.next_new(turn),
         }
+    }
+
+    /// The order that rests at this place, if there is one.
+    fn known_at(&self, place: u64) -> Option<Order> {
+        *self.known.get(place as usize)?
     }
 
     /// A new order: it rests where fewer rest than are wanted, else it trades at once.

@@ -11,16 +11,14 @@ use venue_model::{Entry, LONGEST_MESSAGE};
 /// cancel of the order before it.
 fn fields_of(alloc: Global, gateway: u8, place: u64) -> Result<String, AllocError> {
     let (name, number) = (place.saturating_add(1), place.saturating_add(2));
-    let head = format!(in alloc;
-        "49=C{gateway}\x0156=VENUE\x0134={number}\x0152=20250102-09:30:00\x01"
-    )?;
-    let deal = format!(in alloc;
-        "11={name}\x0155=ABC\x0154=1\x0160=20250102-09:30:00\x0138=1\x01"
-    )?;
     if place % 2 == 0 {
-        format!(in alloc; "35=D\x01{head}{deal}40=2\x0144=50\x01")
+        format!(in alloc;
+            "35=D\x0149=C{gateway}\x0156=VENUE\x0134={number}\x0152=20250102-09:30:00\x0111={name}\x0155=ABC\x0154=1\x0160=20250102-09:30:00\x0138=1\x0140=2\x0144=50\x01"
+        )
     } else {
-        format!(in alloc; "35=F\x01{head}41={place}\x01{deal}")
+        format!(in alloc;
+            "35=F\x0149=C{gateway}\x0156=VENUE\x0134={number}\x0152=20250102-09:30:00\x0141={place}\x0111={name}\x0155=ABC\x0154=1\x0160=20250102-09:30:00\x0138=1\x01"
+        )
     }
 }
 

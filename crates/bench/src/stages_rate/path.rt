@@ -17,7 +17,7 @@ use std::rt::Clock;
 use std::thread::{Threads, join};
 use std::time::{Duration, Instant};
 use venue_model::Limits;
-use workers::{NoGate, Outcome, Signals, Station, Worker, run, work};
+use workers::{NoGate, Outcome, Parks, Signals, Station, Worker, run, work};
 
 /// Gateways with their messages, the last one first, and the stages.
 #[derive(Drop)]
@@ -100,18 +100,18 @@ fn gateways<'a, const G: usize>(
 }
 
 /// Lets the gateway work until it is over, and looks whether it has what is due to it.
-fn trade<C: Clock, const G: usize>(
-    clock: &C,
+fn trade<R: Clock + Parks, const G: usize>(
+    rt: &R,
     mut gateway: Gateway<'_, G>,
     signals: &Signals,
 ) -> Result<(), Fault> {
     let station = Station::Gateway(gateway.number());
-    work(clock, &NoGate, station, &mut gateway, signals);
+    work(rt, &NoGate, station, &mut gateway, rt.parking(), signals);
     gateway.check()
 }
 
 /// Lets each gateway do that on a thread of its own.
-fn serve<R: Threads + Clock + Sync, const G: usize>(
+fn serve<R: Threads + Clock + Parks + Sync, const G: usize>(
     rt: &R,
     mut gateways: Vec<Gateway<'_, G>>,
     signals: &Signals,
@@ -151,7 +151,7 @@ fn turn_at<const G: usize>(gateways: &mut [Gateway<'_, G>], place: usize) -> boo
 fn turn_all<const G: usize>(gateways: &mut [Gateway<'_, G>]) -> bool {
     let mut all = true;
     for gateway in gateways.iter_mut() {
-        all = all && matches!(gateway.turn(), Outcome::Worked);
+        all = all && matches!(gateway.turn(), Outcome::Moved);
     }
     all
 }
@@ -180,14 +180,17 @@ impl<'a, const G: usize> Path<'a, G> {
 
     /// How long gateways and stages take for the commands, each on a thread of its own, until each gateway has what is
     /// due to it and all commands were processed.
-    pub fn time_on_threads<R: Threads + Clock + Sync>(self, rt: &R) -> Result<Duration, Fault> {
+    pub fn time_on_threads<R: Threads + Clock + Parks + Sync>(
+        self,
+        rt: &R,
+    ) -> Result<Duration, Fault> {
         let begun = Instant::now(rt);
         self.run_on_threads(rt)?;
         Ok(begun?.elapsed(rt)?)
     }
 
     /// Lets them do that.
-    fn run_on_threads<R: Threads + Clock + Sync>(self, rt: &R) -> Result<(), Fault> {
+    fn run_on_threads<R: Threads + Clock + Parks + Sync>(self, rt: &R) -> Result<(), Fault> {
         let Path {
             rings,
             gateways,

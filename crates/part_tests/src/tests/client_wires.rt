@@ -298,32 +298,101 @@ fn what_is_written_waits_until_it_is_sent(rt: HostRuntime) -> Result<(), Fail> {
 }
 
 #[test]
-fn a_deaf_client_is_noticed(rt: HostRuntime) -> Result<(), Fail> {
+fn a_slow_client_gets_all_in_order(rt: HostRuntime) -> Result<(), Fail> {
     let steps = [
         Step::Fails(ErrorKind::WouldBlock),
         Step::Moves(100),
         Step::Fails(ErrorKind::Interrupted),
+        Step::Moves(60_000),
+        Step::Moves(100_000),
+        Step::Moves(1),
+        Step::Moves(1000),
+        Step::Moves(100_000),
         Step::Moves(100_000),
     ];
     let line = Line::new(rt.alloc(), b"", &[], &steps);
     let mut wire = wire_over(rt.alloc(), line)?;
-    expect_writes(&rt, &mut wire, &[b'0'; 1024], &[TryWrite::Put(1024); 64]);
-    let answers = [
-        TryWrite::Nothing,
-        TryWrite::Put(100),
-        TryWrite::Nothing,
-        TryWrite::Put(1024),
-    ];
-    expect_writes(&rt, &mut wire, &[b'0'; 1024], &answers);
-    assert_eq!(rt; wire.counts().full_writes, 2);
-    assert_eq!(rt; wire.below().stream().sent.len(), 65_636);
+    for row in 0..200 {
+        expect_writes(&rt, &mut wire, &[row; 1024], &[TryWrite::Put(1024)]);
+    }
+    assert_eq!(rt; wire.below().stream().sent.len(), 193_536);
+    assert!(rt; wire.flush());
+    let sent = wire.below().stream().sent.as_slice();
+    assert_eq!(rt; sent.len(), 204_800);
+    for row in 0..200 {
+        let from = usize::from(row) * 1024;
+        assert!(rt; sent.get(from..from + 1024) == Some([row; 1024].as_slice()));
+    }
+    assert_eq!(rt; wire.counts(), Counts::new());
     Ok(())
 }
 
-/// Neither sends nor reads any more, and counts each try.
+/// Behind its first failure it holds nothing back, neither reads nor writes any more, and counts each try.
+fn is_given_up<A: Abort, W: ClientWire + Drop>(rt: &A, wire: &mut GatheringWire<W>) {
+    assert!(rt; wire.flush());
+    expect_read(rt, wire, TryRead::Failed);
+    expect_writes(rt, wire, b"8=FIX.4.4", &[TryWrite::Failed; 2]);
+    let counts = Counts {
+        failures: 4,
+        empty_reads: 0,
+        full_writes: 0,
+        ends: 0,
+    };
+    assert_eq!(rt; wire.counts(), counts);
+}
+
+#[test]
+fn a_deaf_client_is_given_up_at_a_full_backlog(rt: HostRuntime) -> Result<(), Fail> {
+    let stream = MemStream::new(rt.alloc(), b"8=FIX.4.4")?.full_after(100);
+    let mut wire = wire_over(rt.alloc(), stream)?;
+    let block = vec![in rt.alloc(); b'0'; 16_777_210]?;
+    expect_writes(&rt, &mut wire, &block, &[TryWrite::Put(16_777_210)]);
+    let answers = [TryWrite::Put(53), TryWrite::Put(53), TryWrite::Failed];
+    expect_writes(&rt, &mut wire, &[b'1'; 53], &answers);
+    assert_eq!(rt; wire.below().stream().taken(), [b'0'; 100].as_slice());
+    is_given_up(&rt, &mut wire);
+    Ok(())
+}
+
+/// A stream that takes a byte a write.
+#[derive(Drop)]
+struct Sips(usize);
+
+impl Stream for Sips {
+    ghost gave = { λ _. None };
+
+    ghost took = { λ _. None };
+
+    fn read(&mut self, _buf: &mut [u8]) -> io::Result<usize> {
+        Ok(0)
+    }
+
+    fn write(&mut self, _bytes: &[u8]) -> io::Result<usize> {
+        self.0 = self.0.saturating_add(1);
+        Ok(1)
+    }
+
+    fn shut(&mut self) {}
+}
+
+#[test]
+fn a_client_that_never_catches_up_is_given_up(rt: HostRuntime) -> Result<(), Fail> {
+    let mut wire = wire_over(rt.alloc(), Sips(0))?;
+    let block = vec![in rt.alloc(); b'0'; 16_777_216]?;
+    expect_writes(&rt, &mut wire, &block, &[TryWrite::Put(16_777_216)]);
+    for _ in 1..100_000 {
+        expect_writes(&rt, &mut wire, b"8=FIX.4.4", &[TryWrite::Put(1)]);
+    }
+    expect_writes(&rt, &mut wire, b"8=FIX.4.4", &[TryWrite::Failed]);
+    assert_eq!(rt; wire.below().stream().0, 99_999);
+    is_given_up(&rt, &mut wire);
+    Ok(())
+}
+
+/// It holds nothing back, reads no more, and counts each try.
 fn is_broken<A: Abort, W: ClientWire + Drop>(rt: &A, wire: &mut GatheringWire<W>) {
     for failures in 1..3 {
-        assert!(rt; !wire.flush());
+        assert!(rt; wire.flush());
         expect_read(rt, wire, TryRead::Failed);
         assert_eq!(rt; wire.counts().failures, failures);
     }

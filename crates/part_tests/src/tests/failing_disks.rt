@@ -165,21 +165,58 @@ fn finds(alloc: Global, disk: &MemDisk, block: &[Entry]) -> Result<[bool; 4], Fa
     ])
 }
 
+/// What `open` finds of the block on this disk, by what stands after a crash.
+fn expect_finds<A: Abort>(
+    rt: &A,
+    alloc: Global,
+    disk: &MemDisk,
+    block: &[Entry],
+    found: [bool; 4],
+    cut: &str,
+) -> Result<(), Fail> {
+    let finds = finds(alloc, disk, block)?;
+    assert_eq!(rt; finds, found, "{cut} {}", disk.calls().len());
+    Ok(())
+}
+
+/// Looks behind the first append of the block, of which this call fails.
+fn look_behind_fail<A: Abort>(
+    rt: &A,
+    alloc: Global,
+    block: &[Entry],
+    opening: usize,
+    cut: Cut,
+) -> Result<(), Fail> {
+    let (call, part, found) = cut;
+    let last = opening.wrapping_add(call);
+    let (answered, disk) = add_all(alloc, block, block.len(), last, part)?;
+    assert_eq!(rt; (answered, disk.calls().len()), (0, last));
+    expect_finds(rt, alloc, &disk, block, found, "failed:")
+}
+
+/// Looks behind the first append of the block, of whose calls the program makes these.
+fn look_behind_stop<A: Abort>(
+    rt: &A,
+    alloc: Global,
+    block: &[Entry],
+    calls: &[Call],
+    found: [bool; 4],
+) -> Result<(), Fail> {
+    let disk = behind(alloc, calls)?;
+    expect_finds(rt, alloc, &disk, block, found, "behind")
+}
+
 /// Looks behind each cut of the first append, of so many entries as one block.
 fn cut_short<A: Abort>(rt: &A, alloc: Global, count: usize) -> Result<(), Fail> {
     let block = alike(alloc, count)?;
     let (_, whole) = add_all(alloc, &block, count, 0, 0)?;
     let opening = whole.calls().len().wrapping_sub(4);
-    for (call, part, found) in FAILS {
-        let last = opening.wrapping_add(call);
-        let (answered, disk) = add_all(alloc, &block, count, last, part)?;
-        assert_eq!(rt; (answered, disk.calls().len()), (0, last));
-        assert_eq!(rt; finds(alloc, &disk, &block)?, found, "{call} failed");
+    for cut in FAILS {
+        look_behind_fail(rt, alloc, &block, opening, cut)?;
     }
     for (call, _, found) in STOPS {
-        let last = opening.wrapping_add(call);
-        let disk = behind(alloc, whole.calls().get(..last).ok_or("calls")?)?;
-        assert_eq!(rt; finds(alloc, &disk, &block)?, found, "behind {call}");
+        let calls = whole.calls().get(..opening.wrapping_add(call));
+        look_behind_stop(rt, alloc, &block, calls.ok_or("calls")?, found)?;
     }
     Ok(())
 }
@@ -220,18 +257,40 @@ fn unopened(alloc: Global, call: usize) -> Result<MemDisk, Fail> {
     }
 }
 
+/// What a crash leaves of the disk, where this stands in place of what isn't synced: the journal of one entry, with that in it.
+fn expect_left<A: Abort>(
+    rt: &A,
+    alloc: Global,
+    disk: &MemDisk,
+    fill: Option<u8>,
+    unsynced: Option<u8>,
+) -> Result<(), Fail> {
+    let crashed = disk.crash(fill)?;
+    let expected = left(alloc, unsynced)?;
+    assert_eq!(rt;
+        crashed.bytes(),
+        expected.as_slice(),
+        "behind {}",
+        disk.calls().len()
+    );
+    Ok(())
+}
+
 /// What a crash leaves of it is the journal of one entry, but for what isn't synced yet behind the first call.
 fn is_left<A: Abort>(rt: &A, alloc: Global, disk: &MemDisk, call: usize) -> Result<(), Fail> {
     for fill in FILLS {
         let unsynced = if call == 2 { fill } else { None };
-        let crashed = disk.crash(fill)?;
-        assert_eq!(rt;
-            crashed.bytes(),
-            left(alloc, unsynced)?.as_slice(),
-            "call {call}"
-        );
+        expect_left(rt, alloc, disk, fill, unsynced)?;
     }
     Ok(())
+}
+
+/// Looks at the disk on which a journal could not be opened, since this call failed.
+fn look_behind_opening<A: Abort>(rt: &A, alloc: Global, call: usize) -> Result<(), Fail> {
+    let disk = unopened(alloc, call)?;
+    assert_eq!(rt; disk.calls().len(), call);
+    assert_eq!(rt; disk.bytes(), ONE_ENTRY.as_slice());
+    is_left(rt, alloc, &disk, call)
 }
 
 #[test]
@@ -241,10 +300,7 @@ fn opening_fails(rt: HostRuntime) -> Result<(), Fail> {
     let last = disk.calls().len();
     assert!(rt; last >= 3);
     for call in 2..=last {
-        let disk = unopened(rt.alloc(), call)?;
-        assert_eq!(rt; disk.calls().len(), call);
-        assert_eq!(rt; disk.bytes(), ONE_ENTRY.as_slice());
-        is_left(&rt, rt.alloc(), &disk, call)?;
+        look_behind_opening(&rt, rt.alloc(), call)?;
     }
     Ok(())
 }
@@ -263,31 +319,57 @@ fn are_kept(alloc: Global, disk: &MemDisk, answered: usize, all: &[Entry]) -> Re
     Ok(true)
 }
 
-#[test]
-fn answered_blocks_are_kept(rt: HostRuntime) -> Result<(), Fail> {
-    let mut all = Vec::new(rt.alloc());
+/// So many blocks are answered where this call fails, whatever it puts of its bytes, and a crash keeps them.
+fn look_behind_call<A: Abort>(
+    rt: &A,
+    alloc: Global,
+    all: &[Entry],
+    call: usize,
+    before: usize,
+) -> Result<(), Fail> {
+    for part in [0, 1, 8] {
+        let (answered, disk) = add_all(alloc, all, 2, call, part)?;
+        assert_eq!(rt; (answered, disk.calls().len()), (before, call));
+        let kept = are_kept(alloc, &disk, answered, all)?;
+        assert!(rt; kept, "{call} failed");
+    }
+    Ok(())
+}
+
+/// A crash behind these calls keeps the entries that were answered by then.
+fn look_behind_calls<A: Abort>(
+    rt: &A,
+    alloc: Global,
+    all: &[Entry],
+    calls: &[Call],
+    answered: usize,
+) -> Result<(), Fail> {
+    let disk = behind(alloc, calls)?;
+    let kept = are_kept(alloc, &disk, answered, all)?;
+    assert!(rt; kept, "behind {}", calls.len());
+    Ok(())
+}
+
+/// The entries of all blocks, each with bytes of its own.
+fn of_all_blocks(alloc: Global) -> Result<Vec<Entry>, AllocError> {
+    let mut all = Vec::new(alloc);
     for number in 0..2 * BLOCKS as u8 {
         all.push(Entry::new(1 + number % 8, &[number]))?;
     }
+    Ok(all)
+}
+
+#[test]
+fn answered_blocks_are_kept(rt: HostRuntime) -> Result<(), Fail> {
+    let all = of_all_blocks(rt.alloc())?;
     let (answered, whole) = add_all(rt.alloc(), &all, 2, 0, 0)?;
     assert_eq!(rt; answered, 2 * BLOCKS);
     let opening = whole.calls().len().wrapping_sub(4 * BLOCKS);
     for call in 1..=whole.calls().len() {
-        let before = (call - 1).saturating_sub(opening) / 4;
-        for part in [0, 1, 8] {
-            let (answered, disk) = add_all(rt.alloc(), &all, 2, call, part)?;
-            assert_eq!(rt; (answered, disk.calls().len()), (2 * before, call));
-            assert!(rt;
-                are_kept(rt.alloc(), &disk, answered, &all)?,
-                "{call} failed"
-            );
-        }
+        let before = 2 * ((call - 1).saturating_sub(opening) / 4);
+        look_behind_call(&rt, rt.alloc(), &all, call, before)?;
         let answered = 2 * (call.saturating_sub(opening) / 4);
-        let disk = behind(rt.alloc(), &whole.calls()[..call])?;
-        assert!(rt;
-            are_kept(rt.alloc(), &disk, answered, &all)?,
-            "behind {call}"
-        );
+        look_behind_calls(&rt, rt.alloc(), &all, &whole.calls()[..call], answered)?;
     }
     Ok(())
 }

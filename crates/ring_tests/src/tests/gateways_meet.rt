@@ -19,6 +19,7 @@ use std::test::Fail;
 use std::thread;
 use std::thread::{Threads, join};
 use venue_model::LONGEST_MESSAGE;
+use workers::{Signals, Station};
 
 /// How often in a row a thread tries before it gives up: long enough for any machine, and no hang.
 const TRIES: u64 = 100_000_000;
@@ -56,12 +57,13 @@ fn take_next<const N: usize, const M: usize, const G: usize>(
     right && (gateway.seat.taken() != day.outputs || *told / 2 == day.each && *told % 2 == 0)
 }
 
-/// Publishes the client's orders, and takes or passes over all outputs. Gives the seat back, where that was soon done and right.
+/// Publishes the client's orders, which wakes stages that rest, and takes or passes over all outputs. Gives the seat back, where that was soon done and right.
 fn trade<const N: usize, const M: usize, const G: usize>(
     rings: &TestRings<N, M, G>,
     seat: GatewaySeat<BookLogic>,
     client: u8,
     day: Day,
+    signals: &Signals,
 ) -> Option<GatewaySeat<BookLogic>>
     requires { IsAt rings.now seat }
     ensures { IfSome result (StaysSpent seat) }
@@ -76,6 +78,7 @@ fn trade<const N: usize, const M: usize, const G: usize>(
         }
         if sent != day.each && gateway.publish(&order_of(client, sent)).is_ok() {
             sent = sent.wrapping_add(1);
+            signals.rouse(Station::Gateway(1));
         }
         if !take_next(&mut gateway, client, &mut told, day) {
             return None;
@@ -92,6 +95,7 @@ pub fn trade_both<R: Threads + Sync, const N: usize, const M: usize, const G: us
     other: GatewaySeat<BookLogic>,
     clients: [u8; 2],
     day: Day,
+    signals: &Signals,
 ) -> (
     Option<GatewaySeat<BookLogic>>,
     Option<GatewaySeat<BookLogic>>,
@@ -106,11 +110,11 @@ pub fn trade_both<R: Threads + Sync, const N: usize, const M: usize, const G: us
         move || -> Option<GatewaySeat<BookLogic>>
             requires { IsAt rings.now one }
             ensures { IfSome result (StaysSpent one) }
-        { trade(rings, one, clients[0], day) },
+        { trade(rings, one, clients[0], day, signals) },
         move || -> Option<GatewaySeat<BookLogic>>
             requires { IsAt rings.now other }
             ensures { IfSome result (StaysSpent other) }
-        { trade(rings, other, clients[1], day) },
+        { trade(rings, other, clients[1], day, signals) },
     )
 }
 
@@ -151,6 +155,8 @@ pub fn run<R: Threads + Sync, const N: usize, const M: usize, const G: usize>(
     ensures rings { IfSome result (λ r. AreAt rings.now r.2.value) }
 {
     let (one, other, stages) = crew;
+    let all = Signals::new(0);
+    let signals = &all;
     let ((one, other), stages) = join(
         rt,
         move || -> (
@@ -160,7 +166,7 @@ pub fn run<R: Threads + Sync, const N: usize, const M: usize, const G: usize>(
             requires { IsSync R.row × (IsAt rings.now one) × (IsAt rings.now other) }
             ensures one { IfSome result.0 (StaysSpent one) }
             ensures other { IfSome result.1 (StaysSpent other) }
-        { trade_both(rt, rings, one, other, clients, day) },
+        { trade_both(rt, rings, one, other, clients, day, signals) },
         move || -> Option<Stages>
             requires { AreAt rings.now stages.value }
             ensures { IfSome result (λ r. AreAt rings.entry.now r.value) }

@@ -16,7 +16,7 @@ use std::alloc::Global;
 use std::rt::Clock;
 use std::test::Fail;
 use std::thread::{Threads, join};
-use workers::{NoGate, Signals, run};
+use workers::{NoGate, Parks, Signals, run};
 
 /// What each gateway orders: 1,000 times, with two reports each to one of them.
 const DAY: Day = Day {
@@ -33,7 +33,12 @@ type Seat = GatewaySeat<BookLogic>;
 type Four = (Seat, Seat, Seat, Seat);
 
 /// Lets all four trade, each on a thread of its own. Gives the seats back, where that was soon done and right.
-fn trade_all<R: Threads + Sync>(rt: &R, rings: &SmallRings, seats: Four) -> Option<Four>
+fn trade_all<R: Threads + Sync>(
+    rt: &R,
+    rings: &SmallRings,
+    seats: Four,
+    signals: &Signals,
+) -> Option<Four>
     requires { (IsAt rings.now seats.0) × (IsAt rings.now seats.1) × (IsAt rings.now seats.2) × (IsAt rings.now seats.3) }
     ensures { IfSome result (λ back. StaysSpent seats.0 back.0 × StaysSpent seats.1 back.1 × StaysSpent seats.2 back.2 × StaysSpent seats.3 back.3) }
 {
@@ -44,18 +49,18 @@ fn trade_all<R: Threads + Sync>(rt: &R, rings: &SmallRings, seats: Four) -> Opti
             requires { IsSync R.row × (IsAt rings.now first) × (IsAt rings.now second) }
             ensures one { IfSome result.0 (StaysSpent first) }
             ensures other { IfSome result.1 (StaysSpent second) }
-        { trade_both(rt, rings, first, second, *b"12", DAY) },
+        { trade_both(rt, rings, first, second, *b"12", DAY, signals) },
         move || -> (Option<Seat>, Option<Seat>)
             requires { IsSync R.row × (IsAt rings.now third) × (IsAt rings.now fourth) }
             ensures one { IfSome result.0 (StaysSpent third) }
             ensures other { IfSome result.1 (StaysSpent fourth) }
-        { trade_both(rt, rings, third, fourth, *b"34", DAY) },
+        { trade_both(rt, rings, third, fourth, *b"34", DAY, signals) },
     );
     Some((first?, second?, third?, fourth?))
 }
 
 /// Lets all four trade beside the stages, each of these on a thread of its own, too. Gives all back, where that was soon done and right.
-fn run_all<R: Threads + Clock + Sync>(
+fn run_all<R: Threads + Clock + Parks + Sync>(
     rt: &R,
     alloc: Global,
     rings: &SmallRings,
@@ -67,7 +72,8 @@ fn run_all<R: Threads + Clock + Sync>(
     ensures stages { IfSome result (λ r. AreAt rings.now r.0.value) }
     ensures seats { IfSome result (λ r. StaysSpent seats.0 r.1.0 × StaysSpent seats.1 r.1.1 × StaysSpent seats.2 r.1.2 × StaysSpent seats.3 r.1.3) }
 {
-    let signals = Signals::new(8);
+    let all = Signals::new(8);
+    let signals = &all;
     let (crew, back) = run(
         rt,
         &NoGate,
@@ -76,8 +82,8 @@ fn run_all<R: Threads + Clock + Sync>(
         move || -> Option<Four>
             requires { IsSync R.row × (IsAt rings.now seats.0) × (IsAt rings.now seats.1) × (IsAt rings.now seats.2) × (IsAt rings.now seats.3) }
             ensures { IfSome result (λ back. StaysSpent seats.0 back.0 × StaysSpent seats.1 back.1 × StaysSpent seats.2 back.2 × StaysSpent seats.3 back.3) }
-        { trade_all(rt, rings, seats) },
-        &signals,
+        { trade_all(rt, rings, seats, signals) },
+        signals,
     );
     let stages = Box::new(alloc, crew).ok()?;
     Some((stages, back?))
@@ -95,7 +101,10 @@ fn put_back(rings: &SmallRings, seats: &mut Vec<Seat>, seat: Seat) -> Result<(),
 }
 
 /// Lets the gateways trade beside the stages, and closes the rings. Answers what had been done, where that was soon.
-fn close_behind<R: Threads + Clock + Sync>(rt: &R, alloc: Global) -> Result<Option<Summary>, Fail> {
+fn close_behind<R: Threads + Clock + Parks + Sync>(
+    rt: &R,
+    alloc: Global,
+) -> Result<Option<Summary>, Fail> {
     let (rings, stages, mut seats) = open_venue::<2, 2, 4>(alloc)?;
     let Some((third, fourth)) = next_two(&rings, &mut seats) else {
         return Ok(None);

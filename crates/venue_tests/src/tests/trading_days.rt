@@ -2,7 +2,8 @@
 
 ghost use Rattle.std.specs.Prelude.{◌≡◌, vec_len, IfOk};
 ghost use Rattle.wires.specs.Ports.{told_register};
-ghost use Rattle.venue.specs.Members.{AreFree, in_box};
+ghost use Rattle.venue.specs.Members.{AreFree};
+ghost use Rattle.venue.specs.Headline.{in_box};
 
 use super::clients::Member;
 use super::slow_disk::SlowDisk;
@@ -15,6 +16,7 @@ use std::thread::Threads;
 use venue::listen;
 use venue_model::Limits;
 use wires::{MemPort, MemWire};
+use workers::Parks;
 
 /// The symbols of the venue.
 pub fn limits(alloc: Global) -> Result<Limits, Fail> {
@@ -52,7 +54,7 @@ fn ports_of(alloc: Global, members: &[Member; 4]) -> Result<Vec<Box<MemPort>>, A
 }
 
 /// Lets the venue serve these members over this disk, until all that is planned is told.
-pub fn play<R: Threads + Clock + AllocGlobal + Sync>(
+pub fn play<R: Threads + Clock + Parks + AllocGlobal + Sync>(
     rt: &R,
     disk: SlowDisk<MemDisk>,
     members: &[Member; 4],
@@ -64,7 +66,7 @@ pub fn play<R: Threads + Clock + AllocGlobal + Sync>(
 }
 
 /// Lets the venue serve at these ports until the usher says that the day is over.
-fn listen_until_over<R: Threads + Clock + AllocGlobal + Sync>(
+fn listen_until_over<R: Threads + Clock + Parks + AllocGlobal + Sync>(
     rt: &R,
     limits: Limits,
     ports: Vec<Box<MemPort>>,

@@ -25,6 +25,16 @@ const NOON: u64 = 100;
 /// In so many turns a gateway takes all outputs that are there.
 const SETTLED: u64 = 120;
 
+/// One that has had so many, and few of them in the last looks, has taken all that there is, and rests: then it takes a
+/// turn each tenth of a second.
+const RESTING: u64 = 25;
+
+/// How many turns one that rests takes at most in so many looks.
+const WHILE_RESTING: u64 = 4;
+
+/// In so many looks, some milliseconds apart.
+const LOOKS: u64 = 60;
+
 /// How often a gateway that waits lets others run at most, on a day on which nothing is to fail.
 const PATIENCE: u64 = 10_000_000;
 
@@ -133,13 +143,15 @@ impl Usher {
         LOGGED_ON <= first.load(Ordering::SeqCst) && LOGGED_ON <= second.load(Ordering::SeqCst)
     }
 
-    /// Whether all is told, and each gateway has taken it.
-    fn is_over(&self) -> bool {
-        let mut all = true;
-        for turns in &self.settled {
-            all = all && SETTLED <= turns.load(Ordering::SeqCst);
-        }
-        all
+    /// How many turns each gateway has had since all was told.
+    fn turns_since(&self) -> [u64; 4] {
+        let [first, second, third, fourth] = &self.settled;
+        [
+            first.load(Ordering::SeqCst),
+            second.load(Ordering::SeqCst),
+            third.load(Ordering::SeqCst),
+            fourth.load(Ordering::SeqCst),
+        ]
     }
 
     /// Whether the journaller has had a whole turn since it had begun so many.
@@ -229,17 +241,33 @@ impl Gate for Usher {
     }
 }
 
+/// Whether each gateway has taken all, by how many turns each has had since all was told, and had some looks ago.
+fn have_taken_all(before: &[u64; 4], turns: &[u64; 4]) -> bool {
+    let mut all = true;
+    for (before, turns) in before.iter().zip(turns.iter()) {
+        let rests = RESTING <= *turns && turns.saturating_sub(*before) <= WHILE_RESTING;
+        all = all && (SETTLED <= *turns || rests);
+    }
+    all
+}
+
 /// The venue is to stop when the usher has seen that the day is over, or behind so many looks.
 #[derive(Drop)]
 pub struct WhenOver<'a> {
     usher: &'a Usher,
     looks: u64,
+    /// How many turns each gateway had had since all was told, some looks ago.
+    before: [u64; 4],
 }
 
 impl<'a> WhenOver<'a> {
     /// The venue hasn't asked yet.
     pub fn of(usher: &'a Usher) -> WhenOver<'a> {
-        WhenOver { usher, looks: 0 }
+        WhenOver {
+            usher,
+            looks: 0,
+            before: [0; 4],
+        }
     }
 }
 
@@ -248,6 +276,12 @@ impl StopSign for WhenOver<'_> {
 
     fn is_up(&mut self) -> bool {
         self.looks = self.looks.saturating_add(1);
-        self.usher.is_over() || MOST_LOOKS < self.looks
+        if self.looks % LOOKS != 0 {
+            return MOST_LOOKS < self.looks;
+        }
+        let turns = self.usher.turns_since();
+        let is_over = have_taken_all(&self.before, &turns);
+        self.before = turns;
+        is_over
     }
 }

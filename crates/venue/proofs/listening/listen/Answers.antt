@@ -5,7 +5,7 @@ use Rattle.replay.specs.StartsUp.{KeepsHistory}
 use Rattle.stages.specs.Stations.{OneCrew, disk_of}
 use Rattle.venue.specs.Faults.{status_of_end}
 use Rattle.venue.specs.Listening.{end_of}
-use Rattle.venue.specs.Members.{in_box}
+use Rattle.venue.specs.Headline.{in_box}
 use Rattle.venue.specs.Serving.{LeavesFrom}
 use Rattle.venue.specs.Venues.{IsJournalBehind}
 use Rattle.venue.specs.CrashLaws.{LeftOrBehind, leaves_behind, new_behind, kept_honest, kept_leaves}

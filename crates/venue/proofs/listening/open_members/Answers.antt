@@ -1,6 +1,6 @@
 -- Each post and each port is as it was made, and there is room for all.
 use Rattle.std.proofs.Common.{arith}
-use Rattle.venue.specs.Members.{in_box}
+use Rattle.venue.specs.Headline.{in_box}
 use Rattle.venue.proofs.HomeLemmas.{free_again}
 use Rattle.venue.proofs.listening.open_members.Goals as goal
 

@@ -1,6 +1,7 @@
 -- The client that leaves was gone on with.
-use Rattle.std.proofs.Common.{◌≡◌, ◌∙◌, Bool, false, ap, sym, subst, Option, Some}
-use Rattle.venue.specs.Leaving.{told_leaving, LeavesOn}
+use Rattle.std.proofs.Common.{◌≡◌, ◌∙◌, Bool, false, refl, ap, sym, subst, Option, Some}
+use Rattle.venue.specs.Leaving.{told_leaving, LeavesOn, IsSeenOff, GoesOnLeaving}
+use Rattle.venue.specs.declared.leaving.Leaving.{Leaving}
 use Rattle.venue.specs.Trading.{TradesOn, HasClient}
 use Rattle.venue.specs.TradingLaws.{no_turn}
 use Rattle.venue.proofs.MemberTurns.{at_door, waited_for, has_left, nobody_there}
@@ -18,6 +19,9 @@ returns-in_default g c =
           (at_door desk.acceptor l register)) same (no_turn rings (at_door desk.acceptor (told desk.leaving) register));
       at = c.requires.at;
       one = subst (λ (l : Option Told). HasClient desk.acceptor.wire l register.out) same c.requires.one;
+      off = subst (λ (l : Option (Leaving _)). IsSeenOff g.W.Wire.tells l c.take.new.self)
+          (sym (sym c.take.ensures.value ∙ c.in_default.is)) c.take.ensures.after;
+      acceptor = refl;
     }
 
 pub returns-then-has_left : goal.returns-then-has_left
@@ -40,6 +44,14 @@ returns-then-has_left g c =
           (subst (λ (l : Option Told). HasClient desk.acceptor.wire l false) (sym none)
           (nobody_there desk.acceptor.wire before register.out
           (subst (λ (l : Option Told). HasClient desk.acceptor.wire l register.out) there c.requires.one)));
+      off = subst (λ (l : Option (Leaving _)). IsSeenOff tells l c.take.new.self)
+          (sym (sym c.take.ensures.value ∙ c.in-Some.is))
+          (subst (λ (l : Option (Leaving _)). IsSeenOff tells (Some c.in-Some.client) l) (sym c.take.ensures.after) (
+            c.has_left.new.self,
+            subst (λ (left : Bool). GoesOnLeaving tells c.in-Some.client c.has_left.new.self left)
+                c.if-has_left.true c.has_left.ensures,
+          ));
+      acceptor = refl;
     }
 
 pub returns : goal.returns
@@ -54,4 +66,9 @@ returns g c =
           (waited_for rings desk.acceptor before behind register c.has_left.ensures.leaves);
       at = c.requires.at;
       one = subst (λ (l : Option Told). HasClient desk.acceptor.wire l register.out) there c.requires.one;
+      off = subst (λ (l : Option (Leaving _)). IsSeenOff tells l (Some c.has_left.new.self))
+          (sym (sym c.take.ensures.value ∙ c.in-Some.is))
+          (subst (λ (left : Bool). GoesOnLeaving tells c.in-Some.client c.has_left.new.self left)
+          c.if-has_left.false c.has_left.ensures);
+      acceptor = refl;
     }

@@ -1,11 +1,12 @@
 -- It took one turn, and the client whose session ended leaves from now on.
-use Rattle.std.proofs.Common.{◌∙◌, ap, sym, subst, Option, Some}
+use Rattle.std.proofs.Common.{◌∙◌, ap, sym, subst, rules, Option, Some, None}
 use Rattle.gateway.specs.Accepting.{TakesTurn, told_by}
 use Rattle.ring_words.specs.At.{At}
 use Rattle.venue.specs.Leaving.{told_leaving}
 use Rattle.venue.specs.Trading.{TradesOn}
 use Rattle.venue.specs.declared.leaving.Leaving.{Leaving}
 use Rattle.venue.proofs.MemberTurns.{at_door, turn_taken, session_ended, still_one, leaves_now}
+use Rattle.venue.proofs.MemberTurns.{none_left, ended_not_quiet, same_if_some, of_none}
 use Rattle.venue_model.specs.Requests.{Limits}
 use Rattle.wires.specs.Wires.{Told}
 use Rattle.venue.proofs.member.take_turn.Goals as goal
@@ -21,6 +22,8 @@ returns-in_default g c =
       at = c.turn-turned.ensures.stays.rings
           ∙ ap (λ (s : At Limits). record s { who = now.gateway.seat.who }) c.requires.at;
       one = still_one desk.acceptor now c.turn-turned.result.0 _ _ takes c.requires.one;
+      took = (c.turn-turned.result.0, None, takes, search rules);
+      leaving = same_if_some desk.leaving;
     }
 
 pub returns : goal.returns
@@ -38,4 +41,16 @@ returns g c =
       at = c.turn-turned.ensures.stays.rings
           ∙ ap (λ (s : At Limits). record s { who = now.gateway.seat.who }) c.requires.at;
       one = leaves_now desk.acceptor now c.turn-turned.result.0 (tells c.in-Some.wire) _ _ takes c.requires.one;
+      took = (
+        c.turn-turned.result.0,
+        Some (tells c.in-Some.wire),
+        takes,
+        (
+          (λ no. absurd (cc no)),
+          λ quiet. absurd (ended_not_quiet 1024 desk.acceptor now c.turn-turned.result.0 (tells c.in-Some.wire) takes
+              quiet),
+        ),
+      );
+      leaving = of_none tells desk.leaving _ (none_left 1024 desk.acceptor now c.turn-turned.result.0
+          (tells c.in-Some.wire) (told_leaving tells desk.leaving) register.out takes c.requires.one).0;
     }

@@ -3,7 +3,7 @@ use Rattle.std.proofs.Common.{◌≡◌, ◌∙◌, ◌∷◌, [], length, ap, s
 use mathlib.Core.Option.{some}
 use lib.ListN.{get_elem?}
 use Rattle.std.specs.Vec.{vec_capacity}
-use Rattle.venue.specs.Members.{in_box}
+use Rattle.venue.specs.Headline.{in_box}
 use Rattle.venue.specs.declared.members.Home.{Home}
 use Rattle.venue.specs.Trading.{IsBack}
 use Rattle.venue.proofs.MemberLemmas.{with_three}

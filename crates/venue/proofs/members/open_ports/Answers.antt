@@ -1,7 +1,7 @@
 -- Each port tells what it told.
 use Rattle.std.proofs.Common.{◌∙◌, ap, arith, map, length}
 use lib.ListN.{set}
-use Rattle.venue.specs.Members.{in_box}
+use Rattle.venue.specs.Headline.{in_box}
 use Rattle.venue.proofs.PortLemmas.{map-set, same_length, written}
 use Rattle.venue.proofs.members.open_ports.Goals as goal
 

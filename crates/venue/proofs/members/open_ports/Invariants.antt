@@ -1,5 +1,6 @@
 -- each port tells what it told
-use Rattle.venue.specs.Members.{SamePorts, in_box}
+use Rattle.venue.specs.Members.{SamePorts}
+use Rattle.venue.specs.Headline.{in_box}
 use Rattle.venue.proofs.members.open_ports.Given as goal
 
 abbrev pub invariant-loop-port : goal.invariant-loop-port

@@ -1,7 +1,7 @@
 -- The others are as they were, and the last one is the last of all.
 use Rattle.std.proofs.Common.{◌≡◌, ℕ, false, length, refl, arith}
 use Rattle.venue_model.specs.ListLaws.{at_longer}
-use Rattle.venue.specs.Members.{in_box}
+use Rattle.venue.specs.Headline.{in_box}
 use Rattle.venue.proofs.MemberLemmas.{of_last}
 use Rattle.venue.proofs.members.split_last.Goals as goal
 

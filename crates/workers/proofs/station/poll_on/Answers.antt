@@ -15,7 +15,7 @@ loop-polls-preserved g c =
     let rested = c.goes_on.ensures in record {
       sits = polled.sits;
       goes = inr (one_on (g.S.Stage.goes c.args.rings.now) (g.S.Stage.further _) _ _ _ _ before.goes polled.goes);
-      turns = one_more (TurnAndRest (PollsAs (g.S.Stage.polled c.args.rings.now)) g.P.Pauses.paused)
+      turns = one_more (TurnAndRest (PollsAs (g.S.Stage.polled c.args.rings.now)) g.P.Pauses.paused g.P.Pauses.parked)
           c.loop-polls.polls _ _ _
           c.poll_at-outcome.result c.goes_on.result before.turns
           (record { takes = polled.polled; rests = rested.rests }) rested.goes_on c.if-not-goes_on.false;
@@ -33,8 +33,9 @@ returns-then-not-goes_on-clause-ends g c =
       _,
       _,
       c.loop-polls.invariant.turns,
-      the_last (TurnAndRest (PollsAs (g.S.Stage.polled c.args.rings.now)) g.P.Pauses.paused) _ _
-          c.poll_at-outcome.result c.goes_on.result (record { takes = polled.polled; rests = rested.rests }) rested.goes_on c.if-not-goes_on.true,
+      the_last (TurnAndRest (PollsAs (g.S.Stage.polled c.args.rings.now)) g.P.Pauses.paused g.P.Pauses.parked) _ _
+          c.poll_at-outcome.result c.goes_on.result (record { takes = polled.polled; rests = rested.rests })
+          rested.goes_on c.if-not-goes_on.true,
     )
 
 pub returns-then-say_stop-clause-goes : goal.returns-then-say_stop-clause-goes
@@ -49,7 +50,7 @@ returns-then-say_stop-clause-ends g c =
       c.say_stop.ensures c.if-say_stop.true,
       (
         _,
-        one_more (TurnAndRest (PollsAs (g.S.Stage.polled c.args.rings.now)) g.P.Pauses.paused)
+        one_more (TurnAndRest (PollsAs (g.S.Stage.polled c.args.rings.now)) g.P.Pauses.paused g.P.Pauses.parked)
             c.loop-polls.polls _ _ _
             c.poll_at-outcome.result c.goes_on.result c.loop-polls.invariant.turns
             (record { takes = polled.polled; rests = rested.rests }) rested.goes_on c.if-not-goes_on.false,

@@ -7,6 +7,6 @@ abbrev pub invariant-loop-polls : goal.invariant-loop-polls
 invariant-loop-polls g l = record {
   sits : g.S.Stage.sits l.rings l.stage;
   goes : ((l.polls ≡ 0) × (l.stage ≡ l.fn.stage)) ⊎ g.S.Stage.goes l.rings l.fn.stage l.stage;
-  turns : TakesTurns (TurnAndRest (PollsAs (g.S.Stage.polled l.rings)) g.P.Pauses.paused) l.polls
+  turns : TakesTurns (TurnAndRest (PollsAs (g.S.Stage.polled l.rings)) g.P.Pauses.paused g.P.Pauses.parked) l.polls
       (thread l.fn.stage l.fn.rest) (thread l.stage l.rest);
 }

@@ -13,8 +13,8 @@ loop-turns-preserved g c =
     let turned = c.turn_at-outcome.ensures in
     let rested = c.goes_on.ensures in record {
       goes = g.W.Worker.further _ _ _ before.goes turned.goes;
-      turns = one_more (TurnAndRest g.W.Worker.took g.P.Pauses.paused) c.loop-turns.turns _ _ _ c.turn_at-outcome.result
-          c.goes_on.result before.turns (record { takes = turned.took; rests = rested.rests })
+      turns = one_more (TurnAndRest g.W.Worker.took g.P.Pauses.paused g.P.Pauses.parked) c.loop-turns.turns _ _ _
+          c.turn_at-outcome.result c.goes_on.result before.turns (record { takes = turned.took; rests = rested.rests })
           rested.goes_on c.if-not-goes_on.false;
     }
 
@@ -25,8 +25,8 @@ returns-then-not-goes_on-clause-ends g c =
       _,
       _,
       c.loop-turns.invariant.turns,
-      the_last (TurnAndRest g.W.Worker.took g.P.Pauses.paused) _ _ c.turn_at-outcome.result c.goes_on.result
-          (record { takes = turned.took; rests = rested.rests }) rested.goes_on c.if-not-goes_on.true,
+      the_last (TurnAndRest g.W.Worker.took g.P.Pauses.paused g.P.Pauses.parked) _ _ c.turn_at-outcome.result
+          c.goes_on.result (record { takes = turned.took; rests = rested.rests }) rested.goes_on c.if-not-goes_on.true,
     )
 
 pub returns-clause-ends : goal.returns-clause-ends

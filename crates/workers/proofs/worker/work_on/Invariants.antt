@@ -4,6 +4,6 @@ use Rattle.workers.proofs.worker.work_on.Given as goal
 abbrev pub invariant-loop-turns : goal.invariant-loop-turns
 invariant-loop-turns g l = record {
   goes : g.W.Worker.goes l.fn.worker l.worker;
-  turns : TakesTurns (TurnAndRest g.W.Worker.took g.P.Pauses.paused) l.turns
+  turns : TakesTurns (TurnAndRest g.W.Worker.took g.P.Pauses.paused g.P.Pauses.parked) l.turns
       (thread l.fn.worker l.fn.rest) (thread l.worker l.rest);
 }

@@ -1,5 +1,5 @@
 -- A session begins anew with nothing heard and nothing said.
-use Rattle.std.proofs.Common.{ap, rules, subst, sym, ◌∙◌}
+use Rattle.std.proofs.Common.{refl, ap, rules, subst, sym, ◌∙◌}
 use Rattle.fix_frame.specs.Framing.{Framing}
 use Rattle.fix_frame.specs.Stream.{BeginsNoFrame}
 use Rattle.gateway.specs.SessionCalls.{fresh}
@@ -16,6 +16,7 @@ invariant_of-self c = record {
   own = search rules;
   unbroken = λ h. ap (λ (f : Framing). f.fault) c.reset.ensures;
   partial = λ h. subst (λ (f : Framing). BeginsNoFrame f.held) (sym c.reset.ensures) no_frame_in_nothing;
+  midway = λ h. (λ _. ap (λ (f : Framing). f.held) c.reset.ensures, λ _. refl);
 }
 
 pub returns : goal.returns

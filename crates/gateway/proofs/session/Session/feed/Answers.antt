@@ -1,5 +1,5 @@
 -- What was fed ends no frame, or one, or goes wrong.
-use Rattle.std.proofs.Common.{◌≡◌, ap, sym, ◌∙◌, subst, length}
+use Rattle.std.proofs.Common.{◌≡◌, refl, ap, sym, ◌∙◌, subst, length}
 use Rattle.fix_frame.specs.Borrowed.{frame_fields}
 use Rattle.fix_frame.specs.Framing.{Framing, fresh}
 use Rattle.fix_frame.specs.Stream.{BeginsNoFrame}
@@ -36,6 +36,7 @@ invariant_of-self-in-Some c =
       own = c.self.invariant.own;
       unbroken = λ h. ap (λ (f : Framing). f.fault) given;
       partial = λ h. subst (λ (f : Framing). BeginsNoFrame f.held) (sym given) no_frame_in_nothing;
+      midway = λ h. (λ _. ap (λ (f : Framing). f.held) given, λ _. refl);
     }
 
 pub returns-clause-hears : goal.returns-clause-hears

@@ -1,5 +1,5 @@
 -- A session begins with nothing heard and nothing said.
-use Rattle.std.proofs.Common.{ap, rules, subst, sym}
+use Rattle.std.proofs.Common.{refl, ap, rules, subst, sym}
 use Rattle.fix_frame.specs.Framing.{Framing}
 use Rattle.fix_frame.specs.Stream.{BeginsNoFrame}
 use Rattle.gateway.proofs.Opening.{no_frame_in_nothing}
@@ -14,6 +14,7 @@ invariant_of-result c = record {
   own = search rules;
   unbroken = λ h. ap (λ (f : Framing). f.fault) c.in_ok-new.ensures;
   partial = λ h. subst (λ (f : Framing). BeginsNoFrame f.held) (sym c.in_ok-new.ensures) no_frame_in_nothing;
+  midway = λ h. (λ _. ap (λ (f : Framing). f.held) c.in_ok-new.ensures, λ _. refl);
 }
 
 pub returns : goal.returns

@@ -10,9 +10,11 @@ invariant_of-self g c =
     let inside = c.self.inside in
     elim c.if-self.branch [
       | then-self w ↦ rw w.self-inside-is c.self.invariant
-      | else-self w ↦ rw w.self-inside-is
-          (still_last (tells inside.below) (tells w.read-answer.new.wire) inside.ahead w.read-answer.new.self
-          w.read-answer.new.buf w.read-answer.result w.read-answer.ensures.hands_out c.self.invariant)
+      | else-self w ↦ rw w.self-inside-is (
+        still_last (tells inside.below) (tells w.read-answer.new.wire) inside.ahead w.read-answer.new.self
+            w.read-answer.new.buf w.read-answer.result w.read-answer.ensures.hands_out c.self.invariant.0,
+        c.self.invariant.1,
+      )
     ]
 
 pub returns-clause-tells : goal.returns-clause-tells
@@ -26,7 +28,7 @@ returns-clause-tells g c =
       | else-self w ↦
           let counted = rw (w.answer-is, w.self-inside-is) at c.count_read.ensures in
           rw (← c.self.view_is, w.answer-is, w.self-inside-is, w.buf-is)
-          (read_told (tells inside.below) (tells w.read-answer.new.wire) inside.ahead w.read-answer.new.self inside.waiting
-          w.read-answer.new.buf inside.counts c.count_read.new.self inside.quiet w.read-answer.result
-          w.read-answer.ensures.hands_out w.read-answer.ensures.count c.self.invariant counted)
+          (read_told (tells inside.below) (tells w.read-answer.new.wire) inside.ahead w.read-answer.new.self
+          inside.waiting w.read-answer.new.buf inside.counts c.count_read.new.self inside.quiet w.read-answer.result
+          w.read-answer.ensures.hands_out w.read-answer.ensures.count c.self.invariant.0 counted)
     ]

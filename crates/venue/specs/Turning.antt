@@ -1,0 +1,24 @@
+-- What a member's turn comes to for its thread.
+use Rattle.std.specs.Prelude.{⊤, Bool, ◌&&◌, ◌||◌, is_some, if◌then◌else◌}
+use Rattle.gateway.specs.Gateways.{is_pressed}
+use Rattle.venue.specs.declared.member.Desk.{Desk}
+use Rattle.workers.specs.declared.worker.Outcome.{Outcome}
+use Rattle.workers.specs.declared.worker.Outcome.TheVariants.{Worked, Moved, Pressed, Idle, Over}
+
+-- the gateway has to go on by itself with the client that leaves, or with the one that is connected
+abbrev pub is_pressed_at : {W : Type 0} → Desk W → Bool
+is_pressed_at desk = is_some desk.leaving || (is_some desk.acceptor.wire && is_pressed desk.acceptor.gateway.front)
+
+-- Where something moved, stages may have work only if it began with a message held, which it may have published. Where nothing moved it is to look again soon
+-- if it has to go on by itself, and at once if another client waits for that; else it may rest, since it is woken.
+abbrev pub outcome_at : Bool → Bool → Bool → Bool → Outcome
+outcome_at held has_moved pressed wanted =
+    if has_moved then (if held then Worked else Moved) else (if pressed then (if wanted then Moved else Pressed) else Idle)
+
+-- nothing moved: it may rest, or is to look again soon
+abbrev pub IsAtRest : Outcome → Type 0
+IsAtRest Worked = ⊥
+IsAtRest Moved = ⊥
+IsAtRest Pressed = ⊤
+IsAtRest Idle = ⊤
+IsAtRest Over = ⊥
