@@ -22,13 +22,11 @@
 #include <thread>
 #include <utility>
 #include <vector>
+#include "baseline_digits.h"
 
 #ifndef PAYLOAD
 #define PAYLOAD std::memory_order_seq_cst
 #endif
-
-using u64 = uint64_t;
-using u8 = uint8_t;
 
 // The table: control words, then the input rows, then the output rows. A row's availability word is its first.
 constexpr u64 PROCESSED = 0, CLAIM = 8, UNMARSHALLED = 16, JOURNALLED = 24, MARSHALLED = 32, TAKEN = 32, PUBLISHED = 104;
@@ -50,11 +48,6 @@ inline void take_words(u64 at, u64 *values, u64 count) {
 }
 
 // Bytes lie eight a word, big-endian, the last word filled up with zeros. Buffers have room for whole words.
-inline u64 eight(const u8 *bytes) {
-    u64 value;
-    return memcpy(&value, bytes, 8), value;
-}
-
 inline void put_bytes(u64 at, const u8 *bytes, u64 length) {
     for (const u8 *end = bytes + length; bytes < end; bytes += 8) put_word(at++, __builtin_bswap64(eight(bytes)));
 }
@@ -98,19 +91,10 @@ inline bool read_symbol(const u8 *&at, u64 &symbol) {
     return shift < 64 && *at++ == SOH;
 }
 
-// Both halves of its digits at once: YYYYMMDD, and 00HHMMSS.
 inline bool read_time(const u8 *&at, const u8 *end, u64 &time) {
-    if (end - at < 18 || at[8] != '-' || at[11] != ':' || at[14] != ':' || at[17] != SOH) return false;
-    constexpr u64 HIGH = 0xF0F0F0F0F0F0F0F0, ZEROS = 0x3030303030303030;
-    u64 clock = eight(at + 9), wrong = 0;
-    u64 halves[2] = {eight(at), 0x3030 | (clock & 0xFFFF) << 16 | (clock >> 24 & 0xFFFF) << 32 | clock >> 48 << 48};
-    for (u64 &half : halves) {
-        wrong |= ((half & HIGH) ^ ZEROS) | (((half + 0x0606060606060606) & HIGH) ^ ZEROS);
-        half = (half - ZEROS) * 2561 >> 8 & 0x00FF00FF00FF00FF;
-        half = (half * 6553601 >> 16 & 0x0000FFFF0000FFFF) * 42949672960001 >> 32;
-    }
-    time = halves[0] * 1'000'000 + halves[1], at += 18;
-    return !wrong;
+    if (end - at < 18 || at[17] != SOH || !read_clock(at, time)) return false;
+    at += 18;
+    return true;
 }
 
 inline bool read_any(const u8 *&at) {

@@ -7,6 +7,7 @@ import tempfile
 from venues import ROOT, Trouble, replay, started
 
 SOURCE = os.path.join(ROOT, "scripts/bench_venue.c")
+PIN = os.path.join(ROOT, "scripts/pin")
 
 
 def built(folder):
@@ -29,11 +30,20 @@ def load(program, *words):
     return orders, micros / 1e6, p50 / 1e3, p99 / 1e3, reports
 
 
-def traded(program, folder, members, window, seconds, rate=0):
-    """The load against a venue whose journal lies in a folder of its own below this one."""
+def put_on_cores(venue):
+    """Puts each thread of the venue on a core."""
+    ran = subprocess.run([PIN, str(venue.process.pid)], capture_output=True, text=True)
+    if ran.returncode:
+        raise Trouble(ran.stderr.strip())
+
+
+def traded(program, folder, members, window, seconds, rate=0, venued=None, is_pinned=False):
+    """The load against a venue whose journal lies in a folder of its own below this one; venued, or another program."""
     with tempfile.TemporaryDirectory(dir=folder, prefix="bench-venue-") as place:
         journal = os.path.join(place, "venue.journal")
-        venue = started(journal, members)
+        venue = started(journal, members, program=venued)
+        if is_pinned:
+            put_on_cores(venue)
         told = load(program, venue.port, members, window, seconds, rate)
         orders, *_, reports = told
         counts = [venue.stop()]

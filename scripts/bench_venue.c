@@ -1,7 +1,7 @@
 // The load client of scripts/bench_venue, which builds it: members that trade over TCP as fast as they are answered.
 //
 //   bench_venue load PORT MEMBERS WINDOW SECONDS   members C1.. at PORT.., each with at most WINDOW orders under way
-//   bench_venue load PORT MEMBERS 1 SECONDS RATE   the same, each with at most RATE orders a second
+//   bench_venue load PORT MEMBERS 1 SECONDS RATE   the same, each with at most RATE orders a second, as 1000 or 0.2
 //   bench_venue echo PORT MEMBERS                  serves as many ports, and sends back what comes
 //
 // A member sells 10 and buys 10 by turns, at one price for all, so that no more than the orders under way rest, and
@@ -23,7 +23,8 @@
 
 enum { MEMBERS = 8, LARGEST = 4096, BYTES = 1 << 18, MESSAGE = 512, MOST = 1 << 24 };
 
-static int port, members, window, seconds, rate, is_echo;
+static int port, members, window, seconds, is_echo;
+static double rate;
 static pthread_barrier_t start;
 
 typedef struct {
@@ -152,7 +153,7 @@ static int connected(int to) {
 // Keeps a member at its rate, where it has one: waits for the time of its next order.
 static void keep_rate(const Member *it) {
     if (!rate) return;
-    uint64_t due = it->first + (uint64_t)it->sent * 1000000000 / (uint64_t)rate, at = now();
+    uint64_t due = it->first + (uint64_t)((double)it->sent * 1e9 / rate), at = now();
     if (due > at) usleep((useconds_t)((due - at) / 1000));
 }
 
@@ -165,8 +166,10 @@ static void *trade(void *given) {
     it->first = now();
     uint64_t end = it->first + (uint64_t)seconds * 1000000000;
     while (now() < end && it->sent < MOST) {
-        keep_rate(it);
-        if (it->sent - it->acked < window) send_orders(it, window - (it->sent - it->acked));
+        if (it->sent - it->acked < window) {
+            keep_rate(it);
+            send_orders(it, window - (it->sent - it->acked));
+        }
         listen_once(it);
     }
     if (it->sent % 2) send_orders(it, 1);
@@ -249,7 +252,7 @@ int main(int count, char **words) {
     }
     window = atoi(words[4]);
     seconds = atoi(words[5]);
-    rate = count > 6 ? atoi(words[6]) : 0;
+    rate = count > 6 ? atof(words[6]) : 0;
     is_echo = count > 7;
     load();
     return 0;

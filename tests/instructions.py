@@ -18,7 +18,6 @@ failed. Build both programs first, by scripts/build.
 """
 import argparse
 import os
-import re
 import shutil
 import subprocess
 import sys
@@ -31,13 +30,12 @@ sys.path.insert(0, os.path.join(ROOT, "scripts"))
 import needs_python  # (in front of what an older Python can't read)
 import journals
 from journals import Entry
+from measuring import instructions
 from mixed_day import write_journal
 from venues import REPLAY, VENUED, Trouble, message, need_programs, order
 
 ABOVE, BELOW = 0.02, 0.04
 SYMBOLS = ["A", "BB", "CCC", "DDDD", "EEEEE", "F6", "G77", "H888"]
-COUNTED = re.compile(r"Collected : (\d+)")
-PATIENCE = 300  # Seconds for a run, which takes some fifty times as long as without a count.
 
 # How many instructions each run has.
 COUNTS = {"session": 27_183_000, "one_symbol": 30_322_000, "eight_symbols": 32_117_000}
@@ -82,16 +80,6 @@ def eight_symbols(folder: str, more: float) -> Run:
     return Run([REPLAY, path, "book", *SYMBOLS])
 
 
-def counted(run: Run) -> int:
-    """How many instructions it takes; it has to end well."""
-    words = ["valgrind", "--tool=callgrind", "--callgrind-out-file=/dev/null", *run.words]
-    it = subprocess.run(words, input=run.data, capture_output=True, timeout=PATIENCE)
-    found = COUNTED.search(it.stderr.decode("utf-8", "replace"))
-    if it.returncode or not found:
-        raise Trouble(f"{' '.join(words)} ended with {it.returncode}: {it.stderr.decode('utf-8', 'replace')[-300:]}")
-    return int(found[1])
-
-
 def fits(name: str, count: int) -> bool:
     """Whether the run is as dear as it was."""
     return COUNTS[name] * (1 - BELOW) <= count <= COUNTS[name] * (1 + ABOVE)
@@ -101,11 +89,11 @@ def tried(make) -> str:
     """Counts a run as it is, and with more input."""
     name = make.__name__
     with tempfile.TemporaryDirectory(prefix="instructions-") as folder:
-        count = counted(make(folder, 1))
+        count = instructions(*make(folder, 1))
     if not fits(name, count):
         raise Trouble(f"expected {COUNTS[name]:,} instructions came {count:,}")
     with tempfile.TemporaryDirectory(prefix="instructions-") as folder:
-        dearer = counted(make(folder, 1.05))
+        dearer = instructions(*make(folder, 1.05))
     if fits(name, dearer):
         raise Trouble(f"with a twentieth more input expected above {COUNTS[name] * (1 + ABOVE):,.0f} came {dearer:,}")
     return f"{count:,} instructions, and {dearer:,} with more input are refused"
@@ -127,7 +115,7 @@ def main() -> int:
         try:
             if asked.show:
                 with tempfile.TemporaryDirectory(prefix="instructions-") as folder:
-                    print(f"{make.__name__}: {counted(make(folder, 1))}", flush=True)
+                    print(f"{make.__name__}: {instructions(*make(folder, 1))}", flush=True)
             else:
                 print(f"{make.__name__}: {tried(make)}", flush=True)
         except (Trouble, OSError, subprocess.TimeoutExpired) as why:
