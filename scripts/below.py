@@ -4,6 +4,7 @@ import functools
 import os
 import re
 import typing
+from collections.abc import Collection
 
 import antt
 import contracts
@@ -341,8 +342,10 @@ def stands_in(words: list[str], full: list[str]) -> bool:
     return words[-1] == full[-1] and all(it in rest for it in words[:-1])
 
 
-def reading_order(project: Project, roots: list[Entry | Leaf]) -> tuple[list[Entry], set[Leaf]]:
-    """All that stands below these, each above what it uses, but in circles; and what it comes down to."""
+def reading_order(project: Project, roots: list[Entry | Leaf],
+                  closed: Collection[Entry] = ()) -> tuple[list[Entry], set[Leaf]]:
+    """All that stands below these, each above what it uses, but in circles; and what it comes down to. What stands below
+    those that are closed isn't looked at."""
     order, seen, leaves = [], set(), set()
     waiting = [(None, iter(list(dict.fromkeys(roots))[::-1]))]
     while waiting:
@@ -352,7 +355,8 @@ def reading_order(project: Project, roots: list[Entry | Leaf]) -> tuple[list[Ent
                 leaves.add(it)
             elif it not in seen:
                 seen.add(it)
-                waiting.append((it, iter(list(dict.fromkeys(project.below(it)))[::-1])))
+                uses = [] if it in closed else list(dict.fromkeys(project.below(it)))[::-1]
+                waiting.append((it, iter(uses)))
                 break
         else:
             waiting.pop()

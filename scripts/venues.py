@@ -1,43 +1,32 @@
-"""A venue that listens and its clients, for the scripts that drive the built programs over TCP."""
+"""A venue that listens and its clients, for the scripts that drive the built programs over TCP, and what their tests share."""
+import functools
 import os
 import queue
-import random
 import re
 import select
 import socket
 import subprocess
+import sys
+import tempfile
 import threading
 
-ROOT = os.path.dirname(os.path.dirname(os.path.abspath(__file__)))
-VENUED = os.environ.get("VENUED", os.path.join(ROOT, "crates/venued/out/venued"))
-REPLAY = os.environ.get("VENUE_REPLAY", os.path.join(ROOT, "crates/venue_replay/out/venue_replay"))
-HOST = "127.0.0.1"
+import with_tools  # (in front of what stands in the package gikvand)
+from gikvand import programs
+from gikvand.fix import HEAD, framed, parted, printed, value  # (some of them for those that import this module)
+from gikvand.ports import HOST, free_port
+from gikvand.programs import REPLAY, ROOT, VENUED, Trouble
+
 TIME = "20250102-09:30:00"
 PATIENCE = int(os.environ.get("VENUE_PATIENCE", "30"))  # Seconds to wait for what has to come.
-PORTS = range(10000, 32000)  # Those above are given to clients by the system, and one may be in use at any moment.
 TRIES = 10                   # Rows of ports to try: another process may take one before the venue does.
 COUNTS = re.compile(r"venued: (\w+), (\d+) commands, (\d+) outputs")
-REPLAYED = re.compile(r"commands (\d+) outputs (\d+)")
-HEAD = re.compile(rb"8=FIX\.4\.4\x019=(\d+)\x01")
 
 running = []
 
 
-class Trouble(Exception):
-    """What went wrong, in words."""
-
-
 def need_programs():
     """Stops where a program isn't built."""
-    for program in (VENUED, REPLAY):
-        if not os.access(program, os.X_OK):
-            raise Trouble(f"{os.path.relpath(program)} isn't built: scripts/build proves and builds it")
-
-
-def framed(fields):
-    """The frame round these fields."""
-    text = f"8=FIX.4.4|9={len(fields)}|{fields}".replace("|", "\x01").encode()
-    return text + b"10=%03d\x01" % (sum(text) % 256)
+    programs.need(VENUED, REPLAY)
 
 
 def message(member, number, kind, body=""):
@@ -53,46 +42,6 @@ def order(name, side, quantity, price, symbol="ABC", more=""):
 def market_order(name, side, quantity, symbol="ABC", more=""):
     """The body of a new order without a price: it trades at any, and never rests."""
     return f"11={name}|55={symbol}|54={side}|60={TIME}|38={quantity}|40=1|{more}"
-
-
-def printed(data):
-    """Bytes of FIX with the byte 01 as a bar."""
-    return data.decode("ascii", "replace").replace("\x01", "|")
-
-
-def parted(data):
-    """The whole messages at the front of these bytes, as texts, and the bytes behind them."""
-    found, at = [], 0
-    while head := HEAD.match(data, at):
-        end = head.end() + int(head[1]) + len("10=000|")
-        if len(data) < end:
-            break
-        found.append(printed(data[at:end]))
-        at = end
-    return found, data[at:]
-
-
-def value(text, tag):
-    """The value of the first field of this tag, or None."""
-    found = re.search(rf"(?:^|\|){tag}=([^|]*)\|", text)
-    return found and found[1]
-
-
-def is_free(port):
-    with socket.socket() as it:
-        try:
-            it.bind((HOST, port))
-        except OSError:
-            return False
-    return True
-
-
-def free_port(count):
-    """A port that is free, as those behind it are, so many in all, at this moment."""
-    while True:
-        port = random.choice(PORTS)
-        if all(is_free(it) for it in range(port, port + count)):
-            return port
 
 
 class Lines:
@@ -117,11 +66,11 @@ class Lines:
 
 
 class Venue:
-    """A venued that listens, or was told to."""
+    """A venued that listens, or was told to; or another program of its words and lines."""
 
-    def __init__(self, port, journal, gateways, symbols=("ABC",), env=None):
+    def __init__(self, port, journal, gateways, symbols=("ABC",), env=None, program=None):
         self.port, self.journal = port, journal
-        words = [VENUED, str(port), journal, str(gateways), *symbols]
+        words = [program or VENUED, str(port), journal, str(gateways), *symbols]
         self.process = subprocess.Popen(words, stdout=subprocess.PIPE, stderr=subprocess.PIPE, text=True, env=env)
         running.append(self)
         self.out, self.err = Lines(self.process.stdout), Lines(self.process.stderr)
@@ -169,10 +118,57 @@ def kill_all():
         running.pop().kill()
 
 
-def started(journal, gateways, symbols=("ABC",)):
+def chosen_of(tests):
+    """Those tests whose names have one of the command line's words in them, or all."""
+    return [it for it in tests if not sys.argv[1:] or any(word in it.__name__ for word in sys.argv[1:])]
+
+
+def in_a_folder(test):
+    """The test in a folder of its own."""
+    @functools.wraps(test)
+    def run():
+        with tempfile.TemporaryDirectory(prefix="tests-") as folder:
+            os.chdir(folder)
+            try:
+                test()
+            finally:
+                kill_all()
+                os.chdir(ROOT)
+    return run
+
+
+def tried(tests, *given):
+    """Tries each test with what is given, and prints which fail and how many: the status, 1 where one failed."""
+    failed = 0
+    for test in tests:
+        try:
+            test(*given)
+        except Exception as why:
+            print(f"{test.__name__}: {why if isinstance(why, Trouble) else repr(why)}", flush=True)
+            failed += 1
+        finally:
+            kill_all()
+    print(f"{len(tests) - failed} passed, {failed} failed")
+    return 1 if failed else 0
+
+
+def main_of(name, doc, tests, run=tried):
+    """What a file of tests of this name does: it runs those that the command line chooses, once the programs are there, or
+    prints its own text where that asks for help. Answers the status."""
+    if set(sys.argv[1:]) & {"-h", "--help"}:
+        print(doc.strip())
+        return 0
+    try:
+        need_programs()
+    except Trouble as why:
+        sys.exit(f"{name}: {why}")
+    return run(chosen_of(tests))
+
+
+def started(journal, gateways, symbols=("ABC",), program=None):
     """A venue on free ports that is ready."""
     for _ in range(TRIES):
-        venue = Venue(free_port(gateways), journal, gateways, symbols)
+        venue = Venue(free_port(gateways), journal, gateways, symbols, program=program)
         line = venue.out.next()
         if COUNTS.fullmatch(line or ""):
             return venue
@@ -226,11 +222,9 @@ class Client:
 
 def replay(journal, what, symbols=("ABC",)):
     """The lines that venue-replay prints, and the commands and outputs of the last one."""
-    ran = subprocess.run([REPLAY, journal, what, *symbols], capture_output=True, text=True)
-    if ran.returncode:
-        raise Trouble(f"venue-replay ended with status {ran.returncode}: {ran.stderr.strip()}")
-    *lines, last = ran.stdout.splitlines()
-    return lines, tuple(map(int, REPLAYED.fullmatch(last).groups()))
+    told = programs.Replay(journal, what, list(symbols))
+    lines = list(told)
+    return lines, (told.commands, told.outputs)
 
 
 def check_snapshots(journal, symbols=("ABC",)):

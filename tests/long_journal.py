@@ -10,15 +10,17 @@ reads of the file is counted, by tests/refusals.c, and is not a tenth more than 
 - `venued -` with one order more as its input: a first start, which adds a snapshot, and one behind that snapshot;
 - `venue-replay` with `check`, and with `book`, behind that snapshot too.
 
-Programs that keep what they read, read twice, or have no memory for a long journal, by tests/stand_in.c, have to be
-refused. Without cc nothing is tried, and a line says so. The last line is `N passed, M failed`, and the status is 1
-where one failed. It takes some seconds. Build both programs first, by scripts/build; others are taken by the
-environment's VENUED and VENUE_REPLAY.
+A stop file that is made while a start reads the long journal stops the venue as soon as it is ready. Programs that keep
+what they read, read twice, or have no memory for a long journal, by tests/stand_in.c, have to be refused. Without cc
+nothing is tried, and a line says so. The last line is `N passed, M failed`, and the status is 1 where one failed. It
+takes some seconds. Build both programs first, by scripts/build; others are taken by the environment's VENUED and
+VENUE_REPLAY.
 """
 import functools
 import os
 import subprocess
 import sys
+import time
 from collections.abc import Callable
 from typing import NamedTuple
 
@@ -29,12 +31,13 @@ from journals import Entry
 from replay_rules import counts, line_of
 from rules import Judged, told
 from snapshot_rules import snapshot
-from venues import PATIENCE, REPLAY, Trouble, message, order
+from venues import PATIENCE, REPLAY, Trouble, Venue, free_port, message, order
 
 SHORT, LONG = 5_000, 100_000  # How many entries the journals have.
 RESTING = 3                   # How many of these, the last ones, rest.
 BLOCK = 20                    # How many entries a block has.
 STEP = 64                     # A limit is found to so many KiB.
+A_BEGINNING = 1_000_000       # Bytes of which a start has read more where it surely reads its journal.
 SLACK = 1024                  # What the long journal may take beyond the short one, in KiB.
 
 
@@ -162,6 +165,32 @@ def book_shown(sweeps):
     return Run(lambda it: [REPLAY, it, "book", "ABC"], with_snapshot, no_input, book_lines).check(sweeps)
 
 
+def await_reading(venue):
+    """Waits until the venue reads its journal."""
+    end = time.monotonic() + PATIENCE
+    while time.monotonic() < end:
+        with open(f"/proc/{venue.process.pid}/io", encoding="ascii") as file:
+            if int(file.readline().removeprefix("rchar: ")) > A_BEGINNING:
+                return
+    raise Trouble(f"venued doesn't read its journal within {PATIENCE} seconds")
+
+
+def stop_at_the_start(sweeps):
+    """A venue that is told to stop while it reads its journal."""
+    path = os.path.join(sweeps.folder, "venue.journal")
+    put(path, journal_of(LONG))
+    put(f"{path}.stop", b"")  # (one that was left goes away)
+    venue = Venue(free_port(1), path, 1)
+    await_reading(venue)
+    put(f"{path}.stop", b"")
+    counts = venue.ready(), venue.counts("stopped")
+    if status := venue.status():
+        raise Trouble(f"status {status} of a venue that was stopped")
+    if len(set(counts)) != 1:
+        raise Trouble(f"expected the same counts came {counts}")
+    return f"it was ready, and stopped with {counts[1][0]} commands"
+
+
 def wrong_programs(sweeps):
     """Of programs that stand in for these, each with a fault or none, those with one are refused."""
     program, answer = os.path.join(sweeps.folder, "stand_in"), os.path.join(sweeps.folder, "answer")
@@ -182,4 +211,5 @@ def wrong_programs(sweeps):
 if __name__ == "__main__":
     if set(sys.argv[1:]) & {"-h", "--help"}:
         sys.exit(print(__doc__.strip()))
-    run_tests("long_journal", [first_start, second_start, snapshots_checked, book_shown, wrong_programs])
+    run_tests("long_journal", [first_start, second_start, snapshots_checked, book_shown, stop_at_the_start,
+                               wrong_programs])

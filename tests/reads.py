@@ -21,9 +21,15 @@ from below import Entry, Project
 
 SCRIPTS = ("reads", "below.py", "antt.py", "contracts.py", "crates.py", "needs_python.py")
 
-# What one has to read of `listen` is a page that grows no longer, and never is nothing.
+# What one has to read of `listen` grows no longer, and never is nothing.
 LISTEN = ("listen", "--clause", "ends")
 LEAST, MOST = (250, 30), (600, 100)
+
+# The record of the headline, and the chapters that it leaves to themselves: each is a page.
+RECORDS = (("listen", "--clause", "seen"), ("serve", "--clause", "seen"))
+CHAPTERS = ("gateway::Standing::At", "outputs_of", "state_of", "texts_to", "IsJournal", "HasCut", "HasTrueSnapshots",
+            "gateway::Standing::Standing")
+A_PAGE = ("--most", "250", "20")
 
 FILES = {
     "lower/specs/Numbers.antt": """
@@ -180,6 +186,7 @@ READ = {
     ("look", "--clause", "few"): ["long", "Shape", "Side", "MOST"],
     ("look", "--clause", "kept"): ["Keeps.kept", "Side"],
     ("look", "--clause", "lemma"): ["twice-one", "even", "odd", "twice", "once"],
+    ("look", "--clause", "above", "--but", "number_of"): ["IsAbove", "number_of", "even", "odd", "Colour", "Shade", "MOST"],
     ("Shape",): ["Shape", "Side"],
     ("Rattle.lower.specs.Numbers.odd",): ["odd", "even"],
     ("lower::Numbers::unused",): ["unused", "twice", "once"],
@@ -197,6 +204,8 @@ TOLD = {
     ("look", "--most", "99", "3"): ("more than 99 definitions in 3 files", 1),
     ("look", "--clause", "few", "--text"): ("    -- how long a list is\n    unfoldable pub long : List A → ℕ\n    long xs", 0),
     ("Shape", "--by-file"): ("lower: crates/lower/specs/Shapes.antt, 2\n    Shape\n    Side\n", 0),
+    ("look", "--clause", "above", "--but", "nothing"): ("no function and no definition of specs is called nothing", 2),
+    ("look", "--clause", "above", "--but", "look"): ("look is no definition", 2),
     ("Shape", "--by-file", "--text"): ("        -- a side\n        pub record Side", 0),
 }
 
@@ -266,6 +275,11 @@ def of_project(check: Check) -> None:
     there = (int(counts[1]), int(counts[2])) if counts else (0, 0)
     check.count(status == 0, f"{' '.join(LISTEN)}: {there[0]} definitions in {there[1]} files, status {status}")
     check.count(there[0] >= LEAST[0] and there[1] >= LEAST[1], f"{' '.join(LISTEN)}: but {there[0]} in {there[1]}")
+    pages = [(*it, "--but", *CHAPTERS) for it in RECORDS]
+    pages += [(it, "--but", *(other for other in CHAPTERS if other != it)) for it in CHAPTERS]
+    for words in pages:
+        said, status = run(ROOT, (*words, *A_PAGE))
+        check.count(status == 0, f"{' '.join(words)}: {re.findall('^.* definitions in .*$', said, re.M)}, status {status}")
 
 
 def main() -> None:

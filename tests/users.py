@@ -15,8 +15,6 @@ import re
 import shutil
 import subprocess
 import sys
-import tempfile
-import xml.etree.ElementTree as xml
 
 ROOT = os.path.dirname(os.path.dirname(os.path.abspath(__file__)))
 sys.path.insert(0, os.path.join(ROOT, "scripts"))
@@ -25,8 +23,8 @@ import needs_python  # (in front of what an older Python can't read)
 import journals
 from journals import Entry
 from pictures import Picture, row_of
-from venues import HOST, REPLAY, TIME, VENUED, Trouble, free_port, kill_all, market_order, message, need_programs
-from venues import order, started
+from venues import HOST, REPLAY, TIME, VENUED, Trouble, free_port, in_a_folder, main_of, market_order, message, order
+from venues import started
 
 PROGRAMS = {"VENUED": os.path.abspath(VENUED), "VENUE_REPLAY": os.path.abspath(REPLAY)}
 LONG = 120  # Seconds for a script.
@@ -77,7 +75,7 @@ def first_steps_of_the_readme() -> None:
     expect(lines[at + 3], "$ scripts/trade sell 30 ABC 49")
     expect_trade("buy 100 ABC 50", 0, lines[at + 1:at + 3])
     expect_trade("sell 30 ABC 49", 0, lines[at + 4:at + 8])
-    expect(sorted(os.listdir()), ["trade.journal"])
+    expect(sorted(os.listdir()), ["trade.journal", "trade.journal.symbols"])
 
 
 # What a member says, and what it is told. Where the answer isn't the venue's there is nothing under way before it.
@@ -199,30 +197,31 @@ def wrong_words_of_trade() -> None:
     for words in (["--port", "0"], ["--port", "65529"], ["--port", "x"], ["--member", "9"], ["--member", "0"], ["--wrong"]):
         status, out, err = trade(*words)
         expect((words, status, out, bool(err)), (words, 2, [], True))
-    expect(trade("--member", "2", "buy", "1", "ABC", "1"), (1, [], ["trade: without --port only the member 1 is served"]))
+    expect(trade("--member", "2", "buy", "1", "ABC", "1"),
+           (2, [], ["gikvand trade: without --port only the member 1 is served"]))
     expect(os.listdir(), [])
 
 
 def venues_that_cannot_be_had() -> None:
-    """Where there is no venue, or it doesn't start, the status is 1, and a line says why."""
+    """Where there is no venue, or it doesn't start, the status is 2, and a line says why."""
     port = free_port(1)
     expect(trade("--port", str(port), "orders"),
-           (1, [], [f"trade: no venue answers at {HOST}, port {port}: Connection refused"]))
+           (2, [], [f"gikvand trade: no venue answers at {HOST}, port {port}: Connection refused"]))
     with open("none.journal", "wb") as file:
         file.write(b"no journal")
     status, out, err = trade("--journal", "none.journal", "orders")
-    expect((status, out), (1, []))
-    expect(err, ["trade: the journal none.journal can't be read: venue-replay: journal fault 43 (docs/OPERATING.md says "
-                 "what its line means)"])
+    expect((status, out), (2, []))
+    expect(err, ["gikvand trade: the journal none.journal can't be read: venue-replay: journal fault 43 (docs/OPERATING.md "
+                 "says what that means)"])
     venue = started(JOURNAL, 1)
     status, out, err = trade("--journal", JOURNAL, "buy", "1", "ABC", "1")
-    expect((status, out), (1, [f"The journal {JOURNAL}, for ABC."]))
+    expect((status, out), (2, [f"The journal {JOURNAL}, for ABC."]))
     expect(err, ["venued: journal fault 41",
-                 "trade: venued ended with status 1 (docs/OPERATING.md says what its line means)"])
+                 "gikvand trade: venued ended with status 1 (docs/OPERATING.md says what that means)"])
     expect(venue.stop(), (0, 0))
     for name in ("VENUED", "VENUE_REPLAY"):
         status, out, err = trade("orders", **{name: os.path.abspath("missing")})
-        expect((name, status, out, [it.endswith(BUILT) for it in err]), (name, 1, [], [True]))
+        expect((name, status, out, [it.endswith(BUILT) for it in err]), (name, 2, [], [True]))
 
 
 def members_over_tcp() -> None:
@@ -319,17 +318,17 @@ def the_demo() -> None:
 
 
 def demos_that_fail() -> None:
-    """A venue that isn't there, can't start, or ends with another status: a line, and status 1. Wrong words: status 2."""
-    expect(ran([script("demo"), "x"]), (2, [], ["usage: scripts/demo"]))
+    """A venue that isn't there, can't start, or ends with another status: a line, and status 2. So with wrong words."""
+    expect(ran([script("demo"), "x"])[:2], (2, []))
     status, out, err = ran([script("demo")], VENUED=os.path.abspath("missing"))
-    expect((status, out, [it.endswith(BUILT) for it in err]), (1, [], [True]))
+    expect((status, out, [it.endswith(BUILT) for it in err]), (2, [], [True]))
     put("venued", "#!/bin/sh\necho 'venued: no memory' >&2\nexit 1\n")
     status, out, err = ran([script("demo")], VENUED=os.path.abspath("venued"))
-    expect((status, out), (1, []))
-    expect(err, ["demo: venued isn't ready; it said: venued: no memory (docs/OPERATING.md says what that means)"])
+    expect((status, out), (2, []))
+    expect(err, ["gikvand demo: venued isn't ready; it said: venued: no memory (docs/OPERATING.md says what that means)"])
     put("venued", f"#!/bin/sh\n{PROGRAMS['VENUED']} \"$@\"\nexit 3\n")
     status, out, err = ran([script("demo")], VENUED=os.path.abspath("venued"))
-    expect((status, err), (1, ["demo: venued ended with status 3"]))
+    expect((status, err), (2, ["gikvand demo: venued ended with status 3"]))
 
 
 def contents(name: str) -> bytes:
@@ -389,13 +388,14 @@ def a_day_drawn() -> None:
 
 
 def days_that_cannot_be_drawn() -> None:
-    for words in ([], ["my.journal"]):
-        expect((words, *ran([script("day"), *words])), (words, 2, [], ["usage: scripts/day JOURNAL SYMBOL... >day.svg"]))
+    expect(ran([script("day")])[:2], (2, []))
+    expect(ran([script("day"), "my.journal"]), (2, [], ["gikvand day: the symbols of my.journal aren't known: name them, or write "
+                                                       "them into my.journal.symbols"]))
     expect(ran([script("day"), "missing", "ABC"]),
-           (1, [], ["day: the journal missing can't be read: venue-replay: journal fault 41 (docs/OPERATING.md says what "
-                    "that means)"]))
+           (2, [], ["gikvand day: the journal missing can't be read: venue-replay: journal fault 41 (docs/OPERATING.md says "
+                    "what that means)"]))
     status, out, err = ran([script("day"), "missing", "ABC"], VENUE_REPLAY=os.path.abspath("missing"))
-    expect((status, out, [it.endswith(BUILT) for it in err]), (1, [], [True]))
+    expect((status, out, [it.endswith(BUILT) for it in err]), (2, [], [True]))
 
 
 ANSWERS = ["8=FIX.4.4|9=63|35=A|49=VENUE|56=C1|34=1|52=20250102-09:30:00|98=0|108=0|141=Y|10=026|",
@@ -557,34 +557,5 @@ TESTS = [first_steps_of_the_readme, a_day_by_words, what_trade_refuses, market_o
          builds_without_a_checker]
 
 
-def passes(test) -> bool:
-    """Runs a test in a folder of its own, and says whether it passed."""
-    with tempfile.TemporaryDirectory(prefix="users-") as folder:
-        os.chdir(folder)
-        try:
-            test()
-        except (Trouble, OSError, LookupError, ValueError, subprocess.TimeoutExpired, xml.ParseError) as why:
-            print(f"{test.__name__}: {why!r}" if not isinstance(why, Trouble) else f"{test.__name__}: {why}")
-            return False
-        finally:
-            kill_all()
-            os.chdir(ROOT)
-    return True
-
-
-def main() -> None:
-    if set(sys.argv[1:]) & {"-h", "--help"}:
-        print(__doc__.strip())
-        return
-    chosen = [it for it in TESTS if not sys.argv[1:] or any(word in it.__name__ for word in sys.argv[1:])]
-    try:
-        need_programs()
-    except Trouble as why:
-        sys.exit(f"users: {why}")
-    failed = sum(not passes(test) for test in chosen)
-    print(f"{len(chosen) - failed} passed, {failed} failed")
-    sys.exit(1 if failed else 0)
-
-
 if __name__ == "__main__":
-    main()
+    sys.exit(main_of("users", __doc__, [in_a_folder(it) for it in TESTS]))

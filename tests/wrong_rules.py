@@ -1,13 +1,14 @@
 """Wrong rules for a member's bytes and for the book, each of which the test that compares has to tell from the right ones.
 Not a test: tests import it. A wrong rule is a text of rules.py or book_rules.py, standing there once, that is another one."""
-import os
 import sys
 import types
 from typing import NamedTuple
 from unittest import mock
 
-TESTS = os.path.dirname(os.path.abspath(__file__))
-FILES = ("rules", "book_rules")  # Each stands on those before it.
+import book_rules
+import rules
+
+FILES = {"rules": rules.__file__, "book_rules": book_rules.__file__}  # Each stands on those before it.
 
 
 class Wrong(NamedTuple):
@@ -19,9 +20,8 @@ class Wrong(NamedTuple):
     def rules(self) -> dict[str, types.ModuleType]:
         """The modules of the rules with this wrong one, by their names."""
         found: dict[str, types.ModuleType] = {}
-        for name in FILES:
+        for name, path in FILES.items():
             found[name] = types.ModuleType(name)
-            path = os.path.join(TESTS, f"{name}.py")
             with open(path, encoding="utf-8") as file, mock.patch.dict(sys.modules, found):
                 exec(compile(self.put(name, file.read()), path, "exec"), vars(found[name]))
         return found

@@ -1,0 +1,144 @@
+# Completion of the words of gikvand, venued and venue-replay, for bash. As a package has it, it is loaded with the first of
+# these words; else: source contrib/gikvand.bash. tests/package.py compares it with what the programs take.
+# shellcheck shell=bash
+
+_gikvand_members=(C1 C2 C3 C4 C5 C6 C7 C8)
+declare -gA _gikvand_options=(
+    [verify]="--symbols"
+    [reports]="--after --symbols --csv --json"
+    [trades]="--after --symbols --csv --json"
+    [follow]="--once"
+    [why]="--symbols"
+    [watch]="--prometheus --quick --symbols"
+    [trade]="--port --member --journal --symbols --fix"
+    [demo]=""
+    [day]=""
+)
+
+# Puts the words up to the cursor into `words`, as the program gets them: bash has cut them at each =.
+_gikvand_words() {
+    local at
+    words=()
+    for ((at = 0; at <= COMP_CWORD; at++)); do
+        if ((at > 0)) && [[ ${COMP_WORDS[at]} == "=" || ${COMP_WORDS[at - 1]} == "=" ]]; then
+            words[-1]+=${COMP_WORDS[at]}
+        else
+            words+=("${COMP_WORDS[at]}")
+        fi
+    done
+}
+
+# Answers what begins like the first word, of all the others.
+_gikvand_of() {
+    local begun=$1
+    shift
+    mapfile -t COMPREPLY < <(compgen -W "$*" -- "$begun")
+}
+
+# Answers the files that begin so.
+_gikvand_files() {
+    compopt -o filenames 2>/dev/null
+    mapfile -t COMPREPLY < <(compgen -f -- "$1")
+}
+
+# Answers the symbols that a journal has, and that aren't among the words behind it. What is no symbol is passed over, as bash
+# would do what such a word says.
+_gikvand_symbols() {
+    local begun=$1 journal=$2 symbol found=() left=()
+    shift 2
+    [[ -f $journal.symbols && -r $journal.symbols ]] || return 0
+    read -r -n 1000 -a found <"$journal.symbols"
+    for symbol in "${found[@]}"; do
+        [[ $symbol =~ ^[A-Z0-9]{1,8}$ && " $* " != *" $symbol "* ]] && left+=("$symbol")
+    done
+    _gikvand_of "$begun" "${left[@]}"
+}
+
+# Answers the words of `gikvand trade`, of which these stand there: a request.
+_gikvand_request() {
+    local begun=$1 journal=$2
+    shift 2
+    case $#:${1-} in
+        0:) _gikvand_of "$begun" buy sell cancel replace orders ;;
+        2:buy | 2:sell) _gikvand_symbols "$begun" "$journal" ;;
+        3:buy | 3:sell) _gikvand_of "$begun" market ;;
+        4:buy | 4:sell) _gikvand_of "$begun" ioc fok ;;
+    esac
+}
+
+# Answers what may stand behind these words of a command that are no options.
+_gikvand_place() {
+    local command=$1 begun=$2 journal=$3
+    shift 3
+    case $command:$# in
+        trade:*) _gikvand_request "$begun" "$journal" "$@" ;;
+        demo:*) ;;
+        *:0 | follow:1) _gikvand_files "$begun" ;;
+        reports:1) _gikvand_of "$begun" "${_gikvand_members[@]}" ;;
+        verify:*)
+            compopt -o nospace 2>/dev/null
+            _gikvand_of "$begun" "${_gikvand_members[@]/%/=}"
+            ;;
+        day:*) _gikvand_symbols "$begun" "$1" "${@:2}" ;;
+    esac
+    return 0
+}
+
+_gikvand() {
+    local words at given=() journal=trade.journal
+    COMPREPLY=()
+    _gikvand_words
+    local begun=${words[-1]} command=${words[1]-} before=${words[-2]}
+    if ((${#words[@]} == 2)); then
+        _gikvand_of "$begun" "${!_gikvand_options[@]}" --help --version
+        return
+    fi
+    for ((at = 2; at < ${#words[@]} - 1; at++)); do
+        case ${words[at]} in
+            --journal) journal=${words[++at]} ;;
+            --symbols | --after | --port | --member) ((at += 1)) ;;
+            -*) ;;
+            *) given+=("${words[at]}") ;;
+        esac
+    done
+    case $before:$begun in
+        --journal:*) _gikvand_files "$begun" ;;
+        --member:*) _gikvand_of "$begun" 1 2 3 4 5 6 7 8 ;;
+        --symbols:* | --after:* | --port:*) ;;
+        *:-*) _gikvand_of "$begun" "${_gikvand_options[$command]-}" --help ;;
+        *:*=*) _gikvand_files "${begun#*=}" ;;
+        *) _gikvand_place "$command" "$begun" "$journal" "${given[@]}" ;;
+    esac
+}
+
+_venued() {
+    local words
+    COMPREPLY=()
+    _gikvand_words
+    local begun=${words[-1]}
+    case ${#words[@]}:${words[1]} in
+        2:*) _gikvand_of "$begun" - ;;
+        3:*) _gikvand_files "$begun" ;;
+        4:-) _gikvand_of "$begun" 1 ;;
+        4:*) _gikvand_of "$begun" 1 2 3 4 5 6 7 8 ;;
+        *) _gikvand_symbols "$begun" "${words[2]}" "${words[@]:4:${#words[@]}-5}" ;;
+    esac
+}
+
+_venue_replay() {
+    local words
+    COMPREPLY=()
+    _gikvand_words
+    local begun=${words[-1]}
+    case ${#words[@]}:${words[2]-} in
+        2:*) _gikvand_files "$begun" ;;
+        3:*) _gikvand_of "$begun" book "${_gikvand_members[@]}" snapshot check carry ;;
+        4:carry) _gikvand_files "$begun" ;;
+        *:carry) ;;
+        *) _gikvand_symbols "$begun" "${words[1]}" "${words[@]:3:${#words[@]}-4}" ;;
+    esac
+}
+
+complete -F _gikvand gikvand
+complete -F _venued venued
+complete -F _venue_replay venue-replay

@@ -1,0 +1,281 @@
+"""Tests of `gikvand follow`: what a copy is at each moment, whatever stops it, and which it refuses. Not a test by itself:
+tests/tools.py runs them."""
+import contextlib
+import errno
+import fcntl
+import importlib
+import os
+import random
+import re
+import signal
+import subprocess
+import sys
+import time
+from unittest import mock
+
+import journals
+from journals import Entry
+from made_journals import BEHIND, DAY, JOURNAL, TOOLS, contents, each_version, expect, gikvand, made, put, with_byte
+from traders import Member
+from venues import PATIENCE, Client, Trouble, Venue, free_port, running, started
+
+
+def followed_once() -> None:
+    """A copy is made, and grows with its journal; what an earlier call left behind its gate doesn't matter."""
+    for it in each_version():
+        expect(gikvand("follow", JOURNAL, "new.copy", "--once"),
+               (0, [f"new.copy: {len(DAY) + len(BEHIND)} entries, 0 bytes behind"], []))
+        expect((contents("new.copy"), contents("new.copy.symbols")), (it.data, b"ABC XYZ\n"))
+        expect(oct(os.stat("new.copy").st_mode & 0o777), "0o600")
+        expect(gikvand("verify", "new.copy")[0], 0)
+        for start, end in zip(it.starts, [*it.starts[1:], len(it.data) - 1]):
+            begun = it.data[:start] + b"\0"
+            for left in (b"", it.data[start + 1:start + 2], it.data[start + 1:end], it.data[start + 1:], b"\1" * 2000):
+                put("old.copy", begun + left)
+                expect(gikvand("follow", JOURNAL, "old.copy", "--once")[0], 0)
+                expect((start, contents("old.copy") == it.data), (start, True))
+        put(JOURNAL, it.data + it.data[it.starts[-1] + 1:-5])
+        expect((gikvand("follow", JOURNAL, "new.copy", "--once")[0], contents("new.copy")), (0, it.data))
+        for name in ("new.copy", "old.copy", "new.copy.symbols"):
+            os.remove(name)
+
+
+class Device:
+    """The calls at a copy, and what a crash may leave of it at each: what was synced, with any bytes where a write wasn't. Each
+    such file has to be a journal of a beginning."""
+
+    def __init__(self, whole: bytes) -> None:
+        self.whole, self.calls = journals.read(whole).entries, []
+        self.synced = self.now = b""
+
+    def pwrite(self, fd: int, data: bytes, at: int) -> int:
+        part = data[:max(1, len(data) * 2 // 3)]
+        self.now = os.pread(fd, 1 << 20, 0)
+        count = PWRITE(fd, part, at)
+        self.calls.append("open" if part == journals.OPEN and self.calls[-1:] == ["sync"] else "write")
+        for torn in (part, part[:len(part) // 2], bytes(len(part)), b"\1" * len(part), b"\xff" * len(part)):
+            self.look(self.synced[:at].ljust(at, b"\1") + torn + self.synced[at + len(torn):])
+        self.look(os.pread(fd, 1 << 20, 0))
+        return count
+
+    def sync(self, fd: int) -> None:
+        SYNC(fd)
+        if not os.readlink(f"/proc/self/fd/{fd}").endswith("/the.copy"):
+            return self.calls.append("journal")
+        self.synced = os.pread(fd, 1 << 20, 0)
+        self.calls.append("sync")
+
+    def look(self, data: bytes) -> None:
+        found = journals.read(data).entries
+        expect(found, self.whole[:len(found)])
+
+
+PWRITE, SYNC = os.pwrite, os.fdatasync
+
+
+def in_short_runs() -> contextlib.AbstractContextManager:
+    """While this lasts some blocks alone are written between two syncs."""
+    return mock.patch.object(importlib.import_module("gikvand.follow"), "A_RUN", 200)
+
+
+def order_of_writes() -> None:
+    """Whatever a crash leaves of a copy is a journal of a beginning; and each gate is opened by a write of its own."""
+    for it in each_version():
+        device = Device(it.data)
+        put("the.copy", it.data[:it.starts[0]] + b"\0")
+        device.synced = contents("the.copy")
+        with mock.patch.object(os, "pwrite", device.pwrite), mock.patch.object(os, "fdatasync", device.sync), in_short_runs():
+            expect(gikvand("follow", JOURNAL, "the.copy", "--once")[0], 0)
+        expect(contents("the.copy"), it.data)
+        calls = " ".join(device.calls)
+        expect((calls, bool(re.fullmatch("sync( journal( write)+ sync open sync){3,}", calls))), (calls, True))
+        os.remove("the.copy")
+
+
+def gates_opened_later() -> None:
+    """A block whose gate is closed at one look, and open at the next, is shipped then."""
+    for it in each_version():
+        *_, last = it.starts
+        put(JOURNAL, with_byte(it.data, last, 0))
+        source = importlib.import_module("gikvand.follow").Source(JOURNAL)
+        expect((source.blocks(), source.blocks()), (it.data[it.starts[0]:last], b""))
+        with open(JOURNAL, "r+b") as file:
+            os.pwrite(file.fileno(), journals.OPEN, last)
+        expect((source.blocks(), source.blocks()), (it.data[last:-1], b""))
+
+
+def copies_that_are_refused() -> None:
+    """What isn't a beginning of the journal stays as it is."""
+    for it in each_version():
+        other = with_byte(it.data, it.starts[1] + 60, it.data[it.starts[1] + 60] ^ 1)
+        more = it.data[:-1] + journals.block_of(it.version, [Entry(1, b"x")]) + b"\0"
+        other_words = "isn't a beginning of that journal, and stays as it is: {}. Name another file"
+        too_long = f"the journal ends behind {len(DAY) + len(BEHIND)} entries, and it has more"
+        cases = [(other, other_words.format(f"they differ in the block at {it.starts[1]}")),
+                 (more, other_words.format(too_long)),
+                 (journals.empty(it.version % 3 + 1), other_words.format("its header is another one")),
+                 (b"", other_words.format("it is no journal")),
+                 (it.data[:-1], f"is damaged at {len(it.data) - 1}: the file ends where a gate should be")]
+        for data, words in cases:
+            status, out, err = gikvand("follow", JOURNAL, put("the.copy", data), "--once")
+            expect((status, out, [line.startswith(f"gikvand follow: the.copy {words}") for line in err]), (2, [], [True]))
+            expect(contents("the.copy"), data)
+        put("the.copy", it.data)
+        with open("the.copy", "rb") as file:
+            fcntl.flock(file, fcntl.LOCK_EX)
+            expect([line.split(" by ")[0] for line in gikvand("follow", JOURNAL, "the.copy", "--once")[2]],
+                   ["gikvand follow: the.copy is in use"])
+        put("the.copy.symbols", b"XYZ\n")
+        of_both = "the journal the.copy is one of XYZ, as the.copy.symbols says, and not of ABC XYZ"
+        expect(gikvand("follow", JOURNAL, "the.copy", "--once")[2], [f"gikvand follow: {of_both}"])
+        os.remove("the.copy.symbols")
+        put("damaged", it.data[:-9])
+        expect([line.split(": ")[1] for line in gikvand("follow", "damaged", "the.copy", "--once")[2]],
+               [f"damaged is damaged at {it.starts[-1]}"])
+        os.remove("the.copy")
+    os.symlink(JOURNAL, "link")
+    no_header = "it doesn't begin with the header of a journal of version 1, 2 or 3 (fault 43): is the name right?"
+    cases = [([], None),
+             ([JOURNAL], None),
+             (["missing", "the.copy"], "missing: No such file or directory"),
+             ([JOURNAL, JOURNAL], f"{JOURNAL} is the journal itself"),
+             ([JOURNAL, "link"], "link is the journal itself"),
+             ([JOURNAL, "none/copy"], "none/copy can't be written: No such file or directory"),
+             ([JOURNAL, "."], ".: Is a directory"),
+             (["/dev/null", "the.copy"], f"/dev/null: {no_header}")]
+    for words, line in cases:
+        status, out, err = gikvand("follow", *words, *["--once"] * bool(line))
+        expect((words, status, out), (words, 2, []))
+        expect((words, err[-1:] if line else bool(err)), (words, [f"gikvand follow: {line}"] if line else True))
+    expect(os.path.exists("the.copy"), False)
+
+
+class Follower:
+    """`gikvand follow` as a program of its own. It ends with the test, however that ends."""
+
+    def __init__(self, *words: str) -> None:
+        command = [sys.executable, "-m", "gikvand", "follow", *words]
+        self.process = subprocess.Popen(command, stdout=subprocess.PIPE, stderr=subprocess.PIPE, text=True,
+                                        env={**os.environ, "PYTHONPATH": TOOLS})
+        running.append(self)
+
+    def kill(self) -> None:
+        self.process.kill()
+        self.process.wait()
+
+    def has_caught_up(self) -> "Follower":
+        """Waits for its first line."""
+        if not self.process.stdout.readline():
+            raise Trouble(f"the follower ended: {self.process.communicate()[1]}")
+        return self
+
+    def end(self, number: int) -> tuple[int, str, str]:
+        """Its status, its last line and what it said on standard error, where it gets this signal."""
+        self.process.send_signal(number)
+        out, err = self.process.communicate(timeout=PATIENCE)
+        return self.process.returncode, (out.splitlines() or [""])[-1], err
+
+
+def await_copy(path: str, size: int) -> None:
+    end = time.monotonic() + PATIENCE
+    while not os.path.exists(path) or os.path.getsize(path) < size or contents(path)[size - 1:] != b"\0":
+        if time.monotonic() > end:
+            raise Trouble(f"the copy isn't there within {PATIENCE} seconds")
+        time.sleep(0.01)
+
+
+def followed_while_in_use() -> None:
+    """Members trade, and the follower is killed again and again: at each moment the copy is a beginning, and it catches up."""
+    venue = started(JOURNAL, 2)
+    traders = [Member(Client(venue.port, it).socket, it, 1, 0.01) for it in (1, 2)]
+    chance, seen = random.Random(1), []
+    for _ in range(6):
+        follower = Follower(JOURNAL, "the.copy")
+        for _ in range(10):
+            time.sleep(chance.random() * 0.05)
+            if os.path.exists("the.copy"):
+                seen.append(contents("the.copy"))
+        follower.kill()
+    follower = Follower(JOURNAL, "the.copy").has_caught_up()
+    for it in traders:
+        it.cease()
+    venue.stop()
+    whole = contents(JOURNAL)
+    gate = journals.read(whole).gate
+    await_copy("the.copy", gate + 1)
+    status, line, err = follower.end(signal.SIGTERM)
+    entries = journals.read(whole).entries
+    expect((status, line, err), (0, f"the.copy: {len(entries)} entries, 0 bytes behind, ended by a signal", ""))
+    expect(contents("the.copy") == whole[:gate] + b"\0", True)
+    counts = [len(found.entries) for found in map(journals.read, seen) if found.entries == entries[:len(found.entries)]]
+    expect((len(counts), counts, counts[-1] > 100), (len(seen), sorted(counts), True))
+
+
+def a_standby() -> None:
+    """A venue is killed while it is followed, starts again, and goes on; then another one goes on with the copy."""
+    put(f"{JOURNAL}.symbols", b"ABC\n")
+    follower, first = None, 1
+    for is_last in (False, False, True):
+        venue = started(JOURNAL, 1)
+        follower = follower or Follower(JOURNAL, "the.copy").has_caught_up()
+        trader = Member(Client(venue.port, 1).socket, 1, first, 0.01)
+        time.sleep(0.2)
+        if is_last:
+            trader.cease()
+            counts = venue.stop()
+        else:
+            venue.kill()
+            trader.reports()
+        first = trader.name
+    whole = contents(JOURNAL)
+    await_copy("the.copy", journals.read(whole).gate + 1)
+    expect(follower.end(signal.SIGTERM)[0], 0)
+    expect(contents("the.copy") == whole[:journals.read(whole).gate] + journals.CLOSED, True)
+    expect(gikvand("verify", "the.copy")[0], 0)
+    standby = Venue(free_port(1), "the.copy", 1, contents("the.copy.symbols").decode().split())
+    expect((standby.ready(), counts[0] > 100), (counts, True))
+
+
+def ends_of_a_follower() -> None:
+    """Both signals end it in order; another file under the journal's name, and one that is cut, end it with a line."""
+    data = made(3).data
+    for number in (signal.SIGTERM, signal.SIGINT):
+        put(JOURNAL, data)
+        follower = Follower(JOURNAL, "the.copy").has_caught_up()
+        expect(follower.end(number), (0, "the.copy: 9 entries, 0 bytes behind, ended by a signal", ""))
+    another = "isn't the file any more that it was: another journal wants another copy"
+    for change, words in ((lambda: os.replace(put("other", data), JOURNAL), another),
+                          (lambda: os.remove(JOURNAL), another),
+                          (lambda: os.truncate(JOURNAL, 100), "has become shorter than what was read of it")):
+        put(JOURNAL, data)
+        follower = Follower(JOURNAL, "the.copy").has_caught_up()
+        change()
+        err = follower.process.communicate(timeout=PATIENCE)[1]
+        expect((follower.process.returncode, err), (2, f"gikvand follow: {JOURNAL} {words}\n"))
+
+
+def full_disks() -> None:
+    """A write that fails leaves a journal, and a later call goes on."""
+    data, full = made(3).data, "gikvand follow: the.copy can't be written: No space left on device"
+    put(JOURNAL, data)
+    for calls in range(4):
+        def refused(fd: int, part: bytes, at: int) -> int:
+            nonlocal calls
+            calls -= 1
+            if calls < 0:
+                PWRITE(fd, part[:len(part) // 2], at)
+                raise OSError(errno.ENOSPC, os.strerror(errno.ENOSPC))
+            return PWRITE(fd, part, at)
+        with mock.patch.object(os, "pwrite", refused), in_short_runs():
+            status, _, err = gikvand("follow", JOURNAL, "the.copy", "--once")
+        if os.path.exists("the.copy"):
+            expect((status, err), (2, [f"{full}. It is a journal still, up to its gate"]))
+            found = journals.read(contents("the.copy")).entries
+            expect(found, journals.read(data).entries[:len(found)])
+        else:
+            expect((status, err), (2, [full]))
+    expect((gikvand("follow", JOURNAL, "the.copy", "--once")[0], contents("the.copy") == data), (0, True))
+
+
+TESTS = [followed_once, order_of_writes, gates_opened_later, copies_that_are_refused, full_disks, ends_of_a_follower,
+         followed_while_in_use, a_standby]

@@ -1,0 +1,105 @@
+"""Wrong commands of gikvand, each of which tests/tools.py has to refuse. Not a test: tests/known_bad.py imports it. A wrong one
+is a text of a module of tools/gikvand, standing there once, that is another one."""
+import os
+import shutil
+from typing import NamedTuple
+
+
+class Wrong(NamedTuple):
+    """What is another text, in which module, and the tests that are to see it."""
+    module: str
+    old: str
+    new: str
+    tests: str
+
+    def put(self, tools: str, folder: str) -> str:
+        """Makes a copy of the tools in this folder that is wrong so, and gives its path."""
+        path = shutil.copytree(tools, os.path.join(folder, "tools"), ignore=shutil.ignore_patterns("__pycache__"))
+        name = os.path.join(path, "gikvand", f"{self.module}.py")
+        with open(name, encoding="utf-8") as file:
+            text = file.read()
+        if text.count(self.old) != 1:
+            raise ValueError(f"{self.old!r} stands {text.count(self.old)} times in {self.module}.py")
+        with open(name, "w", encoding="utf-8") as file:
+            file.write(text.replace(self.old, self.new))
+        return path
+
+
+WRONG = {
+    "any checksum": Wrong("verify", "not found or found[1] or", "not found or", "changed_digits"),
+    "bytes behind a message": Wrong("verify", " or found[0] != entry.message", "", "no_session"),
+    "any header": Wrong("verify", "if not has_header(told)", "if False", "no_session"),
+    "any member": Wrong("verify", 'head[49] != b"C%d" % entry.gateway or ', "", "no_session"),
+    "any target": Wrong("verify", ' or head[56] != b"VENUE"', "", "no_session"),
+    "a Logon's number": Wrong("verify", 'if head[34] == b"1"', "if False", "no_session"),
+    "any cut": Wrong("verify", "if not self.cut_is_at_a_block", "if False", "headers"),
+    "no look behind the gate": Wrong("verify", "    if blocks:\n", "    if False:\n", "stale"),
+    "a look at the first block alone": Wrong("verify", "            blocks += 1\n", "            return 1, 0\n", "stale"),
+    "snapshots of any book": Wrong("programs", 'if ran.stdout == "snapshots true\\n" and not ran.returncode', "if True",
+                                   "changed_bytes"),
+    "no damage": Wrong("verify", "    if journal.damage:\n", "    if False:\n", "cut_"),
+    "damage one byte on": Wrong("mends", "{{ head -c {offset} ", "{{ head -c {offset + 1} ", "cut_"),
+    "a status of 0": Wrong("verify", "return 1 if report.count else 0", "return 0", "stale"),
+    "logs whose sums are wrong": Wrong("logs", "            if not whole:", "            if False:", "wrong_logs"),
+    "logs of other members": Wrong("logs", 'value(text, "56") == member and ', "", "logs_of"),
+    "logs with bars alone": Wrong("logs", r"(\x01|\||\^A)9", r"(\|)9", "logs_of"),
+    "reports told otherwise": Wrong("logs", "(told := self.told.take()) == report", "(told := self.told.take()) or True",
+                                    "wrong_logs"),
+    "reports that nobody told": Wrong("logs", "elif place_of(self.told.next) != place:", "elif False:", "wrong_logs"),
+    "reports twice": Wrong("logs", "elif place <= self.last:", "elif False:", "wrong_logs"),
+    "refusals that nobody told": Wrong("logs", "if report in without[at:]", "if True", "wrong_logs"),
+    "refusals in any order": Wrong("logs", "if report in without[at:]:\n                at, met = "
+                                   "without.index(report, at) + 1, ",
+                                   "if report in without:\n                at, met = 0, ", "wrong_logs"),
+    "nothing missed": Wrong("logs", "self.missed + count + len(without) - met", "0", "logs_of"),
+    "other symbols": Wrong("symbols", "if found and given and found != given", "if False", "words_of_verify"),
+    "reports from the ExecID on": Wrong("reports", "is_behind = now > place", "is_behind = now >= place", "what_members"),
+    "refusals that are lost": Wrong("reports", "            held.append(line)\n", "            pass\n", "what_members"),
+    "refusals from the beginning on": Wrong("reports", "not is_behind:\n            held = []\n",
+                                            "not is_behind:\n            pass\n", "what_members"),
+    "an older copy": Wrong("reports", "if told.outputs < given.after", "if False", "what_members"),
+    "numbers as texts": Wrong("reports", "int(value) if tag in COUNTED else value", "value", "tables"),
+    "buyers as sellers": Wrong("trades", '{"1": "Buyer", "2": "Seller"}', '{"2": "Buyer", "1": "Seller"}', "trades_of"),
+    "trades from the place on": Wrong("trades", '["Place"] > given.after', '["Place"] >= given.after', "trades_of"),
+    "the side that rested": Wrong("trades", '"buy" if two["54"] == "1"', '"buy" if one["54"] == "1"', "trades_of"),
+    "a gate before its block": Wrong("follow", "            write_all(self.fd, blocks[1:] + CLOSED, self.gate + 1)\n"
+                                     "            os.fdatasync(self.fd)\n            write_all(self.fd, OPEN, self.gate)\n",
+                                     "            write_all(self.fd, OPEN, self.gate)\n            os.fdatasync(self.fd)\n"
+                                     "            write_all(self.fd, blocks[1:] + CLOSED, self.gate + 1)\n", "order_of"),
+    "a block that isn't synced": Wrong("follow", "CLOSED, self.gate + 1)\n            os.fdatasync(self.fd)\n",
+                                       "CLOSED, self.gate + 1)\n", "order_of"),
+    "a gate that isn't synced": Wrong("follow", "OPEN, self.gate)\n            os.fdatasync(self.fd)\n", "OPEN, self.gate)\n",
+                                      "order_of"),
+    "a journal that isn't synced": Wrong("follow", "os.fdatasync(self.file.fileno())", "pass", "order_of"),
+    "what was left behind the gate": Wrong("follow", "        copy.cut_off()\n", "", "followed_once"),
+    "copies of another journal": Wrong("follow", "if other.data != block.data:", "if False:", "refused"),
+    "copies with another header": Wrong("follow", "if (reader.version, reader.cut) != (source.reader.version, ",
+                                        "if False and (0, 0) != (source.reader.version, ", "refused"),
+    "copies that are locked": Wrong("follow", "fcntl.flock(self.file, fcntl.LOCK_EX | fcntl.LOCK_NB)", "pass", "refused"),
+    "a copy onto itself": Wrong("follow", "if os.path.exists(path) and os.path.samefile(path, source.path)", "if False",
+                                "refused"),
+    "an end in the midst": Wrong("follow", "signal.SIG_BLOCK, ENDS", "signal.SIG_UNBLOCK, ENDS", "ends_of"),
+    "another file": Wrong("follow", "        source.check()\n", "", "ends_of"),
+    "a journal read by a buffer": Wrong("follow", 'open(path, "rb", buffering=0)', 'open(path, "rb")', "opened_later"),
+    "blocks before damage": Wrong("follow", "            if not found:\n                raise\n", "            raise\n", "broken_j"),
+    "a copy without its symbols": Wrong("follow", "        keep_symbols(given.journal, given.copy)\n", "", "followed_once"),
+    "a folder that may be one": Wrong("why", "elif os.path.isdir(path):", "elif False:", "whys_of_names"),
+    "any file in the way": Wrong("why", "os.path.getsize(new) > len(empty())", "False", "whys_of_names"),
+    "no lock": Wrong("why", "        yield from of_the_lock(path)\n", "", "whys_of_a_lock"),
+    "any rights": Wrong("why", "if why := refusal(path, os.O_RDWR):", "if False:", "whys_of_rights"),
+    "a folder that isn't read": Wrong("why", "if why := refusal(folder_of(path), os.O_RDONLY):", "if False:", "whys_of_rights"),
+    "a full disk": Wrong("why", "elif room < A_SNAPSHOT:", "elif False:", "whys_of_a_machine"),
+    "too few open files": Wrong("why", "most < FEWEST_FILES", "most < 7", "whys_of_a_machine"),
+    "a device that reads": Wrong("why", "        except OSError as why:\n            yield device(",
+                                 "        except OSError as why:\n            return\n            yield device(",
+                                 "whys_of_a_machine"),
+    "the block before": Wrong("why", "block {blocks + 1}, ", "block {blocks}, ", "whys_of_bytes"),
+    "any snapshot": Wrong("why", "if snapshots and (found", "if False and (found", "whys_of_bytes"),
+    "those who wait as connected": Wrong("watch", "it.state == ESTABLISHED and it.is_taken", "it.state == ESTABLISHED",
+                                         "watched"),
+    "nobody's queue": Wrong("watch", "max((it.sent for it in taken), default=0)", "0", "watched"),
+    "a venue that always serves": Wrong("watch", '[("", int(bool(it)))]', '[("", 1)]', "watched"),
+    "symbols that aren't kept": Wrong("trade", "    symbols.keep(journal, traded)\n", "", "symbols_of_a"),
+    "symbols of a journal that is gone": Wrong("symbols", "known(journal, given) if os.path.exists(journal) else given",
+                                               "known(journal, given)", "symbols_of_a"),
+}

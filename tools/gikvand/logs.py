@@ -1,0 +1,116 @@
+"""A member's own log of FIX: the venue's messages in it, whatever stands between them, and whether the venue told them so."""
+import re
+from collections.abc import Iterable, Iterator
+from typing import BinaryIO
+
+from gikvand.fix import REPORTS, fields_of, printed, value
+from gikvand.rules import sealed
+
+# A message, whose fields end with the byte 01, or with what the log has in its place. What is broken off is none.
+MESSAGE = re.compile(rb"8=FIX\.4\.4(\x01|\||\^A)9=\d+\1(?:(?!8=FIX).)*?\1(?:10=\d{3})(?!\d)", re.DOTALL)
+LONGEST = 4096        # Of a message in a log, in bytes.
+PIECE = 1 << 20       # So many bytes are read at once.
+HEADER = re.compile(r"8=[^|]*\|9=[^|]*\|(35=[^|]*\|)49=VENUE\|56=C\d\|34=[^|]*\|(52=[^|]*\|)(.*)10=\d{3}\|")
+
+
+def messages(file: BinaryIO) -> Iterator[bytes]:
+    """The messages of a log, with the byte 01 behind each field."""
+    rest = b""
+    while piece := file.read(PIECE):
+        data, end = rest + piece, 0
+        for found in MESSAGE.finditer(data):
+            end = found.end()
+            yield found[0].replace(found[1], b"\x01") + b"\x01"
+        rest = data[max(end, len(data) - LONGEST):]
+
+
+def is_whole(message: bytes) -> bool:
+    """Whether a message has the length and the sum that it says."""
+    body = message.split(b"\x01", 2)[2][:-len("10=000|")]
+    return sealed(body) == message
+
+
+def reports(file: BinaryIO, member: str) -> Iterator[tuple[str, bool]]:
+    """The venue's reports to this member in a log, as venue-replay prints them, and whether each is whole."""
+    for message in messages(file):
+        head = HEADER.fullmatch(text := printed(message))
+        if head and value(text, "56") == member and value(text, "35") in REPORTS:
+            yield f"{head[1]}{head[2]}{head[3]}", is_whole(message)
+
+
+def place_of(report: str) -> int | None:
+    """The place of an execution report among all that the venue has told, its ExecID. The other reports have none."""
+    place = fields_of(report).get("17") if report.startswith("35=8|") else None
+    return int(place) if place and place.isdecimal() else None
+
+
+class Told:
+    """What the venue told a member, in its order."""
+
+    def __init__(self, lines: Iterable[str]) -> None:
+        self.lines = iter(lines)
+        self.next: str | None = None
+        self.take()
+
+    def take(self) -> str | None:
+        """Takes the next report."""
+        taken, self.next = self.next, next(self.lines, None)
+        return taken
+
+    def before(self, place: int | None) -> tuple[int, list[str]]:
+        """Takes all in front of this place, or all: how many have places, and those that have none."""
+        count, without = 0, []
+        while self.next is not None and ((now := place_of(self.next)) is None or place is None or now < place):
+            if now is None:
+                without.append(self.next)
+            count += now is not None
+            self.take()
+        return count, without
+
+
+class Compared:
+    """A log beside what the venue told its member: how many reports were found, how many it misses, and what is wrong."""
+
+    def __init__(self, told: Iterable[str]) -> None:
+        self.told, self.last = Told(told), 0
+        self.found = self.missed = 0
+        self.waiting: list[str] = []  # Reports of the log that have no places, behind the last one that has.
+
+    def compare(self, logged: Iterable[tuple[str, bool]]) -> Iterator[str]:
+        """What is wrong with the log, line by line."""
+        for report, whole in logged:
+            place = place_of(report)
+            if not whole:
+                yield f"the log has another text than its length and CheckSum say: {report}"
+            elif place is None:
+                self.waiting.append(report)
+            elif place <= self.last:
+                yield f"the log has it twice, or not in its order: {report}"
+            else:
+                yield from self.pass_by(place)
+                yield from self.meet(place, report)
+        yield from self.pass_by(None)
+
+    def pass_by(self, place: int | None) -> Iterator[str]:
+        """Goes on to this place, or to the end. What waited has to stand in front of it, in its order."""
+        count, without = self.told.before(place)
+        at, met = 0, 0
+        for report in self.waiting:
+            if report in without[at:]:
+                at, met = without.index(report, at) + 1, met + 1
+            else:
+                yield f"the venue didn't tell it, or not there: {report}"
+        self.waiting = []
+        self.found, self.missed = self.found + met, self.missed + count + len(without) - met
+
+    def meet(self, place: int, report: str) -> Iterator[str]:
+        """A report of this place, at which what was told stands now."""
+        self.last = place
+        if self.told.next is None:
+            yield f"the journal ends before it, so it is an older copy: {report}"
+        elif place_of(self.told.next) != place:
+            yield f"the venue didn't tell it: {report}"
+        elif (told := self.told.take()) == report:
+            self.found += 1
+        else:
+            yield f"the venue told it otherwise, as {told}: {report}"

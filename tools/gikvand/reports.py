@@ -1,0 +1,73 @@
+"""What a member was told of its orders, as the journal tells it: all of it, or what came behind an ExecID that the member has.
+
+    gikvand reports JOURNAL C1                     each report as FIX, with a bar behind each field
+    gikvand reports JOURNAL C1 --after 17 --csv    what came behind the report with ExecID 17, as a table
+
+Who was away, or whose connection was ended, gets nothing later: this is how it learns what it missed. Reports that refuse a
+cancel or a replace, or reject a message, have no ExecID, so of these all are shown that stand behind the last report up to
+that ExecID: the member may know the first of them. An ExecID behind the journal's end is refused, since then the journal is an
+older copy. It reads by venue-replay, and the journal may be in use.
+"""
+import argparse
+import re
+from collections.abc import Iterable, Iterator
+
+from gikvand import symbols, tables
+from gikvand.fix import COUNTED, NAMES, fields_of
+from gikvand.logs import place_of
+from gikvand.programs import Replay, Trouble
+from gikvand.tables import Row
+
+
+def member_of(word: str) -> str:
+    if not re.fullmatch("C[1-8]", word):
+        raise argparse.ArgumentTypeError(f"not a member, C1 to C8: {word}")
+    return word
+
+
+def exec_id(word: str) -> int:
+    if not re.fullmatch("[0-9]{1,18}", word):
+        raise argparse.ArgumentTypeError(f"not an ExecID, a number: {word}")
+    return int(word)
+
+
+def add_words(parser: argparse.ArgumentParser) -> None:
+    parser.add_argument("journal", metavar="JOURNAL", help="the journal's file")
+    parser.add_argument("member", metavar="Cn", type=member_of, help="the member, C1 to C8")
+    parser.add_argument("--after", metavar="EXECID", type=exec_id, default=0, help="only what came behind this ExecID (17)")
+    symbols.add_option(parser)
+    tables.add_options(parser)
+
+
+def behind(lines: Iterable[str], place: int) -> Iterator[str]:
+    """The reports behind the last one whose place is no greater."""
+    held: list[str] = []  # Those without a place, behind that one as far as is known.
+    is_behind = False
+    for line in lines:
+        now = place_of(line)
+        if now is not None:
+            is_behind = now > place
+        if now is not None and not is_behind:
+            held = []
+        elif is_behind:
+            yield from held
+            held = []
+            yield line
+        else:
+            held.append(line)
+    yield from held
+
+
+def row_of(report: str) -> Row:
+    """A report by the names of its fields."""
+    return {NAMES[tag]: int(value) if tag in COUNTED else value for tag, value in fields_of(report).items()}
+
+
+def run(given: argparse.Namespace) -> int:
+    told = Replay(given.journal, given.member, symbols.needed(given.journal, given.symbols))
+    write = tables.writer(given, list(NAMES.values()), row_of, str)
+    for report in behind(told, given.after):
+        write(report)
+    if told.outputs < given.after:
+        raise Trouble(f"the journal {given.journal} ends with the ExecID {told.outputs}: is it an older copy?")
+    return 0
