@@ -127,15 +127,27 @@ module _ (body : List ℕ) (f : Field) (rest : List ℕ) (b : BeginsField body f
       (subst BeginsWithType (sym p.1 ∙ first_and_rest body f rest b) first, run_behind body f rest b p.0)
 
 -- each field has four bytes at least
+piece_long : (f : Field) → IsField f → 3 ≤ length (piece_of f)
+piece_long f is =
+    let digits = decimal_nonempty f.tag (omega (arith, is.tag_to)) in
+    omega (arith, digits, length-append (decimal f.tag) (61 ∷ f.value), is.valued)
+
+pub field_long : (bytes : List ℕ) (f : Field) (rest : List ℕ) → BeginsField bytes f rest
+    → length rest + 4 ≤ length bytes
+field_long bytes f rest b =
+    omega (
+      arith,
+      ap length (b.spells ∙ field_then-piece f rest),
+      length-append (piece_of f) (1 ∷ rest),
+      piece_long f b.right,
+    )
+
 pub few_fields : (fs : List Field) → AllByRecursion IsField fs → 4 * length fs ≤ length (print_fields fs)
 few_fields [] all = omega arith
 few_fields (f ∷ fs) all =
     let more = few_fields fs all.1 in
-    let digits = decimal_nonempty f.tag (omega (arith, all.0.tag_to)) in
-    let long = ap length (field_then-piece f (print_fields fs)) in
-    let piece = length-append (piece_of f) (1 ∷ print_fields fs) in
-    let tag = length-append (decimal f.tag) (61 ∷ f.value) in
-    omega (arith, more, digits, long, piece, tag, all.0.valued)
+    let long = field_long (print_fields (f ∷ fs)) f (print_fields fs) (record { right = all.0; spells = refl }) in
+    omega (arith, more, long)
 
 pub few_of_body : (fs : List Field) → IsBody most_in fs → length fs ≤ 74
 few_of_body fs b = omega (arith, few_fields fs b.each, b.at_most)

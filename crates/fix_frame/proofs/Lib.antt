@@ -11,6 +11,7 @@ pub mod LiveLemmas
 pub mod StrideLemmas
 pub mod FeedLemmas
 pub mod MessageLemmas
+pub mod OpeningLemmas
 pub mod WritingLemmas
 pub mod CutOnce
 pub mod Vectors

@@ -14,20 +14,6 @@ module _ (bytes : List ℕ) (fields : List Field) (is : IsFrame most_in bytes fi
   text_is : frame_text fields ++ [] ≡ bytes
   text_is = append-nil (frame_text fields) ∙ sym is.spells
 
-  standing_before : (at body : ℕ) → IsStanding (take at bytes) body → at < length bytes → ⊥
-  standing_before at body h early =
-      let gs = fields_of (body_part (take at bytes) body) in
-      let longer : frame_text gs ++ drop at bytes ≡ frame_text fields ++ [] = ap (λ k. k ++ drop at bytes)
-      (sym h.framed.spells) ∙ take-append-drop at bytes ∙ sym text_is in
-      let none = (one_frame gs fields (drop at bytes) [] h.framed.body is.body longer).1 in
-      omega (arith, ap length none, length-drop at bytes)
-
-  -- no frame stands before the end
-  pub frame_before : (stage : Stage) (at body : ℕ) → stage ≡ Whole body → IsLive stage (take at bytes) →
-      at < length bytes → ⊥
-  frame_before stage at body is_whole h early =
-      standing_before at body (subst (λ s. IsLive s (take at bytes)) is_whole h) early
-
   -- nothing in a frame is wrong
   pub wrong_before : (k : ℕ) (fault : FrameFault) → IsWrong (take k bytes) fault → ⊥
   wrong_before k fault wrong =

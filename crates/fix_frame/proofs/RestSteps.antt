@@ -73,7 +73,7 @@ module _ (bytes : List ℕ) (body n : ℕ) (some : 0 < length bytes) (h : IsRest
           tail_long = tail_long;
         }) f
 
-    part_is : body_part bytes body ≡ middle
+    pub part_is : body_part bytes body ≡ middle
     part_is =
         let count : length bytes - 7 - body ≡ n = omega (arith, whole) in
         ap (λ k. take k (drop body bytes)) count ∙ sym (drop-take body n bytes)

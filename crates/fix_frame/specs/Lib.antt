@@ -6,6 +6,7 @@ pub mod Cuts
 pub mod Runs
 pub mod OneProof
 pub mod Fields
+pub mod Bodies
 pub mod Borrowed
 pub mod Framing
 pub mod Stages

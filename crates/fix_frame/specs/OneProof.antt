@@ -1,8 +1,9 @@
 -- What a type keeps of its bytes has at most one proof.
-use Rattle.std.specs.Prelude.{ℕ, List, [], ◌∷◌}
+use Rattle.std.specs.Prelude.{ℕ, ◌<◌, List, [], ◌∷◌, length}
 use Rattle.std.specs.List.{AllByRecursion, AllByRecursion-prop}
 use Rattle.std.proofs.Props.{props}
 use Rattle.fix_frame.specs.Grammar.{Field, IsField, LacksSoh, BeginsWithType, IsBody}
+use Rattle.fix_frame.specs.Cuts.{EndsInSoh}
 use Rattle.fix_frame.specs.Runs.{IsRun, IsFramed}
 
 LacksSoh-prop : (bytes : List ℕ) → IsProp (LacksSoh bytes)
@@ -26,3 +27,6 @@ IsRun-prop bytes = Prim.hlevel (props, AreFields-prop)
 
 pub IsFramed-prop : (text body : List ℕ) → IsProp (IsFramed text body)
 IsFramed-prop text body = Prim.hlevel (props, IsBody-prop)
+
+pub Ends-prop : (bytes : List ℕ) → IsProp (0 < length bytes → EndsInSoh bytes)
+Ends-prop bytes = Prim.hlevel props

@@ -2,6 +2,7 @@
 ghost use Rattle.fix_frame.specs.Runs.{IsFramed};
 ghost use Rattle.fix_frame.specs.OneProof.{IsFramed-prop};
 
+use crate::body::Body;
 use crate::field::Fields;
 use crate::trailer::TRAILER;
 
@@ -19,6 +20,8 @@ impl<'a> Frame<'a> {
     ghost use Rattle.fix_frame.specs.Grammar.{frame_text, IsBody, most_in, fields_of};
     ghost use Rattle.fix_frame.specs.Borrowed.{frame_fields, fields_left};
     ghost use Rattle.fix_frame.specs.Stages.{IsStanding, body_part};
+    ghost use Rattle.fix_frame.specs.Bodies.{bytes_left, fields_in};
+    ghost use Rattle.fix_frame.specs.Runs.{IsRun};
 
     /// The frame that these bytes are, where its body begins at `body`.
     pub(crate) fn at(text: &'a [u8], body: usize) -> Frame<'a>
@@ -29,6 +32,14 @@ impl<'a> Frame<'a> {
             text,
             body: &text[body..text.len() - TRAILER],
         }
+    }
+
+    /// The frame that these bytes are, of this body.
+    pub(crate) fn of(text: &'a [u8], body: &'a [u8]) -> Frame<'a>
+        requires { IsFramed text.now body.now }
+        ensures { frame_fields result ≡ fields_of body.now }
+    {
+        Frame { text, body }
     }
 
     /// All its bytes, 26 to 320 of them.
@@ -47,5 +58,13 @@ impl<'a> Frame<'a> {
         ensures few { length (frame_fields self.now) ≤ 74 }
     {
         Fields { rest: self.body }
+    }
+    /// The same, to be read once.
+    pub fn body(&self) -> Body<'a>
+        ensures run { IsRun (bytes_left result) }
+        ensures fields { fields_in result ≡ frame_fields self.now }
+        ensures few { length (bytes_left result) ≤ most_in }
+    {
+        Body { rest: self.body }
     }
 }

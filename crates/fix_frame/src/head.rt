@@ -1,8 +1,8 @@
 //! The head of a frame, BeginString and BodyLength, judged byte by byte as it comes in.
-ghost use Rattle.std.specs.Prelude.{◌≡◌, ◌-◌, ◌<◌, length, take, slice_index, MatchResult};
+ghost use Rattle.std.specs.Prelude.{◌≡◌, ◌+◌, ◌-◌, ◌<◌, ◌≤◌, ◌++◌, length, take, slice_index, MatchResult};
 ghost use Rattle.fix_frame.specs.Stream.{IsWrong};
 ghost use Rattle.fix_frame.specs.Cuts.{all_but_last};
-ghost use Rattle.fix_frame.specs.Stages.{opening, IsHeading, IsLive};
+ghost use Rattle.fix_frame.specs.Stages.{opening, IsHeading, IsUnderWay};
 
 use crate::fault::FrameFault;
 use crate::field::SOH;
@@ -43,11 +43,28 @@ pub(crate) fn length_in_front(bytes: &[u8]) -> (u16, usize)
     (so_far, at)
 }
 
+/// How many of these bytes the next step takes, behind those that are held, which begin a head whose digits spell `so_far`:
+/// all of a head, or a byte of it. And what the digits spell before the last of them.
+pub(crate) fn head_stride(so_far: u16, held: &[u8], more: &[u8]) -> (u16, usize)
+    requires some { 0 < length more.now }
+    requires heading { IsHeading held.now so_far }
+    ensures some { 0 < result.1 }
+    ensures within { result.1 ≤ length more.now }
+    ensures room { length held.now + result.1 ≤ 320 }
+    ensures heading { IsHeading (all_but_last (held.now ++ take result.1 more.now)) result.0 }
+{
+    if held.is_empty() && more.len() > OPENING.len() && more.starts_with(OPENING) {
+        let (length, at) = length_in_front(more);
+        return (length, at + 1);
+    }
+    (so_far, 1)
+}
+
 /// The stage after the last of these bytes, where the others begin a head whose digits spell `so_far`.
 pub(crate) fn head_step(so_far: u16, bytes: &[u8]) -> Result<Stage, FrameFault>
     requires some { 0 < length bytes.now }
     requires heading { IsHeading (all_but_last bytes.now) so_far }
-    ensures { MatchResult result (λ stage. IsLive stage bytes.now) (IsWrong bytes.now) }
+    ensures { MatchResult result (λ stage. IsUnderWay stage bytes.now) (IsWrong bytes.now) }
 {
     let at = bytes.len() - 1;
     let byte = bytes[at];
@@ -68,7 +85,7 @@ fn length_step(so_far: u16, bytes: &[u8], byte: u8) -> Result<Stage, FrameFault>
     requires late { 12 < length bytes.now }
     requires last { byte ≡ slice_index bytes.now (length bytes.now - 1) }
     requires heading { IsHeading (all_but_last bytes.now) so_far }
-    ensures { MatchResult result (λ stage. IsLive stage bytes.now) (IsWrong bytes.now) }
+    ensures { MatchResult result (λ stage. IsUnderWay stage bytes.now) (IsWrong bytes.now) }
 {
     if byte == SOH && so_far >= LEAST_BODY {
         return Ok(Stage::Rest(bytes.len(), so_far));

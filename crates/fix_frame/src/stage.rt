@@ -5,7 +5,7 @@ ghost use Rattle.fix_frame.specs.Cuts.{all_but_last};
 ghost use Rattle.fix_frame.specs.Stages.{IsResting, IsUnderWay, IsLive};
 
 use crate::fault::FrameFault;
-use crate::head::{OPENING, head_step, length_in_front};
+use crate::head::{head_step, head_stride};
 use crate::trailer::{TRAILER, judge};
 
 /// How far a message has come.
@@ -33,15 +33,17 @@ pub(crate) fn stride(stage: Stage, held: &[u8], more: &[u8]) -> (Stage, usize)
     ensures room { length held.now + result.1 ≤ 320 }
     ensures under_way { IsUnderWay result.0 (all_but_last (held.now ++ take result.1 more.now)) }
 {
-    if let Stage::Rest(body, count) = stage {
-        let end = body + usize::from(count) + TRAILER;
-        return (stage, more.len().min(end - held.len()));
+    match stage {
+        Stage::Head(so_far) => {
+            let (length, count) = head_stride(so_far, held, more);
+            (Stage::Head(length), count)
+        }
+        Stage::Rest(body, count) => {
+            let end = body + usize::from(count) + TRAILER;
+            (stage, more.len().min(end - held.len()))
+        }
+        Stage::Whole(_) | Stage::Given | Stage::Faulty(_) => (stage, 1),
     }
-    if held.is_empty() && more.len() > OPENING.len() && more.starts_with(OPENING) {
-        let (length, at) = length_in_front(more);
-        return (Stage::Head(length), at + 1);
-    }
-    (stage, 1)
 }
 
 /// The stage after the last of these bytes.

@@ -52,14 +52,14 @@ pub(crate) fn trailer_of(front: &[u8]) -> [u8; TRAILER]
 }
 
 /// Whether the body ends a field, and CheckSum follows.
-fn is_closed(body: &[u8], tail: &[u8]) -> bool
+pub(crate) fn is_closed(body: &[u8], tail: &[u8]) -> bool
     ensures { IsTrue result ↔ IsBodyClosed body.now tail.now }
 {
     body.ends_with(&[SOH]) && tail.starts_with(b"10=")
 }
 
 /// Whether CheckSum is that of the bytes before it.
-fn is_summed(front: &[u8], tail: &[u8]) -> bool
+pub(crate) fn is_summed(front: &[u8], tail: &[u8]) -> bool
     requires short { length front.now ≤ 1024 }
     requires tail { length tail.now ≡ 7 }
     ensures { IsTrue result ↔ IsSummed front.now tail.now }
@@ -69,7 +69,7 @@ fn is_summed(front: &[u8], tail: &[u8]) -> bool
 }
 
 /// Whether the body, which SOH ends, is a run of fields, MsgType first.
-fn is_typed(body: &[u8]) -> bool
+pub(crate) fn is_typed(body: &[u8]) -> bool
     requires { EndsInSoh body.now }
     ensures { IsTrue result ↔ IsTyped body.now }
 {

@@ -1,13 +1,17 @@
 -- What is found of fields, step by step as they are read.
-use Rattle.std.proofs.Common.{◌≡◌, ℕ, ◌+◌, ◌<◌, ◌≤◌, Bool, true, false, cond, not, ◌&&◌, ◌==◌, List, [], ◌∷◌, ◌++◌}
+use Rattle.std.proofs.Common.{◌≡◌, ℕ, ◌+◌, ◌<◌, Bool, true, false, cond, not, ◌&&◌, ◌==◌, List, [], ◌∷◌, ◌++◌}
 use Rattle.std.proofs.Common.{length, map, take, get_or, sym, ap, subst, ◌∙◌, refl, arith, append_assoc, append-nil}
 use Rattle.std.proofs.Common.{length-append}
-use Rattle.std.specs.List.{AllByRecursion, filter}
+use Rattle.std.specs.List.{filter}
 use Rattle.std.proofs.lemmas.List.{map-append, length-map}
 use Rattle.std.proofs.lemmas.List.Elements.{filter-append, filter_more}
 use Rattle.std.proofs.lemmas.List.Filters.{length-filter_both}
 use denote.Enum.Bare.{sameb}
-use Rattle.fix_frame.specs.Grammar.{Field, IsField}
+use Rattle.fix_frame.specs.Grammar.{Field, IsField, fields_of}
+use Rattle.fix_frame.specs.Runs.{IsRun}
+use Rattle.fix_frame.specs.Bodies.{bytes_left, fields_in, TakesOff, EndsBody}
+use Rattle.fix_frame.specs.declared.body.Body.{Body}
+use Rattle.fix_frame.proofs.FieldsOf.{fields_of-nil, nothing_is_run}
 use Rattle.fix_orders.specs.declared.tables.Table.{Table}
 use Rattle.fix_orders.specs.declared.tables.Table.TheVariants.{LimitOrder, MarketOrder, CancelRequest, ReplaceRequest}
 use Rattle.venue_model.specs.declared.commands.SessionRejectReason.TheVariants.{TagNotDefined, ValueIncorrect}
@@ -150,46 +154,42 @@ module _ (table : Table) (fields : List Field) (old new : OrderFields) (found : 
       }
 
 -- reading on
-reading_long : (table : Table) (rest all : List Field) (found : OrderFields)
-    (reading : IsReading table rest all found)
-    → length reading.front + length rest ≡ length all
-reading_long table rest all found reading = sym (length-append reading.front rest) ∙ ap length reading.whole
-
-pub reading_room : (table : Table) (f : Field) (more rest all : List Field) (found : OrderFields)
-    → IsReading table rest all found
-    → rest ≡ f ∷ more → length all ≤ 74 → length found.others.items < 74
-reading_room table f more rest all found reading next few =
+pub reading_room : (table : Table) (f : Field) (rest more all : Body) (found : OrderFields)
+    → IsReading table rest all found → TakesOff rest more f → length found.others.items < 74
+reading_room table f rest more all found reading takes =
     let kept = length-filter_both is_other (λ tag. not (is_other tag)) (λ tag. refl) (tags reading.front) in
     let same : length (tags reading.front) ≡ length reading.front = length-map reading.front (λ (g : Field). g.tag) in
-    omega (
-      arith,
-      reading_long table rest all found reading,
-      ap length next,
-      ap length reading.found_in.others,
-      kept,
-      same,
-    )
+    omega (arith, ap length reading.found_in.others, kept, same, reading.few, takes.fewer)
 
-pub reading_next : (table : Table) (f : Field) (more rest all : List Field) (old new : OrderFields)
-    → IsReading table rest all old
-    → rest ≡ f ∷ more → ((fields : List Field) → IsFound table fields old → IsFound table (fields ++ f ∷ []) new)
+pub reading_next : (table : Table) (f : Field) (rest more all : Body) (old new : OrderFields)
+    → IsReading table rest all old → TakesOff rest more f
+    → ((fields : List Field) → IsFound table fields old → IsFound table (fields ++ f ∷ []) new)
     → IsReading table more all new
-reading_next table f more rest all old new reading next takes =
-    let each : IsField f × AllByRecursion IsField more = subst (AllByRecursion IsField) next reading.each in record {
-      front = reading.front ++ f ∷ [];
-      found_in = takes reading.front reading.found_in;
-      whole = append_assoc reading.front (f ∷ []) more ∙ ap (λ fields. reading.front ++ fields) (sym next)
-          ∙ reading.whole;
-      each = each.1;
-    }
+reading_next table f rest more all old new reading off takes = record {
+  front = reading.front ++ f ∷ [];
+  found_in = takes reading.front reading.found_in;
+  whole = reading.whole ∙ ap (λ fields. reading.front ++ fields) off.fields
+      ∙ sym (append_assoc reading.front (f ∷ []) (fields_in more));
+  run = (λ r. off.run.0 (reading.run.0 r), λ r. reading.run.1 (off.run.1 r));
+  few = omega (arith, length-append reading.front (f ∷ []), reading.few, off.fewer);
+}
 
-pub reading_done : (table : Table) (rest all : List Field) (found : OrderFields) → IsReading table rest all found
-    → rest ≡ []
-    → IsFound table all found
-reading_done table rest all found reading none =
-    subst (λ fields. IsFound table fields found)
-    (sym (append-nil reading.front) ∙ ap (λ fields. reading.front ++ fields) (sym none) ∙ reading.whole)
-    reading.found_in
+-- at the end nothing is left of a run
+pub reading_done : (table : Table) (rest all : Body) (found : OrderFields) → IsReading table rest all found
+    → bytes_left rest ≡ [] → IsRun (bytes_left all) × IsFound table (fields_in all) found
+reading_done table rest all found reading over = (
+  reading.run.1 (subst IsRun (sym over) nothing_is_run),
+  subst (λ fields. IsFound table fields found)
+      (sym (append-nil reading.front)
+      ∙ ap (λ fields. reading.front ++ fields) (sym (ap fields_of over ∙ fields_of-nil)) ∙ sym reading.whole)
+      reading.found_in,
+)
+
+-- and where something is, it was none
+pub reading_broken : (table : Table) (rest left all : Body) (found : OrderFields) → IsReading table rest all found
+    → EndsBody rest left → (bytes_left left ≡ [] → ⊥) → IsRun (bytes_left all) → ⊥
+reading_broken table rest left all found reading ends some run =
+    some (ap bytes_left ends.stays ∙ ends.over (reading.run.0 run))
 
 numbers_if : (ts : List OrderTag) (t : OrderTag) (b : Bool)
     → map tag_number (ts ++ cond b (t ∷ []) []) ≡ map tag_number ts ++ cond b (tag_number t ∷ []) []

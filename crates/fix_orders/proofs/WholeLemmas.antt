@@ -1,13 +1,13 @@
 -- The whole message: a header, and the fields behind it that were read.
-use Rattle.std.proofs.Common.{◌≡◌, ℕ, ◌≤◌, Bool, true, false, cond, ◌&&◌, ◌||◌, nat_lt, ◌==◌, List, [], ◌∷◌, ◌++◌}
-use Rattle.std.proofs.Common.{length, Some, None, IsTrue, sym, ap, subst, ◌∙◌, refl, arith}
+use Rattle.std.proofs.Common.{◌≡◌, ℕ, Bool, true, false, cond, ◌&&◌, ◌||◌, nat_lt, ◌==◌, List, [], ◌∷◌, ◌++◌}
+use Rattle.std.proofs.Common.{Some, None, IsTrue, sym, ap, subst, ◌∙◌, refl, arith}
 use Rattle.std.specs.List.{filter}
 use Rattle.std.proofs.lemmas.Bool.{and_parts}
 use Rattle.std.proofs.lemmas.Bool.Decides.{nat_tests}
 use Rattle.std.proofs.lemmas.List.Folds.{list_any-append}
 use Rattle.std.proofs.lemmas.Map.Views.{any-filter_same}
 use mathlib.Core.Path.{fun_ext}
-use Rattle.fix_frame.specs.Grammar.{Field}
+use Rattle.fix_frame.specs.Grammar.{Field, BeginsWithType}
 use Rattle.venue_model.specs.declared.commands.Command.{Command}
 use Rattle.venue_model.specs.declared.commands.Command.TheVariants.{New, Cancel, Replace}
 use Rattle.venue_model.specs.declared.commands.NewOrderSingle.{NewOrderSingle}
@@ -259,5 +259,7 @@ asked_whole table time fields values are =
     asked_values table time values ∙ ap (asked_by table time) (fun_ext are) ∙ asked_fields table time fields
 
 -- no more fields than those of the message
-pub fewer : (fields rest : List Field) → HasHeader fields rest → length fields ≤ 74 → length rest ≤ 74
-fewer fields rest (a, b, c, d, e, is) few = omega (arith, few, ap length is)
+
+-- so MsgType stands first
+pub has_type : (fields rest : List Field) → HasHeader fields rest → BeginsWithType fields
+has_type fields rest (a, b, c, d, e, is) = subst BeginsWithType (sym is) refl

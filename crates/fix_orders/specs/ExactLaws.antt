@@ -13,6 +13,7 @@ use Rattle.std.proofs.lemmas.Slice.Eq.{bytes_eq-Decides}
 use Rattle.fix_frame.specs.Ascii.{soh}
 use Rattle.fix_frame.specs.Grammar.{Field, IsField, LacksSoh, BeginsWithType, IsBody, IsFrame, print_fields, field_then, head, three_digits, trailer, frame_of, frame_text, fields_of, most_in}
 use Rattle.fix_frame.proofs.FieldsOf.{fields_of-print_fields}
+use Rattle.venue_model.specs.declared.commands.Command.{Command}
 use Rattle.venue_model.specs.declared.commands.Command.TheVariants.{Void}
 use Rattle.fix_orders.specs.Reading.{is_field, begins_with_type, is_body, between, exact_fields, command_of, reads}
 use Rattle.std.specs.Option.{option_map_or}
@@ -205,3 +206,19 @@ pub reads_none : (market : Bool) (bytes : List ℕ) → ((fields : List Field) �
 unfolding reads
 reads_none market bytes none =
     ap (λ found. option_map_or (command_of market) found Void) (no_fields bytes (exact_fields bytes) refl none)
+
+-- bytes are a frame or none, so what is read by either rule is read so
+either_fields : (market : Bool) (bytes : List ℕ) (result : Command) (found : Option (List Field)) → exact_fields bytes ≡ found
+    → ((fields : List Field) → IsFrame most_in bytes fields → result ≡ command_of market fields)
+    → (((fields : List Field) → IsFrame most_in bytes fields → ⊥) → result ≡ Void) → result ≡ reads market bytes
+either_fields market bytes result None is frame none =
+    let no : (fields : List Field) → IsFrame most_in bytes fields → ⊥ =
+    λ fields at. absurd (let both = sym is ∙ exact_complete bytes fields at in cc) in
+    none no ∙ sym (reads_none market bytes no)
+either_fields market bytes result (Some fields) is frame none =
+    let at = exact_sound bytes fields is in frame fields at ∙ sym (reads_frame market bytes fields at)
+
+pub reads_either : (market : Bool) (bytes : List ℕ) (result : Command)
+    → ((fields : List Field) → IsFrame most_in bytes fields → result ≡ command_of market fields)
+    → (((fields : List Field) → IsFrame most_in bytes fields → ⊥) → result ≡ Void) → result ≡ reads market bytes
+reads_either market bytes result frame none = either_fields market bytes result (exact_fields bytes) refl frame none

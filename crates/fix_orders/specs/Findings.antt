@@ -1,17 +1,21 @@
 -- Private: what is found of the fields of an order message behind its header, when they are read from the first to the
 -- last.
-use Rattle.std.specs.Prelude.{◌≡◌, ℕ, Bool, not, ◌&&◌, if◌then◌else◌, List, [], ◌∷◌, ◌++◌, map, filter, Option, Some, None}
+use Rattle.std.specs.Prelude.{◌≡◌, ◌↔◌, ◌+◌, ◌*◌, ◌≤◌, length, ℕ, Bool, not, ◌&&◌, if◌then◌else◌, List, [], ◌∷◌, ◌++◌, map, filter, Option, Some, None}
 use Rattle.std.specs.List.{AllByRecursion}
-use Rattle.fix_frame.specs.Grammar.{Field, IsField}
+use Rattle.fix_frame.specs.Grammar.{Field, IsField, most_in}
+use Rattle.fix_frame.specs.Runs.{IsRun}
+use Rattle.fix_frame.specs.Bodies.{bytes_left, fields_in}
+use Rattle.fix_frame.specs.declared.body.Body.{Body}
 use Rattle.venue_model.specs.declared.commands.SessionRejectReason.{SessionRejectReason}
 use Rattle.venue_model.specs.declared.commands.SessionRejectReason.TheVariants.{RequiredTagMissing, TagNotDefined, ValueIncorrect, IncorrectFormat, TagAppearsMoreThanOnce}
+use Rattle.venue_model.specs.declared.commands.RefMsgType.{RefMsgType}
 use Rattle.fix_orders.specs.declared.fields.Fault.{Fault}
 use Rattle.fix_orders.specs.declared.fields.OrderFields.{OrderFields}
 use Rattle.fix_orders.specs.declared.tables.Table.{Table}
 use Rattle.fix_orders.specs.declared.tables.OrderTag.{OrderTag}
 use Rattle.fix_orders.specs.declared.values.Values.{Values}
 use Rattle.fix_orders.specs.OrderTags.{tag_number, order_numbers}
-use Rattle.fix_orders.specs.Reading.{frame_tags, header_tags, required, tags, is_among, value_at, faulty_tags, lesser, least, or_next}
+use Rattle.fix_orders.specs.Reading.{frame_tags, header_tags, required, tags, is_among, value_at, faulty_tags, lesser, least, or_next, table_of}
 use Rattle.fix_orders.specs.Values.{value_in, is_nothing}
 
 -- the tags that stand outside of these fields, each once
@@ -63,9 +67,16 @@ abbrev pub fault_in : List SessionRejectReason → Table → List Field → Opti
 fault_in [] table fields = None
 fault_in (r ∷ rs) table fields = or_next r (least_in r table fields) (fault_in rs table fields)
 
--- this is what is found of all fields but these last ones
-pub record IsReading (table : Table) (rest all : List Field) (found : OrderFields) : Type 0 where
+-- this is what is found of the fields of a body in front of what is left of it, and there is room for those that may follow
+pub record IsReading (table : Table) (rest all : Body) (found : OrderFields) : Type 0 where
   pub front : List Field
   pub found_in : IsFound table front found
-  pub whole : front ++ rest ≡ all
-  pub each : AllByRecursion IsField rest
+  pub whole : fields_in all ≡ front ++ fields_in rest
+  pub run : IsRun (bytes_left all) ↔ IsRun (bytes_left rest)
+  pub few : 4 * length front + length (bytes_left rest) ≤ most_in
+
+-- the bytes of a body are a run of fields, which were read by this table, and this is what is found of them
+pub record IsReadBy (market : Bool) (type : RefMsgType) (body : Body) (found : Table × OrderFields) : Type 0 where
+  pub run : IsRun (bytes_left body)
+  pub table : found.0 ≡ table_of market type (fields_in body)
+  pub found_in : IsFound found.0 (fields_in body) found.1

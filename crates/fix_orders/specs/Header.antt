@@ -1,8 +1,12 @@
 -- The header of a message (FIX 4.4, volume 2, "Standard Header"; docs/PROFILE.md, "Header"): behind
 -- BeginString and BodyLength its fields stand in one order.
-use Rattle.std.specs.Prelude.{◌≢◌, ⊤, ℕ, Bool, ◌&&◌, nat_le, ◌==◌, if◌then◌else◌, List, [], ◌∷◌, Option, Some, None}
+use Rattle.std.specs.Prelude.{◌≡◌, ◌≢◌, ◌↔◌, ◌≤◌, length, ⊤, ℕ, Bool, ◌&&◌, nat_le, ◌==◌, if◌then◌else◌, List, [], ◌∷◌, Option, Some, None}
 use Rattle.fix_frame.specs.Grammar.{Field}
+use Rattle.fix_frame.specs.Runs.{IsRun}
+use Rattle.fix_frame.specs.Bodies.{bytes_left, fields_in}
 use Rattle.fix_frame.specs.Borrowed.{fields_left}
+use Rattle.fix_frame.specs.declared.body.Body.{Body}
+use Rattle.fix_orders.specs.declared.header.HeaderFields.{HeaderFields}
 use Rattle.fix_orders.specs.declared.header.Header.{Header as HeaderRead}
 use Rattle.fix_orders.specs.Formats.{is_number, value_of, is_time}
 
@@ -54,3 +58,24 @@ as_header h = record {
 abbrev pub LacksFirst : ℕ → List Field → Type 0
 LacksFirst tag [] = ⊤
 LacksFirst tag (f ∷ fields) = f.tag ≢ tag
+
+-- five fields that were read, and those behind them
+abbrev pub header_by : HeaderFields → List Field → Header
+header_by h rest = record {
+  msg_type = h.msg_type.now;
+  sender = h.sender.now;
+  target = h.target.now;
+  number = h.number;
+  time = h.time.now;
+  rest = rest;
+}
+
+-- no right header stands at the front of a body
+abbrev pub BeginsNoHeader : Body → Type 0
+BeginsNoHeader body = IsRun (bytes_left body) → header_of (fields_in body) ≡ None
+
+-- a header stood there, and what is left stands behind it
+pub record TakesHeader (old new : Body) (h : HeaderFields) : Type 0 where
+  pub header : header_of (fields_in old) ≡ Some (header_by h (fields_in new))
+  pub run : IsRun (bytes_left old) ↔ IsRun (bytes_left new)
+  pub fewer : length (bytes_left new) ≤ length (bytes_left old)

@@ -1,23 +1,25 @@
 //! Commands out of frames: the first thing that happens to an entry behind the input ring.
-ghost use Rattle.std.specs.Prelude.{◌≡◌, ◌≤◌, List, length, IsTrue};
-ghost use Rattle.fix_frame.specs.Grammar.{Field, IsFrame, most_in};
-ghost use Rattle.fix_frame.specs.Borrowed.{frame_fields, fields_left};
+ghost use Rattle.std.specs.Prelude.{◌≡◌, ◌≤◌, List, length, IsTrue, MatchOption};
+ghost use Rattle.fix_frame.specs.Grammar.{Field, IsFrame, BeginsWithType, most_in};
+ghost use Rattle.fix_frame.specs.Borrowed.{frame_fields};
+ghost use Rattle.fix_frame.specs.Bodies.{bytes_left, fields_in};
+ghost use Rattle.fix_frame.specs.Runs.{IsRun};
 ghost use Rattle.venue_model.specs.Step.{IsCommand};
 ghost use Rattle.fix_orders.specs.Formats.{format_of, is_short, value_of};
 ghost use Rattle.fix_orders.specs.OrderTags.{tag_number, need_of};
 ghost use Rattle.fix_orders.specs.declared.tables.Need.TheVariants.{Required};
-ghost use Rattle.fix_orders.specs.Reading.{ref_type_of, table_of, side_of, time_in_force_of, command_of, reads};
-ghost use Rattle.fix_orders.specs.Findings.{IsFound};
+ghost use Rattle.fix_orders.specs.Reading.{ref_type_of, side_of, time_in_force_of, command_of, reads};
+ghost use Rattle.fix_orders.specs.Findings.{IsReadBy};
 ghost use Rattle.fix_orders.specs.Values.{value_in};
 ghost use Rattle.fix_orders.specs.Asking.{AreRight, asked_in, new_in, cancel_in, replace_in};
 
 use crate::fields::{OrderFields, first_fault};
-use crate::header::read_header;
+use crate::header::take_header;
 use crate::number::read_digits;
 use crate::tables::{OrderTag, Table};
 use crate::time::number_of_time;
 use crate::values::Values;
-use fix_frame::{Fields, Frame, whole};
+use fix_frame::{Body, Frame, opened};
 use venue_model::{
     Command, Malformed, NewOrderSingle, OrdType, OrderCancelReplaceRequest, OrderCancelRequest,
     RefMsgType, Side, Symbol, TimeInForce,
@@ -33,8 +35,8 @@ pub fn decode(bytes: &[u8], market: bool) -> Command
         result ≡ Command.Void }
     ensures range { IsCommand result }
 {
-    match whole(bytes) {
-        Some(frame) => command_of(&frame, market),
+    match opened(bytes) {
+        Some(body) => command_in(body, market),
         None => Command::Void,
     }
 }
@@ -43,14 +45,25 @@ pub fn decode(bytes: &[u8], market: bool) -> Command
 pub fn command_of(frame: &Frame, market: bool) -> Command
     ensures { result ≡ command_of market (frame_fields frame.now) }
 {
-    let Some(header) = read_header(frame.fields()) else {
+    command_in(frame.body(), market)
+}
+
+/// The command of a body, which is read once; none where it turns out to be no run of fields.
+fn command_in(mut body: Body, market: bool) -> Command
+    requires { length (bytes_left body) ≤ most_in }
+    ensures run { IsRun (bytes_left body.entry) → result ≡ command_of market (fields_in body.entry) }
+    ensures void { (IsRun (bytes_left body.entry) → BeginsWithType (fields_in body.entry) → ⊥) → result ≡ Command.Void }
+{
+    let Some(header) = take_header(&mut body) else {
         return Command::Void;
     };
     let Some(kind) = type_of(header.msg_type) else {
         return Command::Void;
     };
+    let Some((table, found)) = read_fields(kind, body, market) else {
+        return Command::Void;
+    };
     let sending_time = number_of_time(header.time);
-    let (table, found) = read_fields(kind, header.rest, market);
     match first_fault(table, &found) {
         None => asked(table, sending_time, &found.values),
         Some(fault) => Command::Malformed {
@@ -65,18 +78,22 @@ pub fn command_of(frame: &Frame, market: bool) -> Command
     }
 }
 
-/// Reads the fields behind a header by their table. They are read again only where they ask for a market order.
-fn read_fields<'a>(kind: RefMsgType, fields: Fields<'a>, market: bool) -> (Table, OrderFields<'a>)
-    requires { length (fields_left fields) ≤ 74 }
-    ensures table { result.0 ≡ table_of market kind (fields_left fields.entry) }
-    ensures found { IsFound result.0 (fields_left fields.entry) result.1 }
+/// Reads the fields behind a header by their table; none where they are no run of fields. They are read again only where
+/// they ask for a market order.
+fn read_fields<'a>(
+    kind: RefMsgType,
+    body: Body<'a>,
+    market: bool,
+) -> Option<(Table, OrderFields<'a>)>
+    requires { length (bytes_left body) ≤ most_in }
+    ensures { MatchOption result (IsRun (bytes_left body.entry) → ⊥) (IsReadBy market kind body.entry) }
 {
     let mut asks_market = false;
     loop {
         let table = Table::of(kind, asks_market);
-        let found = OrderFields::read(table, fields);
+        let found = OrderFields::read(table, body)?;
         if asks_market || !market || !found.values.ask_market() {
-            return (table, found);
+            return Some((table, found));
         }
         asks_market = true;
     }

@@ -1,9 +1,10 @@
 //! The fields of an order message behind its header, read once: the value of each tag, the least tag at fault for each
 //! reason, and the first reason that has one.
-ghost use Rattle.std.specs.Prelude.{◌≡◌, ◌<◌, ◌≤◌, ◌++◌, ◌∷◌, [], length, List, ℕ, true};
-ghost use Rattle.fix_frame.specs.Grammar.{Field as FixField, IsField};
+ghost use Rattle.std.specs.Prelude.{◌≡◌, ◌<◌, ◌≤◌, ◌++◌, ◌∷◌, [], length, List, ℕ, true, MatchOption};
+ghost use Rattle.fix_frame.specs.Grammar.{Field as FixField, IsField, most_in};
 ghost use Rattle.fix_frame.specs.Fields.{as_field};
-ghost use Rattle.fix_frame.specs.Borrowed.{fields_left};
+ghost use Rattle.fix_frame.specs.Bodies.{bytes_left, fields_in};
+ghost use Rattle.fix_frame.specs.Runs.{IsRun};
 ghost use Rattle.fix_orders.specs.declared.tables.Table.{Table};
 ghost use Rattle.fix_orders.specs.OrderTags.{tag_number};
 ghost use Rattle.fix_orders.specs.Reading.{is_among, least, missing_tags, classes};
@@ -14,7 +15,7 @@ use crate::formats::{JudgedValue, format_of, judge};
 use crate::tables::{Need, ORDER_TAGS, OrderTag, Table};
 use crate::values::Values;
 use arrayvec::ArrayVec;
-use fix_frame::{Field, Fields};
+use fix_frame::{Body, Field};
 use venue_model::SessionRejectReason;
 
 /// How many fields the body of a message that comes in has at most.
@@ -37,16 +38,17 @@ pub struct OrderFields<'a> {
 }
 
 impl<'a> OrderFields<'a> {
-    /// What is found of all these fields of a message, by this table.
-    pub fn read(table: Table, fields: Fields<'a>) -> OrderFields<'a>
-        requires { length (fields_left fields) ≤ 74 }
-        ensures { IsFound table (fields_left fields.entry) result }
+    /// What is found of all the fields that are left of a message, by this table; none where the bytes are no run of fields.
+    pub fn read(table: Table, mut body: Body<'a>) -> Option<OrderFields<'a>>
+        requires { length (bytes_left body) ≤ most_in }
+        ensures { MatchOption result (IsRun (bytes_left body.entry) → ⊥)
+            (λ found. IsRun (bytes_left body.entry) × IsFound table (fields_in body.entry) found) }
     {
         let mut found = OrderFields::new();
-        for field in fields {
+        while let Some(field) = body.next() {
             found.take(table, field);
         }
-        found
+        if body.is_over() { Some(found) } else { None }
     }
 
     /// What is found of no fields.

@@ -3,12 +3,14 @@ ghost use Rattle.std.specs.Prelude.{◌≡◌, ◌≤◌, ◌∷◌, IfSome, IsT
 ghost use Rattle.std.specs.Option.{option_map};
 ghost use Rattle.fix_frame.specs.Borrowed.{fields_left};
 ghost use Rattle.fix_orders.specs.Formats.{is_time, value_of};
-ghost use Rattle.fix_orders.specs.Header.{LacksFirst, is_seq_num, as_header, header_of};
+ghost use Rattle.fix_orders.specs.Header.{LacksFirst, is_seq_num, as_header, header_of, BeginsNoHeader, TakesHeader};
+ghost use Rattle.fix_frame.specs.Bodies.{bytes_left, fields_in, TakesOff};
+ghost use Rattle.fix_frame.specs.Runs.{IsRun};
 ghost use Rattle.fix_orders.specs.Text.{field};
 
 use crate::number::read_number;
 use crate::time::is_time;
-use fix_frame::Fields;
+use fix_frame::{Body, Fields};
 
 /// The header of a message, and the fields behind it.
 #[derive(Clone, Copy, Debug)]
@@ -27,37 +29,65 @@ pub struct Header<'a> {
     pub rest: Fields<'a>,
 }
 
+/// The five fields that a header is made of.
+#[derive(Clone, Copy, Debug)]
+pub struct HeaderFields<'a> {
+    pub msg_type: &'a [u8],
+    pub sender: &'a [u8],
+    pub target: &'a [u8],
+    pub number: u32,
+    pub time: &'a [u8],
+}
+
 /// The header that the fields of a frame begin with, or `None` where it is wrong.
-pub fn read_header<'a>(mut fields: Fields<'a>) -> Option<Header<'a>>
+pub fn read_header<'a>(fields: Fields<'a>) -> Option<Header<'a>>
     ensures value { header_of (fields_left fields.entry) ≡ option_map as_header result }
     ensures number { IfSome result (λ h. (1 ≤ h.number) × (h.number ≤ 999999999)) }
     ensures time { IfSome result (λ h. IsTrue (is_time h.time.now)) }
 {
-    let msg_type = next_value(&mut fields, 35)?;
-    let sender = next_value(&mut fields, 49)?;
-    let target = next_value(&mut fields, 56)?;
-    let number = seq_num(next_value(&mut fields, 34)?)?;
-    let time = next_value(&mut fields, 52)?;
+    let mut body = fields.body();
+    let header = take_header(&mut body)?;
+    Some(Header {
+        msg_type: header.msg_type,
+        sender: header.sender,
+        target: header.target,
+        number: header.number,
+        time: header.time,
+        rest: body.fields(),
+    })
+}
+
+/// Takes a header off a body's front, or answers `None` where it doesn't begin with a right one.
+#[inline(always)]
+pub fn take_header<'a>(body: &mut Body<'a>) -> Option<HeaderFields<'a>>
+    ensures value { MatchOption result (BeginsNoHeader body.old) (TakesHeader body.old body.new) }
+    ensures number { IfSome result (λ h. (1 ≤ h.number) × (h.number ≤ 999999999)) }
+    ensures time { IfSome result (λ h. IsTrue (is_time h.time.now)) }
+{
+    let msg_type = next_value(body, 35)?;
+    let sender = next_value(body, 49)?;
+    let target = next_value(body, 56)?;
+    let number = seq_num(next_value(body, 34)?)?;
+    let time = next_value(body, 52)?;
     if !is_time(time) {
         return None;
     }
-    Some(Header {
+    Some(HeaderFields {
         msg_type,
         sender,
         target,
         number,
         time,
-        rest: fields,
     })
 }
 
 /// The value of the next field, where it has this tag.
 #[inline(always)]
-fn next_value<'a>(fields: &mut Fields<'a>, tag: u32) -> Option<&'a [u8]>
-    ensures { MatchOption result (LacksFirst tag (fields_left fields.old))
-        (λ v. fields_left fields.old ≡ field tag v.now ∷ fields_left fields.new) }
+fn next_value<'a>(body: &mut Body<'a>, tag: u32) -> Option<&'a [u8]>
+    ensures { MatchOption result (IsRun (bytes_left body.old) → LacksFirst tag (fields_in body.old))
+        (λ v. TakesOff body.old body.new (field tag v.now)) }
 {
-    let field = fields.next()?;
+    let field = body.next()?;
     if field.tag == tag {
         Some(field.value)
     } else {

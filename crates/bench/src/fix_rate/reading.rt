@@ -1,6 +1,5 @@
-//! An order, framed and decoded again and again.
-use fix_frame::Framer;
-use fix_orders::command_of;
+//! An order, decoded again and again.
+use fix_orders::decode;
 use venue_model::{Command, Side, TimeInForce};
 
 /// An order, to buy 100 ABC at 50, as it comes in. The blocks of a journal have it, too.
@@ -10,24 +9,16 @@ pub const ORDER: &[u8; 125] =
 /// The sum of what is read of the order: SendingTime, ClOrdID, Price, OrderQty, and how long Symbol is.
 pub const SUM: u64 = 20_250_102_093_000 + 1 + 50 + 100 + 3;
 
-/// Frames and decodes the order so many times, and answers the sum of all that was read.
-pub fn read_orders(framer: &mut Framer, copies: u32) -> u64 {
+/// Decodes the order so many times, each time copied into the buffer of its reader, as the unmarshaller reads a message out
+/// of its row, and answers the sum of all that was read.
+pub fn read_orders(copies: u32) -> u64 {
+    let mut message = [0; 125];
     let mut sum = 0u64;
     for _ in 0..copies {
-        sum = sum.wrapping_add(sum_of(&read_order(framer)));
+        message.copy_from_slice(ORDER);
+        sum = sum.wrapping_add(sum_of(&decode(&message, true)));
     }
     sum
-}
-
-/// Frames and decodes the order once.
-fn read_order(framer: &mut Framer) -> Command {
-    let Ok(_) = framer.feed(ORDER) else {
-        return Command::Void;
-    };
-    match framer.next() {
-        Some(frame) => command_of(&frame, true),
-        None => Command::Void,
-    }
 }
 
 /// The sum of what a new order to buy has, so that all of it is read; of anything else nothing.

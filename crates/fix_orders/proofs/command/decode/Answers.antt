@@ -1,18 +1,23 @@
-use Rattle.std.proofs.Common.{◌∙◌, sym, refl}
-use Rattle.fix_frame.specs.Borrowed.{frame_fields}
-use Rattle.fix_orders.specs.ExactLaws.{reads_frame, reads_none}
+-- Either the bytes are a frame, and then their body is a run of its fields, or they are none.
+use Rattle.std.proofs.Common.{sym, refl, ap, ◌∙◌}
+use Rattle.fix_orders.specs.Reading.{command_of}
+use Rattle.fix_orders.specs.ExactLaws.{reads_none, reads_either}
 use Rattle.fix_orders.specs.RangeLaws.{reads_within}
 use Rattle.fix_orders.proofs.command.decode.Goals as goal
 
 pub returns-in-Some : goal.returns-in-Some
 returns-in-Some c =
     let bytes = c.args.bytes.now in
-    let read = c.command_of.ensures ∙ sym (reads_frame c.args.market bytes (frame_fields c.in-Some.frame) c.in-Some.ensures) in
+    let opens = c.in-Some.ensures in
+    let frame : (fields : _) → _ → _ = λ fields is.
+    let (run, same) = opens.fields fields is in
+    c.command_in.ensures.run run ∙ ap (command_of c.args.market) same in
+    let none : _ → _ = λ no. c.command_in.ensures.void (λ run typed. no _ (opens.frame run typed)) in
     record {
-      value = read;
-      frame = λ fields frame. read ∙ reads_frame c.args.market bytes fields frame;
-      none = λ none. absurd (none (frame_fields c.in-Some.frame) c.in-Some.ensures);
-      range = rw read (reads_within c.args.market bytes);
+      value = reads_either c.args.market bytes _ frame none;
+      frame = frame;
+      none = none;
+      range = rw (reads_either c.args.market bytes _ frame none) (reads_within c.args.market bytes);
     }
 
 pub returns-in-None : goal.returns-in-None

@@ -1,12 +1,12 @@
--- The stage is that of the bytes so far.
+-- So far the bytes begin a head.
 use Rattle.std.proofs.Common.{◌≤◌, ◌-◌, length, take}
-use Rattle.fix_frame.specs.Stages.{IsLive}
-use Rattle.fix_frame.proofs.message.whole.Given as goal
+use Rattle.fix_frame.specs.Stages.{IsHeading}
+use Rattle.fix_frame.proofs.opening.opened.Given as goal
 
 abbrev pub invariant-loop-at : goal.invariant-loop-at
 invariant-loop-at l = record {
   within : l.at ≤ length l.bytes;
-  live : IsLive l.stage (take l.at l.bytes);
+  heading : IsHeading (take l.at l.bytes) l.so_far;
 }
 
 abbrev pub decreases-loop-at : goal.decreases-loop-at
