@@ -13,8 +13,8 @@ use Rattle.venue_model.specs.Orders.{opposite, leaves, crosses, meets, is_better
 use Rattle.venue_model.specs.SideLaws.{met_side}
 use Rattle.venue_model.specs.Match.{filled, live_alone}
 use Rattle.venue_model.specs.Requests.{is_named}
-use Rattle.price_levels.specs.Places.{Places, at, StandsAt, IsOf, Leads, NoneOf, BestOf, HoldsAt, LeavesSome, reduced}
-use Rattle.price_levels.specs.Places.{changed}
+use Rattle.price_levels.specs.Places.{Places, at, StandsAt, IsOf, Leads, NoneOf, BestOf, PricedBest, HoldsAt, LeavesSome}
+use Rattle.price_levels.specs.Places.{reduced, changed}
 use Rattle.price_levels.specs.Stamps.{by_stamp, SeatedByStamp}
 use Rattle.price_levels.specs.StampLaws.{seated, others, is-within, at-set, each-listed}
 use Rattle.book.specs.declared.order_index.slots.IndexEntry.{IndexEntry}
@@ -160,6 +160,14 @@ module _ {places : Places} {entries : List IndexEntry} {count : ℕ} {view : Lis
   leads : (q : ℕ) (x : Order) → q ≢ p → StandsAt places q x → crosses i x ≡ true → Leads o x
   leads q x other there h = subst (λ z. Leads z x) it-is (it.best.leads q x other there (crossed-of i x h))
 
+  -- whether it is crossed is a matter of its price
+  crosses-priced : (side : Side) (price : ℕ) → side ≡ opposite i.side → it.best.order.price ≡ price
+      → crosses i o ≡ meets i.side i.price side price
+  crosses-priced side price side_is price_is =
+      ap (λ t. t && meets i.side i.price o.side o.price) ((bytes_eq-Decides i.symbol o.symbol).1 (sym its-of.symbol_is))
+      ∙ ap (λ s. meets i.side i.price s o.price) (its-of.side_is ∙ sym side_is)
+      ∙ ap (λ n. meets i.side i.price side n) (ap (λ (z : Order). z.price) (sym it-is) ∙ price_is)
+
   -- the best one isn't crossed: none is
   pub fills-not : crosses i o ≡ false → FillsNone i view view
   fills-not isnt = none-crossed places view i it.shown.list (λ q x there h. elim (same-or-not q p) [
@@ -241,3 +249,20 @@ module _ {places : Places} {entries : List IndexEntry} {count : ℕ} {view : Lis
   kept-whole after after_is new places_are entries_are = subst (λ ps. AreKept ps new (count - 1)) (sym after_is)
       (kept-leave places entries new count it.shown.kept o.client o.cl_ord_id p
       (it.shown.kept.indexed.named p o it.stands) places_are entries_are)
+
+-- the best order of the other side, whose price is known: whether it is crossed, and an unread one that isn't
+module _ {places : Places} {entries : List IndexEntry} {count : ℕ} {view : List Order} {p price : ℕ} {side : Side}
+    (i : Order) (shown : Shown places entries count view) (side_is : side ≡ opposite i.side)
+    (priced : PricedBest i.symbol side places p price) where
+  abbrev its : PricedBest i.symbol (opposite i.side) places p price
+  its = subst (λ s. PricedBest i.symbol s places p price) side_is priced
+
+  abbrev pub best-read : (o : Order) → at places p ≡ Some o → Best places entries count view i p o
+  best-read o stands = record { shown = shown; best = its.best; stands = stands }
+
+  pub price-meets : (o : Order) → at places p ≡ Some o → crosses i o ≡ meets i.side i.price side price
+  price-meets o stands = crosses-priced (best-read o stands) side price side_is its.price_is
+
+  pub fills-unread : meets i.side i.price side price ≡ false → FillsNone i view view
+  fills-unread far = fills-not (best-read its.best.order its.best.stands)
+      (price-meets its.best.order its.best.stands ∙ far)

@@ -35,60 +35,55 @@ fn next_fill(orders: &mut RestingOrders, incoming: &Order, reads: &mut Reads) ->
     }
 }
 
-/// Tells both sides that the incoming order has filled this resting one, as far as both go. It answers what the incoming
-/// order is then.
-fn told_fill(incoming: &Order, order: &Order, cause: Cause, out: &mut Vec<Output>) -> Order
-    requires in_range { InRange incoming.now }
+/// Fills the incoming order with this resting one, as far as both go, and tells both sides of it.
+fn tell_fill(incoming: &mut Order, order: &Order, cause: Cause, out: &mut Vec<Output>)
+    requires in_range { InRange incoming.old }
     requires rests { Rests order.now }
     requires room { vec_len out.old + 2 ≤ vec_capacity out.old }
-    ensures next { result ≡ incoming_after incoming.now order.now }
-    ensures told { out.new.items ≡ out.old.items ++ reports cause incoming.now order.now }
-    ensures in_range { InRange result }
+    ensures next { incoming.new ≡ incoming_after incoming.old order.now }
+    ensures told { out.new.items ≡ out.old.items ++ reports cause incoming.old order.now }
+    ensures in_range { InRange incoming.new }
     ensures more { vec_len out.new ≡ vec_len out.old + 2 }
     ensures room { vec_capacity out.new ≡ vec_capacity out.old }
 {
     let last_px = order.price;
     let quantity = min(order.leaves(), incoming.leaves());
-    let resting = order.filled(quantity, last_px);
-    let next = incoming.filled(quantity, last_px);
     let exec_type = ExecType::Trade {
         last_qty: quantity,
         last_px,
     };
-    tell(out, cause, exec_type, &resting);
-    tell(out, cause, exec_type, &next);
-    next
+    tell(out, cause, exec_type, &order.filled(quantity, last_px));
+    *incoming = incoming.filled(quantity, last_px);
+    tell(out, cause, exec_type, incoming);
 }
 
-/// Fills one crossing order after another, until nothing is left of the incoming one or nothing crosses it. It answers
-/// what the incoming order is then.
+/// Fills one crossing order after another, until nothing is left of the incoming one or nothing crosses it.
+#[inline(never)]
 fn sweep(
     orders: &mut RestingOrders,
-    incoming: &Order,
+    incoming: &mut Order,
     cause: Cause,
     out: &mut Vec<Output>,
     reads: &mut Reads,
-) -> Order
+)
     requires standing { IsBookList orders.old }
-    requires in_range { InRange incoming.now }
+    requires in_range { InRange incoming.old }
     requires room { vec_len out.old + 2 * length orders.old ≤ vec_capacity out.old }
     requires reads { reads.old < 2 ^ 32 }
-    ensures orders { orders.new ≡ rest incoming.now orders.old }
-    ensures done { result ≡ done incoming.now orders.old }
-    ensures told { out.new.items ≡ out.old.items ++ trades cause incoming.now orders.old }
-    ensures in_range { InRange result }
+    ensures orders { orders.new ≡ rest incoming.old orders.old }
+    ensures done { incoming.new ≡ done incoming.old orders.old }
+    ensures told { out.new.items ≡ out.old.items ++ trades cause incoming.old orders.old }
+    ensures in_range { InRange incoming.new }
     ensures standing { IsBookList orders.new }
     ensures below { (sequence : ℕ) → Below sequence orders.old → Below sequence orders.new }
     ensures no_longer { length orders.new ≤ length orders.old }
     ensures more { vec_len out.new ≤ vec_len out.old + 2 * length orders.old }
     ensures room { vec_capacity out.new ≡ vec_capacity out.old }
-    ensures reads { IsMatched (fills incoming.now orders.old) reads.old reads.new }
+    ensures reads { IsMatched (fills incoming.old orders.old) reads.old reads.new }
 {
-    let mut incoming = *incoming;
-    'fills: while let Some(order) = next_fill(orders, &incoming, reads) {
-        incoming = told_fill(&incoming, &order, cause, out);
+    'fills: while let Some(order) = next_fill(orders, incoming, reads) {
+        tell_fill(incoming, &order, cause, out);
     }
-    incoming
 }
 
 /// A new order comes in on these terms, behind all that rest.
@@ -119,22 +114,23 @@ pub(crate) fn enter(
     ensures reads { IsMatched (filled_by terms incoming.now orders.old) reads.old reads.new }
     ensures killed { terms ≡ TimeInForce.FillOrKill → can_fill incoming.now orders.old ≡ false → reads.new ≡ reads.old }
 {
+    let mut left = *incoming;
     match terms {
         TimeInForce::Day => {
-            let left = sweep(orders, incoming, cause, out, reads);
+            sweep(orders, &mut left, cause, out, reads);
             if left.leaves() != 0 {
                 orders.push(&left);
             }
         }
         TimeInForce::ImmediateOrCancel => {
-            let left = sweep(orders, incoming, cause, out, reads);
+            sweep(orders, &mut left, cause, out, reads);
             if left.leaves() != 0 {
                 tell(out, cause, canceled(), &left);
             }
         }
         TimeInForce::FillOrKill => {
             if incoming.leaves() <= orders.crossing_total(incoming) {
-                sweep(orders, incoming, cause, out, reads);
+                sweep(orders, &mut left, cause, out, reads);
             } else {
                 tell(out, cause, canceled(), incoming);
             }

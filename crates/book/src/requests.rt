@@ -73,6 +73,7 @@ impl Book {
     }
 
     /// Takes the client's order of this name out of the book.
+    #[inline(always)]
     fn take_out(&mut self, client: u8, name: u64) -> Order
         requires { named self.old.state client name ≢ None }
         ensures takes { TakesOut client name self.old self.new result }
@@ -114,6 +115,7 @@ impl Book {
 
     /// An order of a symbol of the venue comes in on these terms, under a name that is accepted with it: its client is
     /// told so, and it is matched.
+    #[inline(always)]
     fn admit(
         &mut self,
         cause: Cause,
@@ -173,12 +175,12 @@ impl Book {
             put(out, &cancel_reject(cause, request, named, reason));
             return;
         }
-        let order = self.take_out(cause.gateway, request.orig_cl_ord_id);
+        let _ = self.take_out(cause.gateway, request.orig_cl_ord_id);
         self.accept(cause.gateway, request.cl_ord_id);
         let exec_type = ExecType::Canceled {
             orig_cl_ord_id: Some(request.orig_cl_ord_id),
         };
-        tell(out, cause, exec_type, &canceled(request, order));
+        tell(out, cause, exec_type, &canceled(request, named.unwrap()));
     }
 
     /// OrderCancelReplaceRequest: it is refused, or the order that it names is amended.

@@ -102,6 +102,7 @@ impl RestingOrders {
     }
 
     /// Takes the client's order of this name out.
+    #[inline(always)]
     pub(crate) fn take_out(&mut self, client: u8, name: u64) -> Order
         requires { find (is_named client name) self.old ≢ None }
         ensures order { find (is_named client name) self.old ≡ Some result }
@@ -126,20 +127,19 @@ impl RestingOrders {
     }
 
     /// Fills the first of the orders that the incoming one crosses, as far as both go. It answers that order as it was, or
-    /// `None` where none is crossed. `reads` counts the read of one order at most.
+    /// `None` where none is crossed. `reads` counts the read of that order.
     pub(crate) fn fill_first(&mut self, incoming: &Order, reads: &mut Reads) -> Option<Order>
         requires reads { reads.old < 2 ^ 64 - 1 }
         requires some { 0 < leaves incoming.now }
         ensures first { MatchOption result (FillsNone incoming.now self.old self.new) (FillsFirst incoming.now self.old self.new) }
         ensures reads { MatchOption result ((reads.old ≤ reads.new) × (reads.new ≤ reads.old + 1)) (λ o. reads.new ≡ reads.old + 1) }
     {
-        let place = self
-            .levels
-            .best(&incoming.symbol, incoming.side.opposite())?;
-        let order = self.levels.get(place, reads);
-        if !incoming.crosses(&order) {
+        let side = incoming.side.opposite();
+        let (place, price) = self.levels.best_priced(&incoming.symbol, side)?;
+        if !incoming.side.meets(incoming.price, side, price) {
             return None;
         }
+        let order = self.levels.get(place, reads);
         let quantity = incoming.leaves();
         if quantity < order.leaves() {
             self.levels.reduce(place, quantity);

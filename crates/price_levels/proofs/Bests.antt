@@ -9,9 +9,9 @@ use Rattle.venue_model.specs.declared.orders.Order.{Order}
 use Rattle.price_levels.specs.declared.keys.Key.{Key}
 use Rattle.price_levels.specs.declared.keys.Level.{Level}
 use Rattle.price_levels.specs.declared.nodes.Node.{Node}
-use Rattle.price_levels.specs.Places.{StandsAt, IsOf, NoneOf, BestOf}
+use Rattle.price_levels.specs.Places.{StandsAt, IsOf, NoneOf, BestOf, PricedBest}
 use Rattle.price_levels.specs.Keys.{key_of, key_before, before_side, InOrder, level_of}
-use Rattle.price_levels.specs.Arena.{End, end_to, of_side, first_in, order_at, next_point, prev_point, places_of}
+use Rattle.price_levels.specs.Arena.{End, end_to, of_side, head_of, first_in, order_at, next_point, prev_point, places_of}
 use Rattle.price_levels.specs.Arena.{AreLevels}
 use Rattle.price_levels.proofs.KeyLemmas.{key-apart, key-trans}
 use Rattle.price_levels.proofs.Rings.{some-same, at-apart}
@@ -66,9 +66,9 @@ module _ (symbol : List ℕ) (side : Side) where
       AllByRecursion (λ (l : Level). of_side symbol side l.key ≡ false) ls
   none-head [] order not none = tt
   none-head (l ∷ ls) order not none = elim (of_side symbol side l.key) as (λ t. of_side symbol side l.key ≡ t →
-      (if t then Some l.first else None) ≡ None →
+      (if t then Some (head_of l) else None) ≡ None →
       AllByRecursion (λ (m : Level). of_side symbol side m.key ≡ false) (l ∷ ls)) [
-        | true ↦ λ h e. absurd (let f : Some l.first ≡ None = e in cc)
+        | true ↦ λ h e. absurd (let f : Some (head_of l) ≡ None = e in cc)
         | false ↦ λ h e. (
           h,
           all-map (λ (m : Level). key_before l.key m.key ≡ true) (λ (m : Level). of_side symbol side m.key ≡ false)
@@ -77,18 +77,26 @@ module _ (symbol : List ℕ) (side : Side) where
       ] refl none
 
   -- the level that heads a list
-  pub record Heads (ls : List Level) (f : ℕ) : Type 0 where
+  pub record Heads (ls : List Level) (f : ℕ × ℕ) : Type 0 where
     pub level : Level
     pub rest : List Level
     pub split : ls ≡ level ∷ rest
     pub of_side : of_side symbol side level.key ≡ true
-    pub first : level.first ≡ f
+    pub first : level.first ≡ f.0
+    pub price : level.key.price ≡ f.1
 
-  pub some-head : (ls : List Level) (f : ℕ) → head_in symbol side ls ≡ Some f → Heads ls f
+  pub some-head : (ls : List Level) (f : ℕ × ℕ) → head_in symbol side ls ≡ Some f → Heads ls f
   some-head [] f e = absurd (let g : None ≡ Some f = e in cc)
   some-head (l ∷ ls) f e = elim (of_side symbol side l.key) as (λ t. of_side symbol side l.key ≡ t →
-      (if t then Some l.first else None) ≡ Some f → Heads (l ∷ ls) f) [
-        | true ↦ λ h e. record { level = l; rest = ls; split = refl; of_side = h; first = some-same l.first f e }
+      (if t then Some (head_of l) else None) ≡ Some f → Heads (l ∷ ls) f) [
+        | true ↦ λ h e. record {
+          level = l;
+          rest = ls;
+          split = refl;
+          of_side = h;
+          first = ap (λ (b : ℕ × ℕ). b.0) (some-same (head_of l) f e);
+          price = ap (λ (b : ℕ × ℕ). b.1) (some-same (head_of l) f e);
+        }
         | false ↦ λ h e. absurd (let g : None ≡ Some f = e in cc)
       ] refl e
 
@@ -112,7 +120,7 @@ module _ (nodes : List Node) (levels : List Level) (are : AreLevels nodes levels
   pub first-best : (l : Level) (is : level_of l.key levels ≡ Some l) → of_side symbol side l.key ≡ true →
       AllByRecursion (λ (m : Level). of_side symbol side m.key ≡ true
       → (m.key ≡ l.key) ⊎ (key_before l.key m.key ≡ true)) levels →
-      BestOf symbol side (places_of nodes) l.first
+      PricedBest symbol side (places_of nodes) l.first l.key.price
   first-best l is of all =
       let fo = first-stands nodes levels are l.key l is in
       let means = of-means symbol side l.key of in
@@ -121,7 +129,7 @@ module _ (nodes : List Node) (levels : List Level) (are : AreLevels nodes levels
         side_is = ap (λ
             (k : Key). k.side) fo.key ∙ means.1;
       } in
-      record {
+      let best : BestOf symbol side (places_of nodes) l.first = record {
         order = fo.order;
         stands = is-at l.first fo.order fo.is;
         is_of = own;
@@ -138,7 +146,8 @@ module _ (nodes : List Node) (levels : List Level) (are : AreLevels nodes levels
                   (first-earlier nodes levels are l.key l is q x at_q same other)
               | inr before ↦ key-ahead fo.order x with_o (ap (λ k. key_before k (key_of x)) fo.key ∙ before)
             ];
-      }
+      } in
+      record { best = best; price_is = ap (λ (k : Key). k.price) fo.key }
 
   module _ (n : ℕ) (before : AllByRecursion (λ (l : Level). before_side symbol side l.key ≡ true) (take n levels))
       (behind : AllByRecursion (λ (l : Level). before_side symbol side l.key ≡ false) (drop n levels)) where
@@ -152,9 +161,9 @@ module _ (nodes : List Node) (levels : List Level) (are : AreLevels nodes levels
         (λ l h. false-if (of_side symbol side l.key) (λ of. of-not-before symbol side l.key of h)) (take n levels)
         before
 
-    by-head : (r : Option ℕ) → head_in symbol side (drop n levels) ≡ r
+    by-head : (r : Option (ℕ × ℕ)) → head_in symbol side (drop n levels) ≡ r
         → MatchOption r (NoneOf symbol side (places_of nodes))
-        (BestOf symbol side (places_of nodes))
+        (λ b. PricedBest symbol side (places_of nodes) b.0 b.1)
     by-head None h = none-best (subst (AllByRecursion (λ (l : Level). of_side symbol side l.key ≡ false))
         (take-append-drop n levels)
         (all-append (λ (l : Level). of_side symbol side l.key ≡ false) (take n levels) (drop n levels) front-none
@@ -169,16 +178,17 @@ module _ (nodes : List Node) (levels : List Level) (are : AreLevels nodes levels
         ∙ level-here k (take n levels) head.rest head.level (not-before-key k (take n levels) (order-before
         (take n levels) head.rest head.level order)) refl in
         let Q : Level → Type 0 = λ m. of_side symbol side m.key ≡ true → (m.key ≡ k) ⊎ (key_before k m.key ≡ true) in
-        subst (BestOf symbol side (places_of nodes)) head.first (first-best head.level found head.of_side
+        subst (λ p. PricedBest symbol side (places_of nodes) p f.1) head.first (subst (λ n. PricedBest symbol side
+        (places_of nodes) head.level.first n) head.price (first-best head.level found head.of_side
         (subst (AllByRecursion Q) (sym whole) (all-append Q (take n levels) (head.level ∷ head.rest)
         (all-map (λ (l : Level). of_side symbol side l.key ≡ false) Q (λ m not of. absurd (not-both
         (of_side symbol side m.key) of not)) (take n levels) front-none) (
           (λ of. inl refl),
           all-map (λ (m : Level). key_before k m.key ≡ true) Q (λ m before of. inr before) head.rest (order-behind
               (take n levels) head.rest head.level order),
-        ))))
+        )))))
 
-    pub best-is : (r : Option ℕ) → r ≡ first_in symbol side levels n
+    pub best-is : (r : Option (ℕ × ℕ)) → r ≡ first_in symbol side levels n
         → MatchOption r (NoneOf symbol side (places_of nodes))
-        (BestOf symbol side (places_of nodes))
+        (λ b. PricedBest symbol side (places_of nodes) b.0 b.1)
     best-is r is = by-head r (sym (first-head symbol side levels n) ∙ sym is)

@@ -101,9 +101,9 @@ module _ {nodes : List Node} {l : Laddered} {p : ℕ} {n : Node} {o : Order} {r 
       omega (arith, lt, no_more, stand, long, fits)
 
   -- the first order there is the next one, where it has no neighbour
-  pub next-found : n.next ≡ None → (q : Option ℕ)
+  pub next-found : n.next ≡ None → (q : Option (ℕ × ℕ))
       → q ≡ first_in o.symbol o.side (all l) (rung_number l (record { ladder = r.ladder; at = r.at + 1 }))
-      → MatchOption q (NoneBehind (places_of nodes) p) (NextBehind (places_of nodes) p)
+      → MatchOption q (NoneBehind (places_of nodes) p) (λ b. NextBehind (places_of nodes) p b.0)
   next-found none q is =
       let next : rung_number l (record { ladder = r.ladder; at = r.at + 1 }) ≡ rung_number l r + 1 = omega arith in
       next-level nodes (all l) are p o it.here (rung_number l r) (ap (λ (m : Node). m.next) it.read ∙ none)

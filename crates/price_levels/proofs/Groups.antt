@@ -14,7 +14,7 @@ use Rattle.price_levels.specs.declared.keys.Key.{Key}
 use Rattle.price_levels.specs.declared.keys.Level.{Level}
 use Rattle.price_levels.specs.Places.{IsOf, Leads}
 use Rattle.price_levels.specs.Keys.{key_of, key_before, before_side, symbol_before, key_crossed}
-use Rattle.price_levels.specs.Arena.{of_side, first_in}
+use Rattle.price_levels.specs.Arena.{of_side, head_of, first_in}
 use Rattle.price_levels.proofs.KeyLemmas.{Before, before-means, before-is, both, symbol-apart, same-bytes, better-not}
 use Rattle.price_levels.proofs.KeyLemmas.{key-made}
 use Rattle.price_levels.proofs.SearchLemmas.{side-means, side-is-before, side-down}
@@ -71,9 +71,9 @@ module _ (symbol : List ℕ) (side : Side) where
       (before-means a b before) not_before not_of (of-means b h))
 
   -- the first of the levels that follow
-  abbrev pub head_in : List Level → Option ℕ
+  abbrev pub head_in : List Level → Option (ℕ × ℕ)
   head_in [] = None
-  head_in (l ∷ ls) = if of_side symbol side l.key then Some l.first else None
+  head_in (l ∷ ls) = if of_side symbol side l.key then Some (head_of l) else None
 
   pub first-head : (levels : List Level) (at : ℕ) → first_in symbol side levels at ≡ head_in (drop at levels)
   first-head [] zero = refl

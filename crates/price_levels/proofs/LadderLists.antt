@@ -13,7 +13,7 @@ use Rattle.price_levels.specs.declared.keys.Key.{Key}
 use Rattle.price_levels.specs.declared.keys.Level.{Level}
 use Rattle.venue_model.specs.Orders.{opposite}
 use Rattle.price_levels.specs.Keys.{same_key, key_crossed}
-use Rattle.price_levels.specs.Arena.{holds, first_in, of_side, crossed_left, levels_with}
+use Rattle.price_levels.specs.Arena.{holds, head_of, first_in, of_side, crossed_left, levels_with}
 use Rattle.price_levels.specs.Ladders.{joined}
 use Rattle.price_levels.proofs.LevelLists.{all-append}
 use Rattle.price_levels.proofs.ShortenLemmas.{set-with}
@@ -103,7 +103,7 @@ module _ (symbol : List ℕ) (side : Side) where
       → head_in symbol side (ys ++ zs) ≡
       head_in symbol side ys
   head-before [] [] none = refl
-  head-before [] (z ∷ zs) none = ap (λ t. if t then Some z.first else None) none.0
+  head-before [] (z ∷ zs) none = ap (λ t. if t then Some (head_of z) else None) none.0
   head-before (y ∷ ys) zs none = refl
 
   pub first-row : (xs g zs : List Level) (j : ℕ) → j ≤ length g

@@ -148,9 +148,9 @@ module _ (nodes : List Node) (levels : List Level) (are : AreLevels nodes levels
     of-rest Q all q x at_q = of-its-level nodes levels are (λ j. key_before k j ≡ true → Q j) q x (behind-own Q all)
         at_q
 
-    by-head : (r : Option ℕ) → head_in o.symbol o.side rest ≡ r
-        → MatchOption r (NoneBehind (places_of nodes) p) (NextBehind
-        (places_of nodes) p)
+    by-head : (r : Option (ℕ × ℕ)) → head_in o.symbol o.side rest ≡ r
+        → MatchOption r (NoneBehind (places_of nodes) p) (λ b. NextBehind
+        (places_of nodes) p b.0)
     by-head None h = λ o' is' q x is behind'.
         let same : o' ≡ o = some-same o' o (sym (at-place p o' is') ∙ here) in
         let behind : StandsBehind o x = subst (λ (z : Order). StandsBehind z x) same behind' in
@@ -221,15 +221,15 @@ module _ (nodes : List Node) (levels : List Level) (are : AreLevels nodes levels
               ];
         })
 
-    pub level-next : (r : Option ℕ) → r ≡ first_in o.symbol o.side levels (n + 1)
+    pub level-next : (r : Option (ℕ × ℕ)) → r ≡ first_in o.symbol o.side levels (n + 1)
         → MatchOption r (NoneBehind (places_of nodes) p)
-        (NextBehind (places_of nodes) p)
+        (λ b. NextBehind (places_of nodes) p b.0)
     level-next r is = by-head r (sym (first-head o.symbol o.side levels (n + 1)) ∙ sym is)
 
   pub next-level : (n : ℕ) → (node_at nodes p).next ≡ None → Searched (key_of o) levels n →
-      (r : Option ℕ) → r ≡ first_in o.symbol o.side levels (n + 1)
-      → MatchOption r (NoneBehind (places_of nodes) p) (NextBehind
-      (places_of nodes) p)
+      (r : Option (ℕ × ℕ)) → r ≡ first_in o.symbol o.side levels (n + 1)
+      → MatchOption r (NoneBehind (places_of nodes) p) (λ b. NextBehind
+      (places_of nodes) p b.0)
   next-level n last search r is =
       let within = leave-within nodes levels are p o here n search in
       let some = (has-level nodes levels are p o here).0 in

@@ -167,13 +167,17 @@ pub record Replaces (old new : Order) : Type 0 where
 abbrev pub IsChange : Option Order → Order → Type 0
 IsChange old new = MatchOption old ⊥ (λ o. Replaces o new)
 
--- the first order of the level at this place, if that is one of the symbol and side
+-- the place of a level's first order, and its price
+abbrev pub head_of : Level → ℕ × ℕ
+head_of l = (l.first, l.key.price)
+
+-- those of the level at this place, if that is one of the symbol and side
 abbrev pub of_side : List ℕ → Side → Key → Bool
 of_side symbol side k = bytes_eq k.symbol symbol && same_side k.side side
 
-abbrev pub first_in : List ℕ → Side → List Level → ℕ → Option ℕ
+abbrev pub first_in : List ℕ → Side → List Level → ℕ → Option (ℕ × ℕ)
 first_in symbol side [] at = None
-first_in symbol side (l ∷ levels) zero = if of_side symbol side l.key then Some l.first else None
+first_in symbol side (l ∷ levels) zero = if of_side symbol side l.key then Some (head_of l) else None
 first_in symbol side (l ∷ levels) (suc at) = first_in symbol side levels at
 
 -- what levels have left that an order crosses, up to the first that it doesn't

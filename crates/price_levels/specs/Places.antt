@@ -55,6 +55,11 @@ pub record BestOf (symbol : List ℕ) (side : Side) (places : Places) (p : ℕ) 
   pub is_of : IsOf symbol side order
   pub leads : (q : ℕ) (x : Order) → q ≢ p → StandsAt places q x → IsOf symbol side x → Leads order x
 
+-- the same, with its price
+pub record PricedBest (symbol : List ℕ) (side : Side) (places : Places) (p price : ℕ) : Type 0 where
+  pub best : BestOf symbol side places p
+  pub price_is : best.order.price ≡ price
+
 -- an order behind this one: of its symbol and side, and this one is ahead of it
 pub record StandsBehind (o x : Order) : Type 0 where
   pub is_of : IsOf o.symbol o.side x

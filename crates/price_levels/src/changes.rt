@@ -47,13 +47,13 @@ pub(crate) fn push(
     let rung = ladders.search(&key);
     if ladders.holds(rung, &key) {
         let level = ladders.level(rung);
-        seat(nodes, Some(level.last), place, order);
         let longer = Level {
             last: place,
             left: level.left + order.leaves(),
             ..level
         };
         ladders.set(rung, longer);
+        seat(nodes, Some(level.last), place, order);
     } else {
         seat(nodes, None, place, order);
         let alone = Level {
@@ -117,17 +117,17 @@ fn shorten(
 }
 
 /// The order at a place leaves.
+#[inline(never)]
 pub(crate) fn take_out(
     nodes: &mut Vec<Node>,
     free: &mut Vec<usize>,
     ladders: &mut Ladders,
     place: usize,
-) -> Order
+)
     requires levels { IsLevels nodes.old.items free.old.items (all ladders.old) }
     requires stands { order_at nodes.old.items place ≢ None }
     requires capacity { length nodes.old.items ≤ vec_capacity free.old }
     ensures levels { IsLevels nodes.new.items free.new.items (all ladders.new) }
-    ensures order { order_at nodes.old.items place ≡ Some result }
     ensures places { places_of nodes.new.items ≡ slice_set (places_of nodes.old.items) place None }
     ensures capacity { (vec_capacity free.new ≡ vec_capacity free.old) × (ladders.new.room ≡ ladders.old.room) }
 {
@@ -137,7 +137,6 @@ pub(crate) fn take_out(
     shorten(ladders, rung, node.prev, node.next, order.leaves());
     unseat(nodes, place, node.prev, node.next);
     free.push_reserved(place);
-    order
 }
 
 /// The order at a place is another now, of its level and stamp, with no more to fill.

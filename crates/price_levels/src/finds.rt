@@ -1,6 +1,6 @@
 //! What is found among the levels: the best order of a symbol and side, the next one, and what an order would cross.
 ghost use Rattle.std.specs.Prelude.{◌≡◌, ◌≢◌, ◌<◌, ◌^◌, None, MatchOption};
-ghost use Rattle.price_levels.specs.Places.{NoneOf, BestOf, NoneBehind, NextBehind, crossing_leaves};
+ghost use Rattle.price_levels.specs.Places.{NoneOf, PricedBest, NoneBehind, NextBehind, crossing_leaves};
 ghost use Rattle.price_levels.specs.Keys.{key_crossed};
 ghost use Rattle.price_levels.specs.Arena.{AreLevels, crossed_left, of_side, first_in, holds, places_of, order_at};
 ghost use Rattle.price_levels.specs.Ladders.{all};
@@ -24,9 +24,14 @@ pub(crate) fn is_of(level: &Level, symbol: &Symbol, side: Side) -> bool
     level.key.symbol.is(symbol) && level.key.side.is(side)
 }
 
-/// The place of the first order of the level at this place, if that is one of the symbol and side.
+/// The place of the first order of the level at this place, and its price, if that is one of the symbol and side.
 #[inline(always)]
-pub(crate) fn first_in(levels: &[Level], at: usize, symbol: &Symbol, side: Side) -> Option<usize>
+pub(crate) fn first_in(
+    levels: &[Level],
+    at: usize,
+    symbol: &Symbol,
+    side: Side,
+) -> Option<(usize, u64)>
     ensures { result ≡ first_in symbol.now side levels.now at }
 {
     if levels.len() <= at {
@@ -34,22 +39,22 @@ pub(crate) fn first_in(levels: &[Level], at: usize, symbol: &Symbol, side: Side)
     }
     let level = &levels[at];
     if is_of(level, symbol, side) {
-        Some(level.first)
+        Some((level.first, level.key.price))
     } else {
         None
     }
 }
 
-/// The place of the order of a symbol and side that is ahead of all others.
+/// The place of the order of a symbol and side that is ahead of all others, and its price.
 pub(crate) fn best(
     nodes: &Vec<Node>,
     ladders: &Ladders,
     symbol: &Symbol,
     side: Side,
-) -> Option<usize>
+) -> Option<(usize, u64)>
     requires { AreLevels nodes.now.items (all ladders.now) }
     ensures { MatchOption result (NoneOf symbol.now side (places_of nodes.now.items))
-        (BestOf symbol.now side (places_of nodes.now.items)) }
+        (λ b. PricedBest symbol.now side (places_of nodes.now.items) b.0 b.1) }
 {
     ladders.first_in(ladders.search_side(symbol, side), symbol, side)
 }
@@ -71,7 +76,8 @@ pub(crate) fn after(nodes: &Vec<Node>, ladders: &Ladders, place: usize) -> Optio
         at: rung.at + 1,
         ..rung
     };
-    ladders.first_in(next, &order.symbol, order.side)
+    let (number, _price) = ladders.first_in(next, &order.symbol, order.side)?;
+    Some(number)
 }
 
 /// Whether an order of this symbol, side and price crosses those of a level.

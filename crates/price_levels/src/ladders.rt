@@ -43,6 +43,10 @@ const SPOTS: usize = 256;
 /// How many homes stand side by side from a spot on, where the bytes of so many symbols lead to one.
 const SIDE_BY_SIDE: usize = 8;
 
+/// Each ladder takes a bit more room than it needs, so that not all of them begin at the same place of a page: their first
+/// levels, which are read most, would push one another out of a processor's nearest memory.
+const SPARE: usize = 27;
+
 /// All levels, in one ladder more than there are fences.
 #[derive(Drop)]
 pub(crate) struct Ladders {
@@ -81,7 +85,7 @@ impl Ladders {
     }
 
     /// The ladder of a symbol and side.
-    #[inline(never)]
+    #[inline(always)]
     fn ladder_of(&self, symbol: &Symbol, side: Side) -> usize
         ensures { BelongsToHome self.now.fences result symbol.now side }
     {
@@ -123,6 +127,7 @@ impl Ladders {
     }
 
     /// The place of a key: all levels ahead of it stand before the key, and none from it on does.
+    #[inline(always)]
     pub(crate) fn search(&self, key: &Key) -> Rung
         requires { InOrder (all self.now) }
         ensures rung { IsRung self.now result }
@@ -197,9 +202,9 @@ impl Ladders {
         self.ladders[rung.ladder].remove(rung.at);
     }
 
-    /// The place of the first order of the level at this place, if that is one of the symbol and side.
+    /// The place of the first order of the level at this place, and its price, if that is one of the symbol and side.
     #[inline(always)]
-    pub(crate) fn first_in(&self, rung: Rung, symbol: &Symbol, side: Side) -> Option<usize>
+    pub(crate) fn first_in(&self, rung: Rung, symbol: &Symbol, side: Side) -> Option<(usize, u64)>
         requires rung { IsRung self.now rung }
         requires home { IsHome self.now rung symbol.now side }
         ensures { result ≡ first_in symbol.now side (all self.now) (rung_number self.now rung) }
@@ -271,8 +276,11 @@ fn spot(symbol: &Symbol) -> usize
     ensures { result < SPOTS }
 {
     let bytes = symbol.as_bytes();
-    let (first, last) = (bytes[0] as usize, bytes[bytes.len() - 1] as usize);
-    (31 * first + 7 * last + bytes.len()) % SPOTS
+    let (middle, last) = (
+        bytes[bytes.len() / 2] as usize,
+        bytes[bytes.len() - 1] as usize,
+    );
+    (31 * middle + 7 * last + bytes.len()) % SPOTS
 }
 
 /// Where the ladders of a symbol are.
@@ -331,7 +339,7 @@ fn empty_ladders(alloc: Global, count: usize, room: usize) -> Result<Vec<Vec<Lev
 {
     let mut ladders = Vec::with_capacity(alloc, count)?;
     'ladders: for _ in 0..count {
-        let ladder = Vec::with_capacity(alloc, room)?;
+        let ladder = Vec::with_capacity(alloc, room.saturating_add(SPARE))?;
         ladders.push_reserved(ladder);
     }
     Ok(ladders)

@@ -1,6 +1,6 @@
 //! The levels: where orders rest, each found by its place. All room is made at the start.
 ghost use Rattle.std.specs.Prelude.{◌≡◌, ◌≢◌, ◌<◌, ◌≤◌, ◌+◌, ◌-◌, ◌*◌, ◌^◌, None, Some, length, get_or, slice_set, replicate, IfOk, MatchOption};
-ghost use Rattle.price_levels.specs.Places.{standing, ComesLater, StandsAt, NoneOf, BestOf, NoneBehind, NextBehind, HoldsAt, LeavesSome, CanAmend, reduced, renamed_to, changed, crossing_leaves};
+ghost use Rattle.price_levels.specs.Places.{standing, ComesLater, StandsAt, NoneOf, BestOf, PricedBest, NoneBehind, NextBehind, HoldsAt, LeavesSome, CanAmend, reduced, renamed_to, changed, crossing_leaves};
 
 use crate::changes::{change, push, take_out};
 use crate::finds::{after, best, crossing_total};
@@ -107,17 +107,20 @@ impl Levels {
     }
 
     /// Takes the order at a place out. The place is free then.
+    #[inline(always)]
     pub fn unlink(&mut self, place: Place) -> Order
         requires { get_or self.old place.number None ≢ None }
         ensures order { get_or self.old place.number None ≡ Some result }
         ensures places { self.new ≡ slice_set self.old place.number None }
     {
+        let order = self.nodes[place.number].order.unwrap();
         take_out(
             &mut self.nodes,
             &mut self.free,
             &mut self.ladders,
             place.number,
-        )
+        );
+        order
     }
 
     /// Reads the order at a place. `reads` counts it.
@@ -136,8 +139,18 @@ impl Levels {
     pub fn best(&self, symbol: &Symbol, side: Side) -> Option<Place>
         ensures { MatchOption result (NoneOf symbol.now side self.now) (λ p. BestOf symbol.now side self.now p.number) }
     {
-        let number = best(&self.nodes, &self.ladders, symbol, side)?;
-        Some(Place { number })
+        let (place, _price) = self.best_priced(symbol, side)?;
+        Some(place)
+    }
+
+    /// The same, and the price of that order. It reads no order.
+    #[inline(always)]
+    pub fn best_priced(&self, symbol: &Symbol, side: Side) -> Option<(Place, u64)>
+        ensures { MatchOption result (NoneOf symbol.now side self.now)
+            (λ b. PricedBest symbol.now side self.now b.0.number b.1) }
+    {
+        let (number, price) = best(&self.nodes, &self.ladders, symbol, side)?;
+        Some((Place { number }, price))
     }
 
     /// The place of the order that comes next behind the one at a place: of those of its symbol and side that it is ahead

@@ -4,13 +4,13 @@ use Rattle.book.specs.Passes.{matching}
 use Rattle.book.proofs.CountLemmas.{few-fills}
 use Rattle.book.proofs.FillLemmas.{Filled, passed-trans, first-rests, fill-is}
 use Rattle.book.proofs.Overs.{Ended, ended, fills-over}
-use Rattle.book.proofs.matching.sweep.Goals.{After-told_fill-incoming, In_default}
+use Rattle.book.proofs.matching.sweep.Goals.{After-tell_fill, In_default}
 use Rattle.book.proofs.matching.sweep.Goals as goal
 
-one : (c : After-told_fill-incoming) → Filled c.args.cause (matching c.fills.incoming c.fills.orders c.fills.out.items)
-    (matching c.told_fill-incoming.result c.next_fill.new.orders c.told_fill-incoming.new.out.items)
+one : (c : After-tell_fill) → Filled c.args.cause (matching c.fills.incoming c.fills.orders c.fills.out.items)
+    (matching c.tell_fill.new.incoming c.next_fill.new.orders c.tell_fill.new.out.items)
 one c = fill-is _ _ _ _ c.in-Some.ensures.next.0 c.fills.invariant.standing c.args.cause c.in-Some.ensures.next.1 _ _
-    _ c.told_fill-incoming.ensures.next c.told_fill-incoming.ensures.told
+    _ c.tell_fill.ensures.next c.tell_fill.ensures.told
 
 over : (c : In_default) → Ended c.args.cause (matching c.args.incoming.now c.args.orders.now c.args.out.now.items)
     c.fills.incoming c.fills.orders c.fills.out.items
@@ -21,18 +21,18 @@ next_fill-requires-clause-reads c =
     let few = few-fills c.args.incoming.now c.args.orders.now in
     omega (arith, c.fills.invariant.read, few, c.requires.standing.few, c.requires.reads)
 
-pub told_fill-incoming-requires-clause-rests : goal.told_fill-incoming-requires-clause-rests
-told_fill-incoming-requires-clause-rests c =
+pub tell_fill-requires-clause-rests : goal.tell_fill-requires-clause-rests
+tell_fill-requires-clause-rests c =
     first-rests _ _ _ _ c.in-Some.ensures.next.0 c.fills.invariant.standing
 
 pub fills-smaller : goal.fills-smaller
-fills-smaller c = (one (goal.at.fills-smaller c).After-told_fill-incoming).less
+fills-smaller c = (one (goal.at.fills-smaller c).After-tell_fill).less
 
 pub fills-preserved : goal.fills-preserved
 fills-preserved c =
     let so_far = c.fills.invariant in
-    let told = c.told_fill-incoming.ensures in
-    let fill = one (goal.at.fills-preserved c).After-told_fill-incoming in
+    let told = c.tell_fill.ensures in
+    let fill = one (goal.at.fills-preserved c).After-tell_fill in
     let most = so_far.most c.in-Some.ensures.next.1 in
     record {
       passed = passed-trans c.args.cause _ _ _ so_far.passed fill.passed;

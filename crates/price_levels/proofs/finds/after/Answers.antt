@@ -1,5 +1,8 @@
 -- The neighbour, or else the first order of the next level.
-use Rattle.std.proofs.Common.{arith}
+use Rattle.std.proofs.Common.{arith, sym, subst}
+use Rattle.std.specs.Prelude.{MatchOption}
+use Rattle.price_levels.specs.Places.{NoneBehind, NextBehind}
+use Rattle.price_levels.specs.Arena.{places_of}
 use Rattle.price_levels.specs.Ladders.{all}
 use Rattle.price_levels.proofs.FoundLemmas.{Found, found, next-fits, next-rung, next-found, read-neighbour}
 use Rattle.price_levels.proofs.finds.after.Goals.{After-search-rung}
@@ -28,6 +31,20 @@ first_in-requires c =
       home = record { belongs = it.home.belongs; alone = it.home.alone };
     }
 
+pub returns-in_err-number : goal.returns-in_err-number
+returns-in_err-number c =
+    let nodes = c.args.nodes.now.items in
+    subst (λ r. MatchOption r (NoneBehind (places_of nodes) c.args.place) (NextBehind (places_of nodes) c.args.place))
+    (sym c.from_residual.ensures)
+    (subst (λ r. MatchOption r (NoneBehind (places_of nodes) c.args.place)
+    (λ b. NextBehind (places_of nodes) c.args.place b.0)) c.in_err-number.was
+    (next-found c.requires.levels (it (goal.at.returns-in_err-number c).After-search-rung) c.in_default.is
+    c.first_in.result c.first_in.ensures))
+
 pub returns : goal.returns
-returns c = next-found c.requires.levels (it (goal.at.returns c).After-search-rung) c.in_default.is c.first_in.result
-    c.first_in.ensures
+returns c =
+    let nodes = c.args.nodes.now.items in
+    subst (λ r. MatchOption r (NoneBehind (places_of nodes) c.args.place)
+    (λ b. NextBehind (places_of nodes) c.args.place b.0)) c.in_ok-number.was
+    (next-found c.requires.levels (it (goal.at.returns c).After-search-rung) c.in_default.is c.first_in.result
+    c.first_in.ensures)

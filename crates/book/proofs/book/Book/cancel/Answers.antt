@@ -7,5 +7,5 @@ use Rattle.book.proofs.book.Book.cancel.Goals as goal
 pub returns-clause-behind : goal.returns-clause-behind
 returns-clause-behind c =
     rw (ap (λ (b : Book). b.state.orders) c.accept.ensures.value)
-    (below_more c.take_out-order.new.self.state.orders c.args.cause.sequence
-    (c.take_out-order.ensures.below c.args.cause.sequence c.requires.behind))
+    (below_more c.take_out.new.self.state.orders c.args.cause.sequence
+    (c.take_out.ensures.below c.args.cause.sequence c.requires.behind))
