@@ -113,7 +113,7 @@ static void hear(Member *it, const char *from, size_t length) {
     if (exec <= it->last_exec) fail("an ExecID doesn't rise", it);
     it->last_exec = exec;
     if (memmem(from, length, "\x01" "150=0\x01", 7)) acknowledge(it, name);
-    else if (memmem(from, length, "\x01" "150=F\x01" "39=2\x01", 12)) it->filled++;
+    else if (memmem(from, length, "\x01" "150=F\x01", 7) && memmem(from, length, "\x01" "39=2\x01", 6)) it->filled++;
     else fail("a report that is no acknowledgement and no whole fill", it);
 }
 

@@ -1,0 +1,63 @@
+#pragma once
+
+#include <quickfix/Message.h>
+
+#include <map>
+#include <set>
+#include <stdexcept>
+#include <string>
+
+#include "names.h"
+#include "open_orders.h"
+#include "ticks.h"
+
+namespace edge {
+
+/// A request that the edge doesn't send on, with the reason in FIX's numbers (103 or 102) and in words.
+class Refused : public std::runtime_error {
+public:
+    Refused(int reason, const std::string &text) : std::runtime_error(text), reason(reason) {}
+    int reason;
+};
+
+/// What a member asks for, in the venue's terms.
+struct Request {
+    char type;                   // D, F or G.
+    std::string name, original;  // ClOrdID and OrigClOrdID, as the member wrote them.
+    std::string symbol;
+    char side = '1';
+    long quantity = 1, price = 0;  // Whole numbers; no price: a market order.
+    char timeInForce = '\0';       // None: the member gave none.
+    long sequence = 0;             // The MsgSeqNum that it went to the venue with.
+
+    bool isOrder() const { return type == 'D'; }
+};
+
+/// Reads requests of members: what the venue doesn't have is refused, or dropped where the settings say so.
+class Orders {
+public:
+    Orders(const std::map<std::string, Tick> &ticks, const std::set<int> &dropped) : ticks_(ticks), dropped_(dropped) {}
+
+    /// The names and the kind of a request, whatever else is wrong with it.
+    static Request headOf(const FIX::Message &message);
+
+    /// The whole request, or Refused.
+    Request read(const FIX::Message &message) const;
+
+private:
+    void needKnownFields(const FIX::Message &message, char type) const;
+
+    const std::map<std::string, Tick> &ticks_;
+    const std::set<int> &dropped_;
+};
+
+/// The body of a request for the venue, behind the header of its profile; the original is the number of the order.
+std::string bodyFor(const Request &it, long number, long original, const std::string &time);
+
+/// The body of a cancel of this order, by the edge itself.
+std::string cancelFor(const OpenOrder &order, long number, long original, const std::string &time);
+
+/// The body of a cancel of an order that isn't there, which the venue answers once it has answered all before it.
+std::string probeFor(const std::string &symbol, long number, const std::string &time);
+
+}

@@ -1,0 +1,28 @@
+#pragma once
+
+#include <set>
+#include <string>
+
+namespace edge {
+
+/// Whether a setting of this name is known, as the library holds names: in capitals. One that is misspelled would be
+/// passed over else.
+inline bool isSettingName(const std::string &name) {
+    static const std::set<std::string> names{
+        // The library's, of sessions that accept.
+        "ALLOWUNKNOWNMSGFIELDS", "BEGINSTRING", "CHECKCOMPID", "CHECKLATENCY", "CONNECTIONTYPE", "DATADICTIONARY",
+        "ENDDAY", "ENDTIME", "FILELOGPATH", "FILESTOREPATH", "LOGONDAY", "LOGONTIME", "LOGONTIMEOUT", "LOGOUTDAY",
+        "LOGOUTTIME", "LOGOUTTIMEOUT", "MAXLATENCY", "MILLISECONDSINTIMESTAMP", "PERSISTMESSAGES", "REFRESHONLOGON",
+        "RESETONDISCONNECT", "RESETONLOGON", "RESETONLOGOUT", "SENDERCOMPID", "SENDREDUNDANTRESENDREQUESTS",
+        "SOCKETACCEPTPORT", "STARTDAY", "STARTTIME", "TARGETCOMPID", "TIMESTAMPPRECISION", "USEDATADICTIONARY",
+        "USELOCALTIME", "VALIDATEFIELDSHAVEVALUES", "VALIDATEFIELDSOUTOFORDER", "VALIDATELENGTHANDCHECKSUM",
+        "VALIDATEUSERDEFINEDFIELDS",
+        // The edge's own.
+        "CANCELONDISCONNECT", "DISKRESERVE", "DROPFIELDS", "EDGEPATH", "HTTPACCEPTPORT", "LASTCAPACITY",
+        "MAXMESSAGEBYTES", "MAXMESSAGESPERSECOND", "MAXOPENORDERS", "MAXUNSENTBYTES", "MEMBER", "PASSWORDFILE",
+        "RESETBYMEMBER", "SOCKETACCEPTHOST", "SYMBOLS", "SYNCNAMES", "USERNAME", "VENUEJOURNAL", "VENUEPORT",
+        "VENUEREPLAY"};
+    return names.count(name);
+}
+
+}

@@ -1,0 +1,34 @@
+#pragma once
+
+#include <string>
+
+namespace edge {
+
+/// The most of a price and of a quantity that the venue takes.
+constexpr long MOST = 1000000;
+
+/// The step of a symbol's price: a member's decimals are whole numbers of it, as the venue wants them.
+class Tick {
+public:
+    /// A step as 1, 0.01 or 0.25; what is none, or has more than nine decimals, is a std::invalid_argument.
+    explicit Tick(const std::string &text);
+
+    /// How many steps this price is: 0 where it is none, is above what the venue takes, or no whole number of steps.
+    long stepsOf(const std::string &price) const;
+
+    /// The price of so many steps, with as many decimals as the step has.
+    std::string priceOf(long steps) const;
+
+    const std::string &text() const { return text_; }
+
+private:
+    std::string text_;
+    int decimals_;
+    long mantissa_;
+};
+
+/// A quantity of FIX as a whole number, as 100 or 100.00: 0 where it is none, or isn't whole, or above what the venue
+/// takes.
+long wholeQuantity(const std::string &text);
+
+}

@@ -1,0 +1,120 @@
+#include "venue_link.h"
+
+#include <netinet/in.h>
+#include <netinet/tcp.h>
+#include <sys/socket.h>
+
+#include <cerrno>
+#include <cstdlib>
+
+#include "fields.h"
+#include "lines.h"
+#include "reports.h"
+
+namespace edge {
+
+namespace {
+
+constexpr std::size_t BEFORE_LENGTH = 12;  // 8=FIX.4.4|9=
+constexpr std::size_t TRAILER = 7;
+constexpr std::size_t DIGITS = 4;
+
+/// How long the message is that begins here: 0 where that isn't there yet.
+std::size_t wholeSize(const char *from, std::size_t size) {
+    std::size_t at = BEFORE_LENGTH, length = 0;
+    for (; at < size && from[at] >= '0' && from[at] <= '9' && at < BEFORE_LENGTH + DIGITS; at++)
+        length = length * 10 + static_cast<std::size_t>(from[at] - '0');
+    return at < size && at > BEFORE_LENGTH ? at + 1 + length + TRAILER : 0;
+}
+
+}
+
+void VenueLink::connect() {
+    end();
+    socket_.reset(::socket(AF_INET, SOCK_STREAM | SOCK_NONBLOCK | SOCK_CLOEXEC, 0));
+    const int one = 1;
+    ::setsockopt(socket_.get(), IPPROTO_TCP, TCP_NODELAY, &one, sizeof one);
+    sockaddr_in address{};
+    address.sin_family = AF_INET;
+    address.sin_port = htons(static_cast<std::uint16_t>(port_));
+    address.sin_addr.s_addr = htonl(INADDR_LOOPBACK);
+    const int done = ::connect(socket_.get(), reinterpret_cast<const sockaddr *>(&address), sizeof address);
+    if (done && errno != EINPROGRESS) {
+        fail("can't connect: " + reason());
+        return;
+    }
+    state_ = State::Connecting;
+}
+
+bool VenueLink::fail(const std::string &why) {
+    why_ = why;
+    end();
+    return false;
+}
+
+void VenueLink::end() {
+    socket_.reset();
+    in_.clear();
+    out_.clear();
+    number_ = 0;
+    state_ = State::Down;
+}
+
+bool VenueLink::flush() {
+    if (state_ == State::Connecting) {
+        int fault = 0;
+        socklen_t size = sizeof fault;
+        ::getsockopt(socket_.get(), SOL_SOCKET, SO_ERROR, &fault, &size);
+        if (fault) {
+            errno = fault;
+            return fail("can't connect: " + reason());
+        }
+        state_ = State::LoggingOn;
+        send("A", "98=0\001108=0\001141=Y\1", timeNow());
+    }
+    std::size_t at = 0;
+    while (at < out_.size()) {
+        const ssize_t done = ::send(socket_.get(), out_.data() + at, out_.size() - at, MSG_NOSIGNAL);
+        if (done < 0 && errno == EINTR) continue;
+        if (done < 0 && errno == EAGAIN) break;
+        if (done < 0) return fail("can't write: " + reason());
+        at += static_cast<std::size_t>(done);
+    }
+    out_.erase(0, at);
+    return true;
+}
+
+long VenueLink::send(const char *type, const std::string &body, const std::string &time) {
+    const std::string fields = std::string("35=") + type + "\00149=" + member_ +
+                               "\00156=VENUE\00134=" + std::to_string(++number_) + "\00152=" + time + "\1" + body;
+    const std::string whole = "8=FIX.4.4\0019=" + std::to_string(fields.size()) + "\1" + fields;
+    unsigned sum = 0;
+    for (const char it : whole) sum += static_cast<unsigned char>(it);
+    const std::string digits = std::to_string(1000 + sum % 256);
+    out_ += whole + "10=" + digits.substr(1) + "\1";
+    return number_;
+}
+
+bool VenueLink::take(const char *message, std::size_t size,
+                     const std::function<void(const char *, std::size_t)> &told) {
+    const Fields fields(message, size, '\1');
+    if (fields.byte(35) == '5') return fail("it ended the session: " + shown(fields.text(58)));
+    if (state_ == State::LoggingOn) {
+        if (fields.byte(35) != 'A') return fail("it answered the Logon by " + shown(std::string(message, size)));
+        state_ = State::Up;
+        return true;
+    }
+    told(message, size);
+    return true;
+}
+
+bool VenueLink::read(const std::function<void(const char *, std::size_t)> &told) {
+    const auto look = in_.look([this](char *piece, std::size_t size) { return ::recv(socket_.get(), piece, size, 0); });
+    if (look == Inbox::Look::Failed) return fail("can't read: " + reason());
+    if (look == Inbox::Look::End) return fail("it closed the connection");
+    for (std::size_t size; (size = wholeSize(in_.data(), in_.size())) && in_.size() >= size; in_.take(size))
+        if (!take(in_.data(), size, told)) return false;
+    return true;
+}
+
+}

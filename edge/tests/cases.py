@@ -1,0 +1,211 @@
+"""The cases of a member's test day: what its people are asked to do, and what its engine has to do then."""
+from edges import NAMES
+from engines import Engine, order
+from gikvand.fix import fields_of, value
+
+MEMBER, OTHER = 1, 2
+
+
+class Failed(Exception):
+    """A case that wasn't passed, in words."""
+
+
+class Day:
+    """A member's test day: the relay that its engine connects to, and the other side of its trades."""
+
+    def __init__(self, relay, edge_port, patience, ask):
+        self.relay, self.patience, self.ask = relay, patience, ask
+        self.other = Engine(edge_port, OTHER).log_on()
+        self.names, self.at, self.told_at, self.looked_at, self.trades = [], 0, 0, 0, 0
+
+    def mark(self):
+        """What is said from now on belongs to the next case."""
+        self.at, self.told_at = len(self.relay.said), len(self.relay.told)
+
+    def said(self, kind, why):
+        """The member's next message of this type behind the mark, apart from what it sends again."""
+        found = self.relay.wait(lambda: next((it for it in self.relay.said[self.at:] if value(it, "35") == kind and
+                                              value(it, "43") != "Y"), None), self.patience)
+        if not found:
+            raise Failed(why)
+        return fields_of(found)
+
+    def told(self, why, **wanted):
+        """A report to the member behind the mark, whose fields are these."""
+        def look():
+            return next((it for it in self.relay.told[self.told_at:]
+                         if all(value(it, tag[1:]) == wants for tag, wants in wanted.items())), None)
+        found = self.relay.wait(look, self.patience)
+        if not found:
+            raise Failed(why)
+        return fields_of(found)
+
+    def sell(self, quantity, price):
+        """Lets the other side sell to the member."""
+        self.trades += 1
+        self.other.send("D", order(f"t{self.trades}", 2, quantity, price))
+        self.other.report(_150="F", _11=f"t{self.trades}")
+
+    def no_protest(self):
+        """The member hasn't rejected what it was told since this was last asked."""
+        looked_at, self.looked_at = self.looked_at, len(self.relay.said)
+        for it in self.relay.said[looked_at:self.looked_at]:
+            if value(it, "35") in ("3", "j"):
+                raise Failed(f"the engine rejected what it was told: {value(it, '58') or it}")
+
+    def last_name(self):
+        if not self.names:
+            raise Failed("there is no order that this is about")
+        return self.names[-1]
+
+    def new_name(self, it):
+        name = it.get("11")
+        if not name or name in self.names:
+            raise Failed(f"the ClOrdID (11) {name} isn't a new one")
+        self.names.append(name)
+        return name
+
+    def has(self, it, **wanted):
+        for tag, wants in wanted.items():
+            came = it.get(tag[1:])
+            if came != wants and not (tag in ("_38", "_44") and came and float(came) == float(wants)):
+                raise Failed(f"the field {tag[1:]} is {came}, and not {wants}")
+
+    def asks_for_order(self, quantity, symbol, price, event="0"):
+        """Asks for an order, and looks at it and at its answer: its name."""
+        self.ask(f"buy {quantity} {symbol} {price}")
+        it = self.said("D", "no order came")
+        self.has(it, _55=symbol, _54="1", _38=str(quantity), _44=price, _40="2")
+        name = self.new_name(it)
+        self.told("the order wasn't answered as it should be: see the field 58 of the answer", _11=name, _150=event)
+        return name
+
+
+def logon(day):
+    """log on, with numbers as your engine has them and a HeartBtInt (108) of at most 60"""
+    day.ask("log on")
+    it = day.said("A", "no Logon came")
+    day.has(it, _49=NAMES[MEMBER], _56="GIKVAND", _98="0")
+    if not 0 < int(it["108"]) <= 60:
+        raise Failed(f"HeartBtInt (108) is {it['108']}, and not 1 to 60")
+    day.heartbeat = int(it["108"])
+    day.told("the Logon wasn't taken: see the field 58 of the answer", _35="A")
+
+
+def new_order(day):
+    """send an order, which is acknowledged"""
+    day.asks_for_order(100, "ABC", "50")
+
+
+def partial_fill(day):
+    """take a fill in part"""
+    day.sell(40, "50")
+    day.told("the fill wasn't told", _150="F", _39="1")
+    day.ask("nothing")
+
+
+def replaced(day):
+    """replace the order"""
+    day.ask("replace 90 ABC 50.25")
+    it = day.said("G", "no OrderCancelReplaceRequest came")
+    day.no_protest()
+    day.has(it, _41=day.last_name(), _38="90", _44="50.25", _55="ABC", _54="1")
+    day.told("the replace wasn't taken: see the field 58 of the answer", _11=day.new_name(it), _150="5")
+
+
+def cancelled(day):
+    """cancel the order by its new name"""
+    day.ask("cancel ABC")
+    it = day.said("F", "no OrderCancelRequest came")
+    day.has(it, _41=day.last_name(), _55="ABC", _54="1")
+    day.told("the cancel wasn't taken: see the field 58 of the answer", _11=day.new_name(it), _150="4")
+
+
+def refused_order(day):
+    """send an order that is refused: its symbol isn't traded"""
+    day.asks_for_order(10, "NONE", "50", "8")
+
+
+def refused_cancel(day):
+    """cancel the order once more, which is refused"""
+    day.no_protest()
+    day.ask("cancel ABC")
+    it = day.said("F", "no OrderCancelRequest came")
+    day.told("the cancel wasn't refused", _35="9", _11=day.new_name(it))
+
+
+def gap(day):
+    """notice that a message was lost on its way to you, and ask for it again"""
+    day.no_protest()
+    with day.relay.changed:
+        day.relay.loses = lambda text, is_members: not is_members and value(text, "150") == "0"
+    day.ask("buy 10 ABC 40")
+    it = day.said("D", "no order came")
+    name = day.new_name(it)
+    lost = int(day.told("the order wasn't answered", _11=name, _150="0")["34"])
+    day.sell(5, "40")
+    asked = day.said("2", "the engine didn't ask for the lost message by a ResendRequest")
+    if not int(asked["7"]) <= lost:
+        raise Failed(f"it asked from {asked['7']} on, and not from {lost} on")
+    day.told("the lost message wasn't sent again", _11=name, _150="0", _43="Y")
+
+
+def own_gap(day):
+    """send two orders, the first of which is lost on its way, and answer the ResendRequest"""
+    day.no_protest()
+    with day.relay.changed:
+        day.relay.loses = lambda text, is_members: is_members and value(text, "35") == "D"
+    day.ask("buy 1 ABC 30")
+    lost = day.said("D", "no order came")
+    day.names.append(lost["11"])
+    day.mark()
+    day.ask("buy 2 ABC 30")
+    day.names.append(day.said("D", "no second order came")["11"])
+    day.told("the edge noticed no gap", _35="2")
+
+    def look():
+        return next((it for it in day.relay.said[day.at:] if value(it, "43") == "Y" and
+                     int(value(it, "34")) <= int(lost["34"])), None)
+    if not day.relay.wait(look, day.patience):
+        raise Failed("the engine answered the ResendRequest neither by the message nor by a SequenceReset")
+
+
+def cut_in_a_fill(day):
+    """lose the connection in the middle of a fill, come back, and be told what you missed"""
+    day.no_protest()
+    name = day.asks_for_order(100, "ABC", "50")
+    with day.relay.changed:
+        day.relay.cuts = lambda text, is_members: not is_members and value(text, "150") == "F"
+    day.sell(30, "50")
+    day.told("the fill wasn't told", _11=name, _150="F", _39="1")
+    day.mark()
+    day.sell(70, "50")
+    day.ask("come back")
+    it = day.said("A", "the engine didn't come back")
+    if it.get("141") == "Y" or it["34"] == "1":
+        raise Failed("the engine began its numbers anew, and so would miss what was told meanwhile")
+    day.told("the missed fill wasn't told: did the engine ask for it by a ResendRequest?", _11=name, _150="F", _39="2")
+
+
+def heartbeat(day):
+    """do nothing, for the time of two heartbeats"""
+    day.no_protest()
+    day.ask("nothing")
+    day.patience, before = day.patience + 2 * day.heartbeat, day.patience
+    found = day.relay.wait(lambda: next((it for it in day.relay.said[day.at:] if value(it, "35") == "0" and
+                                         not value(it, "112")), None), day.patience)
+    day.patience = before
+    if not found:
+        raise Failed("no Heartbeat came, apart from answers to TestRequests")
+
+
+def logout(day):
+    """log out"""
+    day.no_protest()
+    day.ask("log out")
+    day.said("5", "no Logout came")
+    day.told("the Logout wasn't answered", _35="5")
+
+
+CASES = [logon, new_order, partial_fill, replaced, cancelled, refused_order, refused_cancel, gap, own_gap,
+         cut_in_a_fill, heartbeat, logout]

@@ -1,0 +1,183 @@
+"""edge/certify passes QuickFIX's own client, and finds each engine that does one thing wrong."""
+import concurrent.futures
+import os
+import subprocess
+import threading
+import time
+
+from edges import ROOT, Trouble, free_port, running
+from engines import Engine, cancel, order, replace
+from gikvand.fix import value
+from tradeclients import TradeClient
+from trading_tests import expect
+
+CERTIFY = os.path.join(ROOT, "edge/certify")
+AT_ONCE = 5  # Days that are played side by side: they mostly wait.
+
+
+class Day:
+    """A run of edge/certify: its lines, as they come."""
+
+    def __init__(self, patience):
+        self.port = free_port(1)
+        self.process = subprocess.Popen([CERTIFY, "--port", str(self.port), "--patience", str(patience)], text=True,
+                                        stdout=subprocess.PIPE)
+        running.append(self)
+        self.lines = []
+
+    def __iter__(self):
+        for line in self.process.stdout:
+            self.lines.append(line.rstrip("\n"))
+            yield self.lines[-1]
+
+    def kill(self):
+        self.process.kill()
+        self.process.wait()
+
+    def failed(self):
+        return [it for it in self.lines if ": failed: " in it]
+
+
+def played(day, acts):
+    """Does what each line asks for, and gives the status."""
+    for line in day:
+        if line.startswith("do: "):
+            acts(*line[4:].split())
+    return day.process.wait(60)
+
+
+def test_tradeclient():
+    """The client of QuickFIX passes all cases."""
+    day, client, names = Day(60), [], ["none"]
+
+    def acts(word, *rest):
+        if word == "log":
+            client.append(TradeClient(day.port)) if rest == ("on",) else client[0].answer("Action", Action="5")
+        if word in ("buy", "replace", "cancel"):
+            names.append(f"certify-{len(names)}")
+        if word == "buy":
+            client[0].order(names[-1], 1, *(rest[0], rest[2], rest[1]))
+        if word == "replace":
+            client[0].replace(names[-1], names[-2], 1, rest[0], rest[2], rest[1])
+        if word == "cancel":
+            client[0].cancel(names[-1], names[-2], 1, 90, rest[0])
+
+    expect((played(day, acts), day.lines[-1]), (0, "certified: 12 cases passed"))
+
+
+class Desk(threading.Thread):
+    """An engine of a member that does what certify asks for, and one thing wrong."""
+
+    def __init__(self, day, fault):
+        super().__init__(daemon=True)
+        self.day, self.fault, self.lock, self.is_over = day, fault, threading.Lock(), False
+        self.engine = Engine(day.port, 1, heartbeat=2)
+        self.names, self.is_on, self.beat_at = ["none"], False, 0.0
+        self.take, self.engine.take = self.engine.take, self.takes
+        self.send_again, self.engine.send_again = self.engine.send_again, self.sends_again
+
+    def takes(self, it):
+        if self.fault == "no gap" and int(value(it, "34")) > self.engine.next:
+            self.engine.next = int(value(it, "34"))
+        self.take(it)
+        if self.fault == "rejects" and value(it, "150") == "F":
+            self.engine.send("3", f"45={value(it, '34')}|58=never heard of it|")
+        if self.fault == "rejects all" and value(it, "150") == "5":
+            self.engine.send("3", f"45={value(it, '34')}|58=what|")
+
+    def sends_again(self, first):
+        if self.fault != "no resend":
+            self.send_again(first)
+
+    def run(self):
+        """Takes what comes, beats, and comes back where the connection is cut."""
+        while not self.is_over:
+            with self.lock:
+                if self.is_on and not self.engine.socket and self.fault != "stays away":
+                    self.come_back()
+                self.engine.pump(0.02)
+                is_due = self.is_on and self.engine.socket and time.monotonic() > self.beat_at
+                if is_due and self.fault != "no heartbeat":
+                    self.engine.send("0")
+                    self.beat_at = time.monotonic() + 1
+            time.sleep(0.005)
+
+    def come_back(self):
+        try:
+            if self.fault == "begins anew":
+                self.engine.out, self.engine.next = 1, 1
+                self.engine.log_on("141=Y|")
+            else:
+                self.engine.log_on()
+        except (Trouble, OSError):
+            self.engine.close()
+
+    def acts(self, word, *rest):
+        with self.lock:
+            self.act(word, *rest)
+
+    def act(self, word, *rest):
+        fault = self.fault
+        if word == "log" and rest == ("on",):
+            if fault == "another name":
+                self.engine.sender = "DESK-X"
+            try:
+                self.engine.log_on()
+                self.is_on = True
+            except Trouble:
+                pass
+        if word == "log" and rest == ("out",):
+            self.is_on = False
+            self.engine.close() if fault == "no logout" else self.engine.send("5")
+        if word in ("buy", "replace", "cancel"):
+            self.names.append("again" if fault == "one name" else f"d-{len(self.names)}")
+        new, old = self.names[-1], self.names[-2] if len(self.names) > 1 else ""
+        old = "other" if fault == "other original" else old
+        if word == "buy":
+            side = 2 if fault == "other side" and rest[1] == "NONE" else 1
+            price = str(float(rest[2]) + 1) if fault == "other price" else rest[2]
+            self.engine.send("D", order(new, side, rest[0], price, rest[1]))
+        if word == "replace":
+            self.engine.send("G", replace(new, old, 1, rest[0], rest[2], rest[1]))
+        if word == "cancel":
+            self.engine.send("F", cancel(new, old, 2 if fault == "cancels another side" else 1, 90, rest[0]))
+
+
+FAULTS = {  # What an engine does wrong, and what the line of a case that it fails has in it.
+    "another name": "logon: failed", "one name": "isn't a new one", "other price": "new order: failed: the field 44",
+    "other side": "refused order: failed: the field 54", "rejects": "rejected what it was told",
+    "rejects all": "rejected what it was told", "other original": "replaced: failed: the field 41",
+    "cancels another side": "cancelled: failed: the field 54", "no gap": "gap: failed: the engine didn't ask",
+    "no resend": "own gap: failed: the engine answered", "begins anew": "cut in a fill: failed",
+    "stays away": "cut in a fill: failed: the engine didn't come back", "no heartbeat": "heartbeat: failed",
+    "no logout": "logout: failed",
+}
+
+
+def status_of(fault):
+    """Lets an engine with this fault play the day: the status, and the cases that failed."""
+    day = Day(20 if fault is None else 4)
+    desk = Desk(day, fault)
+    desk.start()
+    status = played(day, desk.acts)
+    desk.is_over = True
+    return status, day
+
+
+def test_right_engine():
+    """An engine that does nothing wrong passes, so that what others fail is their fault."""
+    status, day = status_of(None)
+    if status:
+        raise Trouble(f"failed: {day.failed()}")
+
+
+def test_wrong_engines():
+    """Each engine that does one thing wrong fails, and by the words that are about it."""
+    with concurrent.futures.ThreadPoolExecutor(AT_ONCE) as pool:
+        days = dict(zip(FAULTS, pool.map(status_of, FAULTS)))
+    for fault, (status, day) in days.items():
+        if status != 1 or not any(FAULTS[fault] in it for it in day.failed()):
+            raise Trouble(f"{fault}: status {status}, failed were {day.failed()}")
+
+
+TESTS = [test_tradeclient, test_right_engine, test_wrong_engines]

@@ -1,0 +1,178 @@
+"""A member's engine in plain Python: sessions with numbers on both sides, heartbeats, resends, gap fills."""
+import select
+import socket
+import time
+
+from edges import HOST, NAMES, PATIENCE, Trouble
+from gikvand.fix import framed, parted, value
+
+ADMIN = "0 1 2 3 4 5 A".split()
+BEHIND_HEADER = {"8", "9", "10", "35", "49", "56", "34", "52", "43", "122"}
+
+
+def now():
+    """The time, with milliseconds."""
+    at = time.time()
+    return time.strftime("%Y%m%d-%H:%M:%S", time.gmtime(at)) + f".{int(at * 1000) % 1000:03}"
+
+
+class Engine:
+    """A member of the edge. What it is told is in `history`, each once and in order, however often it was sent; what of
+    that hasn't been asked for yet is in `reports`."""
+
+    def __init__(self, port, member=1, target="GIKVAND", sender=None, heartbeat=30):
+        self.port, self.target, self.sender, self.heartbeat = port, target, sender or NAMES[member], heartbeat
+        self.out = self.next = 1       # The number of the next message that it sends, and of the next that it takes.
+        self.sent, self.came, self.reports, self.history, self.admin = {}, [], [], [], []
+        self.socket, self.rest, self.has_asked = None, b"", False
+
+    def connect(self):
+        self.socket, self.rest, self.has_asked = socket.create_connection((HOST, self.port), PATIENCE), b"", False
+        self.socket.setsockopt(socket.IPPROTO_TCP, socket.TCP_NODELAY, 1)
+        return self
+
+    def close(self):
+        if self.socket:
+            self.socket.close()
+        self.socket = None
+
+    def write(self, kind, body="", number=None, head=""):
+        number = number or self.out
+        self.socket.sendall(framed(f"35={kind}|34={number}|49={self.sender}|52={now()}|56={self.target}|{head}{body}"))
+
+    def send(self, kind, body=""):
+        """Sends the next message of the session; what the connection doesn't take is sent again later."""
+        number, self.out = self.out, self.out + 1
+        self.sent[number] = kind, body
+        try:
+            if self.socket:
+                self.write(kind, body, number)
+        except OSError:
+            self.close()
+
+    def log_on(self, more=""):
+        """Connects and logs on; Trouble with what came in its place."""
+        self.connect().send("A", f"98=0|108={self.heartbeat}|{more}")
+        if not (came := self.next_of("A5")):
+            raise Trouble(f"{self.sender}: the Logon wasn't answered")
+        if value(came, "35") != "A":
+            raise Trouble(f"{self.sender}: the Logon was answered by {came}")
+        return self
+
+    def log_out(self):
+        self.send("5")
+        self.next_of("5")
+        self.close()
+
+    def next_of(self, kinds, seconds=PATIENCE):
+        """The next message of these types of the session itself, or None where there is none or the connection ends."""
+        end = time.monotonic() + seconds
+        while time.monotonic() < end:
+            for at, it in enumerate(self.admin):
+                if value(it, "35") in kinds:
+                    return self.admin.pop(at)
+            if not self.pump(end - time.monotonic()):
+                return None
+        return None
+
+    def pump(self, seconds=0.0):
+        """Takes in what comes within this time. Whether the connection stands."""
+        if not self.socket:
+            return False
+        try:
+            if not select.select([self.socket], [], [], max(0, seconds))[0]:
+                return True
+            data = self.socket.recv(65536)
+        except OSError:
+            data = b""
+        if not data:
+            self.close()
+            return False
+        found, self.rest = parted(self.rest + data)
+        for it in found:
+            self.take(it)
+        return True
+
+    def take(self, it):
+        self.came.append(it)
+        kind, number = value(it, "35"), int(value(it, "34"))
+        if kind == "4" and value(it, "123") != "Y":
+            self.next = int(value(it, "36"))
+            return
+        if number > self.next:
+            if kind in "A5":
+                self.admin.append(it)
+            if kind == "2":
+                self.send_again(int(value(it, "7")))
+            if not self.has_asked:
+                self.has_asked = True
+                self.send("2", f"7={self.next}|16=0|")
+            return
+        if number < self.next:
+            if value(it, "43") != "Y":
+                raise Trouble(f"{self.sender}: number {number} where {self.next} is next: {it}")
+            return
+        self.has_asked = False
+        self.next = int(value(it, "36")) if kind == "4" else number + 1
+        self.act(kind, it)
+
+    def act(self, kind, it):
+        """What a message that is the next asks for."""
+        if kind not in ADMIN:
+            self.reports.append(it)
+            self.history.append(it)
+        elif kind == "1":
+            self.send("0", f"112={value(it, '112')}|")
+        elif kind == "2":
+            self.send_again(int(value(it, "7")))
+        elif kind in "A53":
+            self.admin.append(it)
+
+    def send_again(self, first):
+        """Sends its orders again from this number on, and fills the numbers of all else."""
+        gap = None
+        for number in range(first, self.out + 1):
+            kind, body = self.sent.get(number, ("", ""))
+            if number < self.out and kind in ADMIN:
+                gap = gap or number
+                continue
+            if gap:
+                self.write("4", f"123=Y|36={number}|", gap, f"43=Y|122={now()}|")
+                gap = None
+            if number < self.out:
+                self.write(kind, body, number, f"43=Y|122={now()}|")
+
+    def settle(self):
+        """Waits until the edge has passed on all that was sent to it: it has answered a TestRequest behind that, and one
+        behind that answer, which it reads when it has written all of the turn before."""
+        for _ in range(2):
+            name = f"settle-{self.out}"
+            self.send("1", f"112={name}|")
+            while not any(value(it, "112") == name for it in self.came):
+                if not self.pump(PATIENCE):
+                    raise Trouble(f"{self.sender}: the connection ended")
+
+    def report(self, **wanted):
+        """Waits for a report whose fields, by tag, are these, behind those that were taken; gives it."""
+        end = time.monotonic() + PATIENCE
+        while time.monotonic() < end:
+            for at, it in enumerate(self.reports):
+                if all(value(it, tag[1:]) == str(wants) for tag, wants in wanted.items()):
+                    del self.reports[:at + 1]
+                    return it
+            if not self.pump(end - time.monotonic()):
+                break
+        raise Trouble(f"{self.sender}: no report of {wanted}; there were {self.reports[-4:]}, {self.admin[-2:]}")
+
+
+def order(name, side, quantity, price, symbol="ABC", more=""):
+    """The body of an order as engines write it."""
+    return f"11={name}|21=1|38={quantity}|40=2|44={price}|54={side}|55={symbol}|60={now()}|{more}"
+
+
+def cancel(name, original, side, quantity=1, symbol="ABC"):
+    return f"11={name}|38={quantity}|41={original}|54={side}|55={symbol}|60={now()}|"
+
+
+def replace(name, original, side, quantity, price, symbol="ABC"):
+    return f"11={name}|21=1|38={quantity}|40=2|41={original}|44={price}|54={side}|55={symbol}|60={now()}|"

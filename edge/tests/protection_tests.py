@@ -1,0 +1,309 @@
+"""What a member may do is bounded, and none holds up another: rates, sizes, orders, passwords, slow readers, disks."""
+import contextlib
+import os
+import shutil
+import socket
+import subprocess
+import time
+import urllib.request
+
+from edges import HOST, JOURNAL, NAMES, PATIENCE, SYMBOLS, Client, Trouble, free_port, kill_all, pair, started
+from edges import stored, told, venue_order
+from engines import Engine, cancel, order, replace
+from gikvand.fix import value
+from recovery_tests import places, restarted
+from trading_tests import expect
+
+AT_ONCE = 40
+
+
+def refused(one, wanted, more=""):
+    """This engine's Logon is refused by a Logout of this text."""
+    try:
+        one.log_on(more)
+    except Trouble as why:
+        if wanted not in str(why):
+            raise
+        one.close()
+        return
+    raise Trouble(f"a Logon was taken, where {wanted!r} should come")
+
+
+def test_rate():
+    """More requests than a member may send in a second are refused in words, and those within it pass."""
+    venue, edge, port = pair(2, MaxMessagesPerSecond="5")
+    one, other = Engine(port, 1).log_on(), Engine(port, 2).log_on()
+    for at in range(AT_ONCE):
+        one.send("D", order(f"a{at}", 1, 1, "50"))
+    while len(one.reports) < AT_ONCE:
+        one.pump(1)
+    events = {value(it, "11"): value(it, "150") for it in one.reports}
+    expect(([events[f"a{at}"] for at in range(5)], "8" in events.values()), (["0"] * 5, True))
+    if not any("more than 5 requests a second" in it for it in one.came):
+        raise Trouble("no refusal says why")
+    other.send("D", order("b", 1, 1, "50"))
+    other.report(_150="0")
+
+
+def test_open_orders():
+    """More open orders than allowed are refused; what is cancelled or filled makes room again."""
+    venue, edge, port = pair(2, MaxOpenOrders="2")
+    one, other = Engine(port, 1).log_on(), Engine(port, 2).log_on()
+    for at, event in enumerate("008"):
+        one.send("D", order(f"a{at}", 1, 10, "50"))
+        one.report(_150=event, _11=f"a{at}")
+    one.send("F", cancel("c", "a0", 1))
+    one.report(_150="4")
+    one.send("D", order("a3", 1, 10, "49"))
+    one.report(_150="0")
+    other.send("D", order("b", 2, 10, "50"))
+    one.report(_150="F", _11="a1", _39="2")
+    one.send("G", replace("a4", "a3", 1, 12, "49"))
+    one.report(_150="5")
+    one.send("D", order("a5", 1, 10, "49"))
+    one.report(_150="0", _11="a5")
+    one.send("D", order("a6", 1, 10, "49"))
+    one.report(_150="8", _11="a6")
+
+
+def test_message_size():
+    """A message above the bound ends the connection, and not the session."""
+    venue, edge, port = pair(MaxMessageBytes="256")
+    one = Engine(port, 1).log_on()
+    one.send("D", order("a", 1, 1, "50", more="58=" + "x" * 300 + "|"))
+    edge.hears("where 256 are the most")
+    while one.pump(1):
+        pass
+    del one.sent[2]
+    one.log_on().send("D", order("b", 1, 1, "50"))
+    one.report(_150="0", _11="b")
+
+
+def test_cancel_on_disconnect():
+    """A member that goes away leaves no order behind, where the settings say so, whatever ends: client or edge."""
+    venue, edge, port = pair(2, CancelOnDisconnect="Y")
+    one, other = Engine(port, 1).log_on(), Engine(port, 2).log_on()
+    for at in range(3):
+        one.send("D", order(f"a{at}", 1, 1, "50"))
+        one.report(_150="0", _11=f"a{at}")
+    one.send("G", replace("a9", "a0", 1, 5, "51"))
+    one.report(_150="5")
+    one.close()
+    edge.hears("cancels 3 orders")
+    one.log_on()
+    expect(sorted(value(one.report(_150="4"), "41") for _ in range(3)), ["a1", "a2", "a9"])
+    other.send("D", order("b", 2, 1, "50", more="59=3|"))
+    other.report(_150="4", _11="b")
+    one.send("D", order("c", 1, 1, "50"))
+    one.report(_150="0", _11="c")
+    edge.kill()
+    edge = restarted(2)
+    one.close()
+    one.log_on().report(_150="4", _41="c")
+
+
+def test_passwords():
+    """A session with a password takes no other, keeps it out of its log, and its store is safe from who hasn't it."""
+    with open("passwords", "w", encoding="ascii") as file:
+        file.write("someone:else\ndesk:s=cret\n")
+    os.chmod("passwords", 0o600)
+    venue, edge, port = pair(Username="desk", PasswordFile="passwords", ResetByMember="Y")
+    one = Engine(port, 1).log_on("553=desk|554=s=cret|")
+    one.send("D", order("a", 1, 1, "50"))
+    one.report(_150="0")
+    one.log_out()
+    before = places(1)
+    for more in ("", "553=desk|554=secret|", "553=other|554=s=cret|", "553=desk|", "553=desk|554=s=cre|"):
+        refused(one, "is wrong", more)
+        edge.hears("is refused: Username (553) or Password (554) is wrong")
+    refused(one, "wasn't answered", "141=Y|553=desk|554=no|")
+    edge.hears("is refused: Username (553) or Password (554) is wrong")
+    expect((before, places(1)), ([1], [1]))
+    with open(f"log/FIX.4.4-GIKVAND-{NAMES[1]}.messages.current.log", encoding="ascii") as file:
+        if "cret" in file.read():
+            raise Trouble("the log has a password")
+    one = Engine(port, 1).log_on("141=Y|553=desk|554=s=cret|")
+    expect((one.next, places(1)), (2, []))
+
+
+def test_no_reset():
+    """A member's ResetSeqNumFlag isn't taken where the settings don't say so, since it would drop what was missed."""
+    venue, edge, port = pair()
+    one = Engine(port, 1).log_on()
+    one.send("D", order("a", 1, 1, "50"))
+    one.report(_150="0")
+    one.log_out()
+    refused(one, "wasn't answered", "141=Y|")
+    edge.hears("is refused: ResetSeqNumFlag (141) isn't taken")
+    expect(places(1), [1])
+    one.out -= 1  # Its Logon was never looked at.
+    one.log_on()
+
+
+def narrow(port):
+    """A member with hardly any room for what comes, and an order that all others may trade with."""
+    one = Engine(port, 1).connect()
+    one.socket.close()
+    one.socket = socket.socket()
+    one.socket.setsockopt(socket.SOL_SOCKET, socket.SO_RCVBUF, 2048)
+    one.socket.connect((HOST, port))
+    one.send("A", "98=0|108=0|")
+    one.next_of("A")
+    one.send("D", order("rest", 1, 1000000, "50"))
+    one.report(_150="0")
+    return one
+
+
+def sold(member, count):
+    """Lets a member sell one, and gives the seconds until it was told."""
+    begin = time.monotonic()
+    member.send("D", order(f"b{count}", 2, 1, "50"))
+    member.report(_150="F", _11=f"b{count}")
+    return time.monotonic() - begin
+
+
+def test_slow_reader():
+    """A member that takes nothing is let go, and has missed nothing when it is back; another one waits for nothing."""
+    venue, edge, port = pair(2, MaxUnsentBytes="65536")
+    one, other = narrow(port), Engine(port, 2).log_on()
+    is_gone, count, longest = False, 0, 0.0
+    while not is_gone:
+        longest = max(longest, sold(other, count))
+        count += 1
+        is_gone = any("it takes too few of its reports" in line for line in edge.lines)
+        if count > 15000:
+            raise Trouble("a member that takes nothing wasn't let go")
+    if longest > PATIENCE / 2:
+        raise Trouble(f"a member waited {longest:.1f} s for another one")
+    one.close()
+    one.log_on()
+    fills = 0
+    while fills < count:
+        one.report(_150="F")
+        fills += 1
+    expect(places(1), [int(value(it, "17")) for it in told(1)])
+
+
+def test_deaf_for_a_minute():
+    """A member takes nothing for a minute, in which another trades with it all the time; then it is told all of it."""
+    venue, edge, port = pair(2)
+    one, other = narrow(port), Engine(port, 2).log_on()
+    waits, end = [], time.monotonic() + 60
+    while time.monotonic() < end:
+        waits.append(sold(other, len(waits)))
+        if len(waits) % 100 == 0:
+            time.sleep(0.5)
+    waits.sort()
+    print(f"a minute beside a member that takes nothing: {len(waits)} trades, each told within "
+          f"{1000 * waits[-1]:.0f} ms, half of them within {1000 * waits[len(waits) // 2]:.1f} ms", flush=True)
+    if not one.socket or not one.pump(0):
+        one.close()
+        one.log_on()
+    for _ in waits:
+        one.report(_150="F")
+    expect(places(1), [int(value(it, "17")) for it in told(1)])
+
+
+def test_status_page():
+    """The page says how each member fares, as words and as figures, on loopback alone."""
+    page = free_port(1)
+    venue, edge, port = pair(2, common={"HttpAcceptPort": str(page)})
+    one = Engine(port, 1).log_on()
+    one.send("D", order("a", 1, 1, "50"))
+    one.report(_150="0")
+    one.send("D", order("a", 1, 1, "50"))
+    one.report(_150="8")
+    with urllib.request.urlopen(f"http://127.0.0.1:{page}/", timeout=30) as answer:
+        lines = answer.read().decode().splitlines()
+    expect(lines[0], "C1 (DESK-A): serves, logged on, 2 requests, 1 refused by the edge, 1 reports, the last 1, "
+                     "1 open orders, 0 bytes not taken")
+    expect(lines[1][:27], "C2 (DESK-B): serves, away, ")
+    with urllib.request.urlopen(f"http://127.0.0.1:{page}/metrics", timeout=30) as answer:
+        if 'gikvand_edge_open_orders{member="C1"} 1\n' not in answer.read().decode():
+            raise Trouble("the figures lack the open orders")
+
+
+def fill(path, left):
+    """Takes the room of a disk but for so many bytes."""
+    room = shutil.disk_usage(path).free - left
+    with open(os.path.join(path, "ballast"), "ab") as file:
+        file.write(b"x" * max(0, room))
+
+
+@contextlib.contextmanager
+def small_disk():
+    """A disk of 8 MB, at `disk`."""
+    if os.geteuid():
+        raise Trouble("this test mounts a small disk, which takes root")
+    os.mkdir("disk")
+    subprocess.run(["mount", "-t", "tmpfs", "-o", "size=8m", "tmpfs", "disk"], check=True)
+    try:
+        yield
+    finally:
+        kill_all()
+        subprocess.run(["umount", "-l", "disk"], check=True)
+
+
+def test_full_disk():
+    """The disk of the edge fills: new orders are refused in words, what was sent is told, and all goes on with room."""
+    with small_disk():
+        common = {"EdgePath": "disk/edge", "FileStorePath": "disk/store", "DiskReserve": "2000000"}
+        venue, edge, port = pair(2, started(JOURNAL, 3, list(SYMBOLS)), common=common)
+        one, other = Engine(port, 1).log_on(), Engine(port, 2).log_on()
+        one.send("D", order("a", 1, 100, "50"))
+        one.report(_150="0")
+        fill("disk", 1000000)
+        time.sleep(0.1)
+        one.send("D", order("b", 1, 100, "50"))
+        if "its disk is nearly full" not in one.report(_150="8", _11="b"):
+            raise Trouble("a refusal doesn't say that the disk is full")
+        one.send("F", cancel("c", "a", 1))
+        one.report(_150="4")
+        os.remove("disk/ballast")
+        time.sleep(0.1)
+        one.send("D", order("d", 1, 100, "50"))
+        one.report(_150="0", _11="d")
+        fill("disk", 0)
+        time.sleep(0.1)
+        third = Client(venue.port, 3).log_on()
+        third.send("D", venue_order(1, 2, 30, 5000))
+        edge.hears("C1: isn't served: the store of its session takes nothing in")
+        os.remove("disk/ballast")
+        edge.hears("C1: serves, behind report")
+        for it in (one, other):
+            it.close()
+            it.log_on()
+        one.report(_150="F", _11="d", _32="30")
+        one.send("D", order("f", 1, 100, "50"))
+        one.report(_150="0", _11="f")
+        for member in (1, 2):
+            wanted = [int(value(it, "17")) for it in told(member)]
+            came = [int(value(it, "17")) for it in stored(member, "disk/store") if (value(it, "17") or "").isdecimal()]
+            expect(came, wanted)
+
+
+def test_names_disk():
+    """A request whose name can't be kept is refused, and the venue never sees it; the name may be used later."""
+    with small_disk():
+        venue, edge, port = pair(common={"EdgePath": "disk/edge", "DiskReserve": "0"})
+        one = Engine(port, 1).log_on()
+        fill("disk", 0)
+        for at in range(1000):  # The last page of the file may have room for some.
+            one.send("D", order(f"a{at}", 1, 1, "50"))
+            if value(it := one.report(_11=f"a{at}"), "150") == "8":
+                break
+        if "this request can't be kept on the disk" not in it:
+            raise Trouble(f"a refusal says something else: {it}")
+        expect(len(told(1)), at)
+        os.remove("disk/ballast")
+        one.send("D", order(f"a{at}", 1, 1, "50"))
+        one.report(_150="0", _11=f"a{at}")
+        edge.kill()
+        restarted()
+        expect(len(places(1)), at + 1)
+
+
+TESTS = [test_rate, test_open_orders, test_message_size, test_cancel_on_disconnect, test_passwords, test_no_reset,
+         test_slow_reader, test_status_page, test_full_disk,
+         test_names_disk]
+LONG_TESTS = [test_deaf_for_a_minute]

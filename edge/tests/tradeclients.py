@@ -1,0 +1,105 @@
+"""QuickFIX's own example client, tradeclient, as it comes, answered by a script: each of its questions by its name."""
+import os
+import re
+import subprocess
+import threading
+import time
+
+from edges import NAMES, PATIENCE, ROOT, Trouble, running
+from gikvand.fix import printed, value
+
+CLIENT = os.path.join(ROOT, "edge/out/tradeclient")
+STOCK = os.path.join(ROOT, "edge/out/FIX44.xml")
+SETTINGS = """[DEFAULT]
+ConnectionType=initiator
+ReconnectInterval=1
+HeartBtInt=30
+StartTime=00:00:00
+EndTime=00:00:00
+FileStorePath=client-{name}
+UseDataDictionary=Y
+DataDictionary={dictionary}
+SocketConnectHost=127.0.0.1
+SocketConnectPort={port}
+ValidateUserDefinedFields=Y
+
+[SESSION]
+BeginString=FIX.4.4
+SenderCompID={name}
+TargetCompID=GIKVAND
+"""
+# The questions that it asks, and which of its choices is meant.
+QUESTIONS = re.compile(rb"(Action|BeginString|ClOrdID|OrigClOrdID|Side|OrdType|Symbol|OrderQty|TimeInForce|Price|"
+                       rb"SenderCompID|TargetCompID|Use a TargetSubID\?|Send order\?|Send cancel\?|Send replace\?|"
+                       rb"New price\?|New quantity\?): ")
+IN = re.compile(rb"\nIN: (8=FIX[^\n]*)\n")
+
+
+class TradeClient:
+    """One that runs, as a member of the edge."""
+
+    def __init__(self, port, member=1):
+        self.name = NAMES[member]
+        config = f"client-{self.name}.cfg"
+        with open(config, "w", encoding="ascii") as file:
+            file.write(SETTINGS.format(name=self.name, port=port, dictionary=STOCK))
+        pipe = subprocess.PIPE
+        self.process = subprocess.Popen([CLIENT, config], stdin=pipe, stdout=pipe, stderr=subprocess.STDOUT)
+        running.append(self)
+        self.out, self.at, self.seen = b"", 0, 0
+        threading.Thread(target=self.read, daemon=True).start()
+
+    def read(self):
+        while piece := os.read(self.process.stdout.fileno(), 65536):
+            self.out += piece
+
+    def until(self, look):
+        """Waits until this finds something, and gives it."""
+        end = time.monotonic() + PATIENCE
+        while time.monotonic() < end:
+            if found := look():
+                return found
+            time.sleep(0.01)
+        raise Trouble(f"{self.name}: its last words are {printed(self.out[-600:])}")
+
+    def logged_on(self, times=1):
+        self.until(lambda: self.out.count(b"\nLogon - ") >= times)
+        return self
+
+    def answer(self, last, **answers):
+        """Answers its questions until this one has been answered."""
+        answers = {"BeginString": "5", "SenderCompID": self.name, "TargetCompID": "GIKVAND", "Use a TargetSubID?": "N",
+                   **{name.replace("_", " "): it for name, it in answers.items()}}
+        name = None
+        while name != last:
+            found = self.until(lambda: QUESTIONS.search(self.out, self.at))
+            self.at, name = found.end(), found[1].decode()
+            self.process.stdin.write(f"{answers.get(name, 'Y')}\n".encode())
+            self.process.stdin.flush()
+
+    def order(self, name, side, quantity, price, symbol="ABC"):
+        self.answer("Send order?", Action="1", ClOrdID=name, Side=side, OrderQty=quantity, OrdType=2, Price=price,
+                    Symbol=symbol, TimeInForce=1)
+
+    def cancel(self, name, original, side, quantity, symbol="ABC"):
+        self.answer("Send cancel?", Action="2", ClOrdID=name, OrigClOrdID=original, Side=side, OrderQty=quantity,
+                    Symbol=symbol)
+
+    def replace(self, name, original, side, quantity, price, symbol="ABC"):
+        self.answer("Send replace?", Action="3", ClOrdID=name, OrigClOrdID=original, Side=side, OrderQty=quantity,
+                    OrdType=2, Price=price, Symbol=symbol)
+
+    def report(self, **wanted):
+        """Waits for a report whose fields, by tag, are these, behind those that were waited for; gives it."""
+        def look():
+            for found in IN.finditer(self.out, self.seen):
+                text = printed(found[1])
+                if all(value(text, tag[1:]) == str(wants) for tag, wants in wanted.items()):
+                    self.seen = found.end() - 1
+                    return text
+            return None
+        return self.until(look)
+
+    def kill(self):
+        self.process.kill()
+        self.process.wait()
