@@ -10,6 +10,7 @@ declare -gA _gikvand_options=(
     [follow]="--once"
     [why]="--symbols"
     [watch]="--prometheus --quick --symbols"
+    [board]="--port --symbols"
     [trade]="--port --member --journal --symbols --fix"
     [demo]=""
     [day]=""

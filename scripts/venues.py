@@ -126,11 +126,11 @@ def chosen_of(tests):
 def in_a_folder(test):
     """The test in a folder of its own."""
     @functools.wraps(test)
-    def run():
+    def run(*given):
         with tempfile.TemporaryDirectory(prefix="tests-") as folder:
             os.chdir(folder)
             try:
-                test()
+                test(*given)
             finally:
                 kill_all()
                 os.chdir(ROOT)

@@ -57,6 +57,7 @@ def words_completed() -> None:
                 ("gikvand reports day.journal ", members), ("gikvand reports --after 3 day.journal C8", ["C8"]),
                 ("gikvand trades d", journal), ("gikvand trades day.journal ", []), ("gikvand follow day.journal d", journal),
                 ("gikvand follow day.journal x ", []), ("gikvand why d", journal), ("gikvand watch d", journal),
+                ("gikvand board d", journal), ("gikvand board --port 8700 d", journal), ("gikvand board day.journal ", []),
                 ("gikvand trade ", ["buy", "cancel", "orders", "replace", "sell"]), ("gikvand trade --member ", list("12345678")),
                 ("gikvand trade --journal d", journal), ("gikvand trade --journal day.journal buy 5 ", ["ABC", "XYZ"]),
                 ("gikvand trade buy 5 ABC m", ["market"]), ("gikvand trade sell 5 ABC 50 ", ["fok", "ioc"]),

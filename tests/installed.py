@@ -7,7 +7,7 @@ import shutil
 import subprocess
 import tempfile
 import time
-from collections.abc import Iterator
+from collections.abc import Callable, Iterator
 
 from checks import expect, ran
 from venues import Trouble
@@ -17,7 +17,7 @@ RESTARTS = 5  # Seconds after which a service starts again that a signal ended.
 INCLUDED = "python3,systemd,systemd-sysv"
 PATH = "/usr/sbin:/usr/bin:/sbin:/bin"
 CGROUPS = ("/sys/fs/cgroup", "/sys/fs/cgroup/unified")
-JOURNALS = "/var/lib/venued"
+JOURNALS, VOLUME = "/var/lib/venued", "/srv/venue"
 PROGRAMS = ("gikvand", "venued", "venue-replay")
 
 # What makes a machine of a root folder: mounts and devices of its own. It becomes systemd, with the id 1.
@@ -90,6 +90,13 @@ class Machine:
                 return
             time.sleep(0.2)
         raise Trouble(f"{unit} didn't say {wanted!r}, but {lines[self.seen.get(unit, 0):]}")
+
+    def await_that(self, what: str, holds: Callable[[], bool]) -> None:
+        for _ in range(TAKES * 5):
+            if holds():
+                return
+            time.sleep(0.2)
+        raise Trouble(f"{what}: not within {TAKES} seconds")
 
     def state(self, unit: str) -> str:
         return self.ask(f"systemctl show -P ActiveState {unit}")[1].strip()
@@ -206,6 +213,29 @@ def several(it: Machine) -> None:
     it.await_line("venued@grains", "venued: stopped, 0 commands, 0 outputs")
 
 
+def standby(it: Machine) -> None:
+    """The unit of a venue whose journal lies on a volume, here a folder in memory: it waits for the lock of another, the
+    watch ends it where it may write nothing, and it serves again once that is mended."""
+    drop_in, folder = "/etc/systemd/system/venued@day.service.d", f"{VOLUME}/day"
+    it.do(f"mkdir -p {VOLUME}; mount -t tmpfs tmpfs {VOLUME}; install -d -m 0700 -o venued -g venued {folder}; cd {folder}; "
+          "printf 'PORT=9301\nGATEWAYS=1\n' >venued.conf; echo ABC >venue.journal.symbols; "
+          "venued - venue.journal 1 ABC </dev/null; chown venued:venued *")
+    it.do(f"mkdir -p {drop_in}; ln -s /usr/share/gikvand/standby/venued@.conf {drop_in}/standby.conf; systemctl daemon-reload")
+    it.do(f"flock --no-fork {folder}/venue.journal sleep 600 >/dev/null 2>&1 & echo $! >/root/other; "
+          "systemctl start --no-block venued@day")
+    it.await_that("three starts of venued@day", lambda: int(it.do("systemctl show -P NRestarts venued@day")) > 2)
+    it.do("kill $(cat /root/other)")
+    it.await_line("venued@day", "venued: ready, 0 commands, 0 outputs")
+    it.do("gikvand trade --port 9301 --symbols ABC sell 5 ABC 50")
+    it.do(f"chown root:root {folder}; rm -f {folder}/venue.journal.watch")
+    it.await_that("the watch", lambda: "serve: this machine is cut off" in it.do("journalctl -o cat -u venued@day"))
+    it.await_that("no venue", lambda: it.state("venued@day") != "active")
+    it.do(f"chown venued:venued {folder}")
+    it.await_line("venued@day", "venued: ready, 1 commands, 1 outputs")
+    it.do("systemctl stop venued@day")
+    it.await_line("venued@day", "venued: stopped, 1 commands, 1 outputs")
+
+
 def upgrade_and_back(it: Machine, older: str, newer: str) -> None:
     """The venue runs on through an upgrade; stopped, it goes on with the same journal, and so it does on the way back."""
     pid = it.do("systemctl show -P MainPID venued")
@@ -239,5 +269,6 @@ def lives_in_a_debian(older: str, newer: str) -> None:
         end_by_a_signal(it)
         start_by_hand(it)
         several(it)
+        standby(it)
         upgrade_and_back(it, *names)
         remove(it)

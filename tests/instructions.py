@@ -38,7 +38,7 @@ ABOVE, BELOW = 0.02, 0.04
 SYMBOLS = ["A", "BB", "CCC", "DDDD", "EEEEE", "F6", "G77", "H888"]
 
 # How many instructions each run has.
-COUNTS = {"session": 27_183_000, "one_symbol": 30_322_000, "eight_symbols": 32_117_000}
+COUNTS = {"session": 24_811_000, "one_symbol": 26_576_000, "eight_symbols": 28_557_000}
 
 
 class Run(NamedTuple):

@@ -9,8 +9,9 @@ from the right ones at a session of tests/corners.py. `wrong_answers`: the bytes
 message, their order, a number or a price changed. `wrong_lines`: the same of what venue-replay prints. `wrong_venues` and
 `wrong_replays`: tests/members.py, tests/hostile_bytes.py, tests/worked_journals.py and tests/journals_by_chance.py, with
 programs in the place of the built ones that do as these do, but for one thing (tests/wrong_program.py). `wrong_tools`:
-tests/tools.py, with commands of gikvand that are wrong in one thing (tests/wrong_tools.py). `wrong_packages`: tests/package.py,
-with pages, words for bash, services and packages that are (tests/wrong_package.py).
+tests/tools.py, tests/board.py and tests/follow_load.py, with commands of gikvand that are wrong in one thing
+(tests/wrong_tools.py). `wrong_packages`: tests/package.py, with pages, words for bash, services and packages that are
+(tests/wrong_package.py).
 
 What isn't refused has a line. The last line is `N passed, M failed`, and the status is 1 where one failed. Build both
 programs first, by scripts/build; others are taken by the environment's VENUED and VENUE_REPLAY.
@@ -258,17 +259,17 @@ def wrong_replays() -> tuple[int, list[str]]:
 
 
 def refuses_tool(wrong: str) -> tuple[str, str | None]:
-    """Runs tests of the commands of gikvand with this wrong one: its name, and why that is no refusal, or None."""
+    """Runs tests of the commands of gikvand, or of a page, with this wrong one: its name, and why that is no refusal, or None."""
     programs = {"VENUED": os.path.abspath(VENUED), "VENUE_REPLAY": os.path.abspath(REPLAY)}
     it = WRONG_TOOLS[wrong]
     with tempfile.TemporaryDirectory(prefix="known-bad-") as folder:
         settings = {**programs, "TOOLS": it.put(os.path.join(ROOT, "tools"), folder)}
-        return refused(["tools.py", *it.tests.split()], wrong, settings)
+        return refused([it.script, *it.tests.split()], wrong, settings)
 
 
 def wrong_tools() -> tuple[int, list[str]]:
-    """Commands of gikvand that are wrong in one thing. (That the right ones pass is what tests/tools.py says.)"""
-    return all_refuse([(wrong,) for wrong in WRONG_TOOLS], refuses_tool)
+    """Commands of gikvand that are wrong in one thing. (That the right ones pass is what tests/tools.py and board.py say.)"""
+    return all_refuse([(wrong,) for wrong, it in WRONG_TOOLS.items() if it.can_be_seen()], refuses_tool)
 
 
 def refuses_package(wrong: str) -> tuple[str, str | None]:

@@ -29,6 +29,7 @@ import needs_python  # (in front of what an older Python can't read)
 import completion_tests
 import installed
 import page_tests
+import standby_tests
 from checks import contents, expect, ran, text_of
 from page_tests import PAGES
 from venues import PATIENCE, REPLAY, VENUED, main_of, started, tried
@@ -73,11 +74,12 @@ def files_of_the_package() -> None:
     expect({(line[1], line[0]) for line in lines},
            {("root/root", it) for it in ("drwxr-xr-x", "-rwxr-xr-x", "-rw-r--r--", "lrwxrwxrwx")})
     programs = {line[5] for line in lines if line[0] == "-rwxr-xr-x"}
-    expect(programs, {"./usr/bin/venued", "./usr/bin/venue-replay", "./usr/share/gikvand/scripts/gikvand"})
+    expect(programs, {"./usr/bin/venued", "./usr/bin/venue-replay", "./usr/share/gikvand/scripts/gikvand",
+                      *(f"./usr/share/gikvand/standby/{it}" for it in ("before-start", "serve", "volume-settings"))})
     names = {line[5].split(" -> ")[0] for line in lines}
-    modules = [it for it in os.listdir(os.path.join(ROOT, "tools/gikvand")) if it.endswith(".py")]
+    modules = [it for it in os.listdir(os.path.join(ROOT, "tools/gikvand")) if it.endswith((".py", ".html"))]
     wanted = ["usr/bin/gikvand", *(f"usr/share/man/man{it[-1]}/{it}.gz" for it in PAGES),
-              *(f"usr/lib/systemd/system/{it}" for it in UNITS),
+              *(f"usr/lib/systemd/system/{it}" for it in UNITS), "usr/share/gikvand/standby/venued@.conf",
               "usr/lib/sysusers.d/venued.conf", "usr/share/doc/gikvand/copyright", "usr/share/doc/gikvand/changelog.gz",
               *(f"usr/share/bash-completion/completions/{it}" for it in ("gikvand", "venued", "venue-replay")),
               *(f"usr/share/gikvand/tools/gikvand/{it}" for it in modules)]
@@ -190,7 +192,10 @@ def services() -> None:
         os.makedirs(os.path.join(folder, "bin"))
         shutil.copy("/bin/true", os.path.join(folder, "bin/sh"))
         units = os.path.join(folder, "usr/lib/systemd/system")
-        for unit in ("venued.service", "venued@one.service"):
+        standby = os.path.join(folder, "etc/systemd/system/venued@standby.service.d")
+        os.makedirs(standby)
+        shutil.copy(os.path.join(folder, "usr/share/gikvand/standby/venued@.conf"), standby)
+        for unit in ("venued.service", "venued@one.service", "venued@standby.service"):
             expect(ran("systemd-analyze", "verify", "--man=no", "--recursive-errors=no", f"--root={folder}", unit), (0, "", ""))
         for unit in UNITS:
             status, out, err = ran("systemd-analyze", "security", "--offline=true", f"--threshold={EXPOSED}", "--no-pager",
@@ -211,7 +216,7 @@ def the_user_of_the_services() -> None:
 
 PACKING = ["dpkg-deb", "strip"]
 OF_PACKAGES = [files_of_the_package, the_changelog, the_same_bytes, words_of_the_script, a_venue_of_the_package]
-TESTS = {**dict.fromkeys([*page_tests.TESTS, *completion_tests.TESTS, settings_of_the_services], []),
+TESTS = {**dict.fromkeys([*page_tests.TESTS, *completion_tests.TESTS, *standby_tests.TESTS, settings_of_the_services], []),
          **dict.fromkeys(OF_PACKAGES, PACKING), page_tests.lint_of_the_pages: ["mandoc"],
          lint_of_the_package: [*PACKING, "lintian"], services: [*PACKING, "systemd-analyze"],
          the_user_of_the_services: [*PACKING, "systemd-sysusers"]}

@@ -1,6 +1,7 @@
-"""Tests of the man pages: what they say, beside docs/OPERATING.md, the programs, and the commands of gikvand. Not a test by
-itself: tests/package.py runs them."""
+"""Tests of the man pages: what they say, beside docs/OPERATING.md, the programs, and the commands of gikvand. Not a
+test by itself: tests/package.py runs them."""
 import argparse
+import ast
 import functools
 import importlib
 import os
@@ -85,7 +86,7 @@ def lines_on_standard_error() -> None:
     part = re.split(r"^## Lines on standard error$", text, flags=re.MULTILINE)[1]
     listed = re.findall(r"^- `((?:usage|venued): [^`]*)`", part, re.MULTILINE)
     expect(sorted(said), sorted(map(any_place, listed)))
-    told = {line.strip("`"): status for cells, status, _ in rows("Several members", "| line | status |")
+    told = {line.strip("`"): status for cells, status, _ in rows("Runbook", "| line | status |")
             for line in re.sub(r"`, `(\d)", r"`, `venued: journal fault \1", cells).split("`, `")}
     for line, what in said.items():
         status = told["usage: .." if line.startswith("usage") else next(it for it in told if any_place(it) == line)]
@@ -94,6 +95,32 @@ def lines_on_standard_error() -> None:
     replays = {any_place(it) for it in page(PAGES[1]).items("DIAGNOSTICS") if not it.startswith("usage")}
     both = {it.replace("venued", "venue-replay", 1) for it in said}
     expect((named - replays, replays - named - both), (set(), set()))
+
+
+def line_of(it: ast.Call) -> list[str]:
+    """The words of a line that a command says, without what it puts in."""
+    text = it.args[0]
+    parts = text.values if isinstance(text, ast.JoinedStr) else [text]
+    return [it.value for it in parts if isinstance(it, ast.Constant)]
+
+
+def the_runbook() -> None:
+    """The runbook has each line of venue-replay and of the commands of gikvand, and each figure of `watch` that may
+    wake somebody."""
+    text = text_of("docs/OPERATING.md")
+    part = re.split(r"^## ", re.split(r"^## Runbook$", text, flags=re.MULTILINE)[1], flags=re.MULTILINE)[0]
+    for line in page(PAGES[1]).items("DIAGNOSTICS"):
+        named = re.sub(r".* fault 46", "`46`", re.sub(r" at \d+$", " at N", line))
+        expect((line, line.startswith("usage") or named in part), (line, True))
+    figures = rows("Who is there: `watch`", "| figure (each begins with `gikvand_`)")
+    woken = re.findall(r"`(\w+)`", " ".join(cells[0] for cells in figures if cells[1] != "for graphs"))
+    expect([it for it in woken if f"`{it}`" not in part], [])
+    modules = [it for it in os.listdir(os.path.join(ROOT, "tools/gikvand")) if it.endswith(".py") and it != "demo.py"]
+    for name in modules:
+        for it in ast.walk(ast.parse(text_of(f"tools/gikvand/{name}"))):
+            if isinstance(it, ast.Call) and getattr(it.func, "id", "") == "Trouble":
+                found = [re.split("[:;.]", words)[0].strip() for words in line_of(it) if len(words) > 7]
+                expect((name, found, not found or any(words and words in part for words in found)), (name, found, True))
 
 
 def lines_of_the_programs() -> None:
@@ -168,5 +195,5 @@ def lint_of_the_pages() -> None:
         expect((name, [line for line in out.splitlines() if not NO_FINDING.fullmatch(line)], err), (name, [], ""))
 
 
-TESTS = [usages, words_of_the_programs, statuses, lines_on_standard_error, lines_of_the_programs, commands_of_gikvand,
+TESTS = [usages, words_of_the_programs, statuses, lines_on_standard_error, the_runbook, lines_of_the_programs, commands_of_gikvand,
          the_page_of_the_journal]

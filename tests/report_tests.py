@@ -3,8 +3,12 @@ tests/tools.py runs them."""
 import csv
 import json
 import os
+from collections.abc import Iterator
+from unittest import mock
 
 import journals
+from gikvand import merged
+from gikvand.programs import Replay
 from journals import Entry
 from made_journals import JOURNAL, as_nobody, each_version, expect, gikvand, made, put
 from venues import TIME, Client, message, order, started, value
@@ -128,5 +132,26 @@ def reports_of_a_journal_in_use() -> None:
     venue.stop()
 
 
+class Growing(Replay):
+    """venue-replay on a journal that gets its last block once the first member was told."""
+    whole = b""
+
+    def __iter__(self) -> Iterator[str]:
+        yield from super().__iter__()
+        put(self.journal, self.whole)
+
+
+def trades_of_one_moment() -> None:
+    """Of a journal that grows while it is read the trades are those of before, each with both of its sides."""
+    for it in each_version():
+        put(JOURNAL, it.data[:it.starts[-1]] + b"\0")
+        before = gikvand("trades", JOURNAL)
+        put(JOURNAL, it.data[:it.starts[-1]] + b"\0")
+        Growing.whole = it.data
+        with mock.patch.object(merged, "Replay", Growing):
+            expect(gikvand("trades", JOURNAL), before)
+        expect(len(gikvand("trades", JOURNAL)[1]), len(before[1]) + 1)
+
+
 TESTS = [what_members_were_told, reports_as_tables, trades_of_a_day, trades_with_oneself_and_in_a_row,
-         reports_of_a_journal_in_use, words_of_reports_and_trades]
+         reports_of_a_journal_in_use, trades_of_one_moment, words_of_reports_and_trades]

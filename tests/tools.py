@@ -21,6 +21,9 @@ os.environ.update({it: os.path.abspath(os.environ[it]) for it in ("VENUED", "VEN
 
 import needs_python  # (in front of what an older Python can't read)
 from gikvand import main as tools
+import board_tests
+import book_tests
+import browser_tests
 import follow_tests
 import report_tests
 import symbols_tests
@@ -101,8 +104,8 @@ def the_command_line() -> None:
 
 
 TESTS: list[Callable[[], None]] = [*verify_tests.TESTS, *report_tests.TESTS, *follow_tests.TESTS, *watch_tests.TESTS,
-                                   *symbols_tests.TESTS, broken_journals, no_rights, broken_pipes,
-                                   the_command_line]
+                                   *symbols_tests.TESTS, *book_tests.TESTS, *board_tests.TESTS, *browser_tests.TESTS,
+                                   broken_journals, no_rights, broken_pipes, the_command_line]
 
 
 if __name__ == "__main__":

@@ -41,6 +41,7 @@ class Wrong(NamedTuple):
 
 VENUED, REPLAY, GIKVAND, JOURNAL = (f"contrib/man/{it}" for it in ("venued.8", "venue-replay.1", "gikvand.1", "venue.journal.5"))
 SERVICE, SERVICES = "contrib/venued.service", "contrib/venued@.service"
+STEP, SERVE, SETTINGS, STANDBY = (f"contrib/standby/{it}" for it in ("before-start", "serve", "volume-settings", "venued@.conf"))
 SCRIPT, COMPLETION = "scripts/package", "contrib/gikvand.bash"
 WRONG = {
     "words in another order": Wrong(VENUED, ".Ar PORT JOURNAL GATEWAYS", ".Ar JOURNAL PORT GATEWAYS", "usages"),
@@ -76,12 +77,24 @@ WRONG = {
                                          'self.path(name), program)', "shutil.copyfile(program, self.path(name))", "files_of"),
     "times of now": Wrong(SCRIPT, "        tree.settle(time)\n", "", "the_same"),
     "files of all rights": Wrong(SCRIPT, "TEXT, PROGRAM, FOLDER = 0o644", "TEXT, PROGRAM, FOLDER = 0o666", "files_of"),
-    "a module too few": Wrong(SCRIPT, 'if name.endswith(".py"):', 'if name.endswith(".py") and name != "why.py":', "files_of"),
+    "a module too few": Wrong(SCRIPT, 'if name.endswith((".py", ".html")):', 'if name.endswith(".html"):', "files_of"),
+    "a page too few": Wrong(SCRIPT, 'if name.endswith((".py", ".html")):', 'if name.endswith(".py"):', "files_of"),
+    "a line that the runbook hasn't": Wrong("docs/OPERATING.md", "`COPY is the journal itself`, ", "", "the_runbook"),
+    "an alarm that the runbook hasn't": Wrong("docs/OPERATING.md", " (`member_unsent_bytes`) |", " |", "the_runbook"),
+    "a fault that the runbook hasn't": Wrong("docs/OPERATING.md", "| `venue-replay: NEW exists` | give another name |\n", "", "the_runbook"),
     "a release too few": Wrong(SCRIPT, "heads = list(RELEASE.finditer(text))", "heads = list(RELEASE.finditer(text))[:-1]",
                                "the_changelog"),
     "changes of one line alone": Wrong(SCRIPT, "(.*(?:\\n  .*)*)", "(.*\\.)$", "the_changelog"),
     "no licence": Wrong(SCRIPT, '    "LICENSE": f"{DOC}/copyright",\n', "", "lint_of_the_package"),
     "programs of the repository": Wrong("tools/gikvand/programs.py", "IS_INSTALLED = ROOT ==", "IS_INSTALLED = False and ROOT ==",
                                         "a_venue_of"),
+    "a step without a lock": Wrong(STEP, "fcntl.flock(fd, fcntl.LOCK_EX | fcntl.LOCK_NB)", "pass", "step_that"),
+    "a step that writes nothing": Wrong(STEP, "os.pwrite(fd, data, at)", "len(data)", "step_of"),
+    "a step that skips the rest": Wrong(STEP, "max(0, size - LAST), size, PIECE", "max(0, size - LAST), size - PIECE, PIECE", "step_of"),
+    "a watch that asks": Wrong(SERVE, 'kill -KILL "$1"', 'kill "$1"', "the_watch"),
+    "symbols of nobody": Wrong(SERVE, '"${symbols[@]}"', "ABC", "symbols_of_the_volume"),
+    "locks that aren't strict": Wrong(SETTINGS, "    client.strict-locks on\n", "", "settings_of_the_volume"),
+    "a standby that gives up": Wrong(STANDBY, "Restart=on-failure\n", "", "unit_of_a_standby"),
+    "a standby's key that there isn't": Wrong(STANDBY, "RestartSec=500ms", "RestartSeconds=1", "services"),
     "a script that isn't found": Wrong(SCRIPT, '"../share/gikvand/scripts/gikvand"', '"../share/gikvand/gikvand"', "a_venue_of"),
 }

@@ -16,7 +16,7 @@ import os
 from xml.sax.saxutils import escape
 
 from gikvand import symbols
-from gikvand.fix import fields_of
+from gikvand.merged import reports
 from gikvand.programs import Replay, Trouble
 
 BUY, SELL = "1", "2"
@@ -27,7 +27,7 @@ DEPTH_LEFT = LEFT + CHART + GAP
 DEPTH = WIDTH - DEPTH_LEFT - 30
 
 
-@dataclasses.dataclass
+@dataclasses.dataclass(slots=True)
 class Trade:
     place: int
     price: int
@@ -90,26 +90,19 @@ class Axis:
         return range(math.ceil(self.low / step) * step, math.floor(self.high) + 1, step)
 
 
-def reports(journal, traded):
-    """The execution reports of all members by place."""
-    found = {}
-    for member in range(1, 9):
-        for line in Replay(journal, f"C{member}", traded):
-            if line.startswith("35=8|"):
-                report = fields_of(line)
-                found[int(report["17"])] = report
-    return sorted(found.items())
-
-
 def begins(report):
     """Whether a report is the first of its command: it isn't a fill, nor an end that the order's own terms made."""
     return not (report["150"] == "F" or report["150"] == "4" and "41" not in report)
 
 
 def days(journal, traded):
-    """The day of each symbol, and the counts of commands and outputs."""
+    """The day of each symbol, and the counts of commands and outputs, up to one moment."""
     found, last = {symbol: Day() for symbol in traded}, None
-    for place, report in reports(journal, traded):
+    book = Replay(journal, "book", traded)
+    for line in book:
+        symbol, side, price, left = line.split()[:4]
+        found[symbol].depth[side, int(price)] += int(left)
+    for place, _, report in reports(journal, traded, most=book.outputs):
         if last and begins(report):
             last[1].settle(last[0])
         if report["55"] in found:
@@ -117,10 +110,6 @@ def days(journal, traded):
             last[1].take(place, report)
     if last:
         last[1].settle(last[0])
-    book = Replay(journal, "book", traded)
-    for line in book:
-        symbol, side, price, left = line.split()[:4]
-        found[symbol].depth[side, int(price)] += int(left)
     return found, (book.commands, book.outputs)
 
 
@@ -230,17 +219,17 @@ def legend():
 
 
 def picture(journal, traded):
-    """The whole picture."""
+    """The whole picture, part by part."""
     found, (commands, outputs) = days(journal, traded)
     height = TOP + ROW * len(traded)
     head = f'<svg xmlns="http://www.w3.org/2000/svg" width="{WIDTH}" height="{height}" viewBox="0 0 {WIDTH} {height}"'
     title = f"The day in {os.path.basename(journal)}: {commands:,} commands, {outputs:,} outputs"
-    drawn = [f'{head} font-family="DejaVu Sans, Helvetica, Arial, sans-serif" fill="{TEXT}">',
-             f"<title>{escape(title)}</title>", '<rect width="100%" height="100%" fill="white"/>',
-             text(LEFT, 36, title, 20, more='font-weight="bold"'), *legend()]
+    yield f'{head} font-family="DejaVu Sans, Helvetica, Arial, sans-serif" fill="{TEXT}">'
+    yield from (f"<title>{escape(title)}</title>", '<rect width="100%" height="100%" fill="white"/>')
+    yield from (text(LEFT, 36, title, 20, more='font-weight="bold"'), *legend())
     for place, symbol in enumerate(traded):
-        drawn += row(symbol, found[symbol], outputs, TOP + ROW * place)
-    return "\n".join([*filter(None, drawn), "</svg>"])
+        yield from filter(None, row(symbol, found[symbol], outputs, TOP + ROW * place))
+    yield "</svg>"
 
 
 def add_words(parser: argparse.ArgumentParser) -> None:
@@ -251,5 +240,6 @@ def add_words(parser: argparse.ArgumentParser) -> None:
 def run(given: argparse.Namespace) -> int:
     if given.symbols and not symbols.are_symbols(given.symbols):
         raise Trouble(f"not one to {symbols.MOST} different symbols: {' '.join(given.symbols)}")
-    print(picture(given.journal, symbols.needed(given.journal, given.symbols or None)))
+    for part in picture(given.journal, symbols.needed(given.journal, given.symbols or None)):
+        print(part)
     return 0

@@ -97,8 +97,9 @@ class Ended(Exception):
 class Source:
     """The journal that is followed, and how far it was read."""
 
-    def __init__(self, path: str) -> None:
-        self.path, self.file = path, open(path, "rb", buffering=0)  # A buffer would show gates as they were.
+    def __init__(self, path: str, another: str = "another journal wants another copy") -> None:
+        self.path, self.another = path, another
+        self.file = open(path, "rb", buffering=0)  # A buffer would show gates as they were.
         try:
             self.reader = Reader(self.file)
         except NotAJournal:
@@ -118,6 +119,13 @@ class Source:
             return self.reader.next()
         except Damaged as why:
             raise Trouble(f"{self.path} is damaged at {why.offset}: {why.why}") from None
+
+    def has(self, block: Block) -> bool:
+        """Whether the next block has the same bytes as this one, which was read elsewhere. Then that is passed."""
+        is_same = os.pread(self.file.fileno(), len(block.data), self.reader.gate) == block.data
+        if is_same:
+            self.reader.go_past(block)
+        return is_same
 
     def blocks(self) -> bytes:
         """The next whole blocks, as many as stand there and may be written between two syncs. Damage behind them comes next."""
@@ -139,7 +147,7 @@ class Source:
         except FileNotFoundError:
             is_same = False
         if not is_same:
-            raise Trouble(f"{self.path} isn't the file any more that it was: another journal wants another copy")
+            raise Trouble(f"{self.path} isn't the file any more that it was: {self.another}")
         if self.size() <= self.reader.gate:
             raise Trouble(f"{self.path} has become shorter than what was read of it")
 
@@ -181,10 +189,11 @@ class Copy:
         if has_signal(0):
             raise Ended
         before = source.reader.count
-        if (other := source.next()) is None:
+        if source.has(block):
+            return
+        if source.next() is None:
             raise self.another(f"the journal ends behind {some(before, 'entry')}, and it has more")
-        if other.data != block.data:
-            raise self.another(f"they differ in the block at {block.offset}")
+        raise self.another(f"they differ in the block at {block.offset}")
 
     def another(self, why: str) -> Trouble:
         return Trouble(f"{self.path} isn't a beginning of that journal, and stays as it is: {why}. Name another file")

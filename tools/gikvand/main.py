@@ -12,6 +12,7 @@ COMMANDS = {"verify": "says whether a journal, or a copy of one, is whole and un
             "follow": "ships a journal to a copy, also while it is in use",
             "why": "says why a journal isn't opened: which cause fault 41 has, which block fault 42",
             "watch": "looks at a venue once: its process, journal, disk and members",
+            "board": "shows a journal as a page for a browser, also while it is in use",
             "trade": "trades by words, as a member",
             "demo": "shows a venue of two members, from its start to its journal",
             "day": "draws the day that a journal holds"}

@@ -10,23 +10,18 @@ SendingTime of the message that brought the trade about, and Incoming the side o
 venue-replay, one member after the other, and the journal may be in use: the trades are those up to one moment.
 """
 import argparse
-import heapq
-import tempfile
 from collections.abc import Iterator
-from typing import TextIO
 
 from gikvand import symbols, tables
-from gikvand.fix import fields_of
-from gikvand.journals import Damaged, NotAJournal, Reader
-from gikvand.programs import Replay, Trouble
+from gikvand.merged import Report, reports
+from gikvand.programs import Trouble
 from gikvand.reports import exec_id
 from gikvand.tables import Row
 
 SIDES = {"1": "Buyer", "2": "Seller"}
 NAMES = ["Place", "Time", "Symbol", "Quantity", "Price", "Incoming",
          *(f"{side}{what}" for side in SIDES.values() for what in ("", "OrderID", "ClOrdID", "ExecID"))]
-Fill = tuple[int, int, dict[str, str]]  # Its place, its member, and the fields of its report.
-NO_FILL: Fill = (0, 0, {})
+NO_FILL: Report = (0, 0, {})
 
 
 def add_words(parser: argparse.ArgumentParser) -> None:
@@ -36,38 +31,13 @@ def add_words(parser: argparse.ArgumentParser) -> None:
     tables.add_options(parser)
 
 
-def members_in(journal: str) -> list[int]:
-    """The members who have entries in a journal. Nobody else is told anything."""
-    with open(journal, "rb") as file:
-        try:
-            return sorted({entry.gateway for block in Reader(file) for entry in block.entries})
-        except (NotAJournal, Damaged) as why:
-            raise Trouble(f"{journal} is no whole journal; gikvand verify says more") from why
-
-
-def write_fills(told: Replay, member: int, file: TextIO) -> None:
-    """Writes the member's fills to a file, each behind its place and its member."""
-    for report in told:
-        fields = fields_of(report)
-        if fields.get("150") == "F":
-            file.write(f"{fields['17']} {member} {report}\n")
-    file.seek(0)
-
-
-def fills_of(file: TextIO) -> Iterator[Fill]:
-    """The fills in a file."""
-    for line in file:
-        place, member, report = line.rstrip("\n").split(" ", 2)
-        yield int(place), int(member), fields_of(report)
-
-
 def side_of(member: int, fill: dict[str, str]) -> Row:
     """What a fill says of its side of the trade."""
     side = SIDES[fill["54"]]
     return {side: f"C{member}", f"{side}OrderID": fill["37"], f"{side}ClOrdID": fill["11"], f"{side}ExecID": fill["17"]}
 
 
-def trade_of(resting: Fill, incoming: Fill) -> Row:
+def trade_of(resting: Report, incoming: Report) -> Row:
     """The trade whose two reports these are."""
     (place, _, one), (behind, _, two) = resting, incoming
     if behind != place + 1 or any(one[tag] != two[tag] for tag in ("52", "55", "32", "31")) or one["54"] == two["54"]:
@@ -84,30 +54,16 @@ def in_words(row: Row) -> str:
             f"{sides['Seller']}, by a {row['Incoming']} that came in")
 
 
-def spooled(journal: str, traded: list[str]) -> tuple[list[TextIO], int]:
-    """The fills of each member, in a file of its own, and the place up to which they are those of one moment."""
-    files, most = [], 0
-    for member in members_in(journal):
-        files.append(tempfile.TemporaryFile("w+", encoding="ascii"))
-        told = Replay(journal, f"C{member}", traded)
-        write_fills(told, member, files[-1])
-        most = most or told.outputs  # A journal in use may have grown behind that.
-    return files, most
-
-
-def trades(files: list[TextIO], most: int) -> Iterator[Row]:
-    """The trades up to a place, out of the fills of all members. What is in memory is a fill of each."""
-    fills = heapq.merge(*map(fills_of, files), key=lambda fill: fill[0])
+def trades(fills: Iterator[Report]) -> Iterator[Row]:
+    """The trades whose fills these are, in the order of their places."""
     for fill in fills:
-        if fill[0] > most:
-            break
         yield trade_of(fill, next(fills, NO_FILL))
 
 
 def run(given: argparse.Namespace) -> int:
-    files, most = spooled(given.journal, symbols.needed(given.journal, given.symbols))
+    fills = reports(given.journal, symbols.needed(given.journal, given.symbols), "|150=F|")
     write = tables.writer(given, NAMES, dict, in_words)
-    for row in trades(files, most):
+    for row in trades(fills):
         if row["Place"] > given.after:
             write(row)
     return 0

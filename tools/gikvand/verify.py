@@ -18,6 +18,7 @@ from collections.abc import Iterator
 from typing import BinaryIO, NamedTuple
 
 from gikvand import locks, mends, symbols
+from gikvand.glance import is_published
 from gikvand.journals import HEAD, Block, Damaged, Entry, NotAJournal, Reader, exactly
 from gikvand.logs import Compared, reports
 from gikvand.programs import Replay, false_snapshot
@@ -48,6 +49,8 @@ def add_words(parser: argparse.ArgumentParser) -> None:
 
 def fault_of(entry: Entry) -> str | None:
     """Why no session publishes this, in words, or None."""
+    if is_published(entry.message, entry.gateway):
+        return None
     found = next_frame(entry.message)
     if not found or found[1] or found[0] != entry.message:
         return (found and found[1]) or "not exactly one message"
