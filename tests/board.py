@@ -19,10 +19,10 @@ import sys
 
 ROOT = os.path.dirname(os.path.dirname(os.path.abspath(__file__)))
 TOOLS = os.path.abspath(os.environ.get("TOOLS", os.path.join(ROOT, "tools")))
-sys.path[:0] = [TOOLS, os.path.join(ROOT, "scripts")]
+sys.path[:0] = [TOOLS, os.path.join(ROOT, "dev")]
 os.environ.update({it: os.path.abspath(os.environ[it]) for it in ("VENUED", "VENUE_REPLAY") if it in os.environ})
 
-import needs_python  # (in front of what an older Python can't read)
+import with_scripts  # (in front of what stands there, and of what an older Python can't read)
 import gikvand  # (in front of what puts another path first)
 import chromium
 import journals

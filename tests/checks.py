@@ -3,7 +3,7 @@ Not a test."""
 import os
 import subprocess
 
-import with_tools  # (in front of what stands in the package gikvand)
+import with_scripts  # (in front of what stands there, and of what an older Python can't read)
 from gikvand.programs import Trouble
 
 ROOT = os.path.dirname(os.path.dirname(os.path.abspath(__file__)))

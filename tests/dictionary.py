@@ -13,9 +13,9 @@ import sys
 import xml.etree.ElementTree as xml
 
 ROOT = os.path.dirname(os.path.dirname(os.path.abspath(__file__)))
-sys.path.insert(0, os.path.join(ROOT, "scripts"))
+sys.path.insert(0, os.path.join(ROOT, "dev"))
 
-import needs_python  # (in front of what an older Python can't read)
+import with_scripts  # (in front of what stands there, and of what an older Python can't read)
 
 DOCS = os.path.join(ROOT, "docs")
 CODED = ("39", "40", "54", "59", "102", "103", "150", "372", "373", "434")  # Tags whose values the tables list.

@@ -20,9 +20,9 @@ import time
 from collections.abc import Callable
 
 ROOT = os.path.dirname(os.path.dirname(os.path.abspath(__file__)))
-sys.path.insert(0, os.path.join(ROOT, "scripts"))
+sys.path.insert(0, os.path.join(ROOT, "dev"))
 
-import needs_python  # (in front of what an older Python can't read)
+import with_scripts  # (in front of what stands there, and of what an older Python can't read)
 from venues import Client, Trouble, kill_all, main_of, message, order, started, value
 
 LOGON = "98=0|108=0|141=Y|"

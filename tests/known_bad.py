@@ -27,9 +27,9 @@ from collections.abc import Callable, Iterator
 from unittest import mock
 
 ROOT = os.path.dirname(os.path.dirname(os.path.abspath(__file__)))
-sys.path.insert(0, os.path.join(ROOT, "scripts"))
+sys.path.insert(0, os.path.join(ROOT, "dev"))
 
-import needs_python  # (in front of what an older Python can't read)
+import with_scripts  # (in front of what stands there, and of what an older Python can't read)
 import corners
 import hostile_bytes
 import wrong_program
@@ -221,7 +221,7 @@ def wrong_venues() -> tuple[int, list[str]]:
     """Venues that do wrong by a member over TCP, or over standard input and output."""
     venued = os.path.abspath(VENUED)
     runs = [(["members.py", test], venued, wrong) for test, wrong in wrong_program.OVER_TCP]
-    runs += [(["../scripts/play", "first_acknowledgement", "logout"], venued, wrong)
+    runs += [(["../dev/play", "first_acknowledgement", "logout"], venued, wrong)
              for wrong in ("", *wrong_program.OVER_STREAMS)]
     sessions = ["hostile_bytes.py", "mutated", "--messages", "1", "--seed", "1", "--together", "1"]
     runs += [(sessions, venued, wrong) for wrong in ("", "another status")]

@@ -17,9 +17,9 @@ import threading
 import time
 
 ROOT = os.path.dirname(os.path.dirname(os.path.abspath(__file__)))
-sys.path.insert(0, os.path.join(ROOT, "scripts"))
+sys.path.insert(0, os.path.join(ROOT, "dev"))
 
-import needs_python  # (in front of what an older Python can't read)
+import with_scripts  # (in front of what stands there, and of what an older Python can't read)
 import journals
 from traders import Member, check_told, narrow_client, sip
 from venues import HOST, PATIENCE, VENUED, Client, Trouble, Venue, framed, free_port, in_a_folder, main_of, market_order

@@ -17,9 +17,9 @@ import tempfile
 from types import ModuleType
 
 ROOT = os.path.dirname(os.path.dirname(os.path.abspath(__file__)))
-sys.path.insert(0, os.path.join(ROOT, "scripts"))
+sys.path.insert(0, os.path.join(ROOT, "dev"))
 
-import needs_python  # (in front of what an older Python can't read)
+import with_scripts  # (in front of what stands there, and of what an older Python can't read)
 from venues import PATIENCE, Trouble, main_of, started
 
 PIN = os.path.join(ROOT, "scripts/pin")

@@ -14,7 +14,7 @@ Citations stand in backquotes, in each item `- **Clauses**:` and in the section 
     (`one`: `Record` with `two`)    behind a colon, up to a semicolon: definitions, and fields of these
 
 The wrong bodies in each item `- **Refused**:` are edits that there are. And each edit that there is stands in the list
-that `scripts/edits.py --promises` prints, under the function that it changes.
+that `dev/edits --promises` prints, under the function that it changes.
 
 Each citation that isn't there has a line of its own; the last line is `N passed, M failed`, and the status is 1 where
 one failed. The benchmarks promise nothing and aren't looked at.
@@ -27,9 +27,9 @@ import subprocess
 import sys
 
 ROOT = os.path.dirname(os.path.dirname(os.path.abspath(__file__)))
-sys.path.insert(0, os.path.join(ROOT, "scripts"))
+sys.path.insert(0, os.path.join(ROOT, "dev"))
 
-import needs_python  # (in front of what an older Python can't read)
+import with_scripts  # (in front of what stands there, and of what an older Python can't read)
 
 TRAIT = re.compile(r"pub trait (\w+)")
 IMPL = re.compile(r"impl\b(?:<[^{]*?>)? (?:(?:\w+::)*(?P<trait>\w+)(?:<[^{]*>)? for )?(?:\w+::)*(?P<type>\w+)")
@@ -222,7 +222,7 @@ def refused_in(lines):
 def edits():
     """The names of all edits, and those that the list of edits by function has too seldom or too often."""
     there = collections.Counter(os.path.basename(it)[:-5] for it in glob.glob(f"{ROOT}/crates/*/*/*.edit"))
-    words = [sys.executable, f"{ROOT}/scripts/edits.py", "--promises"]
+    words = [sys.executable, f"{ROOT}/dev/edits", "--promises"]
     printed = subprocess.run(words, stdout=subprocess.PIPE, text=True).stdout
     listed = collections.Counter(name for item in printed.split("\n- ") for name in EDIT.findall(item.partition(": ")[2]))
     return {*there}, sorted((there - listed) + (listed - there))

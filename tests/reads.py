@@ -1,5 +1,5 @@
 #!/usr/bin/env python3
-"""Checks scripts/reads: on two made-up crates, whose definitions are few enough to say what it has to print, and on the
+"""Checks dev/reads: on two made-up crates, whose definitions are few enough to say what it has to print, and on the
 project's own, where each name of each clause has to be found.
 
     tests/reads.py
@@ -14,12 +14,13 @@ import sys
 import tempfile
 
 ROOT = os.path.dirname(os.path.dirname(os.path.abspath(__file__)))
-sys.path.insert(0, os.path.join(ROOT, "scripts"))
+sys.path.insert(0, os.path.join(ROOT, "dev"))
 
-import needs_python  # (in front of what an older Python can't read)
+import with_scripts  # (in front of what stands there, and of what an older Python can't read)
 from below import Entry, Project
 
-SCRIPTS = ("reads", "below.py", "antt.py", "contracts.py", "crates.py", "needs_python.py")
+SCRIPTS = [*(f"dev/{it}" for it in ("reads", "below.py", "antt.py", "contracts.py", "with_scripts.py")),
+           *(f"scripts/{it}" for it in ("crates.py", "needs_python.py", "with_tools.py"))]
 
 # What one has to read of `listen` grows no longer, and never is nothing.
 LISTEN = ("listen", "--clause", "ends")
@@ -226,7 +227,7 @@ class Check:
 
 def run(root: str, words: tuple[str, ...]) -> tuple[str, int]:
     """What the script there prints, with the last of its standard error, and its status."""
-    command = [sys.executable, f"{root}/scripts/reads", *words]
+    command = [sys.executable, f"{root}/dev/reads", *words]
     done = subprocess.run(command, stdout=subprocess.PIPE, stderr=subprocess.STDOUT, text=True)
     return done.stdout, done.returncode
 
@@ -234,9 +235,10 @@ def run(root: str, words: tuple[str, ...]) -> tuple[str, int]:
 def made_up(check: Check) -> None:
     """The two crates, and then one that names what isn't there."""
     with tempfile.TemporaryDirectory() as root:
-        os.mkdir(f"{root}/scripts")
+        for folder in ("dev", "scripts"):
+            os.mkdir(f"{root}/{folder}")
         for name in SCRIPTS:
-            shutil.copy(f"{ROOT}/scripts/{name}", f"{root}/scripts/{name}")
+            shutil.copy(f"{ROOT}/{name}", f"{root}/{name}")
         for name, text in FILES.items():
             path = f"{root}/crates/{name}"
             os.makedirs(os.path.dirname(path), exist_ok=True)

@@ -1,5 +1,5 @@
 """Tests of contrib/standby, which serves a journal on a replicated volume: the step before each start, the watch, and
-the settings of the volume. Here the volume is a folder; scripts/failover-drill has one of GlusterFS. Not a test by
+the settings of the volume. Here the volume is a folder; dev/failover-drill has one of GlusterFS. Not a test by
 itself: tests/package.py runs them."""
 import fcntl
 import os

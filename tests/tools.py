@@ -16,10 +16,10 @@ from collections.abc import Callable
 
 ROOT = os.path.dirname(os.path.dirname(os.path.abspath(__file__)))
 TOOLS = os.path.abspath(os.environ.get("TOOLS", os.path.join(ROOT, "tools")))
-sys.path[:0] = [TOOLS, os.path.join(ROOT, "scripts")]
+sys.path[:0] = [TOOLS, os.path.join(ROOT, "dev")]
 os.environ.update({it: os.path.abspath(os.environ[it]) for it in ("VENUED", "VENUE_REPLAY") if it in os.environ})
 
-import needs_python  # (in front of what an older Python can't read)
+import with_scripts  # (in front of what stands there, and of what an older Python can't read)
 from gikvand import main as tools
 import board_tests
 import book_tests

@@ -3,14 +3,14 @@
 
     tests/twins.py [NAME...]      the tests whose names have one of these words in them; without one all
 
-Each twin, scripts/baseline_NAME.cpp, is compiled and answers the same bytes as the built program:
+Each twin, dev/twins/NAME.cpp, is compiled and answers the same bytes as the built program:
 
 - `fix`: as many messages are read and written as `bench fix` reads and writes, with the same sum;
 - `serve`: sessions of tests/corners.py and two by chance: what goes out, and the journal, are those of `venued -`;
 - `restart`: the book behind journals of all versions is the one that venue-replay prints;
 - `tcp`: members trade at once, and each gets the reports that venue-replay finds in the twin's journal, in their order;
 - `wrong`: each of some wrong twins, of which one line was changed, has to be refused by the test of its name;
-- `bench`: `scripts/bench --try` prints a figure for each twin, and the program's beside it; those of book, rings and journal
+- `bench`: `dev/bench --try` prints a figure for each twin, and the program's beside it; those of book, rings and journal
   check what they did themselves.
 
 One that fails has a line that says what came; the last line is `N passed, M failed`, and the status is 1 where one failed.
@@ -29,9 +29,9 @@ from collections.abc import Callable
 from typing import NamedTuple
 
 ROOT = os.path.dirname(os.path.dirname(os.path.abspath(__file__)))
-sys.path.insert(0, os.path.join(ROOT, "scripts"))
+sys.path.insert(0, os.path.join(ROOT, "dev"))
 
-import needs_python  # (in front of what an older Python can't read)
+import with_scripts  # (in front of what stands there, and of what an older Python can't read)
 import corners
 import journals
 import measuring
@@ -212,17 +212,17 @@ class Compiled:
 
     def __call__(self, name: str) -> str:
         if name not in self.programs:
-            source = os.path.join(self.sources, f"baseline_{name}.cpp")
+            source = os.path.join(self.sources, f"{name}.cpp")
             self.programs[name] = measuring.compiled(name, self.folder, source)
         return self.programs[name]
 
 
 def changed(wrong: Wrong, folder: str) -> None:
     """Copies the sources there, with the change: those of the twins that share them."""
-    places, own = 0, [f"baseline_{name}.cpp" for name in measuring.OLDER_TWINS]
-    for name in os.listdir(os.path.join(ROOT, "scripts")):
-        if name.startswith("baseline_") and name not in own:
-            with open(os.path.join(ROOT, "scripts", name), encoding="utf-8") as file:
+    places, own = 0, [f"{name}.cpp" for name in measuring.OLDER_TWINS]
+    for name in os.listdir(measuring.TWINS):
+        if name not in own:
+            with open(os.path.join(measuring.TWINS, name), encoding="utf-8") as file:
                 text = file.read()
             places += text.count(wrong.old)
             with open(os.path.join(folder, name), "w", encoding="utf-8") as file:
@@ -247,7 +247,7 @@ def wrong(_program: Program) -> None:
 
 
 def bench(_program: Program) -> None:
-    status, out, err = ran([os.path.join(ROOT, "scripts/bench"), "--try"])
+    status, out, err = ran([os.path.join(ROOT, "dev/bench"), "--try"])
     names = [found[1] for line in out.decode().splitlines() if (found := FIGURE.fullmatch(line))]
     twins = {name for name in names if TWIN in name}
     without = [name for name in names if PROJECT in name and name.replace(PROJECT, TWIN) not in twins]
@@ -271,7 +271,7 @@ def main() -> int:
     except Trouble as why:
         sys.exit(f"twins: {why}")
     with tempfile.TemporaryDirectory(prefix="twins-") as folder:
-        return tried(chosen_of(TESTS), Compiled(folder, os.path.join(ROOT, "scripts")))
+        return tried(chosen_of(TESTS), Compiled(folder, measuring.TWINS))
 
 
 if __name__ == "__main__":

@@ -1,5 +1,5 @@
 #!/usr/bin/env python3
-"""Tests of the scripts that users hold in their hands: scripts/trade, demo, day, first-order.sh and build.
+"""Tests of the scripts that users hold in their hands: scripts/trade, demo, day, first-order and build.
 
     tests/users.py [NAME...]      the tests whose names have one of these words in them; without one all
 
@@ -17,9 +17,9 @@ import subprocess
 import sys
 
 ROOT = os.path.dirname(os.path.dirname(os.path.abspath(__file__)))
-sys.path.insert(0, os.path.join(ROOT, "scripts"))
+sys.path.insert(0, os.path.join(ROOT, "dev"))
 
-import needs_python  # (in front of what an older Python can't read)
+import with_scripts  # (in front of what stands there, and of what an older Python can't read)
 import journals
 from journals import Entry
 from pictures import Picture, row_of
@@ -406,12 +406,12 @@ PATH = "/usr/bin:/bin"
 
 def the_first_order() -> None:
     """By the program that is built, else by a trial run, else by nothing; its folder of work is gone each time."""
-    for name in ("scripts/first-order.sh", "examples/first_order.fix"):
+    for name in ("scripts/first-order", "examples/first_order.fix"):
         os.makedirs(os.path.dirname(name), exist_ok=True)
         shutil.copy(os.path.join(ROOT, name), name)
     os.makedirs("crates/venued/out")
     os.makedirs("work")
-    call, work = [os.path.abspath("scripts/first-order.sh")], {"TMPDIR": os.path.abspath("work"), "PATH": PATH}
+    call, work = [os.path.abspath("scripts/first-order")], {"TMPDIR": os.path.abspath("work"), "PATH": PATH}
     status, out, err = ran(call, **work)
     expect((status, out), (1, []))
     expect(err, ["first-order: there is no rt on the path, and no built program: README.md says what is needed"])

@@ -4,7 +4,7 @@ import os
 import shutil
 from typing import NamedTuple
 
-TAKEN = ("CHANGELOG.md", "LICENSE", "VERSION", "contrib", "docs", "examples", "scripts", "tests", "tools")
+TAKEN = ("CHANGELOG.md", "LICENSE", "VERSION", "contrib", "dev", "docs", "examples", "scripts", "tests", "tools")
 
 
 NEEDED = {"lint_of_the_pages": "mandoc", "lint_of_the_package": "lintian", "services": "systemd-analyze",

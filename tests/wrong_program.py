@@ -15,9 +15,9 @@ import sys
 import threading
 
 ROOT = os.path.dirname(os.path.dirname(os.path.abspath(__file__)))
-sys.path.insert(0, os.path.join(ROOT, "scripts"))
+sys.path.insert(0, os.path.join(ROOT, "dev"))
 
-import needs_python  # (in front of what an older Python can't read)
+import with_scripts  # (in front of what stands there, and of what an older Python can't read)
 from venues import HEAD, HOST, free_port
 
 REPORT = b"\x0135=8\x01"

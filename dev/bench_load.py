@@ -1,0 +1,54 @@
+"""The load client of bench_venue.c, and a venue under its load, for the scripts that measure."""
+import os
+import shutil
+import subprocess
+import tempfile
+
+from venues import ROOT, Trouble, replay, started
+
+SOURCE = os.path.join(ROOT, "dev/bench_venue.c")
+PIN = os.path.join(ROOT, "scripts/pin")
+
+
+def built(folder):
+    """The load client, compiled."""
+    if not shutil.which("cc"):
+        raise Trouble("cc isn't installed, which compiles the load client")
+    program = os.path.join(folder, "load")
+    ran = subprocess.run(["cc", "-O2", "-pthread", "-o", program, SOURCE], capture_output=True, text=True)
+    if ran.returncode:
+        raise Trouble(f"cc can't compile {SOURCE}: {ran.stderr.strip()}")
+    return program
+
+
+def load(program, *words):
+    """Lets the load client trade: orders, seconds, p50 and p99 in microseconds, and reports."""
+    ran = subprocess.run([program, "load", *map(str, words)], capture_output=True, text=True)
+    if ran.returncode:
+        raise Trouble(ran.stderr.strip() or f"the load client ended with status {ran.returncode}")
+    orders, micros, p50, p99, reports = map(int, ran.stdout.split())
+    return orders, micros / 1e6, p50 / 1e3, p99 / 1e3, reports
+
+
+def put_on_cores(venue):
+    """Puts each thread of the venue on a core."""
+    ran = subprocess.run([PIN, str(venue.process.pid)], capture_output=True, text=True)
+    if ran.returncode:
+        raise Trouble(ran.stderr.strip())
+
+
+def traded(program, folder, members, window, seconds, rate=0, venued=None, is_pinned=False):
+    """The load against a venue whose journal lies in a folder of its own below this one; venued, or another program."""
+    with tempfile.TemporaryDirectory(dir=folder, prefix="bench-venue-") as place:
+        journal = os.path.join(place, "venue.journal")
+        venue = started(journal, members, program=venued)
+        if is_pinned:
+            put_on_cores(venue)
+        told = load(program, venue.port, members, window, seconds, rate)
+        orders, *_, reports = told
+        counts = [venue.stop()]
+        if rate:
+            counts.append(replay(journal, "book")[1])
+    if set(counts) != {(orders, reports)}:
+        raise Trouble(f"{orders} orders and {reports} reports, where venued and venue-replay count {counts}")
+    return told

@@ -1,0 +1,166 @@
+"""What happens to the machines of dev/failover-drill, and what has to hold then. Not a script."""
+import os
+import shutil
+import time
+
+from drill import ENOUGH, Drill, await_answers, cease, heard, looked_at, send_one_more, stop_listening, trading
+from drill_machines import HOME, Machine, await_that, ran
+from drill_venue import Unit, alone
+from gikvand.programs import ROOT
+from traders import Member
+from venues import Trouble
+
+HOLD, HELD, HOLDS = (f"{HOME}/{it}" for it in ("hold", "held", "hold.so"))
+
+
+def at_work(drill: Drill, machine: Machine, words: list[str]) -> tuple[Unit, list[Unit], list[Member]]:
+    """The venue that the machine serves, started so, those that wait at the other machines, and members who trade."""
+    return drill.serve(machine, words), drill.standbys(machine), trading(machine, drill.rounds)
+
+
+def killed(drill: Drill, machine: Machine) -> str:
+    """The process is killed, and the two other machines try at once, at which people look at the journal all the time."""
+    unit, standbys, traders = at_work(drill, machine, drill.words())
+    with looked_at([drill.store.journal(it.machine) for it in standbys]):
+        await_answers(traders, ENOUGH)
+        since = time.monotonic()
+        unit.end()
+        new = drill.goes_on(standbys, since)
+    drill.check(new.machine, traders)
+    drill.end(new, drill.traded_on(new))
+    return drill.took("a killed process: the next machine is ready after", new.ready(since) - since)
+
+
+def dies(drill: Drill, machine: Machine) -> str:
+    """The machine dies: no packet, no disk, no process. It comes back later."""
+    _, standbys, traders = at_work(drill, machine, drill.words())
+    since = time.monotonic()
+    machine.die()
+    new = drill.goes_on(standbys, since)
+    drill.check(new.machine, traders)
+    later = drill.traded_on(new, machine)
+    drill.store.come_back(machine)
+    drill.end(new, later)
+    return drill.took("a dead machine: the next one is ready after", new.ready(since) - since)
+
+
+def parted(drill: Drill, machine: Machine) -> str:
+    """The machine is cut off while members trade at it. What they are told there later is in the journal as well."""
+    unit, standbys, traders = at_work(drill, machine, drill.words())
+    since = time.monotonic()
+    machine.cut()
+    new = drill.goes_on(standbys, since)
+    await_that("the venue that is cut off ends", lambda: unit.when("status ", since) or late(traders, new, since))
+    if late(traders, new, since):
+        raise Trouble("the venue that was cut off answers, though another one serves")
+    ended = unit.when("status ", since) - since
+    drill.check(new.machine, traders)
+    last = max(0.0, *(it.heard_at - since for it in traders))
+    later = drill.traded_on(new, machine)
+    machine.join()
+    drill.end(new, later)
+    return (drill.took("cut off while trading: the next machine is ready after", new.ready(since) - since)
+            + f", the last report came at {last:.2f} s, " + drill.took("the venue that is cut off ends after", ended))
+
+
+def late(traders: list[Member], new: Unit, since: float) -> bool:
+    """Whether one of these members heard something after the next venue was ready."""
+    return max(it.heard_at for it in traders) > new.ready(since)
+
+
+def joined(drill: Drill, machine: Machine) -> str:
+    """An idle machine is cut off, without the watch, and joined again. Then its members send one more, in vain."""
+    unit, standbys, traders = at_work(drill, machine, alone())
+    cease(traders)
+    since = time.monotonic()
+    machine.cut()
+    new = drill.goes_on(standbys, since)
+    stop_listening(traders)
+    drill.check(new.machine, traders)
+    later = drill.traded_on(new, machine)
+    machine.join()
+    await_that(f"{machine.name} sees the volume", lambda: drill.store.reaches_all(machine), 0.2)
+    for it in traders:
+        send_one_more(it)
+    await_that("the venue that was cut off ends", lambda: unit.when("status ", since) or any(map(heard, traders)))
+    if any(map(heard, traders)):
+        raise Trouble("the venue that was cut off answers")
+    if not unit.when("status 2", since):
+        raise Trouble(f"the venue that was cut off says {[line for at, line in unit.lines if at >= since]}")
+    drill.end(new, later)
+    return drill.took("cut off while idle: the next machine is ready after", new.ready(since) - since)
+
+
+def watch_ends(drill: Drill, machine: Machine) -> str:
+    """An idle machine is cut off: the watch ends its venue."""
+    unit, standbys, traders = at_work(drill, machine, drill.words())
+    cease(traders)
+    since = time.monotonic()
+    machine.cut()
+    ended = unit.await_line("status 137", since) - since
+    new = drill.goes_on(standbys, since)
+    drill.check(new.machine, traders)
+    later = drill.traded_on(new, machine)
+    machine.join()
+    drill.end(new, later)
+    return (drill.took("cut off while idle: the next machine is ready after", new.ready(since) - since) + ", "
+            + drill.took("the watch ends the venue that is cut off after", ended))
+
+
+def brick(drill: Drill, machine: Machine) -> str:
+    """Another machine's brick is killed while members trade: the venue goes on."""
+    unit, standbys, traders = at_work(drill, machine, drill.words())
+    since = time.monotonic()
+    for it in traders:
+        it.longest, it.heard_at = 0.0, since
+    drill.store.kill_brick(standbys[0].machine)
+    await_answers(traders, ENOUGH)
+    silence = max(it.silence() for it in traders)
+    cease(traders)
+    drill.store.start_bricks()
+    drill.end(unit, traders)
+    return drill.took("a killed brick: members hear nothing for", silence)
+
+
+def half(drill: Drill, machine: Machine) -> str:
+    """The machine that serves dies when its last write, which makes a block count, is on one of the two others alone:
+    the one that is read."""
+    if not shutil.which("cc"):
+        return "isn't tried: it needs cc"
+    second = drill.store.is_read_from()
+    holder, third = (it for it in drill.machines if it is not second)
+    drill.serve(holder, [*holding(), *alone()])
+    unit = drill.unit(second, drill.words())
+    traders = trading(holder, drill.rounds)
+    cease(traders)
+    stop_listening(traders)
+    with open(HOLD, "wb"):
+        send_one_more(traders[0])
+    await_that("a write is held", lambda: os.path.exists(HELD))
+    third.cut()
+    os.remove(HOLD)
+    await_that("the write is on one brick more",
+               lambda: drill.store.entries(second) == drill.store.entries(third) + 1)
+    since = time.monotonic()
+    holder.die()
+    third.join()
+    new = drill.goes_on([unit], since)
+    drill.check(new.machine, traders)
+    later = drill.traded_on(new, holder)
+    drill.store.come_back(holder)
+    drill.end(new, later)
+    return drill.took("half a write: the next machine is ready after", new.ready(since) - since)
+
+
+def holding() -> list[str]:
+    """The words before a program whose writes of one byte, which make a block count, wait as long as HOLD is there."""
+    ran("cc", "-shared", "-fPIC", "-O1", "-o", HOLDS, os.path.join(ROOT, "dev/drill_hold.c"))
+    return ["env", f"LD_PRELOAD={HOLDS}", f"HOLD={HOLD}", f"HELD={HELD}"]
+
+
+CASES = {"killed": killed, "dies": dies, "parted": parted, "joined": joined, "watched": watch_ends, "brick": brick,
+         "half": half}
+
+# What may be left out, the case that has to fail then, and in how many rounds at the most.
+PLANTS = {"strict-locks": ("joined", 1), "quorum": ("parted", 1), "step": ("half", 6), "watch": ("watched", 1)}
+BY_CHANCE = ["no-views"]  # What may be left out too, and is seen to do harm in few rounds alone.

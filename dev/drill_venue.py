@@ -1,0 +1,91 @@
+"""A venue on one of the machines of dev/failover-drill, started again and again as its unit has it. Not a
+script."""
+import os
+import threading
+import time
+
+from drill_machines import SHARED, Machine, await_that, children, kill
+from drill_store import FOLDER, JOURNAL
+from gikvand.programs import ROOT, VENUED
+from venues import Trouble
+
+STANDBY = os.path.join(ROOT, "contrib/standby")
+STEP, SERVE = (os.path.join(STANDBY, it) for it in ("before-start", "serve"))
+SYMBOL, PORT, GATEWAYS = "ABC", 9001, 4
+LOCKED = "status 41"  # Of a start that another venue's lock refuses, by the step or, without it,
+FAULT = "status 1"    # by the venue itself.
+
+# What contrib/standby/venued@.conf asks of systemd: the step, the venue, and half a second between two starts.
+UNIT = f"""cd "{SHARED}/{FOLDER}"
+step="$1"
+shift
+while :; do
+    "$step" {JOURNAL} && "$@"
+    status=$?
+    echo "status $status"
+    case $status in 0 | 2) exit ;; esac
+    sleep 0.5
+done"""
+
+
+def watched() -> list[str]:
+    """The words of a venue with the watch beside it, as the unit has it."""
+    return ["env", f"PATH={os.path.dirname(VENUED)}:{os.environ['PATH']}", SERVE, str(PORT), JOURNAL, str(GATEWAYS)]
+
+
+def alone() -> list[str]:
+    """The words of a venue without the watch."""
+    return [VENUED, str(PORT), JOURNAL, str(GATEWAYS), SYMBOL]
+
+
+class Unit:
+    """The unit on a machine, from now on, and the lines that it prints, each with its moment."""
+
+    def __init__(self, machine: Machine, words: list[str], step: str = STEP) -> None:
+        self.machine, self.lines = machine, []
+        self.process = machine.begin("bash", "-c", UNIT, "unit", step, *words)
+        threading.Thread(target=self.read, daemon=True).start()
+
+    def read(self) -> None:
+        with self.process.stdout as pipe:
+            for line in pipe:
+                self.lines.append((time.monotonic(), line.rstrip("\n")))
+
+    def when(self, begins: str, since: float) -> float | None:
+        """The moment of its first line that begins so, since some moment."""
+        return next((at for at, line in self.lines if at >= since and line.startswith(begins)), None)
+
+    def ready(self, since: float) -> float | None:
+        return self.when("venued: ready, ", since)
+
+    def refused(self, since: float) -> int:
+        """How often a start was refused for the lock."""
+        return sum(at >= since and line in (LOCKED, FAULT) for at, line in self.lines)
+
+    def await_line(self, begins: str, since: float) -> float:
+        await_that(f"the venue on {self.machine.name} says '{begins}'", lambda: self.when(begins, since) is not None)
+        return self.when(begins, since)
+
+    def end(self) -> None:
+        """Kills it, and then the venue: nothing starts again here."""
+        for loop in children(self.process.pid):
+            its = children(loop)
+            kill(loop)
+            for it in its:
+                kill(it)
+        self.process.wait()
+
+    def stop(self) -> None:
+        """Stops the venue in order."""
+        since = time.monotonic()
+        with open(self.machine.path(f"{SHARED}/{FOLDER}/{JOURNAL}.stop"), "wb"):
+            pass
+        self.await_line("venued: stopped, ", since)
+        if status := self.process.wait():
+            raise Trouble(f"the unit of a venue that was stopped ended with {status}")
+
+
+def first_ready(units: list[Unit], since: float) -> Unit:
+    """The unit whose venue is ready first since some moment."""
+    await_that("one of the other machines serves", lambda: any(it.ready(since) for it in units))
+    return min((it for it in units if it.ready(since)), key=lambda it: it.ready(since))

@@ -1,0 +1,243 @@
+"""A venue that listens and its clients, for the scripts that drive the built programs over TCP, and what their tests share."""
+import functools
+import os
+import queue
+import re
+import select
+import signal
+import socket
+import subprocess
+import sys
+import tempfile
+import threading
+
+import with_scripts  # (in front of what stands there, and of what an older Python can't read)
+from gikvand import programs
+from gikvand.fix import HEAD, framed, parted, printed, value  # (some of them for those that import this module)
+from gikvand.ports import HOST, free_port
+from gikvand.programs import REPLAY, ROOT, VENUED, Trouble
+
+TIME = "20250102-09:30:00"
+PATIENCE = int(os.environ.get("VENUE_PATIENCE", "30"))  # Seconds to wait for what has to come.
+TRIES = 10                   # Rows of ports to try: another process may take one before the venue does.
+COUNTS = re.compile(r"venued: (\w+), (\d+) commands, (\d+) outputs")
+
+running = []
+
+
+def need_programs():
+    """Stops where a program isn't built."""
+    programs.need(VENUED, REPLAY)
+
+
+def message(member, number, kind, body=""):
+    """A whole message of this member."""
+    return framed(f"35={kind}|49=C{member}|56=VENUE|34={number}|52={TIME}|{body}")
+
+
+def order(name, side, quantity, price, symbol="ABC", more=""):
+    """The body of a new order: 1 buys, 2 sells."""
+    return f"11={name}|55={symbol}|54={side}|60={TIME}|38={quantity}|40=2|44={price}|{more}"
+
+
+def market_order(name, side, quantity, symbol="ABC", more=""):
+    """The body of a new order without a price: it trades at any, and never rests."""
+    return f"11={name}|55={symbol}|54={side}|60={TIME}|38={quantity}|40=1|{more}"
+
+
+class Lines:
+    """The lines that come out of a program, read by a thread of their own."""
+
+    def __init__(self, pipe):
+        self.queue = queue.Queue()
+        threading.Thread(target=self.read, args=(pipe,), daemon=True).start()
+
+    def read(self, pipe):
+        with pipe:
+            for line in pipe:
+                self.queue.put(line.rstrip("\n"))
+        self.queue.put(None)
+
+    def next(self, seconds=PATIENCE):
+        """The next line, or None at the end."""
+        try:
+            return self.queue.get(timeout=seconds)
+        except queue.Empty:
+            raise Trouble(f"no line within {seconds} seconds") from None
+
+
+class Venue:
+    """A venued that listens, or was told to; or another program of its words and lines."""
+
+    def __init__(self, port, journal, gateways, symbols=("ABC",), env=None, program=None):
+        self.port, self.journal = port, journal
+        words = [program or VENUED, str(port), journal, str(gateways), *symbols]
+        self.process = subprocess.Popen(words, stdout=subprocess.PIPE, stderr=subprocess.PIPE, text=True, env=env)
+        running.append(self)
+        self.out, self.err = Lines(self.process.stdout), Lines(self.process.stderr)
+
+    def counts(self, word):
+        """The commands and outputs of its next line, which has to begin so."""
+        line = self.out.next()
+        found = COUNTS.fullmatch(line or "")
+        if not found or found[1] != word:
+            raise Trouble(f"not '{word}', but {line or self.err.next() or 'nothing'}")
+        return int(found[2]), int(found[3])
+
+    def ready(self):
+        """Waits until it listens: the counts of what it found in the journal."""
+        return self.counts("ready")
+
+    def status(self):
+        """Waits for its end, behind which nothing more may have been printed."""
+        try:
+            status = self.process.wait(PATIENCE)
+        except subprocess.TimeoutExpired:
+            raise Trouble(f"venued hasn't ended within {PATIENCE} seconds") from None
+        for lines in (self.out, self.err):
+            if line := lines.next():
+                raise Trouble(f"one line too many: {line}")
+        return status
+
+    def stop(self):
+        """Stops it by its file: the counts that it prints."""
+        with open(f"{self.journal}.stop", "w", encoding="ascii"):
+            pass
+        counts = self.counts("stopped")
+        if status := self.status():
+            raise Trouble(f"status {status} of a venue that was stopped")
+        return counts
+
+    def pause(self):
+        """Stops all of its threads, until it goes on or is killed. A signal alone only asks for that: on a busy machine
+        they may read what comes behind it."""
+        self.process.send_signal(signal.SIGSTOP)
+        os.waitid(os.P_PID, self.process.pid, os.WSTOPPED)
+
+    def go_on(self):
+        self.process.send_signal(signal.SIGCONT)
+
+    def kill(self):
+        self.process.kill()
+        self.process.wait()
+
+
+def kill_all():
+    """Ends all venues that may still run."""
+    while running:
+        running.pop().kill()
+
+
+def chosen_of(tests):
+    """Those tests whose names have one of the command line's words in them, or all."""
+    return [it for it in tests if not sys.argv[1:] or any(word in it.__name__ for word in sys.argv[1:])]
+
+
+def in_a_folder(test):
+    """The test in a folder of its own."""
+    @functools.wraps(test)
+    def run(*given):
+        with tempfile.TemporaryDirectory(prefix="tests-") as folder:
+            os.chdir(folder)
+            try:
+                test(*given)
+            finally:
+                kill_all()
+                os.chdir(ROOT)
+    return run
+
+
+def tried(tests, *given):
+    """Tries each test with what is given, and prints which fail and how many: the status, 1 where one failed."""
+    failed = 0
+    for test in tests:
+        try:
+            test(*given)
+        except Exception as why:
+            print(f"{test.__name__}: {why if isinstance(why, Trouble) else repr(why)}", flush=True)
+            failed += 1
+        finally:
+            kill_all()
+    print(f"{len(tests) - failed} passed, {failed} failed")
+    return 1 if failed else 0
+
+
+def main_of(name, doc, tests, run=tried):
+    """What a file of tests of this name does: it runs those that the command line chooses, once the programs are there, or
+    prints its own text where that asks for help. Answers the status."""
+    if set(sys.argv[1:]) & {"-h", "--help"}:
+        print(doc.strip())
+        return 0
+    try:
+        need_programs()
+    except Trouble as why:
+        sys.exit(f"{name}: {why}")
+    return run(chosen_of(tests))
+
+
+def started(journal, gateways, symbols=("ABC",), program=None):
+    """A venue on free ports that is ready."""
+    for _ in range(TRIES):
+        venue = Venue(free_port(gateways), journal, gateways, symbols, program=program)
+        line = venue.out.next()
+        if COUNTS.fullmatch(line or ""):
+            return venue
+        fault = venue.err.next()
+        if not (fault or "").startswith("venued: cannot listen"):
+            raise Trouble(f"venued isn't ready; it said: {line or fault or 'nothing'}")
+    raise Trouble(f"in {TRIES} tries no {gateways} ports stayed free")
+
+
+class Client:
+    """A connection of a member, and the FIX session over it."""
+
+    def __init__(self, port, member):
+        self.socket = socket.create_connection((HOST, port + member - 1), PATIENCE)
+        self.socket.setsockopt(socket.IPPROTO_TCP, socket.TCP_NODELAY, 1)
+        self.member, self.number = member, 0
+        self.rest, self.came, self.is_over = b"", [], False
+
+    def send_bytes(self, data):
+        self.socket.sendall(data)
+
+    def send(self, kind, body=""):
+        """Sends the session's next message."""
+        self.number += 1
+        self.send_bytes(message(self.member, self.number, kind, body))
+
+    def is_quiet(self, seconds):
+        """Whether nothing comes for this time."""
+        return not self.came and not select.select([self.socket], [], [], seconds)[0]
+
+    def next(self):
+        """The next message, or None at the end of the bytes."""
+        while not self.came and not self.is_over:
+            try:
+                data = self.socket.recv(65536)
+            except socket.timeout:
+                raise Trouble(f"C{self.member} hears nothing within {PATIENCE} seconds") from None
+            self.is_over = not data
+            self.came, self.rest = parted(self.rest + data)
+        return self.came.pop(0) if self.came else None
+
+    def log_on(self):
+        self.send("A", "98=0|108=0|141=Y|")
+        if value(came := self.next() or "nothing", "35") != "A":
+            raise Trouble(f"the Logon of C{self.member} was answered by {came}")
+        return self
+
+    def close(self):
+        self.socket.close()
+
+
+def replay(journal, what, symbols=("ABC",)):
+    """The lines that venue-replay prints, and the commands and outputs of the last one."""
+    told = programs.Replay(journal, what, list(symbols))
+    lines = list(told)
+    return lines, (told.commands, told.outputs)
+
+
+def check_snapshots(journal, symbols=("ABC",)):
+    """The line that venue-replay prints of a journal's snapshots."""
+    ran = subprocess.run([REPLAY, journal, "check", *symbols], capture_output=True, text=True)
+    return (ran.stdout + ran.stderr).strip()
