@@ -1,6 +1,6 @@
 -- A match that is over: nothing is left of the incoming order, or it crosses none.
-use Rattle.std.proofs.Common.{◌≡◌, inl, inr, ℕ, ◌+◌, ◌*◌, true, false, nat_lt, List, [], ◌++◌, length, refl, ap, sym}
-use Rattle.std.proofs.Common.{◌∙◌, arith, append-nil}
+use Rattle.std.proofs.Common.{◌≡◌, inl, inr, ℕ, ◌+◌, ◌*◌, ◌<◌, true, false, nat_lt, List, [], ◌∷◌, ◌++◌, length, refl}
+use Rattle.std.proofs.Common.{ap, sym, ◌∙◌, arith, append-nil}
 use Rattle.std.specs.Prelude.{sum_by, filter, if◌then◌else◌}
 use Rattle.std.specs.List.{AllByRecursion, flat_map}
 use Rattle.venue_model.specs.declared.orders.Order.{Order}
@@ -8,10 +8,11 @@ use Rattle.venue_model.specs.declared.outputs.Cause.{Cause}
 use Rattle.venue_model.specs.declared.outputs.Output.{Output}
 use Rattle.venue_model.specs.Orders.{leaves, is_live, crosses}
 use Rattle.venue_model.specs.Match.{crossing, fill, after_fill, after_fills, settled, done, rest, by_priority}
-use Rattle.venue_model.specs.Match.{filled_orders, trade, trades}
+use Rattle.venue_model.specs.Match.{filled_orders, trade, trades, live_alone, matched, match_outputs}
+use Rattle.venue_model.specs.declared.commands.TimeInForce.TheVariants.{Day}
 use Rattle.book.specs.Standing.{Rests, IsBookList}
-use Rattle.book.specs.Passes.{Matching, Passed, Over}
-use Rattle.book.specs.Reads.{fills}
+use Rattle.book.specs.Passes.{Matching, Passed, Over, NoneCrossed}
+use Rattle.book.specs.Reads.{fills, filled_by, IsMatched}
 use Rattle.book.proofs.Lists.{same-self, same_map, same_sum, filter-all, filter-none, each-of, each-map}
 use Rattle.book.proofs.Fills.{live-true}
 use Rattle.book.proofs.Passes.{filled-none, sum-zeros, product, counted, counted-none}
@@ -85,3 +86,19 @@ ended {c} {first} {last} passed over standing = record {
   told_is = sym (passed.said ∙ ap (λ ts. last.told ++ ts) (told-over last.incoming last.orders c over)
       ∙ append-nil last.told);
 }
+
+-- a day order that crosses none rests as it came, and nothing more is told or read
+module _ (i : Order) (orders : List Order) (none : NoneCrossed i orders) where
+  pub rests-whole : AllByRecursion Rests orders → 0 < leaves i → matched Day i orders ≡ orders ++ i ∷ []
+  rests-whole each some =
+      ap (λ xs. xs ++ live_alone (done i orders)) (rest-over i orders (inr none) each)
+      ∙ ap (λ o. orders ++ live_alone o) (done-over i orders (inr none))
+      ∙ ap (λ b. orders ++ (if b then i ∷ [] else [])) (live-true i some)
+
+  pub told-nothing : (c : Cause) (told : List Output) → told ≡ told ++ match_outputs c Day i orders
+  told-nothing c told = sym (ap (λ ts. told ++ ts) (told-over i orders c (inr none)) ∙ append-nil told)
+
+  pub read-nothing : (reads : ℕ) → IsMatched (filled_by Day i orders) reads reads
+  read-nothing reads =
+      let none_filled = fills-over i orders (inr none) in
+      record { least = omega (arith, none_filled); most = omega (arith, none_filled) }

@@ -26,7 +26,7 @@ fn next_fill(orders: &mut RestingOrders, incoming: &Order, reads: &mut Reads) ->
     requires reads { reads.old < 2 ^ 64 - 1 }
     ensures next { MatchOption result (Over incoming.now orders.old × (orders.new ≡ orders.old))
         (λ o. FillsFirst incoming.now orders.old orders.new o × (0 < leaves incoming.now)) }
-    ensures reads { MatchOption result ((reads.old ≤ reads.new) × (reads.new ≤ reads.old + 1)) (λ o. reads.new ≡ reads.old + 1) }
+    ensures reads { MatchOption result (reads.new ≡ reads.old) (λ o. reads.new ≡ reads.old + 1) }
 {
     if incoming.leaves() == 0 {
         None
@@ -86,6 +86,95 @@ fn sweep(
     }
 }
 
+/// A day order trades with those that it crosses, and what is left of it rests, behind all others.
+#[inline(never)]
+fn trade_and_rest(
+    orders: &mut RestingOrders,
+    incoming: &Order,
+    cause: Cause,
+    out: &mut Vec<Output>,
+    reads: &mut Reads,
+)
+    requires standing { IsBookList orders.old }
+    requires in_range { InRange incoming.now }
+    requires behind { Below incoming.now.stamp orders.old }
+    requires fresh { NoneNamed incoming.now.client incoming.now.cl_ord_id orders.old }
+    requires place { length orders.old < most_resting }
+    requires limit { incoming.now.is_market ≡ false }
+    requires room { vec_len out.old + 2 * length orders.old ≤ vec_capacity out.old }
+    requires reads { reads.old < 2 ^ 32 }
+    ensures orders { orders.new ≡ matched TimeInForce.Day incoming.now orders.old }
+    ensures told { out.new.items ≡ out.old.items ++ match_outputs cause TimeInForce.Day incoming.now orders.old }
+    ensures standing { IsBookList orders.new }
+    ensures below { (sequence : ℕ) → incoming.now.stamp < sequence → Below sequence orders.old
+        → Below sequence orders.new }
+    ensures room { vec_capacity out.new ≡ vec_capacity out.old }
+    ensures reads { IsMatched (filled_by TimeInForce.Day incoming.now orders.old) reads.old reads.new }
+{
+    let mut left = *incoming;
+    sweep(orders, &mut left, cause, out, reads);
+    if left.leaves() != 0 {
+        orders.push(&left);
+    }
+}
+
+/// An immediate-or-cancel order trades with those that it crosses, and what is left of it is canceled.
+#[inline(never)]
+fn trade_and_cancel(
+    orders: &mut RestingOrders,
+    incoming: &Order,
+    cause: Cause,
+    out: &mut Vec<Output>,
+    reads: &mut Reads,
+)
+    requires standing { IsBookList orders.old }
+    requires in_range { InRange incoming.now }
+    requires room { vec_len out.old + 2 * length orders.old < vec_capacity out.old }
+    requires reads { reads.old < 2 ^ 32 }
+    ensures orders { orders.new ≡ matched TimeInForce.ImmediateOrCancel incoming.now orders.old }
+    ensures told { out.new.items ≡ out.old.items ++ match_outputs cause TimeInForce.ImmediateOrCancel incoming.now orders.old }
+    ensures standing { IsBookList orders.new }
+    ensures below { (sequence : ℕ) → Below sequence orders.old → Below sequence orders.new }
+    ensures room { vec_capacity out.new ≡ vec_capacity out.old }
+    ensures reads { IsMatched (filled_by TimeInForce.ImmediateOrCancel incoming.now orders.old) reads.old reads.new }
+{
+    let mut left = *incoming;
+    sweep(orders, &mut left, cause, out, reads);
+    if left.leaves() != 0 {
+        tell(out, cause, canceled(), &left);
+    }
+}
+
+/// A fill-or-kill order trades whole, or it is canceled whole.
+#[inline(never)]
+fn trade_or_cancel(
+    orders: &mut RestingOrders,
+    incoming: &Order,
+    cause: Cause,
+    out: &mut Vec<Output>,
+    reads: &mut Reads,
+)
+    requires standing { IsBookList orders.old }
+    requires in_range { InRange incoming.now }
+    requires some { 0 < leaves incoming.now }
+    requires room { vec_len out.old + 2 * length orders.old < vec_capacity out.old }
+    requires reads { reads.old < 2 ^ 32 }
+    ensures orders { orders.new ≡ matched TimeInForce.FillOrKill incoming.now orders.old }
+    ensures told { out.new.items ≡ out.old.items ++ match_outputs cause TimeInForce.FillOrKill incoming.now orders.old }
+    ensures standing { IsBookList orders.new }
+    ensures below { (sequence : ℕ) → Below sequence orders.old → Below sequence orders.new }
+    ensures room { vec_capacity out.new ≡ vec_capacity out.old }
+    ensures reads { IsMatched (filled_by TimeInForce.FillOrKill incoming.now orders.old) reads.old reads.new }
+    ensures killed { can_fill incoming.now orders.old ≡ false → reads.new ≡ reads.old }
+{
+    if incoming.leaves() <= orders.crossing_total(incoming) {
+        let mut left = *incoming;
+        sweep(orders, &mut left, cause, out, reads);
+    } else {
+        tell(out, cause, canceled(), incoming);
+    }
+}
+
 /// A new order comes in on these terms, behind all that rest.
 #[inline(always)]
 pub(crate) fn enter(
@@ -114,27 +203,16 @@ pub(crate) fn enter(
     ensures reads { IsMatched (filled_by terms incoming.now orders.old) reads.old reads.new }
     ensures killed { terms ≡ TimeInForce.FillOrKill → can_fill incoming.now orders.old ≡ false → reads.new ≡ reads.old }
 {
-    let mut left = *incoming;
     match terms {
         TimeInForce::Day => {
-            sweep(orders, &mut left, cause, out, reads);
-            if left.leaves() != 0 {
-                orders.push(&left);
-            }
-        }
-        TimeInForce::ImmediateOrCancel => {
-            sweep(orders, &mut left, cause, out, reads);
-            if left.leaves() != 0 {
-                tell(out, cause, canceled(), &left);
-            }
-        }
-        TimeInForce::FillOrKill => {
-            if incoming.leaves() <= orders.crossing_total(incoming) {
-                sweep(orders, &mut left, cause, out, reads);
+            if orders.none_crossed(incoming) {
+                orders.push(incoming);
             } else {
-                tell(out, cause, canceled(), incoming);
+                trade_and_rest(orders, incoming, cause, out, reads);
             }
         }
+        TimeInForce::ImmediateOrCancel => trade_and_cancel(orders, incoming, cause, out, reads),
+        TimeInForce::FillOrKill => trade_or_cancel(orders, incoming, cause, out, reads),
     }
 }
 

@@ -1,6 +1,6 @@
 //! The resting orders: levels, and the index of names, kept together. Each order is found by its client and name, and the
 //! one ahead of all others by its level. Contracts see one list, in the order of the stamps.
-ghost use Rattle.std.specs.Prelude.{◌≡◌, ◌≢◌, ◌<◌, ◌≤◌, ◌+◌, ◌-◌, ◌^◌, not, [], ◌∷◌, ◌++◌, None, Some, length, map, filter, find, sum_by, IfOk, MatchOption, if◌then◌else◌};
+ghost use Rattle.std.specs.Prelude.{◌≡◌, ◌≢◌, ◌<◌, ◌≤◌, ◌+◌, ◌-◌, ◌^◌, true, not, [], ◌∷◌, ◌++◌, None, Some, length, map, filter, find, sum_by, IfOk, MatchOption, if◌then◌else◌};
 ghost use Rattle.venue_model.specs.Orders.{leaves};
 ghost use Rattle.venue_model.specs.Match.{crossing};
 ghost use Rattle.venue_model.specs.Requests.{is_named, most_resting};
@@ -8,7 +8,7 @@ ghost use Rattle.price_levels.specs.Places.{CanAmend, renamed_to};
 ghost use Rattle.price_levels.specs.Stamps.{InStamps, Comes};
 ghost use Rattle.book.specs.Standing.{InRange, Rests, Below, BehindLevel, NoneNamed};
 ghost use Rattle.venue_model.specs.declared.orders.Order.{Order};
-ghost use Rattle.book.specs.Firsts.{FillsFirst, FillsNone};
+ghost use Rattle.book.specs.Firsts.{FillsFirst, FillsNone, NoneCrossed};
 ghost use Rattle.book.specs.Queues.{NoneQueuedOf, IsFirst, NoneQueuedBehind, IsQueuedNext};
 
 use crate::order_index::OrderIndex;
@@ -76,6 +76,7 @@ impl RestingOrders {
     }
 
     /// An order comes behind all others.
+    #[inline(always)]
     pub(crate) fn push(&mut self, order: &Order)
         requires room { length self.old < most_resting }
         requires rests { Rests order.now }
@@ -87,6 +88,7 @@ impl RestingOrders {
     }
 
     /// An order of any stamp comes to where its stamp belongs, behind the others of its level.
+    #[inline(always)]
     pub(crate) fn insert(&mut self, order: &Order)
         requires room { length self.old < most_resting }
         requires rests { Rests order.now }
@@ -95,7 +97,7 @@ impl RestingOrders {
         ensures comes { Comes order.now self.old self.new }
         ensures stamps { InStamps self.new }
     {
-        let number = self.levels.push_back(*order).number();
+        let number = self.levels.push_copy(order).number();
         self.index
             .insert(order.client, order.cl_ord_id, number as u32);
         self.count += 1;
@@ -132,7 +134,7 @@ impl RestingOrders {
         requires reads { reads.old < 2 ^ 64 - 1 }
         requires some { 0 < leaves incoming.now }
         ensures first { MatchOption result (FillsNone incoming.now self.old self.new) (FillsFirst incoming.now self.old self.new) }
-        ensures reads { MatchOption result ((reads.old ≤ reads.new) × (reads.new ≤ reads.old + 1)) (λ o. reads.new ≡ reads.old + 1) }
+        ensures reads { MatchOption result (reads.new ≡ reads.old) (λ o. reads.new ≡ reads.old + 1) }
     {
         let side = incoming.side.opposite();
         let (place, price) = self.levels.best_priced(&incoming.symbol, side)?;
@@ -149,6 +151,18 @@ impl RestingOrders {
         self.count -= 1;
         self.levels.unlink(place);
         Some(order)
+    }
+
+    /// Whether the incoming order crosses none. It reads no order.
+    #[inline(always)]
+    pub(crate) fn none_crossed(&self, incoming: &Order) -> bool
+        ensures { result ≡ true → NoneCrossed incoming.now self.now }
+    {
+        let side = incoming.side.opposite();
+        match self.levels.best_priced(&incoming.symbol, side) {
+            Some((_place, price)) => !incoming.side.meets(incoming.price, side, price),
+            None => true,
+        }
     }
 
     /// The order of a symbol and side that is ahead of all others, or `None` where there is none.

@@ -3,8 +3,6 @@ use Rattle.std.proofs.Common.{◌≡◌, ℕ, zero, suc, ◌+◌, ◌-◌, ◌<�
 use Rattle.std.proofs.Common.{drop, refl, ap, sym, subst, ◌∙◌, arith, take_all, length-append}
 use Rattle.std.specs.Prelude.{slice_set}
 use Rattle.std.specs.List.{AllByRecursion, insert}
-use Rattle.std.specs.Global.{Vec}
-use Rattle.std.specs.Vec.{vec_capacity}
 use Rattle.std.proofs.lemmas.List.{get_or_default, get_or-map, map-set, length-set, length-map, length-drop}
 use Rattle.venue_model.specs.declared.orders.Side.{Side}
 use Rattle.price_levels.specs.declared.keys.Key.{Key}
@@ -15,7 +13,7 @@ use Rattle.price_levels.specs.declared.ladders.Rung.{Rung}
 use Rattle.venue_model.specs.Orders.{opposite}
 use Rattle.price_levels.specs.Arena.{holds, first_in, of_side, crossed_left, levels_with}
 use Rattle.price_levels.specs.Ladders.{Laddered, joined, all, rung_number, around, beyond, items_of, BelongsToHome}
-use Rattle.price_levels.specs.Ladders.{IsRung, IsOn, AreParted, AreLadders}
+use Rattle.price_levels.specs.Ladders.{Levelled, IsRung, IsOn, AreParted, AreLadders}
 use Rattle.price_levels.proofs.LevelLists.{all-append}
 use Rattle.price_levels.proofs.SearchLemmas.{all-at}
 use Rattle.price_levels.proofs.LadderLists.{cut, cut-set, get-at, insert-at, with-at, set-at, drop-at, first-row}
@@ -42,15 +40,15 @@ module _ {X : Type 0} (P : X → Type 0) where
   all-drop-n (x ∷ xs) (suc n) all = all-drop-n xs n all.1
 
 -- one ladder, as it was read
-pub record OneLadder (l : Laddered) (ladders : List (Vec Level)) (r : Rung) (one : Vec Level) : Type 0 where
+pub record OneLadder (l : Laddered) (ladders : List Levelled) (r : Rung) (one : Levelled) : Type 0 where
   pub is : l.ladders ≡ items_of ladders
   pub within : r.ladder < length l.ladders
   pub here : one ≡ get_or ladders r.ladder one
 
-abbrev pub shown : List Fence → List (Vec Level) → ℕ → Laddered
+abbrev pub shown : List Fence → List Levelled → ℕ → Laddered
 shown fences ladders room = record { fences = fences; ladders = items_of ladders; room = room }
 
-pub one-ladder : {fences : List Fence} {room : ℕ} {l : Laddered} {one : Vec Level} (ladders : List (Vec Level))
+pub one-ladder : {fences : List Fence} {room : ℕ} {l : Laddered} {one : Levelled} (ladders : List Levelled)
     (r : Rung) → shown fences ladders room ≡ l → r.ladder < length l.ladders → one ≡ get_or ladders r.ladder one
     → OneLadder l ladders r one
 one-ladder ladders r view_is within here = record {
@@ -59,18 +57,18 @@ one-ladder ladders r view_is within here = record {
   here = here;
 }
 
-module _ {l : Laddered} {ladders : List (Vec Level)} {r : Rung} {one : Vec Level} (it : OneLadder l ladders r one) where
+module _ {l : Laddered} {ladders : List Levelled} {r : Rung} {one : Levelled} (it : OneLadder l ladders r one) where
   abbrev ahead : List Level
   ahead = joined (take r.ladder l.ladders)
 
   pub within-ladders : r.ladder < length ladders
-  within-ladders = let long = ap length it.is ∙ length-map ladders (λ (v : Vec Level). v.items) in
+  within-ladders = let long = ap length it.is ∙ length-map ladders (λ (v : Levelled). v.items) in
       omega (arith, it.within, long)
 
   pub around-is : around l r ≡ one.items
-  around-is = ap (λ xs. get_or xs r.ladder []) it.is ∙ get_or-map (λ (v : Vec Level). v.items) ladders r.ladder one []
+  around-is = ap (λ xs. get_or xs r.ladder []) it.is ∙ get_or-map (λ (v : Levelled). v.items) ladders r.ladder one []
       within-ladders
-      ∙ ap (λ (v : Vec Level). v.items) (sym it.here)
+      ∙ ap (λ (v : Levelled). v.items) (sym it.here)
 
   pub whole : all l ≡ ahead ++ (one.items ++ beyond l r)
   whole = cut l.ladders r.ladder it.within ∙ ap (λ g. ahead ++ (g ++ beyond l r)) around-is
@@ -131,9 +129,9 @@ module _ {l : Laddered} {ladders : List (Vec Level)} {r : Rung} {one : Vec Level
       (sym (take_all (length one.items - r.at) (drop r.at one.items) (omega (arith, rest))))
 
   -- it is another one now
-  module _ (other : Vec Level) where
+  module _ (other : Levelled) where
     pub replaced-is : joined (items_of (slice_set ladders r.ladder other)) ≡ ahead ++ (other.items ++ beyond l r)
-    replaced-is = ap joined (map-set (λ (v : Vec Level). v.items) ladders r.ladder other
+    replaced-is = ap joined (map-set (λ (v : Levelled). v.items) ladders r.ladder other
         ∙ ap (λ xs. slice_set xs r.ladder other.items) (sym it.is))
         ∙ cut-set l.ladders r.ladder other.items it.within
 
@@ -158,14 +156,14 @@ module _ {l : Laddered} {ladders : List (Vec Level)} {r : Rung} {one : Vec Level
     -- the ladders are right with it
     pub ladders-with : {fences : List Fence} {homes : List Home} {room : ℕ} → AreLadders fences homes ladders room →
         AllByRecursion (λ (m : Level). BelongsToHome fences r.ladder m.key.symbol m.key.side) other.items
-        → room ≤ vec_capacity other →
+        → room ≤ other.room →
         AreLadders fences homes (slice_set ladders r.ladder other) room
     ladders-with {fences} {homes} {room} are belong roomy = record {
       count = length-set ladders r.ladder other ∙ are.count;
-      parted = subst (AreParted fences) (sym (map-set (λ (v : Vec Level). v.items) ladders r.ladder other))
+      parted = subst (AreParted fences) (sym (map-set (λ (v : Levelled). v.items) ladders r.ladder other))
           (parted-set fences (items_of ladders) r.ladder other.items are.parted
           (let long = ap length it.is in omega (arith, it.within, long)) belong);
-      roomy = all-set (λ (v : Vec Level). room ≤ vec_capacity v) ladders r.ladder other are.roomy roomy;
+      roomy = all-set (λ (v : Levelled). room ≤ v.room) ladders r.ladder other are.roomy roomy;
       known = are.known;
     }
 
@@ -177,9 +175,9 @@ module _ {l : Laddered} {ladders : List (Vec Level)} {r : Rung} {one : Vec Level
     pub belong-there : Belong one.items
     belong-there = subst Belong (ap (λ xs. get_or xs r.ladder []) (sym it.is) ∙ around-is) (are.parted r.ladder)
 
-    pub roomy-there : room ≤ vec_capacity one
-    roomy-there = subst (λ v. room ≤ vec_capacity v) (sym it.here)
-        (all-at (λ (v : Vec Level). room ≤ vec_capacity v) ladders r.ladder one
+    pub roomy-there : room ≤ one.room
+    roomy-there = subst (λ v. room ≤ v.room) (sym it.here)
+        (all-at (λ (v : Levelled). room ≤ v.room) ladders r.ladder one
         within-ladders are.roomy)
 
     pub belong-set : (m : Level) → r.at < length one.items → m.key ≡ (get_or (all l) (rung_number l r) m).key

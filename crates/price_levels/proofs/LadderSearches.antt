@@ -2,7 +2,6 @@
 use Rattle.std.proofs.Common.{◌≡◌, ℕ, ◌<◌, ◌≤◌, true, false, List, [], length, get_or, take, drop, ap, sym, subst, ◌∙◌}
 use Rattle.std.proofs.Common.{arith}
 use Rattle.std.specs.List.{AllByRecursion}
-use Rattle.std.specs.Global.{Vec}
 use Rattle.std.proofs.lemmas.List.{length-map}
 use Rattle.venue_model.specs.declared.orders.Side.{Side}
 use Rattle.price_levels.specs.declared.keys.Key.{Key}
@@ -11,7 +10,7 @@ use Rattle.price_levels.specs.declared.ladders.Fence.{Fence}
 use Rattle.price_levels.specs.declared.ladders.Home.{Home}
 use Rattle.price_levels.specs.Keys.{key_before, before_side, InOrder}
 use Rattle.price_levels.specs.Ladders.{Laddered, all, rung_number, items_of, IsRung, IsHome, BelongsToHome, AreParted}
-use Rattle.price_levels.specs.Ladders.{IsHomeOf, AreLadders}
+use Rattle.price_levels.specs.Ladders.{Levelled, IsHomeOf, AreLadders}
 use Rattle.price_levels.proofs.SearchLemmas.{all-at}
 use Rattle.price_levels.proofs.LadderLemmas.{belongs-within, beyond-alone, ladder-order, search-before, search-behind}
 use Rattle.price_levels.proofs.LadderLemmas.{side-search-before, side-search-behind}
@@ -32,18 +31,18 @@ at-home own fences i s symbol d side same symbols sides belongs =
     symbols (subst (λ fs. BelongsToHome fs i s d) same belongs))
 
 -- the ladder of a key
-pub record KeyLadder (l : Laddered) (fences : List Fence) (homes : List Home) (ladders : List (Vec Level)) (room : ℕ)
+pub record KeyLadder (l : Laddered) (fences : List Fence) (homes : List Home) (ladders : List Levelled) (room : ℕ)
     (k : Key) (i : ℕ) : Type 0 where
   pub are : AreLadders fences homes ladders room
   pub view_is : shown fences ladders room ≡ l
   pub belongs : BelongsToHome l.fences i k.symbol k.side
 
-pub key-ladder : {l : Laddered} {fences : List Fence} {homes : List Home} {ladders : List (Vec Level)} {room : ℕ}
+pub key-ladder : {l : Laddered} {fences : List Fence} {homes : List Home} {ladders : List Levelled} {room : ℕ}
     (k : Key) (i : ℕ) → AreLadders fences homes ladders room → shown fences ladders room ≡ l
     → BelongsToHome l.fences i k.symbol k.side → KeyLadder l fences homes ladders room k i
 key-ladder k i are view_is belongs = record { are = are; view_is = view_is; belongs = belongs }
 
-module _ {l : Laddered} {fences : List Fence} {homes : List Home} {ladders : List (Vec Level)} {room : ℕ} {k : Key}
+module _ {l : Laddered} {fences : List Fence} {homes : List Home} {ladders : List Levelled} {room : ℕ} {k : Key}
     {i : ℕ} (it : KeyLadder l fences homes ladders room k i) where
   its-fences : l.fences ≡ fences
   its-fences = sym (ap (λ (m : Laddered). m.fences) it.view_is)
@@ -59,7 +58,7 @@ module _ {l : Laddered} {fences : List Fence} {homes : List Home} {ladders : Lis
 
   there-seen : i < length l.ladders
   there-seen =
-      let long = ap (length {A = List Level}) its-ladders ∙ length-map ladders (λ (v : Vec Level). v.items) in
+      let long = ap (length {A = List Level}) its-ladders ∙ length-map ladders (λ (v : Levelled). v.items) in
       let own = there in
       omega (arith, own, long)
 
@@ -68,7 +67,7 @@ module _ {l : Laddered} {fences : List Fence} {homes : List Home} {ladders : Lis
       (subst (λ fs. AreParted fs (items_of ladders)) (sym its-fences) it.are.parted)
 
   -- in its ladder, as its levels were read, the search has come to a place
-  module _ {one : Vec Level} {levels : List Level} (here : one ≡ get_or ladders i one) (read : levels ≡ one.items) where
+  module _ {one : Levelled} {levels : List Level} (here : one ≡ get_or ladders i one) (read : levels ≡ one.items) where
     its-levels : get_or l.ladders i [] ≡ levels
     its-levels = around-is (one-ladder ladders (record { ladder = i; at = 0 }) it.view_is there-seen here) ∙ sym read
 

@@ -27,3 +27,4 @@ mod LadderCalls
 mod LadderSearches
 mod FoundLemmas
 mod LadderEnds
+mod GapLemmas

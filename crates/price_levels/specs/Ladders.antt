@@ -1,17 +1,26 @@
 -- The levels in ladders: those of all symbols and sides between two fences are a list of their own.
 use Rattle.std.specs.Prelude.{◌≡◌, ⊤, ℕ, zero, suc, ◌+◌, ◌<◌, ◌≤◌, Bool, true, false, List, [], ◌∷◌, ◌++◌, length, map, get_or, take, drop, if◌then◌else◌}
 use Rattle.std.specs.List.{AllByRecursion}
-use Rattle.std.specs.Global.{Vec}
-use Rattle.std.specs.Vec.{vec_capacity}
 use Rattle.std.specs.Str.{bytes_eq}
 use Rattle.venue_model.specs.declared.orders.Side.{Side}
 use Rattle.venue_model.specs.declared.orders.Side.TheVariants.{Buy, Sell}
 use Rattle.price_levels.specs.declared.keys.Level.{Level}
+use Rattle.price_levels.specs.declared.ladder.TheConstants.{GAP}
 use Rattle.price_levels.specs.declared.ladders.Fence.{Fence}
 use Rattle.price_levels.specs.declared.ladders.Home.{Home}
 use Rattle.price_levels.specs.declared.ladders.Rung.{Rung}
 use Rattle.price_levels.specs.Keys.{symbol_before, side_before}
 use Rattle.price_levels.specs.Arena.{of_side}
+
+-- what contracts see of one ladder: its levels, and how many it has room for
+pub record Levelled : Type 0 where
+  pub items : List Level
+  pub room : ℕ
+
+-- its levels begin at a place of the list, behind a gap
+pub record IsBehindGap (start : ℕ) (list : List Level) : Type 0 where
+  pub within : start ≤ length list
+  pub short : start ≤ GAP
 
 -- what contracts see: the fences, a ladder more than those, and how many levels each has room for
 pub record Laddered : Type 0 where
@@ -70,20 +79,20 @@ pub record IsHome (l : Laddered) (r : Rung) (symbol : List ℕ) (side : Side) : 
 abbrev pub AreParted : List Fence → List (List Level) → Type 0
 AreParted fences ladders = (i : ℕ) → AllByRecursion (λ (m : Level). BelongsToHome fences i m.key.symbol m.key.side) (get_or ladders i [])
 
-abbrev pub items_of : List (Vec Level) → List (List Level)
+abbrev pub items_of : List Levelled → List (List Level)
 items_of ladders = map (λ v. v.items) ladders
 
 -- a ladder without levels, with room for so many
-abbrev pub IsEmpty : ℕ → Vec Level → Type 0
-IsEmpty room v = (v.items ≡ []) × (room ≤ vec_capacity v)
+abbrev pub IsEmpty : ℕ → Levelled → Type 0
+IsEmpty room v = (v.items ≡ []) × (room ≤ v.room)
 
 -- where a symbol's ladders are
 pub record IsHomeOf (fences : List Fence) (home : Home) : Type 0 where
   pub buys : BelongsToHome fences home.buys home.symbol Buy
   pub sells : BelongsToHome fences home.sells home.symbol Sell
 
-pub record AreLadders (fences : List Fence) (homes : List Home) (ladders : List (Vec Level)) (room : ℕ) : Type 0 where
+pub record AreLadders (fences : List Fence) (homes : List Home) (ladders : List Levelled) (room : ℕ) : Type 0 where
   pub count : length ladders ≡ suc (length fences)
   pub parted : AreParted fences (items_of ladders)
-  pub roomy : AllByRecursion (λ v. room ≤ vec_capacity v) ladders
+  pub roomy : AllByRecursion (λ v. room ≤ v.room) ladders
   pub known : AllByRecursion (IsHomeOf fences) homes

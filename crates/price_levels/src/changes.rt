@@ -26,6 +26,7 @@ fn seat(nodes: &mut Vec<Node>, last: Option<usize>, place: usize, order: &Order)
 }
 
 /// An order comes. It answers its place.
+#[inline(always)]
 pub(crate) fn push(
     nodes: &mut Vec<Node>,
     free: &mut Vec<usize>,
@@ -42,9 +43,10 @@ pub(crate) fn push(
     ensures places { places_of nodes.new.items ≡ slice_set (places_of nodes.old.items) result (Some order.now) }
     ensures capacity { (vec_capacity free.new ≡ vec_capacity free.old) × (ladders.new.room ≡ ladders.old.room) }
 {
-    let place = free.pop().unwrap();
     let key = key_of(order);
-    let rung = ladders.search(&key);
+    let ladder = ladders.ladder_of(&order.symbol, order.side);
+    let rung = ladders.search_in(ladder, &key);
+    let place = free.pop().unwrap();
     if ladders.holds(rung, &key) {
         let level = ladders.level(rung);
         let longer = Level {

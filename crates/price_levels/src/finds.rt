@@ -46,6 +46,7 @@ pub(crate) fn first_in(
 }
 
 /// The place of the order of a symbol and side that is ahead of all others, and its price.
+#[inline(always)]
 pub(crate) fn best(
     nodes: &Vec<Node>,
     ladders: &Ladders,
@@ -56,7 +57,8 @@ pub(crate) fn best(
     ensures { MatchOption result (NoneOf symbol.now side (places_of nodes.now.items))
         (λ b. PricedBest symbol.now side (places_of nodes.now.items) b.0 b.1) }
 {
-    ladders.first_in(ladders.search_side(symbol, side), symbol, side)
+    let (_rung, first) = ladders.search_side(symbol, side);
+    first
 }
 
 /// The place of the order that comes next behind the one at this place.
@@ -113,6 +115,6 @@ pub(crate) fn crossing_total(
     requires { AreLevels nodes.now.items (all ladders.now) }
     ensures { result ≡ crossing_leaves symbol.now side price (places_of nodes.now.items) }
 {
-    let from = ladders.search_side(symbol, side.opposite());
+    let (from, _first) = ladders.search_side(symbol, side.opposite());
     ladders.crossed_left(from, symbol, side, price)
 }

@@ -108,7 +108,8 @@ pub(crate) fn search_price(levels: &[Level], key: &Key) -> usize
 }
 
 /// How many levels have a better price, where those stand first. Where they end is a matter of chance, which a processor
-/// can't foresee. So they are counted without a branch, eight at a time and then one by one.
+/// can't foresee. So they are counted without a branch: among seven where they mostly end, or else eight at a time and
+/// then one by one.
 #[inline(always)]
 fn count_better(levels: &[Level], side: Side, price: u64) -> usize
     requires { BetterFirst side price levels.now }
@@ -117,9 +118,56 @@ fn count_better(levels: &[Level], side: Side, price: u64) -> usize
     if levels.len() < 8 {
         return count_some(levels, side, price, 0, levels.len());
     }
+    let near = near(levels, side, price);
+    if are_better_ahead(levels, side, price, near)
+        && none_better_from(levels, side, price, near + 7)
+    {
+        return count_some(levels, side, price, near, 7);
+    }
     let (from, upto) = halve(levels, side, price);
     let at = count_eights(levels, side, price, from, upto);
     count_some(levels, side, price, at.min(levels.len() - 7), 7)
+}
+
+/// Where seven levels begin, up to the place that the price would have if each tick from the first level's on had one.
+/// Where some have none, those of a better price end farther ahead, and mostly among the seven.
+#[inline(always)]
+fn near(levels: &[Level], side: Side, price: u64) -> usize
+    requires { 8 ≤ length levels.now }
+    ensures { result + 7 ≤ length levels.now }
+{
+    let first = levels[0].key.price;
+    let ticks = match side {
+        Side::Buy => first.saturating_sub(price),
+        Side::Sell => price.saturating_sub(first),
+    };
+    (ticks as usize).saturating_sub(7).min(levels.len() - 7)
+}
+
+/// Whether all levels ahead of a place have a better price.
+#[inline(always)]
+fn are_better_ahead(levels: &[Level], side: Side, price: u64, at: usize) -> bool
+    requires order { BetterFirst side price levels.now }
+    requires within { at ≤ length levels.now }
+    ensures { result ≡ true → at ≤ count_better side price levels.now }
+{
+    if at == 0 {
+        return true;
+    }
+    price_before(side, levels[at - 1].key.price, price)
+}
+
+/// Whether no level from a place on has a better price.
+#[inline(always)]
+fn none_better_from(levels: &[Level], side: Side, price: u64, at: usize) -> bool
+    requires order { BetterFirst side price levels.now }
+    requires within { at ≤ length levels.now }
+    ensures { result ≡ true → count_better side price levels.now ≤ at }
+{
+    if at == levels.len() {
+        return true;
+    }
+    !price_before(side, levels[at].key.price, price)
 }
 
 /// Halves the levels until few are left: from one place up to another. Those of a better price end there.

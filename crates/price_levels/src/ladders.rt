@@ -5,12 +5,13 @@ ghost use Rattle.std.specs.Vec.{vec_len, vec_capacity};
 ghost use Rattle.std.specs.List.{AllByRecursion, insert};
 ghost use Rattle.venue_model.specs.Orders.{opposite};
 ghost use Rattle.price_levels.specs.Keys.{key_before, before_side, InOrder};
-ghost use Rattle.price_levels.specs.Arena.{holds, of_side, first_in, crossed_left, levels_with};
+ghost use Rattle.price_levels.specs.Arena.{holds, first_in, crossed_left, levels_with};
 ghost use Rattle.price_levels.specs.declared.ladders.Fence.{Fence};
 ghost use Rattle.price_levels.specs.Ladders.{BelongsToHome, IsRung, IsOn, IsHome, IsHomeOf, IsEmpty, all, rung_number};
 
-use crate::finds::{crossed_left, first_in, holds, is_of};
-use crate::keys::{Key, Level, comes_before, comes_before_side, search, search_price, search_side};
+use crate::finds::{crossed_left, first_in, holds};
+use crate::keys::{Key, Level, comes_before_side};
+use crate::ladder::{Ladder, place_in, start_of};
 use std::alloc::{AllocError, Global};
 use std::marker::Model;
 use venue_model::{Side, Symbol};
@@ -43,16 +44,12 @@ const SPOTS: usize = 256;
 /// How many homes stand side by side from a spot on, where the bytes of so many symbols lead to one.
 const SIDE_BY_SIDE: usize = 8;
 
-/// Each ladder takes a bit more room than it needs, so that not all of them begin at the same place of a page: their first
-/// levels, which are read most, would push one another out of a processor's nearest memory.
-const SPARE: usize = 27;
-
 /// All levels, in one ladder more than there are fences.
 #[derive(Drop)]
 pub(crate) struct Ladders {
     fences: Vec<Fence>,
     homes: Vec<Home>,
-    ladders: Vec<Vec<Level>>,
+    ladders: Vec<Ladder>,
     room: usize,
 }
 
@@ -86,7 +83,7 @@ impl Ladders {
 
     /// The ladder of a symbol and side.
     #[inline(always)]
-    fn ladder_of(&self, symbol: &Symbol, side: Side) -> usize
+    pub(crate) fn ladder_of(&self, symbol: &Symbol, side: Side) -> usize
         ensures { BelongsToHome self.now.fences result symbol.now side }
     {
         let spot = spot(symbol);
@@ -135,23 +132,37 @@ impl Ladders {
         ensures before { AllByRecursion (λ l. key_before l.key key.now ≡ true) (take (rung_number self.now result) (all self.now)) }
         ensures behind { AllByRecursion (λ l. key_before l.key key.now ≡ false) (drop (rung_number self.now result) (all self.now)) }
     {
-        let ladder = self.ladder_of(&key.symbol, key.side);
-        let at = place_in(&self.ladders[ladder], key);
+        self.search_in(self.ladder_of(&key.symbol, key.side), key)
+    }
+
+    /// The same in the key's ladder, which is known.
+    #[inline(always)]
+    pub(crate) fn search_in(&self, ladder: usize, key: &Key) -> Rung
+        requires order { InOrder (all self.now) }
+        requires belongs { BelongsToHome self.now.fences ladder key.now.symbol key.now.side }
+        ensures rung { IsRung self.now result }
+        ensures home { IsHome self.now result key.now.symbol key.now.side }
+        ensures before { AllByRecursion (λ l. key_before l.key key.now ≡ true) (take (rung_number self.now result) (all self.now)) }
+        ensures behind { AllByRecursion (λ l. key_before l.key key.now ≡ false) (drop (rung_number self.now result) (all self.now)) }
+    {
+        let at = place_in(self.ladders[ladder].levels(), key);
         Rung { ladder, at }
     }
 
-    /// The place of a symbol and side: all levels ahead of it stand before those, and none from it on does.
+    /// The place of a symbol and side: all levels ahead of it stand before those, and none from it on does. And the place
+    /// of the first order of the level there, with its price, if that is one of the symbol and side.
     #[inline(always)]
-    pub(crate) fn search_side(&self, symbol: &Symbol, side: Side) -> Rung
+    pub(crate) fn search_side(&self, symbol: &Symbol, side: Side) -> (Rung, Option<(usize, u64)>)
         requires { InOrder (all self.now) }
-        ensures rung { IsRung self.now result }
-        ensures home { IsHome self.now result symbol.now side }
-        ensures before { AllByRecursion (λ l. before_side symbol.now side l.key ≡ true) (take (rung_number self.now result) (all self.now)) }
-        ensures behind { AllByRecursion (λ l. before_side symbol.now side l.key ≡ false) (drop (rung_number self.now result) (all self.now)) }
+        ensures rung { IsRung self.now result.0 }
+        ensures home { IsHome self.now result.0 symbol.now side }
+        ensures before { AllByRecursion (λ l. before_side symbol.now side l.key ≡ true) (take (rung_number self.now result.0) (all self.now)) }
+        ensures behind { AllByRecursion (λ l. before_side symbol.now side l.key ≡ false) (drop (rung_number self.now result.0) (all self.now)) }
+        ensures first { result.1 ≡ first_in symbol.now side (all self.now) (rung_number self.now result.0) }
     {
         let ladder = self.ladder_of(symbol, side);
-        let at = start_of(&self.ladders[ladder], symbol, side);
-        Rung { ladder, at }
+        let (at, first) = start_of(self.ladders[ladder].levels(), symbol, side);
+        (Rung { ladder, at }, first)
     }
 
     /// Whether the level at this place is the key's.
@@ -161,7 +172,7 @@ impl Ladders {
         ensures holds { result ≡ holds (all self.now) (rung_number self.now rung) key.now }
         ensures on { result ≡ true → IsOn self.now rung }
     {
-        holds(&self.ladders[rung.ladder], rung.at, key)
+        holds(self.ladders[rung.ladder].levels(), rung.at, key)
     }
 
     /// The level at a place.
@@ -169,7 +180,7 @@ impl Ladders {
         requires { IsOn self.now rung }
         ensures { result ≡ get_or (all self.now) (rung_number self.now rung) result }
     {
-        self.ladders[rung.ladder][rung.at]
+        self.ladders[rung.ladder].levels()[rung.at]
     }
 
     /// The level at a place is another of its key now.
@@ -179,7 +190,7 @@ impl Ladders {
         ensures levels { all self.new ≡ slice_set (all self.old) (rung_number self.old rung) level }
         ensures room { self.new.room ≡ self.old.room }
     {
-        self.ladders[rung.ladder][rung.at] = level;
+        self.ladders[rung.ladder].set(rung.at, level);
     }
 
     /// A level comes, ahead of the one that stands there now.
@@ -190,7 +201,7 @@ impl Ladders {
         ensures levels { all self.new ≡ insert (all self.old) (rung_number self.old rung) level }
         ensures room { self.new.room ≡ self.old.room }
     {
-        let _ = self.ladders[rung.ladder].insert(rung.at, level);
+        self.ladders[rung.ladder].insert(rung.at, level);
     }
 
     /// The level at a place goes.
@@ -209,7 +220,7 @@ impl Ladders {
         requires home { IsHome self.now rung symbol.now side }
         ensures { result ≡ first_in symbol.now side (all self.now) (rung_number self.now rung) }
     {
-        first_in(&self.ladders[rung.ladder], rung.at, symbol, side)
+        first_in(self.ladders[rung.ladder].levels(), rung.at, symbol, side)
     }
 
     /// What the levels from this place on have left that an order crosses, up to the first that it doesn't.
@@ -219,7 +230,12 @@ impl Ladders {
         requires fits { crossed_left symbol.now side price (drop (rung_number self.now rung) (all self.now)) < 2 ^ 64 }
         ensures { result ≡ crossed_left symbol.now side price (drop (rung_number self.now rung) (all self.now)) }
     {
-        crossed_left(&self.ladders[rung.ladder][rung.at..], symbol, side, price)
+        crossed_left(
+            &self.ladders[rung.ladder].levels()[rung.at..],
+            symbol,
+            side,
+            price,
+        )
     }
 }
 
@@ -334,64 +350,13 @@ fn free_spot(homes: &[Home], first: &Symbol, symbol: &Symbol) -> Option<usize>
 }
 
 /// So many ladders, each with room for so many levels.
-fn empty_ladders(alloc: Global, count: usize, room: usize) -> Result<Vec<Vec<Level>>, AllocError>
+fn empty_ladders(alloc: Global, count: usize, room: usize) -> Result<Vec<Ladder>, AllocError>
     ensures { IfOk result (λ ladders. (length ladders.items ≡ count) × AllByRecursion (IsEmpty room) ladders.items) }
 {
     let mut ladders = Vec::with_capacity(alloc, count)?;
     'ladders: for _ in 0..count {
-        let ladder = Vec::with_capacity(alloc, room.saturating_add(SPARE))?;
+        let ladder = Ladder::new(alloc, room)?;
         ladders.push_reserved(ladder);
     }
     Ok(ladders)
-}
-
-/// The place of a key in a ladder: the first one for the best price, and else by prices alone, where all its levels are of
-/// the key's symbol and side.
-#[inline(always)]
-fn place_in(levels: &[Level], key: &Key) -> usize
-    requires { InOrder levels.now }
-    ensures within { result ≤ length levels.now }
-    ensures before { AllByRecursion (λ l. key_before l.key key.now ≡ true) (take result levels.now) }
-    ensures behind { AllByRecursion (λ l. key_before l.key key.now ≡ false) (drop result levels.now) }
-{
-    if levels.is_empty() {
-        return 0;
-    }
-    if !comes_before(&levels[0].key, key) {
-        return 0;
-    }
-    if are_of(levels, &key.symbol, key.side) {
-        search_price(levels, key)
-    } else {
-        search(levels, key)
-    }
-}
-
-/// Whether the first and the last level are of the symbol and side: so are all between them.
-#[inline(always)]
-fn are_of(levels: &[Level], symbol: &Symbol, side: Side) -> bool
-    requires { InOrder levels.now }
-    ensures { (result ≡ true) ↔ AllByRecursion (λ l. of_side symbol.now side l.key ≡ true) levels.now }
-{
-    if levels.is_empty() {
-        return true;
-    }
-    is_of(&levels[0], symbol, side) && is_of(&levels[levels.len() - 1], symbol, side)
-}
-
-/// The place of a symbol and side in a ladder: it begins with them, unless there are others.
-#[inline(always)]
-fn start_of(levels: &[Level], symbol: &Symbol, side: Side) -> usize
-    requires { InOrder levels.now }
-    ensures within { result ≤ length levels.now }
-    ensures before { AllByRecursion (λ l. before_side symbol.now side l.key ≡ true) (take result levels.now) }
-    ensures behind { AllByRecursion (λ l. before_side symbol.now side l.key ≡ false) (drop result levels.now) }
-{
-    if levels.is_empty() {
-        return 0;
-    }
-    if is_of(&levels[0], symbol, side) {
-        return 0;
-    }
-    search_side(levels, symbol, side)
 }

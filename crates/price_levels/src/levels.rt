@@ -93,6 +93,7 @@ impl Levels {
     }
 
     /// Puts an order behind the others of its symbol, side and price. It answers the place that it has from now on.
+    #[inline(always)]
     pub fn push_back(&mut self, order: Order) -> Place
         requires room { length (standing self.old) < length self.old }
         requires later { ComesLater self.old order }
@@ -101,8 +102,21 @@ impl Levels {
         ensures free { get_or self.old result.number None ≡ None }
         ensures places { self.new ≡ slice_set self.old result.number (Some order) }
     {
+        self.push_copy(&order)
+    }
+
+    /// The same with a copy of an order.
+    #[inline(always)]
+    pub fn push_copy(&mut self, order: &Order) -> Place
+        requires room { length (standing self.old) < length self.old }
+        requires later { ComesLater self.old order.now }
+        requires quantity { order.now.total ≤ 1000000 }
+        ensures within { result.number < length self.old }
+        ensures free { get_or self.old result.number None ≡ None }
+        ensures places { self.new ≡ slice_set self.old result.number (Some order.now) }
+    {
         Place {
-            number: push(&mut self.nodes, &mut self.free, &mut self.ladders, &order),
+            number: push(&mut self.nodes, &mut self.free, &mut self.ladders, order),
         }
     }
 

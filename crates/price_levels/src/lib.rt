@@ -5,6 +5,7 @@
 mod changes;
 mod finds;
 mod keys;
+mod ladder;
 mod ladders;
 mod levels;
 mod nodes;

@@ -1,58 +1,39 @@
--- What is left of a day order joins the list at its end; what rested stays in order.
-use Rattle.std.proofs.Common.{◌≡◌, ◌<◌, false, length, ap, sym, subst, ◌∙◌, arith}
-use Rattle.venue_model.specs.declared.orders.Order.{Order}
+-- A day order that crosses none joins the list at its end; what rested stays in order.
+use Rattle.std.proofs.Common.{◌≡◌, ap, arith}
 use Rattle.venue_model.specs.Orders.{leaves}
-use Rattle.venue_model.specs.Requests.{is_day, most_resting}
-use Rattle.book.specs.Standing.{Below}
-use Rattle.book.proofs.BookLemmas.{none-rest}
-use Rattle.book.proofs.StandingLemmas.{standing-push, below-push, rests-left}
-use Rattle.book.proofs.matching.enter.Goals.{After-sweep}
+use Rattle.venue_model.specs.Requests.{is_day}
+use Rattle.book.proofs.StandingLemmas.{standing-push, rests-left}
+use Rattle.book.proofs.Overs.{rests-whole, told-nothing, read-nothing}
 use Rattle.book.proofs.matching.enter.Goals as goal
 
-stamp : (c : After-sweep) → c.args.incoming.now.stamp ≡ c.sweep.new.incoming.stamp
-stamp c = ap (λ (o : Order). o.stamp) (sym c.sweep.ensures.done)
+pub returns-then-none_crossed-clause-orders : goal.returns-then-none_crossed-clause-orders
+returns-then-none_crossed-clause-orders c =
+    rw (
+      c.in-Day.is,
+      rests-whole c.args.incoming.now c.args.orders.now (c.none_crossed.ensures c.if-none_crossed.true)
+          c.requires.standing.each c.requires.some,
+    ) c.push.ensures
 
-behind : (c : After-sweep) → Below c.sweep.new.incoming.stamp c.sweep.new.orders
-behind c = subst (λ s. Below s c.sweep.new.orders) (stamp c)
-    (c.sweep.ensures.below c.args.incoming.now.stamp c.requires.behind)
+pub returns-then-none_crossed-clause-told : goal.returns-then-none_crossed-clause-told
+returns-then-none_crossed-clause-told c =
+    rw c.in-Day.is (told-nothing c.args.incoming.now c.args.orders.now (c.none_crossed.ensures c.if-none_crossed.true)
+    c.args.cause c.args.out.now.items)
 
-pub push-requires-clause-behind : goal.push-requires-clause-behind
-push-requires-clause-behind c = behind (goal.at.push-requires-clause-behind c).After-sweep
-
-pub push-requires-clause-fresh : goal.push-requires-clause-fresh
-push-requires-clause-fresh c =
+pub returns-then-none_crossed-clause-standing : goal.returns-then-none_crossed-clause-standing
+returns-then-none_crossed-clause-standing c =
     let i = c.args.incoming.now in
-    let client = ap (λ (o : Order). o.client) c.sweep.ensures.done in
-    let name = ap (λ (o : Order). o.cl_ord_id) c.sweep.ensures.done in
-    rw (client, name, c.sweep.ensures.orders) (none-rest i i.client i.cl_ord_id c.args.orders.now c.requires.fresh)
+    let some : leaves i ≡ 0 → ⊥ = λ none. omega (arith, none, c.requires.some) in
+    rw c.push.ensures (standing-push c.args.orders.now i
+    (rests-left i c.requires.in_range (c.requires.limit (ap is_day c.in-Day.is)) some)
+    c.requires.behind (c.requires.place (ap is_day c.in-Day.is)) c.requires.standing)
 
-pub returns-then-leaves-ne0-clause-standing : goal.returns-then-leaves-ne0-clause-standing
-returns-then-leaves-ne0-clause-standing c =
-    let left = c.sweep.new.incoming in
-    let some : leaves left ≡ 0 → ⊥ = λ none. c.if-leaves-ne0.true (c.leaves.ensures ∙ none) in
-    let day = c.requires.place (ap is_day c.in-Day.is) in
-    let limit : left.is_market ≡ false = ap (λ (o : Order). o.is_market) c.sweep.ensures.done
-    ∙ c.requires.limit (ap is_day c.in-Day.is) in
-    let few : length c.sweep.new.orders < most_resting = omega (arith, day, c.sweep.ensures.no_longer) in
-    rw c.push.ensures (standing-push c.sweep.new.orders left
-    (rests-left left c.sweep.ensures.in_range limit some)
-    (behind (goal.at.returns-then-leaves-ne0-clause-standing c).After-sweep) few c.sweep.ensures.standing)
+pub returns-then-none_crossed-clause-reads : goal.returns-then-none_crossed-clause-reads
+returns-then-none_crossed-clause-reads c =
+    rw c.in-Day.is (read-nothing c.args.incoming.now c.args.orders.now (c.none_crossed.ensures c.if-none_crossed.true)
+    c.args.reads.now)
 
-pub returns-then-leaves-ne0-clause-below : goal.returns-then-leaves-ne0-clause-below
-returns-then-leaves-ne0-clause-below c = λ s behind below.
-    rw c.push.ensures (below-push c.sweep.new.orders c.sweep.new.incoming s (subst (λ n. n < s)
-    (stamp (goal.at.returns-then-leaves-ne0-clause-below c).After-sweep) behind)
-    (c.sweep.ensures.below s below))
+pub returns-in-ImmediateOrCancel-clause-below : goal.returns-in-ImmediateOrCancel-clause-below
+returns-in-ImmediateOrCancel-clause-below c = λ s behind below. c.trade_and_cancel.ensures.below s below
 
-pub returns-else-leaves-ne0-clause-below : goal.returns-else-leaves-ne0-clause-below
-returns-else-leaves-ne0-clause-below c = λ s behind below. c.sweep.ensures.below s below
-
-pub returns-then-leaves-ne0-2-clause-below : goal.returns-then-leaves-ne0-2-clause-below
-returns-then-leaves-ne0-2-clause-below c = λ s behind below. c.sweep-in-ImmediateOrCancel.ensures.below s below
-
-pub returns-else-leaves-ne0-2-clause-below : goal.returns-else-leaves-ne0-2-clause-below
-returns-else-leaves-ne0-2-clause-below c = λ s behind below. c.sweep-in-ImmediateOrCancel.ensures.below s below
-
-pub returns-then-leaves-crossing_total-clause-below : goal.returns-then-leaves-crossing_total-clause-below
-returns-then-leaves-crossing_total-clause-below c = λ s behind below.
-    c.sweep-then-leaves-crossing_total.ensures.below s below
+pub returns-in-FillOrKill-clause-below : goal.returns-in-FillOrKill-clause-below
+returns-in-FillOrKill-clause-below c = λ s behind below. c.trade_or_cancel.ensures.below s below

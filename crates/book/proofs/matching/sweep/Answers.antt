@@ -64,4 +64,4 @@ returns-clause-reads c =
     let read = c.fills.invariant.read in
     let none = fills-over c.fills.incoming c.fills.orders c.in_default.ensures.next.0 in
     let last = c.in_default.ensures.reads in
-    record { least = omega (arith, read, none, last.0); most = omega (arith, read, none, last.1) }
+    record { least = omega (arith, read, none, last); most = omega (arith, read, none, last) }

@@ -8,10 +8,12 @@ use Rattle.price_levels.proofs.changes.push.Goals.{After-holds}
 use Rattle.price_levels.proofs.changes.push.Goals as goal
 
 it : (c : After-holds) → Comes c.args.nodes.now.items c.pop.new.self.items (all c.args.ladders.now)
-    c.unwrap-place.result (rung_number c.args.ladders.now c.search-rung.result) c.args.order.now c.holds.result
-it c = comes c.requires.levels c.pop.ensures.items c.unwrap-place.ensures c.key_of-key.ensures
-    (record { before = c.search-rung.ensures.before; behind = c.search-rung.ensures.behind }) c.holds.ensures.holds
-    c.requires.quantity c.requires.later
+    c.unwrap-place.result (rung_number c.args.ladders.now c.search_in-rung.result) c.args.order.now c.holds.result
+it c =
+    let search = c.search_in-rung.ensures in
+    comes c.requires.levels c.pop.ensures.items c.unwrap-place.ensures c.key_of-key.ensures
+    (record { before = search.before; behind = search.behind }) c.holds.ensures.holds c.requires.quantity
+    c.requires.later
 
 pub level-level-requires : goal.level-level-requires
 level-level-requires c = c.holds.ensures.on c.if-holds.true

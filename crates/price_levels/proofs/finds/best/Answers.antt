@@ -5,7 +5,7 @@ use Rattle.price_levels.proofs.finds.best.Goals as goal
 
 pub returns : goal.returns
 returns c =
+    let found = c.search_side-first.result in
+    let search = c.search_side-first.ensures in
     best-is c.args.nodes.now.items (all c.args.ladders.now) c.requires c.args.symbol.now c.args.side
-    (rung_number c.args.ladders.now c.search_side.result) c.search_side.ensures.before c.search_side.ensures.behind
-    c.first_in.result
-    c.first_in.ensures
+    (rung_number c.args.ladders.now found.0) search.before search.behind found.1 search.first

@@ -4,11 +4,11 @@ use Rattle.price_levels.specs.StampLaws.{listed-in_stamps}
 use Rattle.book.proofs.RestingCalls.{has-room, not-there, later-all, inserted-orders, inserted-kept}
 use Rattle.book.proofs.resting.RestingOrders.insert.Goals as goal
 
-pub push_back-requires-clause-room : goal.push_back-requires-clause-room
-push_back-requires-clause-room c = has-room (record { kept = c.self.invariant; list = c.self.view_is }) c.requires.room
+pub push_copy-requires-clause-room : goal.push_copy-requires-clause-room
+push_copy-requires-clause-room c = has-room (record { kept = c.self.invariant; list = c.self.view_is }) c.requires.room
 
-pub push_back-requires-clause-later : goal.push_back-requires-clause-later
-push_back-requires-clause-later c =
+pub push_copy-requires-clause-later : goal.push_copy-requires-clause-later
+push_copy-requires-clause-later c =
     later-all (record { kept = c.self.invariant; list = c.self.view_is }) c.args.order.now c.requires.later
 
 pub insert-requires-clause-fresh : goal.insert-requires-clause-fresh
@@ -27,14 +27,14 @@ overflow_add-self c =
 
 pub invariant_of-self : goal.invariant_of-self
 invariant_of-self c = inserted-kept (record { kept = c.self.invariant; list = c.self.view_is }) c.args.order.now
-    c.push_back.result.number c.push_back.ensures.within c.push_back.ensures.free c.push_back.new.self
-    c.push_back.ensures.places c.requires.rests c.requires.fresh c.number-number.result c.number-number.ensures
+    c.push_copy.result.number c.push_copy.ensures.within c.push_copy.ensures.free c.push_copy.new.self
+    c.push_copy.ensures.places c.requires.rests c.requires.fresh c.number-number.result c.number-number.ensures
     c.insert.new.self c.insert.ensures.places c.insert.ensures.entries
 
 pub returns-clause-comes : goal.returns-clause-comes
 returns-clause-comes c = inserted-orders (record { kept = c.self.invariant; list = c.self.view_is }) c.args.order.now
-    c.push_back.result.number c.push_back.ensures.within c.push_back.ensures.free c.push_back.new.self
-    c.push_back.ensures.places
+    c.push_copy.result.number c.push_copy.ensures.within c.push_copy.ensures.free c.push_copy.new.self
+    c.push_copy.ensures.places
 
 pub returns-clause-stamps : goal.returns-clause-stamps
-returns-clause-stamps c = listed-in_stamps c.push_back.new.self
+returns-clause-stamps c = listed-in_stamps c.push_copy.new.self

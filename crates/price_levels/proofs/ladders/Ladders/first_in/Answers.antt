@@ -10,5 +10,5 @@ returns c =
     let rung = c.requires.rung in
     let it = one-ladder c.self.inside.ladders.items c.args.rung c.self.view_is rung.ladder c.index.ensures in
     c.first_in.ensures ∙ ap (λ (levels : List Level). first_in c.args.symbol.now c.args.side levels c.args.rung.at)
-    c.deref.ensures.value
+    c.levels.ensures
     ∙ sym (first-is it c.args.symbol.now c.args.side (rung-here it rung) c.requires.home.alone)

@@ -1,7 +1,7 @@
 -- The first level isn't before the key, so none is.
 use Rattle.std.proofs.Common.{sym, ◌∙◌}
 use Rattle.price_levels.proofs.LadderLemmas.{none-before}
-use Rattle.price_levels.proofs.ladders.place_in.Goals as goal
+use Rattle.price_levels.proofs.ladder.place_in.Goals as goal
 
 pub returns-then-not-comes_before-clause-behind : goal.returns-then-not-comes_before-clause-behind
 returns-then-not-comes_before-clause-behind c =

@@ -4,7 +4,7 @@ use Rattle.std.proofs.lemmas.Bool.Decides.{nat_tests}
 use Rattle.price_levels.specs.declared.keys.Level.{Level}
 use Rattle.price_levels.specs.Arena.{of_side}
 use Rattle.price_levels.proofs.LadderLemmas.{all-of-ends, at-all}
-use Rattle.price_levels.proofs.ladders.are_of.Goals as goal
+use Rattle.price_levels.proofs.ladder.are_of.Goals as goal
 
 pub returns-then-is_of : goal.returns-then-is_of
 returns-then-is_of c =

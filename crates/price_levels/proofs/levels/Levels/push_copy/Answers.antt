@@ -1,11 +1,11 @@
 -- The parts fit again, and there is room for all as before.
 use Rattle.std.proofs.Common.{Some, arith}
 use Rattle.price_levels.proofs.NodeLemmas.{as-long}
-use Rattle.price_levels.proofs.levels.Levels.push_back.Goals as goal
+use Rattle.price_levels.proofs.levels.Levels.push_copy.Goals as goal
 
 pub invariant_of-self : goal.invariant_of-self
 invariant_of-self c =
-    let long = as-long c.self.inside.nodes.items c.push.new.nodes.items c.push.result (Some c.args.order)
+    let long = as-long c.self.inside.nodes.items c.push.new.nodes.items c.push.result (Some c.args.order.now)
     c.push.ensures.places in
     let free = c.push.ensures.capacity.0 in
     let levels = c.push.ensures.capacity.1 in

@@ -1,7 +1,7 @@
 -- A level of theirs isn't before them, nor is one behind it.
 use Rattle.std.proofs.Common.{sym, ◌∙◌}
 use Rattle.price_levels.proofs.LadderLemmas.{starts}
-use Rattle.price_levels.proofs.ladders.start_of.Goals as goal
+use Rattle.price_levels.proofs.ladder.start_of.Goals as goal
 
 pub returns-then-is_of-clause-behind : goal.returns-then-is_of-clause-behind
 returns-then-is_of-clause-behind c =
