@@ -6,7 +6,7 @@ ghost use Rattle.ring_words.specs.Seats.{wrote};
 ghost use Rattle.ring_words.specs.At.{IsAt, Steps};
 ghost use Rattle.ring_words.specs.Steps.{Shows, MayWriteText};
 
-use ring_words::{MarshalSeat, Rings, TextHead, word_at};
+use ring_words::{MarshalSeat, Rings, TextHead, whole_word_at, word_at};
 use venue_model::{Logic, OutputType};
 
 /// Writes the text of an output that is published and not released into its row: MsgType, SendingTime and the body, at most 320 bytes. Rows are
@@ -33,7 +33,11 @@ pub fn write_text<L: Logic, const N: usize, const M: usize, const G: usize>(
     };
     rings.store_text(seat, place, 0, head.to_word());
     rings.store_text(seat, place, 1, sending_time);
-    for index in 0..body.len().div_ceil(8) {
-        rings.store_text(seat, place, index + 2, word_at(body, index));
+    let whole = body.len() / 8;
+    for index in 0..whole {
+        rings.store_text(seat, place, index + 2, whole_word_at(body, index));
+    }
+    if body.len() % 8 > 0 {
+        rings.store_text(seat, place, whole + 2, word_at(body, whole));
     }
 }

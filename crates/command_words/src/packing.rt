@@ -62,6 +62,7 @@ impl PackedCommand {
 }
 
 /// The words of a command that came through this gateway, 1 to 8.
+#[inline(always)]
 pub fn pack(gateway: u8, command: &Command) -> PackedCommand
     requires gateway { gateway < 16 }
     requires numbers { IsCommand command.now }
@@ -107,6 +108,7 @@ pub fn words_of(head: u64) -> usize
     }
 }
 
+#[inline(always)]
 fn new_words(head: u64, sending_time: u64, order: &NewOrderSingle) -> PackedCommand
     ensures words { result ≡ head ∷ more_words (Command.New sending_time order.now) }
     ensures spelling { IsSpelling order.now.symbol }
@@ -166,6 +168,7 @@ fn malformed_words(head: u64, sending_time: u64, fault: Malformed) -> PackedComm
 }
 
 /// Word 0 of a command.
+#[inline(always)]
 fn head_word(gateway: u8, command: &Command) -> u64
     requires gateway { gateway < 16 }
     requires numbers { IsCommand command.now }
@@ -203,6 +206,7 @@ fn head_word(gateway: u8, command: &Command) -> u64
 }
 
 /// The fields of an order that stand in its head.
+#[inline(always)]
 fn order_fields(side: Side, time_in_force: TimeInForce, quantity: u64, price: u64) -> u64
     requires quantity { quantity ≤ 1000000 }
     requires price { price ≤ 1000000 }

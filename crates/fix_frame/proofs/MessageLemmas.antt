@@ -1,13 +1,13 @@
 -- Why bytes are no frame: one ends before them, they go wrong, or more would have to come.
-use Rattle.std.proofs.Common.{◌≡◌, ℕ, ◌≤◌, ◌<◌, List, [], ◌++◌, length, take, drop, refl, ap, sym, ◌∙◌, subst, arith}
-use Rattle.std.proofs.lemmas.List.{append-nil, take-append-drop, length-drop, take_all}
-use Rattle.fix_frame.specs.Grammar.{Field, IsFrame, frame_text, fields_of, most_in}
+use Rattle.std.proofs.Common.{◌≡◌, ℕ, ◌≤◌, List, [], ◌++◌, length, take, refl, sym, ◌∙◌, subst}
+use Rattle.std.proofs.lemmas.List.{append-nil, take_all}
+use Rattle.fix_frame.specs.Grammar.{Field, IsFrame, frame_text, most_in}
 use Rattle.fix_frame.specs.Stream.{IsWrong}
-use Rattle.fix_frame.specs.Stages.{IsLive, IsStanding, body_part}
+use Rattle.fix_frame.specs.Stages.{IsLive}
 use Rattle.fix_frame.specs.declared.fault.FrameFault.{FrameFault}
 use Rattle.fix_frame.specs.declared.stage.Stage.{Stage}
 use Rattle.fix_frame.specs.declared.stage.Stage.TheVariants.{Head, Rest, Whole, Given, Faulty}
-use Rattle.fix_frame.proofs.FrameLemmas.{frame_right, one_frame}
+use Rattle.fix_frame.proofs.FrameLemmas.{frame_right}
 use Rattle.fix_frame.proofs.LiveLemmas.{not_yet}
 
 module _ (bytes : List ℕ) (fields : List Field) (is : IsFrame most_in bytes fields) where

@@ -22,5 +22,5 @@ pub use frame::Frame;
 pub use framer::Framer;
 pub use laws::{fields_are_spelled_once, frames_have_no_fault, streams_are_cut_once};
 pub use message::whole;
-pub use opening::opened;
+pub use opening::open_body;
 pub use write::{OVERHEAD, write_frame};

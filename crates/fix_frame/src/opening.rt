@@ -11,7 +11,7 @@ use crate::trailer::{TRAILER, is_closed, is_summed};
 
 /// The body of a message that is a frame if the body is a run of fields with MsgType (35) first; none where the bytes
 /// are no frame, whatever stands in the body.
-pub fn opened(bytes: &[u8]) -> Option<Body<'_>>
+pub fn open_body(bytes: &[u8]) -> Option<Body<'_>>
     ensures { MatchOption result ((fields : List Field) → IsFrame most_in bytes.now fields → ⊥) (λ body. OpensTo bytes.now (bytes_left body)) }
 {
     let mut so_far = 0;
@@ -25,7 +25,7 @@ pub fn opened(bytes: &[u8]) -> Option<Body<'_>>
         };
         match stage {
             Stage::Head(next) => so_far = next,
-            Stage::Rest(body, count) => return closed(bytes, body, usize::from(count)),
+            Stage::Rest(body, count) => return body_behind_head(bytes, body, usize::from(count)),
             Stage::Whole(_) | Stage::Given | Stage::Faulty(_) => return None,
         }
     }
@@ -33,7 +33,7 @@ pub fn opened(bytes: &[u8]) -> Option<Body<'_>>
 }
 
 /// The same behind a head, where the body begins at `body` and has so many bytes.
-fn closed(bytes: &[u8], body: usize, count: usize) -> Option<Body<'_>>
+fn body_behind_head(bytes: &[u8], body: usize, count: usize) -> Option<Body<'_>>
     requires { IsHeaded bytes.now body count }
     ensures { MatchOption result ((fields : List Field) → IsFrame most_in bytes.now fields → ⊥) (λ body. OpensTo bytes.now (bytes_left body)) }
 {

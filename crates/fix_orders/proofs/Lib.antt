@@ -1,5 +1,6 @@
 pub mod Examples
 pub mod NumberLemmas
+pub mod PairLemmas
 pub mod TimeLemmas
 pub mod FieldLemmas
 pub mod ValueLemmas

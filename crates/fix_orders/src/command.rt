@@ -19,7 +19,7 @@ use crate::number::read_digits;
 use crate::tables::{OrderTag, Table};
 use crate::time::number_of_time;
 use crate::values::Values;
-use fix_frame::{Body, Frame, opened};
+use fix_frame::{Body, Frame, open_body};
 use venue_model::{
     Command, Malformed, NewOrderSingle, OrdType, OrderCancelReplaceRequest, OrderCancelRequest,
     RefMsgType, Side, Symbol, TimeInForce,
@@ -35,7 +35,7 @@ pub fn decode(bytes: &[u8], market: bool) -> Command
         result ≡ Command.Void }
     ensures range { IsCommand result }
 {
-    match opened(bytes) {
+    match open_body(bytes) {
         Some(body) => command_in(body, market),
         None => Command::Void,
     }

@@ -1,11 +1,11 @@
 //! The header of a message: what a session looks at first, and a reader of orders too.
 ghost use Rattle.std.specs.Prelude.{◌≡◌, ◌≤◌, ◌∷◌, IfSome, IsTrue, IsFalse, MatchOption};
 ghost use Rattle.std.specs.Option.{option_map};
+ghost use Rattle.fix_frame.specs.Bodies.{bytes_left, fields_in, TakesOff};
 ghost use Rattle.fix_frame.specs.Borrowed.{fields_left};
+ghost use Rattle.fix_frame.specs.Runs.{IsRun};
 ghost use Rattle.fix_orders.specs.Formats.{is_time, value_of};
 ghost use Rattle.fix_orders.specs.Header.{LacksFirst, is_seq_num, as_header, header_of, BeginsNoHeader, TakesHeader};
-ghost use Rattle.fix_frame.specs.Bodies.{bytes_left, fields_in, TakesOff};
-ghost use Rattle.fix_frame.specs.Runs.{IsRun};
 ghost use Rattle.fix_orders.specs.Text.{field};
 
 use crate::number::read_number;
@@ -29,7 +29,7 @@ pub struct Header<'a> {
     pub rest: Fields<'a>,
 }
 
-/// The five fields that a header is made of.
+/// The five fields of a header, as in `Header`, without those behind them.
 #[derive(Clone, Copy, Debug)]
 pub struct HeaderFields<'a> {
     pub msg_type: &'a [u8],

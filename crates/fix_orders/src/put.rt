@@ -6,6 +6,13 @@ ghost use Rattle.fix_orders.specs.Formats.{last_digits};
 ghost use Rattle.fix_orders.specs.Text.{field, number};
 ghost use Rattle.fix_orders.specs.Writing.{Puts, PutsFields};
 
+/// The numbers below 100, one behind the other, in two digits each.
+const PAIRS: [u8; 200] = *b"0001020304050607080910111213141516171819\
+    2021222324252627282930313233343536373839\
+    4041424344454647484950515253545556575859\
+    6061626364656667686970717273747576777879\
+    8081828384858687888990919293949596979899";
+
 /// Writes the digits of a number from `at` on, and answers where they end. The numbers of tags are known where this is
 /// called, and have two digits or three.
 #[inline(always)]
@@ -13,7 +20,7 @@ fn put_digits(buf: &mut [u8], at: usize, n: u64) -> usize
     requires { at + length (decimal n) ≤ length buf.old }
     ensures { Puts buf.old buf.new at result (decimal n) }
 {
-    if n < 1_000 {
+    if n < 10_000 {
         put_few(buf, at, n)
     } else {
         put_many(buf, at, n)
@@ -66,8 +73,9 @@ pub(crate) fn put_two(buf: &mut [u8], at: usize, n: u64) -> usize
     requires { at + 2 ≤ length buf.old }
     ensures { Puts buf.old buf.new at result (last_digits 2 n) }
 {
-    buf[at] = b'0' + (n / 10 % 10) as u8;
-    buf[at + 1] = b'0' + (n % 10) as u8;
+    let pair = 2 * (n % 100) as usize;
+    buf[at] = PAIRS[pair];
+    buf[at + 1] = PAIRS[pair + 1];
     at + 2
 }
 

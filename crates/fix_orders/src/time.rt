@@ -20,15 +20,17 @@ pub fn is_time(value: &[u8]) -> bool
     value.len() == SHAPE.len() && has_shape(value)
 }
 
-/// Whether each byte fits the shape.
+/// Whether each byte of so many fits the shape. All are looked at, so that the machine can look at many at once.
 #[inline(always)]
 fn has_shape(value: &[u8]) -> bool
+    requires { length value.now ≡ 17 }
     ensures { result ≡ list_all fits (zip time_shape value.now) }
 {
-    SHAPE
-        .iter()
-        .zip(value)
-        .all(|(shape, byte)| fits(*shape, *byte))
+    let mut right = true;
+    for at in 0..SHAPE.len() {
+        right &= fits(SHAPE[at], value[at]);
+    }
+    right
 }
 
 /// Whether the byte fits the shape's byte at its place.

@@ -1,14 +1,14 @@
 -- The header of a message to the client: its fields are fields, and few bytes.
 use Rattle.std.proofs.Common.{◌≡◌, ℕ, zero, suc, ◌+◌, ◌/◌, ◌%◌, ◌^◌, ◌<◌, ◌≤◌, List, [], ◌∷◌, ◌++◌, length, take, refl}
-use Rattle.std.proofs.Common.{ap, sym, subst, ◌∙◌, arith, length-append}
+use Rattle.std.proofs.Common.{ap, sym, subst, ◌∙◌, arith, length-append, codes, get_or}
 use Rattle.std.specs.List.{AllByRecursion}
 use Rattle.std.specs.Fmt.{decimal, digits}
 use Rattle.std.specs.Char.{digit_value}
 use Rattle.std.specs.Str.Parse.{AllDigits}
-use Rattle.std.proofs.lemmas.Fmt.{decimal_is_IsNumeral, length-decimal-le}
+use Rattle.std.proofs.lemmas.Fmt.{decimal_digit, decimal_is_IsNumeral, length-decimal-le}
 use Rattle.std.proofs.lemmas.List.{length-take-le}
 use Rattle.fix_frame.specs.Ascii.{soh}
-use Rattle.fix_frame.specs.Grammar.{Field, IsField, LacksSoh, IsBody, print_fields, frame_of, most_out}
+use Rattle.fix_frame.specs.Grammar.{Field, IsField, LacksSoh, IsBody, field_then, print_fields, frame_of, most_out}
 use Rattle.fix_frame.specs.Writing.{SpellsBody as SpellsFrame}
 use Rattle.fix_orders.specs.Formats.{last_digits, time_text}
 use Rattle.fix_orders.specs.Text.{Said, field, number}
@@ -136,15 +136,32 @@ module _ (gateway n : ℕ) (type time : List ℕ) where
       let e5 : length last ≡ length (decimal 52) + length time + 2 + 0 = length_field (field 52 time) [] in
       (omega arith, omega arith)
 
+-- the bytes of the first three, for a gateway of one digit
+parties_are : (type gateway : ℕ) → gateway < 10
+    → print_fields (field 35 (type ∷ []) ∷ field 49 venue_name ∷ field 56 (client_name gateway) ∷ [])
+    ≡ codes "35=" ++ type ∷ codes "\u{1}49=VENUE\u{1}56=C" ++ (48 + gateway) ∷ codes "\u{1}"
+unfolding field_then digits
+parties_are type gateway small = rw (decimal_digit gateway small) refl
+
+pub parties_put : (a b : List ℕ) (end type gateway : ℕ) → gateway < 10
+    → Puts a b 0 end (codes "35=" ++ type ∷ codes "\u{1}49=VENUE\u{1}56=C" ++ (48 + gateway) ∷ codes "\u{1}")
+    → PutsFields a b 0 end (field 35 (type ∷ []) ∷ field 49 venue_name ∷ field 56 (client_name gateway) ∷ [])
+parties_put a b end type gateway small puts =
+    let fields = field 35 (type ∷ []) ∷ field 49 venue_name ∷ field 56 (client_name gateway) ∷ [] in
+    let spelled : Puts a b 0 end (print_fields fields) =
+    subst (λ bytes. Puts a b 0 end bytes) (sym (parties_are type gateway small)) puts in
+    record { written = spelled.written; behind = spelled.behind; long = spelled.long }
+
 -- the header's fields as they are written
-pub header_put : (a b : List ℕ) (end gateway n : ℕ) (type venue client moment : List ℕ) →
-    venue ≡ venue_name → client ≡ client_name gateway →
-    PutsFields a b 0 end (field 35 type ∷ field 49 venue ∷ field 56 client ∷ number 34 n ∷ field 52 moment ∷ []) →
+pub header_put : (a b : List ℕ) (end gateway n : ℕ) (type moment : List ℕ) → IsTypeText type →
+    PutsFields a b 0 end (field 35 (get_or type 0 0 ∷ []) ∷ field 49 venue_name ∷ field 56 (client_name gateway)
+    ∷ number 34 n ∷ field 52 moment ∷ []) →
     PutsFields a b 0 end (header_fields gateway n type moment)
-header_put a b end gateway n type venue client moment venue_is client_is puts =
+header_put a b end gateway n type moment (first, other, type_is) puts =
+    let same : get_or type 0 0 ∷ [] ≡ type = ap (λ t. get_or t 0 0 ∷ []) type_is ∙ sym type_is in
     subst (λ fs. PutsFields a b 0 end fs)
-    (ap (λ v. field 35 type ∷ field 49 v ∷ field 56 client ∷ number 34 n ∷ field 52 moment ∷ []) venue_is
-    ∙ ap (λ c. field 35 type ∷ field 49 venue_name ∷ field 56 c ∷ number 34 n ∷ field 52 moment ∷ []) client_is)
+    (ap (λ t. field 35 t ∷ field 49 venue_name ∷ field 56 (client_name gateway) ∷ number 34 n ∷ field 52 moment ∷ [])
+    same)
     puts
 
 -- a header and a body are a body that goes out

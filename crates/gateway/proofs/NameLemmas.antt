@@ -1,5 +1,8 @@
 -- The name of a gateway's client, digit by digit.
-use Rattle.std.proofs.Common.{◌≡◌, ℕ, ◌+◌, ◌/◌, ◌%◌, ◌<◌, ◌≤◌, List, [], ◌∷◌, ◌++◌, ap, sym, ◌∙◌, arith}
+use Rattle.std.proofs.Common.{◌≡◌, ℕ, ◌+◌, ◌/◌, ◌%◌, ◌<◌, ◌≤◌, List, [], ◌∷◌, ◌++◌, length, slice_index_or}
+use Rattle.std.proofs.Common.{nat_eq, ◌==◌, ap, sym, ◌∙◌, arith}
+use Rattle.std.proofs.Math.Bool.{and-true}
+use Rattle.std.specs.Str.{bytes_eq}
 use Rattle.std.specs.Fmt.{decimal}
 use Rattle.std.proofs.lemmas.Fmt.{decimal_digit, decimal_step}
 use Rattle.gateway.specs.Verdict.{client_name}
@@ -39,3 +42,12 @@ module _ (n : ℕ) (start : List ℕ) (begun : start ≡ [] ++ 67 ∷ []) where
       big_is
       ∙ ap (λ s. s ++ (48 + n / 100) ∷ [] ++ (48 + n / 10 % 10) ∷ [] ++ (48 + n % 10) ∷ []) begun
       ∙ ap (λ ds. 67 ∷ ds) (sym (three_digits n large small))
+
+-- a name of two bytes, the first a C, is that of the client whose digit is the second
+pub named_client : (name : List ℕ) (gateway : ℕ) → length name ≡ 2 → slice_index_or name 0 0 ≡ 67 → gateway < 10
+    → nat_eq (slice_index_or name 1 0) (48 + gateway) ≡ bytes_eq name (client_name gateway)
+named_client [] gateway long first small = absurd (omega (arith, long))
+named_client (a ∷ []) gateway long first small = absurd (omega (arith, long))
+named_client (a ∷ b ∷ []) gateway long first small =
+    rw (first, decimal_digit gateway small) (sym (and-true (b == 48 + gateway)))
+named_client (a ∷ b ∷ c ∷ more) gateway long first small = absurd (omega (arith, long))

@@ -1,13 +1,14 @@
 //! A whole frame, judged: what the session does with it.
-ghost use Rattle.std.specs.Prelude.{◌≡◌, ◌≤◌, length, drop};
+ghost use Rattle.std.specs.Prelude.{◌≡◌, ◌<◌, ◌≤◌, IsTrue, length, drop};
+ghost use Rattle.std.specs.Str.{bytes_eq};
 ghost use Rattle.fix_frame.specs.Borrowed.{frame_fields, fields_left};
 ghost use Rattle.fix_orders.specs.Formats.{time_text};
 ghost use Rattle.fix_orders.specs.Header.{as_header as as_header};
-ghost use Rattle.gateway.specs.Verdict.{verdict, header_verdict, first_verdict, later_verdict, test_verdict, is_party, is_type, is_order, is_logon_body};
+ghost use Rattle.gateway.specs.Verdict.{Hold, client_name, venue_name, verdict, header_verdict, first_verdict, later_verdict, test_verdict, is_party, is_type, is_order, is_logon_body};
 ghost use Rattle.gateway.specs.Answers.{time_after};
 ghost use Rattle.gateway.specs.Judging.{verdict_of, CanCount, CanEcho, begins_with};
 
-use crate::message::{client_name, venue_name};
+use crate::message::client_name;
 use crate::refusal::Refusal;
 use arrayvec::ArrayVec;
 use fix_frame::{Fields, Frame};
@@ -50,13 +51,30 @@ pub fn hear(frame: &Frame, gateway: u8, accepted: u32, last: u64) -> Heard
             time: last,
         };
     };
+    let time = number_of_time(header.time);
+    if is_due_order(&header, gateway, accepted) {
+        return Heard {
+            verdict: Judged::Hold,
+            time,
+        };
+    }
     Heard {
         verdict: judge(&header, gateway, accepted),
-        time: number_of_time(header.time),
+        time,
     }
 }
 
+/// Whether the message is an order message that is to be held. Most messages are, so this is told before all else.
+fn is_due_order(header: &Header, gateway: u8, accepted: u32) -> bool
+    requires { 1 ≤ header.now.number }
+    ensures held { IsTrue result → header_verdict gateway accepted (as_header header.now) ≡ Hold }
+    ensures counts { IsTrue result → accepted < header.now.number }
+{
+    accepted != 0 && header.number - 1 == accepted && is_order(header) && is_party(header, gateway)
+}
+
 /// Judges a frame with a right header.
+#[inline(never)]
 fn judge(header: &Header, gateway: u8, accepted: u32) -> Judged
     requires from { 1 ≤ header.now.number }
     requires upto { header.now.number ≤ 999999999 }
@@ -79,7 +97,24 @@ fn judge(header: &Header, gateway: u8, accepted: u32) -> Judged
 fn is_party(header: &Header, gateway: u8) -> bool
     ensures { result ≡ is_party gateway (as_header header.now) }
 {
-    header.sender == client_name(gateway).as_slice() && header.target == venue_name()
+    is_client(header.sender, gateway) && is_venue(header.target)
+}
+
+/// Whether this is the name of the gateway's client.
+fn is_client(name: &[u8], gateway: u8) -> bool
+    ensures { result ≡ bytes_eq name.now (client_name gateway) }
+{
+    match name {
+        [letter, digit] if gateway < 10 => *letter == b'C' && *digit == b'0' + gateway,
+        _ => name == client_name(gateway).as_slice(),
+    }
+}
+
+/// Whether this is the venue's name.
+fn is_venue(name: &[u8]) -> bool
+    ensures { result ≡ bytes_eq name.now venue_name }
+{
+    matches!(name, b"VENUE")
 }
 
 /// Whether MsgType (35) is this one.

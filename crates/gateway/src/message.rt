@@ -1,6 +1,7 @@
 //! The fields of a message to the client, with the two parties' names and its time: what happens to an answer or an output
 //! before its frame is written.
-ghost use Rattle.std.specs.Prelude.{◌≡◌, ◌≤◌, ◌++◌, length, take};
+ghost use Rattle.std.specs.Prelude.{◌≡◌, ◌<◌, ◌≤◌, [], ◌∷◌, ◌++◌, length, take};
+ghost use Rattle.fix_orders.specs.Text.{field};
 ghost use Rattle.fix_frame.specs.Grammar.{print_fields};
 ghost use Rattle.fix_orders.specs.Writing.{PutsFields};
 ghost use Rattle.gateway.specs.Messages.{IsTypeText, header_fields};
@@ -20,6 +21,7 @@ pub fn put_fields(
     moment: &[u8],
     body: &[u8],
 ) -> usize
+    requires gateway { gateway < 10 }
     requires kind { IsTypeText msg_type.now }
     requires moment { length moment.now ≡ 17 }
     requires most { length body.now ≤ 320 }
@@ -32,6 +34,7 @@ pub fn put_fields(
 
 /// Writes the header's fields at the buffer's front, and answers where they end.
 fn put_header(fields: &mut [u8], gateway: u8, number: u64, msg_type: &[u8], moment: &[u8]) -> usize
+    requires gateway { gateway < 10 }
     requires kind { IsTypeText msg_type.now }
     requires moment { length moment.now ≡ 17 }
     requires room { 100 ≤ length fields.old }
@@ -39,11 +42,24 @@ fn put_header(fields: &mut [u8], gateway: u8, number: u64, msg_type: &[u8], mome
         (header_fields gateway number msg_type.now moment.now) }
     ensures most { result ≤ 67 }
 {
-    let end = put_field(fields, 0, 35, msg_type);
-    let end = put_field(fields, end, 49, venue_name());
-    let end = put_field(fields, end, 56, client_name(gateway).as_slice());
+    let end = put_parties(fields, gateway, msg_type[0]);
     let end = put_number(fields, end, 34, number);
     put_field(fields, end, 52, moment)
+}
+
+/// Writes the first three of them, which are as long for each gateway: MsgType (35), SenderCompID (49) and TargetCompID (56).
+#[inline(always)]
+fn put_parties(fields: &mut [u8], gateway: u8, msg_type: u8) -> usize
+    requires gateway { gateway < 10 }
+    requires room { 20 ≤ length fields.old }
+    ensures puts { PutsFields fields.old fields.new 0 result
+        (field 35 (msg_type ∷ []) ∷ field 49 venue_name ∷ field 56 (client_name gateway) ∷ []) }
+    ensures most { result ≤ 20 }
+{
+    let mut front = *b"35=0\x0149=VENUE\x0156=C0\x01";
+    front[3] = msg_type;
+    front[18] = b'0' + gateway;
+    put_bytes(fields, 0, &front)
 }
 
 /// A time, SendingTime (52), as the number of its 14 digits and as its text. Messages of one second share it, so it is
@@ -73,13 +89,6 @@ impl Moment {
             self.time = time;
         }
     }
-}
-
-/// The venue's name, as SenderCompID (49) and TargetCompID (56) have it.
-pub fn venue_name() -> &'static [u8]
-    ensures { result.now ≡ venue_name }
-{
-    b"VENUE"
 }
 
 /// The name of a gateway's client: C and the gateway's number.

@@ -108,3 +108,12 @@ pub fn word_at(bytes: &[u8], index: usize) -> u64
         None => padded(rest),
     }
 }
+
+/// The same where all eight bytes of it are there.
+#[inline(always)]
+pub fn whole_word_at(bytes: &[u8], index: usize) -> u64
+    requires { 8 * index + 8 ≤ length bytes.now }
+    ensures { result ≡ from_be_bytes w64 (eight bytes.now index) }
+{
+    word_at(&bytes[8 * index..8 * index + 8], 0)
+}

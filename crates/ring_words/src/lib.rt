@@ -18,10 +18,10 @@ mod steps;
 mod view;
 
 pub use close::Summary;
-pub use heads::{Raw, TextHead, word_at};
+pub use heads::{Raw, TextHead, whole_word_at, word_at};
 pub use laws::no_gateway_is_ahead_of_the_journal;
 pub use open::OpenError;
-pub use report::PlacedOutput;
+pub use report::{PlacedOutput, blank_output};
 pub use rings::{Ring, Rings};
 pub use seats::Seats;
 pub use seats::gateway::GatewaySeat;

@@ -15,21 +15,26 @@ pub struct PlacedOutput {
 /// What a slot of the table holds.
 pub(crate) type Slot = Box<PlacedOutput>;
 
-/// What a box holds before an output was put into it. Nobody reads it.
-fn blank() -> PlacedOutput {
+/// An output that says nothing: what stands in a place before one was put there or read to it. Nobody reads it.
+pub fn blank_output() -> Output {
     let fault = Malformed {
         reason: SessionRejectReason::RequiredTagMissing,
         tag: 0,
         ref_seq: 0,
         ref_type: RefMsgType::NewOrderSingle,
     };
+    Output {
+        to: 0,
+        cause: 0,
+        sending_time: 0,
+        report: venue_model::Report::SessionReject(fault),
+    }
+}
+
+/// What a box holds before an output was put into it.
+fn blank() -> PlacedOutput {
     PlacedOutput {
-        output: Output {
-            to: 0,
-            cause: 0,
-            sending_time: 0,
-            report: venue_model::Report::SessionReject(fault),
-        },
+        output: blank_output(),
         place: 0,
     }
 }

@@ -6,7 +6,7 @@ ghost use Rattle.ring_words.specs.At.{IsAt, Steps, number};
 ghost use Rattle.sequencer.specs.Words.{message_words};
 
 use crate::claim::Claim;
-use ring_words::{GatewaySeat, Raw, Rings, word_at};
+use ring_words::{GatewaySeat, Raw, Rings, whole_word_at, word_at};
 use venue_model::Logic;
 
 /// Stores all words of the message in the row of a sequence that the gateway claimed.
@@ -27,8 +27,12 @@ fn store_words<L: Logic, const N: usize, const M: usize, const G: usize>(
         len: bytes.len(),
     };
     rings.store_raw(seat, sequence, 0, head.to_word());
-    for index in 0..bytes.len().div_ceil(8) {
-        rings.store_raw(seat, sequence, index + 1, word_at(bytes, index));
+    let whole = bytes.len() / 8;
+    for index in 0..whole {
+        rings.store_raw(seat, sequence, index + 1, whole_word_at(bytes, index));
+    }
+    if bytes.len() % 8 > 0 {
+        rings.store_raw(seat, sequence, whole + 1, word_at(bytes, whole));
     }
 }
 

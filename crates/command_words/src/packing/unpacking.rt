@@ -16,6 +16,7 @@ use venue_model::{
 };
 
 /// The command of these words and the number of its gateway. Words that are no command's are read as anything.
+#[inline(always)]
 pub fn unpack(words: &[u64]) -> (u8, Command)
     ensures { (gateway : ℕ) (c : Command) → IsPackable gateway c → words.now ≡ command_words gateway c → (result.0 ≡ gateway) × (result.1 ≡ c) }
 {
@@ -33,6 +34,7 @@ pub fn unpack(words: &[u64]) -> (u8, Command)
 }
 
 /// The new order of these words, the head among them.
+#[inline(always)]
 fn new_in(words: &[u64]) -> Option<Command>
     ensures { (gateway time : ℕ) (order : NewOrderSingle) → IsPackable gateway (Command.New time order) →
         words.now ≡ command_words gateway (Command.New time order) → result ≡ Some (Command.New time order) }

@@ -47,26 +47,26 @@ pub fn outputs_available<L: Logic, const N: usize, const M: usize, const G: usiz
         .load::<SeePublished>(&mut seat.seat, PUBLISHED)
 }
 
-/// Reads an output that is published and that the marshaller hasn't released.
+/// Reads an output that is published and that the marshaller hasn't released. It is copied once, to the place that is lent.
 pub fn read_output<L: Logic, const N: usize, const M: usize, const G: usize>(
     rings: &Rings<L, N, M, G>,
     seat: &mut MarshalSeat<L>,
     place: u64,
-) -> Output
+    output: &mut Output,
+)
     requires at { IsAt rings.now seat.old }
     requires from { seat.old.who.sequence ≤ place }
     requires to { Shows published seat.old.who place }
-    ensures copied { FindsCopy (L.outputs rings.now.logic seat.old.who.seen) seat.old (out_row N M place 0) place result seat.new }
+    ensures copied { FindsCopy (L.outputs rings.now.logic seat.old.who.seen) seat.old (out_row N M place 0) place output.new seat.new }
 {
     let row = rings.output_row(place);
     let word = rings.output_word(place, 0);
     let shared = &rings.table.shared;
     shared.load::<TakeReport<N, M>>(&mut seat.seat, word);
     rings.exchange_report(&mut seat.seat, row, &mut seat.spare);
-    let output = seat.spare.output;
+    *output = seat.spare.output;
     rings.exchange_report(&mut seat.seat, row, &mut seat.spare);
     shared.load::<GiveReport<N, M>>(&mut seat.seat, word);
-    output
 }
 
 /// Hands all outputs below `upto` on to the gateways, when their texts are written: the last of them is that of the row under way.

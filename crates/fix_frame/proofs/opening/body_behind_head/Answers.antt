@@ -3,7 +3,7 @@ use Rattle.std.proofs.Common.{refl, arith}
 use Rattle.std.proofs.lemmas.List.{take_rest}
 use Rattle.fix_frame.proofs.OpeningLemmas.{frame_long, frame_closed, frame_summed, frame_spelled, right_frame}
 use Rattle.fix_frame.proofs.OpeningLemmas.{inside_long, short_front}
-use Rattle.fix_frame.proofs.opening.closed.Goals as goal
+use Rattle.fix_frame.proofs.opening.body_behind_head.Goals as goal
 
 pub returns-then-bytes-end : goal.returns-then-bytes-end
 returns-then-bytes-end c = λ fields is. c.if-bytes-end.true (frame_long _ _ _ c.requires fields is)

@@ -2,7 +2,7 @@
 use Rattle.std.proofs.Math.Seq.{take-add}
 use Rattle.fix_frame.specs.declared.stage.Stage.TheVariants.{Head}
 use Rattle.fix_frame.proofs.MessageLemmas.{wrong_before, not_partial}
-use Rattle.fix_frame.proofs.opening.opened.Goals as goal
+use Rattle.fix_frame.proofs.opening.open_body.Goals as goal
 
 pub head_step-requires-clause-heading : goal.head_step-requires-clause-heading
 head_step-requires-clause-heading c =

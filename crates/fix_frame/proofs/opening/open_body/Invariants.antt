@@ -1,7 +1,7 @@
 -- So far the bytes begin a head.
 use Rattle.std.proofs.Common.{◌≤◌, ◌-◌, length, take}
 use Rattle.fix_frame.specs.Stages.{IsHeading}
-use Rattle.fix_frame.proofs.opening.opened.Given as goal
+use Rattle.fix_frame.proofs.opening.open_body.Given as goal
 
 abbrev pub invariant-loop-at : goal.invariant-loop-at
 invariant-loop-at l = record {
