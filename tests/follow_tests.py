@@ -4,6 +4,7 @@ import contextlib
 import errno
 import fcntl
 import importlib
+import io
 import os
 import random
 import re
@@ -11,13 +12,42 @@ import signal
 import subprocess
 import sys
 import time
+import types
+from collections.abc import Iterator
 from unittest import mock
 
 import journals
 from journals import Entry
-from made_journals import BEHIND, DAY, JOURNAL, TOOLS, contents, each_version, expect, gikvand, made, put, with_byte
+from made_journals import (BEHIND, DAY, JOURNAL, TOOLS, Made, contents, each_version, expect, gikvand, made, put,
+                           with_byte)
 from traders import Member
 from venues import PATIENCE, Client, Trouble, Venue, free_port, running, started
+
+
+Came = tuple[int, list[str], list[str]]  # A status, and the lines of both outputs.
+
+TAIL = 150  # So many bytes of a copy are its tail in most of these tests: less than its last two blocks have.
+ONCE = ["--once"]
+
+
+def module() -> types.ModuleType:
+    return importlib.import_module("gikvand.follow")
+
+
+@contextlib.contextmanager
+def ending_by_itself() -> Iterator[None]:
+    """While this lasts a follower ends where it would wait, as by a signal, and the tail that it compares first is short."""
+    with mock.patch.multiple(module(), A_TAIL=TAIL, has_signal=lambda seconds: seconds > 0):
+        yield
+
+
+def both_ways(data: bytes) -> Iterator[tuple[list[str], Came, bytes]]:
+    """A copy of these bytes is followed once, and one until a signal: the words, what came, and the copy then."""
+    for words in (ONCE, []):
+        with ending_by_itself(), mock.patch.object(os, "fdatasync"):
+            came = gikvand("follow", JOURNAL, put("the.copy", data), *words)
+        yield words, came, contents("the.copy")
+    os.remove("the.copy")
 
 
 def followed_once() -> None:
@@ -31,12 +61,11 @@ def followed_once() -> None:
         for start, end in zip(it.starts, [*it.starts[1:], len(it.data) - 1]):
             begun = it.data[:start] + b"\0"
             for left in (b"", it.data[start + 1:start + 2], it.data[start + 1:end], it.data[start + 1:], b"\1" * 2000):
-                put("old.copy", begun + left)
-                expect(gikvand("follow", JOURNAL, "old.copy", "--once")[0], 0)
-                expect((start, contents("old.copy") == it.data), (start, True))
+                for words, (status, _, _), copy in both_ways(begun + left):
+                    expect((words, start, status, copy == it.data), (words, start, 0, True))
         put(JOURNAL, it.data + it.data[it.starts[-1] + 1:-5])
         expect((gikvand("follow", JOURNAL, "new.copy", "--once")[0], contents("new.copy")), (0, it.data))
-        for name in ("new.copy", "old.copy", "new.copy.symbols"):
+        for name in ("new.copy", "new.copy.symbols", "the.copy.symbols"):
             os.remove(name)
 
 
@@ -75,20 +104,22 @@ PWRITE, SYNC = os.pwrite, os.fdatasync
 
 def in_short_runs() -> contextlib.AbstractContextManager:
     """While this lasts some blocks alone are written between two syncs."""
-    return mock.patch.object(importlib.import_module("gikvand.follow"), "A_RUN", 200)
+    return mock.patch.object(module(), "A_RUN", 200)
 
 
 def order_of_writes() -> None:
-    """Whatever a crash leaves of a copy is a journal of a beginning; and each gate is opened by a write of its own."""
+    """Whatever a crash leaves of a copy is a journal of a beginning; and each gate is opened by a write of its own. Also where
+    a gate in the copy's midst was closed by something else, which shows once its end has grown."""
     for it in each_version():
-        device = Device(it.data)
-        put("the.copy", it.data[:it.starts[0]] + b"\0")
-        device.synced = contents("the.copy")
-        with mock.patch.object(os, "pwrite", device.pwrite), mock.patch.object(os, "fdatasync", device.sync), in_short_runs():
-            expect(gikvand("follow", JOURNAL, "the.copy", "--once")[0], 0)
-        expect(contents("the.copy"), it.data)
-        calls = " ".join(device.calls)
-        expect((calls, bool(re.fullmatch("sync( journal( write)+ sync open sync){3,}", calls))), (calls, True))
+        empty, begun, grown = (it.data[:it.starts[at]] + b"\0" for at in (0, 1, -2))
+        for data, words in ((empty, ONCE), (empty, []), (begun, []), (with_byte(grown, it.starts[1], 0), [])):
+            device = Device(it.data)
+            device.synced = contents(put("the.copy", data))
+            with mock.patch.multiple(os, pwrite=device.pwrite, fdatasync=device.sync), in_short_runs(), ending_by_itself():
+                expect(gikvand("follow", JOURNAL, "the.copy", *words)[0], 0)
+            expect(contents("the.copy"), it.data)
+            calls = " ".join(device.calls)
+            expect((calls, bool(re.fullmatch("(journal( write)+ sync open sync ){3,}sync", calls))), (calls, True))
         os.remove("the.copy")
 
 
@@ -97,29 +128,37 @@ def gates_opened_later() -> None:
     for it in each_version():
         *_, last = it.starts
         put(JOURNAL, with_byte(it.data, last, 0))
-        source = importlib.import_module("gikvand.follow").Source(JOURNAL)
+        source = module().Source(JOURNAL)
         expect((source.blocks(), source.blocks()), (it.data[it.starts[0]:last], b""))
         with open(JOURNAL, "r+b") as file:
             os.pwrite(file.fileno(), journals.OPEN, last)
         expect((source.blocks(), source.blocks()), (it.data[last:-1], b""))
 
 
+def with_more(it: Made, gate: int, blocks: int) -> bytes:
+    """A journal whose beginning, up to this gate, is that of this one, and which has so many other blocks behind it."""
+    return it.data[:gate] + journals.block_of(it.version, [Entry(1, b"other")]) * blocks + b"\0"
+
+
 def copies_that_are_refused() -> None:
     """What isn't a beginning of the journal stays as it is."""
     for it in each_version():
         other = with_byte(it.data, it.starts[1] + 60, it.data[it.starts[1] + 60] ^ 1)
-        more = it.data[:-1] + journals.block_of(it.version, [Entry(1, b"x")]) + b"\0"
+        first, *_, last = it.starts
         other_words = "isn't a beginning of that journal, and stays as it is: {}. Name another file"
         too_long = f"the journal ends behind {len(DAY) + len(BEHIND)} entries, and it has more"
         cases = [(other, other_words.format(f"they differ in the block at {it.starts[1]}")),
-                 (more, other_words.format(too_long)),
                  (journals.empty(it.version % 3 + 1), other_words.format("its header is another one")),
                  (b"", other_words.format("it is no journal")),
                  (it.data[:-1], f"is damaged at {len(it.data) - 1}: the file ends where a gate should be")]
+        cases += [(with_more(it, len(it.data) - 1, count), other_words.format(too_long)) for count in (1, 1000)]
+        cases += [(with_more(it, gate, count), other_words.format(f"they differ in the block at {gate}"))
+                  for gate in (first, last) for count in (1, 20, 1000)]
         for data, words in cases:
-            status, out, err = gikvand("follow", JOURNAL, put("the.copy", data), "--once")
-            expect((status, out, [line.startswith(f"gikvand follow: the.copy {words}") for line in err]), (2, [], [True]))
-            expect(contents("the.copy"), data)
+            for way, (status, out, err), copy in both_ways(data):
+                expect((way, status, out, [line.startswith(f"gikvand follow: the.copy {words}") for line in err]),
+                       (way, 2, [], [True]))
+                expect((way, copy == data), (way, True))
         put("the.copy", it.data)
         with open("the.copy", "rb") as file:
             fcntl.flock(file, fcntl.LOCK_EX)
@@ -150,13 +189,121 @@ def copies_that_are_refused() -> None:
     expect(os.path.exists("the.copy"), False)
 
 
+def said(came: Came) -> tuple[int, list[str]]:
+    """The status and the lines of what is wrong, but for how many bytes a copy has behind the damage: it may have grown."""
+    return came[0], [re.sub(r", and \d+ are there", "", line) for line in came[2]]
+
+
+def changed_copies() -> None:
+    """Where a byte of a copy was changed the words are those of --once, whichever it is. Nothing is written where its header or
+    its tail shows it; where it stands before that the copy has caught up. A gate that was closed is opened again."""
+    for it in each_version():
+        gate, statuses = it.starts[-2], set()
+        copy = it.data[:gate] + b"\0"
+        tail = len(copy) - TAIL
+        opened = [at for at in range(tail, len(copy)) if copy[at:at + 1] == journals.OPEN]
+        for at in sorted({*range(it.starts[0] + 6), *range(it.starts[0], len(copy), 13), *it.starts[:-1], *opened}):
+            changed = with_byte(copy, at, copy[at] ^ 1)
+            (_, once, stays), (_, came, grown) = both_ways(changed)
+            expect((at, said(came)), (at, said(once)))
+            if once[0] == 0:
+                expect((at, at in it.starts, came[1][0], stays == grown == it.data), (at, True, once[1][0], True))
+            else:
+                is_seen = at < it.starts[0] or at >= tail
+                wanted = changed if is_seen else changed[:gate] + it.data[gate:]
+                expect((at, stays == changed, grown == wanted), (at, True, True))
+            statuses.add(once[0])
+        expect(statuses, {0, 2})
+        os.remove("the.copy.symbols")
+
+
+def long_copies() -> None:
+    """A copy of some megabytes, with a tail as long as ever, catches up. A byte that was changed before the tail is told then,
+    and one within it before that; a gate that was closed is opened again, within the tail or before."""
+    block = journals.block_of(journals.MADE, [Entry(1, b"x" * 300)] * 64)
+    data = journals.empty()[:-1] + block * 500 + b"\0"
+    middle, gate = (len(data) - 1 - len(block) * blocks for blocks in (450, 50))
+    put(JOURNAL, data)
+    for at, byte, differs_at in ((gate, 0, None), (gate - len(block) * 50, 0, None), (middle, 0, None),
+                                 (middle + 99, 1, middle), (gate - 99, 1, gate - len(block))):
+        put("the.copy", with_byte(data[:gate] + b"\0", at, byte))
+        with mock.patch.object(module(), "has_signal", lambda seconds: seconds > 0):
+            status, _, err = gikvand("follow", JOURNAL, "the.copy")
+        copy = contents("the.copy")
+        if differs_at is None:
+            expect((at, status, copy == data), (at, 0, True))
+        else:
+            grown = data if differs_at == middle else data[:gate] + b"\0"
+            expect((at, status, [f"they differ in the block at {differs_at}. " in line for line in err]), (at, 2, [True]))
+            expect((at, copy == with_byte(grown, at, byte)), (at, True))
+
+
+def gates_within_messages() -> None:
+    """A message may have bytes in it that look like a block: a copy that has another byte in the place of the gate there isn't
+    a beginning. That is told, and where more of its tail differs nothing is written."""
+    for version in journals.VERSIONS:
+        within = journals.block_of(version, [Entry(1, b"inside")])
+        journal = journals.empty(version)[:-1] + journals.block_of(version, [Entry(1, b"around" + within)])
+        gate = len(journal)
+        put(JOURNAL, journal + journals.block_of(version, [Entry(1, b"behind")]) + b"\0")
+        changed = with_byte(journal + b"\0", gate - len(within), 0)
+        other = changed[:-3] + b"no\0"
+        for copy, is_seen in ((changed, False), (other, True)):
+            (_, once, stays), (_, came, grown) = both_ways(copy)
+            expect((once[0], said(came), stays == copy, grown == copy), (2, said(once), True, is_seen))
+
+
+def blocks_that_never_counted() -> None:
+    """A block that the journal has behind its closed gate isn't in it, whatever its bytes: a copy that has it is longer."""
+    for it in each_version():
+        copy, gate = with_more(it, len(it.data) - 1, 1), len(it.data) - 1
+        put(JOURNAL, with_byte(copy, gate, 0))
+        for way, (status, _, err), after in both_ways(copy):
+            expect((way, status, [" and it has more. " in line for line in err], after == copy), (way, 2, [True], True))
+        for way, (status, out, _), after in both_ways(with_byte(copy, gate, 0)):
+            expect((way, status, out[0]), (way, 0, f"the.copy: {len(DAY) + len(BEHIND)} entries, 0 bytes behind"))
+            expect((way, after == it.data), (way, True))
+        os.remove("the.copy.symbols")
+
+
+def snapshots_before_it_is_compared() -> None:
+    """A snapshot says how many entries stand before it, so it waits until these are counted. A false number is damage."""
+    it = made(3)
+    snapshot, = journals.read(it.data).snapshots
+    gates = [(block.offset, block.before) for block in journals.Reader(io.BytesIO(it.data)) if block.offset <= snapshot.offset]
+    for gate, count in gates[1:]:
+        put(JOURNAL, it.data)
+        for way, (status, _, _), copy in both_ways(it.data[:gate] + b"\0"):
+            expect((way, gate, status, copy == it.data), (way, gate, 0, True))
+        at, false = snapshot.offset + 6, (snapshot.before - count).to_bytes(8, "big")
+        put(JOURNAL, it.data[:at] + false + it.data[at + 8:])
+        line = f"{JOURNAL} is damaged at {snapshot.offset}: its snapshot isn't one behind {snapshot.before} entries"
+        for way, came, copy in both_ways(it.data[:gate] + b"\0"):
+            expect((way, gate, came), (way, gate, (2, [], [f"gikvand follow: {line}"])))
+            expect((way, gate, copy == it.data[:snapshot.offset] + b"\0"), (way, gate, True))
+
+
+def ended_while_compared() -> None:
+    """A signal that comes before all of the copy was compared is an end in order. It may have caught up by then."""
+    it = made(3)
+    put(JOURNAL, it.data)
+    copy = it.data[:it.starts[-1]] + b"\0"
+    for words, wanted in ((ONCE, copy), ([], it.data)):
+        put("the.copy", copy)
+        with mock.patch.object(module(), "has_signal", lambda seconds: True):
+            expect(gikvand("follow", JOURNAL, "the.copy", *words),
+                   (0, ["the.copy: ended by a signal, while it was compared"], []))
+        expect((words, contents("the.copy") == wanted), (words, True))
+
+
 class Follower:
-    """`gikvand follow` as a program of its own. It ends with the test, however that ends."""
+    """`gikvand follow` as a program of its own, with Python's own library alone, and in a session of its own, as a service has:
+    else it would share its turns at the processor with the venue. It ends with the test, however that ends."""
 
     def __init__(self, *words: str) -> None:
-        command = [sys.executable, "-m", "gikvand", "follow", *words]
+        command = [sys.executable, "-S", "-m", "gikvand", "follow", *words]
         self.process = subprocess.Popen(command, stdout=subprocess.PIPE, stderr=subprocess.PIPE, text=True,
-                                        env={**os.environ, "PYTHONPATH": TOOLS})
+                                        start_new_session=True, env={**os.environ, "PYTHONPATH": TOOLS})
         running.append(self)
 
     def kill(self) -> None:
@@ -277,5 +424,6 @@ def full_disks() -> None:
     expect((gikvand("follow", JOURNAL, "the.copy", "--once")[0], contents("the.copy") == data), (0, True))
 
 
-TESTS = [followed_once, order_of_writes, gates_opened_later, copies_that_are_refused, full_disks, ends_of_a_follower,
-         followed_while_in_use, a_standby]
+TESTS = [followed_once, order_of_writes, gates_opened_later, copies_that_are_refused, changed_copies, long_copies,
+         gates_within_messages, blocks_that_never_counted, snapshots_before_it_is_compared, ended_while_compared, full_disks,
+         ends_of_a_follower, followed_while_in_use, a_standby]

@@ -4,13 +4,17 @@
     gikvand follow JOURNAL COPY --once     ends where the journal ends: for a backup
 
 Whole blocks are written behind the copy's closed gate and synced; then the gate is opened, and that is synced. So whatever
-stops it, at any moment, leaves a journal, and a later call with the same words goes on from there, once it has seen that the
-copy is a beginning of this journal. Another journal is refused, and so is a copy that somebody else has locked. A missing copy
-is made, and with it COPY.symbols where JOURNAL.symbols is there.
+stops it, at any moment, leaves a journal, and a later call with the same words goes on from there. A missing copy is made, and
+with it COPY.symbols where JOURNAL.symbols is there. A copy that somebody else has locked is refused.
 
-It prints how many entries the copy has, and by how many bytes it is behind: once it has caught up, every ten seconds while
-something comes, and at its end. The status is 0 at an end by a signal too, and 2 where it can't go on: where the journal was
-replaced, became shorter or is damaged, or the copy can't be written. The copy is then as whole as at any other moment.
+So is one that isn't a beginning of this journal. With --once all of it is compared first, block by block, and nothing is written
+to another one. Else its header and its last megabytes are, by which a copy of another journal shows; then it catches up, and all
+of it is compared between looks. Where it differs then, it has got what came meanwhile.
+
+It prints how many entries the copy has, and by how many bytes it is behind: once it has caught up and is compared, every ten
+seconds while something comes, and at its end. The status is 0 at an end by a signal too, and 2 where it can't go on: where the
+copy isn't a beginning, or can't be written, or the journal was replaced, became shorter or is damaged. The copy is then as whole
+as at any other moment.
 """
 import argparse
 import contextlib
@@ -19,15 +23,17 @@ import os
 import signal
 import time
 from collections.abc import Iterator
+from typing import BinaryIO
 
 from gikvand import locks, mends, symbols
-from gikvand.journals import CLOSED, OPEN, Block, Damaged, NotAJournal, Reader, header
-from gikvand.programs import Trouble
-from gikvand.words import some
+from gikvand.journals import CLOSED, OPEN, Block, Damaged, NotAJournal, Reader, exactly, header
+from gikvand.words import Trouble, some
 
 ENDS = {signal.SIGTERM, signal.SIGINT}
 A_RUN = 1 << 20   # About so many bytes are written between two syncs, where so many wait.
-PAUSE = 0.05      # Seconds between two looks for what has come.
+A_TAIL = 2 << 20  # So many last bytes of a copy are compared first: mostly more than a run leaves behind a gate.
+PAUSE = 0.05      # Seconds between two looks for what has come,
+A_PIECE = 0.02    # and between two while the copy is compared.
 EVERY = 10        # Seconds between two lines.
 PRIVATE = 0o600
 
@@ -90,8 +96,25 @@ def make(path: str, data: bytes) -> None:
         sync_folder(path)
 
 
+def common(one: bytes, other: bytes) -> int:
+    """How many first bytes both have."""
+    same, more = 0, min(len(one), len(other))
+    while same < more:
+        middle = (same + more + 1) // 2
+        if one[same:middle] == other[same:middle]:
+            same = middle
+        else:
+            more = middle - 1
+    return same
+
+
+def bytes_at(file: BinaryIO, at: int, count: int) -> bytes:
+    file.seek(at)
+    return exactly(file, count)
+
+
 class Ended(Exception):
-    """A signal came that ends it, before anything was written."""
+    """A signal came that ends it, before all of the copy was compared."""
 
 
 class Source:
@@ -115,26 +138,24 @@ class Source:
 
     def next(self) -> Block | None:
         """The next block, if there is one."""
+        return self.next_by(self.reader)
+
+    def next_by(self, reader: Reader) -> Block | None:
+        """The next block of one that reads this journal, if there is one."""
         try:
-            return self.reader.next()
+            return reader.next()
         except Damaged as why:
             raise Trouble(f"{self.path} is damaged at {why.offset}: {why.why}") from None
 
-    def has(self, block: Block) -> bool:
-        """Whether the next block has the same bytes as this one, which was read elsewhere. Then that is passed."""
-        is_same = os.pread(self.file.fileno(), len(block.data), self.reader.gate) == block.data
-        if is_same:
-            self.reader.go_past(block)
-        return is_same
-
     def blocks(self) -> bytes:
-        """The next whole blocks, as many as stand there and may be written between two syncs. Damage behind them comes next."""
+        """The next whole blocks, as many as stand there and may be written between two syncs. Damage behind them comes next,
+        and what looks like it where the entries before aren't counted, once they are."""
         found = b""
         try:
             while len(found) < A_RUN and (block := self.next()):
                 found += block.data
         except Trouble:
-            if not found:
+            if not found and self.reader.is_counted:
                 raise
         if found:
             os.fdatasync(self.file.fileno())  # Else a crash might take back there what the copy has.
@@ -168,32 +189,28 @@ class Copy:
         except BlockingIOError:
             pid = locks.holder(path)
             raise Trouble(f"{path} is in use by {locks.name_of(pid) if pid else 'another process'}") from None
-        self.gate = self.common(source)
+        self.gate = self.first_gate(source)
 
-    def common(self, source: Source) -> int:
-        """Reads both up to where the copy ends, which has to be a beginning of the journal: the offset of its gate."""
+    def first_gate(self, source: Source) -> int:
+        """The offset behind its header. Stops where that isn't the journal's."""
         try:
             reader = Reader(self.file)
-            if (reader.version, reader.cut) != (source.reader.version, source.reader.cut):
-                raise self.another("its header is another one")
-            for block in reader:
-                self.compare(block, source)
         except NotAJournal:
             raise self.another("it is no journal") from None
-        except Damaged as why:
-            raise Trouble(f"{self.path} is damaged at {why.offset}: {why.why}. {mends.of_damage(self.path, why)}") from None
+        if (reader.version, reader.cut) != (source.reader.version, source.reader.cut):
+            raise self.another("its header is another one")
         return reader.gate
 
-    def compare(self, block: Block, source: Source) -> None:
-        """Stops where the journal hasn't the same block."""
-        if has_signal(0):
-            raise Ended
-        before = source.reader.count
-        if source.has(block):
-            return
-        if source.next() is None:
-            raise self.another(f"the journal ends behind {some(before, 'entry')}, and it has more")
-        raise self.another(f"they differ in the block at {block.offset}")
+    def gate_by_tail(self, source: Source) -> int | None:
+        """The offset of its closed gate, where its tail shows it: there the journal has the same bytes, but for this gate and the
+        last byte. An earlier call may have left what stands behind the gate."""
+        start = max(self.gate, os.fstat(self.fd).st_size - A_TAIL)
+        ours = bytes_at(self.file, start, A_TAIL)
+        theirs = bytes_at(source.file, start, len(ours))
+        last = len(ours) - 1
+        at = min(common(ours, theirs), last)
+        is_shown = len(theirs) == len(ours) and ours[at:at + 1] == CLOSED and ours[at + 1:last] == theirs[at + 1:last]
+        return start + at if is_shown else None
 
     def another(self, why: str) -> Trouble:
         return Trouble(f"{self.path} isn't a beginning of that journal, and stays as it is: {why}. Name another file")
@@ -202,7 +219,7 @@ class Copy:
         return writing(self.path, ". It is a journal still, up to its gate")
 
     def cut_off(self) -> None:
-        """Takes away what an earlier call left behind the closed gate. It never counted."""
+        """Takes away what stands behind the closed gate, as an earlier call may have left it. It never counted."""
         with self.writing():
             os.ftruncate(self.fd, self.gate + 1)
             os.fdatasync(self.fd)
@@ -215,6 +232,48 @@ class Copy:
             write_all(self.fd, OPEN, self.gate)
             os.fdatasync(self.fd)
         self.gate += len(blocks)
+
+
+class Comparison:
+    """Compares a copy with its journal block by block, from their fronts up to the gate at which the copy ends. `began` is the
+    gate from which on it was written to before that, if it was."""
+
+    def __init__(self, copy: Copy, source: Source) -> None:
+        self.copy, self.source, self.began, self.is_done = copy, source, 0, False
+        self.ours, self.theirs = Reader(copy.file), Reader(source.file)
+
+    def go_on(self, seconds: float) -> None:
+        """Compares for so long. Stops where the copy isn't a beginning of the journal, and where a signal came."""
+        if has_signal(0):
+            raise Ended
+        end = time.monotonic() + seconds
+        while not self.is_done and time.monotonic() < end:
+            if block := self.next():
+                self.compare(block)
+            else:
+                self.end()
+
+    def next(self) -> Block | None:
+        """The copy's next block, if there is one."""
+        try:
+            return self.ours.next()
+        except Damaged as why:
+            path = self.copy.path
+            raise Trouble(f"{path} is damaged at {why.offset}: {why.why}. {mends.of_damage(path, why)}") from None
+
+    def compare(self, block: Block) -> None:
+        """Stops where the journal hasn't the same block, or the copy hadn't, as it was written to within: that was no gate."""
+        is_same = bytes_at(self.source.file, block.offset, len(block.data)) == block.data
+        if is_same and not block.offset < self.began < self.ours.gate:
+            return self.theirs.go_past(block)
+        before = some(self.theirs.count, "entry")
+        if self.source.next_by(self.theirs) is None:
+            raise self.copy.another(f"the journal ends behind {before}, and it has more")
+        raise self.copy.another(f"they differ in the block at {block.offset}")
+
+    def end(self) -> None:
+        """The copy ends at this gate, whatever its tail has shown: both go on from there, with their entries counted."""
+        self.copy.gate, self.source.reader, self.is_done = self.ours.gate, self.theirs, True
 
 
 class Lines:
@@ -238,18 +297,23 @@ class Lines:
             self.say()
 
 
-def ship(source: Source, copy: Copy, end: int | None) -> None:
+def ship(source: Source, copy: Copy, comparison: Comparison, end: int | None) -> None:
     """Ships what comes, until a signal. With an end, until nothing more stands there, or the copy is longer than that."""
     lines, has_caught_up = Lines(copy, source), False
     while True:
         source.check()
         if blocks := source.blocks():
             copy.add(blocks)
-        if end is not None and (not blocks or copy.gate > end):
-            return lines.say()
-        if not blocks and not has_caught_up:
+        if not comparison.is_done:
+            comparison.go_on(A_PIECE if len(blocks) < A_RUN else 0)
+            continue
+        is_end = end is not None and (not blocks or copy.gate > end)
+        if is_end or not blocks and not has_caught_up:
+            copy.cut_off()
             lines.say()
             has_caught_up = True
+        if is_end:
+            return
         if has_signal(0 if blocks else PAUSE):
             return lines.say(", ended by a signal")
         lines.say_in_time()
@@ -261,16 +325,28 @@ def keep_symbols(journal: str, copy: str) -> None:
         symbols.keep(copy, found)
 
 
+def begin(source: Source, copy: Copy, is_at_once: bool) -> Comparison:
+    """Finds where the copy goes on: at once, by its tail, where that shows it; else once all of it is compared."""
+    comparison = Comparison(copy, source)
+    gate = copy.gate_by_tail(source) if is_at_once else None
+    if gate in (None, copy.gate):  # (an empty copy is compared in no time)
+        while not comparison.is_done:
+            comparison.go_on(A_PIECE)
+    else:
+        copy.gate = comparison.began = gate
+        source.reader.go_to(gate)
+    return comparison
+
+
 def run(given: argparse.Namespace) -> int:
     source = Source(given.journal)
     end = source.size() if given.once else None
     with signals_held():
         try:
             copy = Copy(given.copy, source)
+            comparison = begin(source, copy, not given.once)
+            keep_symbols(given.journal, given.copy)
+            ship(source, copy, comparison, end)
         except Ended:
             print(f"{given.copy}: ended by a signal, while it was compared")
-            return 0
-        keep_symbols(given.journal, given.copy)
-        copy.cut_off()
-        ship(source, copy, end)
     return 0

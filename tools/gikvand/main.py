@@ -4,7 +4,7 @@ import importlib
 import os
 import sys
 
-from gikvand.programs import ROOT, Trouble
+from gikvand.words import Trouble
 
 COMMANDS = {"verify": "says whether a journal, or a copy of one, is whole and unchanged",
             "reports": "shows what a member was told, as to one who was away",
@@ -27,6 +27,7 @@ def usage() -> str:
 
 
 def version() -> str:
+    from gikvand.programs import ROOT  # (here, since that takes a while, and not each command wants it)
     with open(os.path.join(ROOT, "VERSION"), encoding="ascii") as file:
         return f"gikvand {file.read().strip()}"
 

@@ -4,15 +4,13 @@ import re
 import subprocess
 from collections.abc import Iterator
 
+from gikvand.words import Trouble
+
 ROOT = os.path.dirname(os.path.dirname(os.path.dirname(os.path.abspath(__file__))))
 USR = os.path.dirname(os.path.dirname(ROOT))  # Where scripts/package has put this: /usr/share/gikvand and /usr/bin/gikvand.
 IS_INSTALLED = ROOT == os.path.join(USR, "share/gikvand") and os.path.lexists(os.path.join(USR, "bin/gikvand"))
 COUNTS = re.compile(r"commands (\d+) outputs (\d+)")
 WHERE = f"{os.path.join(USR, 'share/doc/gikvand') if IS_INSTALLED else 'docs'}/OPERATING.md says what that means"
-
-
-class Trouble(Exception):
-    """What went wrong, in words."""
 
 
 def place_of(variable: str, built: str, installed: str) -> str:

@@ -2,8 +2,8 @@
 import argparse
 import os
 
-from gikvand.programs import Trouble
 from gikvand.rules import SYMBOL
+from gikvand.words import Trouble
 
 MOST = 8
 

@@ -1,4 +1,8 @@
-"""Counts in words, as the commands print them."""
+"""Counts in words, as the commands print them, and what went wrong."""
+
+
+class Trouble(Exception):
+    """What went wrong, in words."""
 
 
 def some(count: int, noun: str) -> str:
