@@ -3,18 +3,13 @@
 #include <quickfix/Responder.h>
 
 #include <cstddef>
-#include <stdexcept>
 #include <string>
 
 #include "descriptor.h"
+#include "frames.h"
 #include "inbox.h"
 
 namespace edge {
-
-/// A client that sends what is too long, or no FIX at all.
-class BadBytes : public std::runtime_error {
-    using std::runtime_error::runtime_error;
-};
 
 /// A client's connection, and what is to be written to it: the session's way out. No call of it waits. What a client
 /// doesn't take is kept up to a bound, behind which the connection ends: its session's store has all of it.
@@ -62,9 +57,5 @@ private:
     bool isEnding_ = false, isResending_ = false;
     bool isFirst_ = true;  // Nothing has been written since the last flush.
 };
-
-/// The first whole message of what stands from there on: its length, or 0 where it isn't whole yet. Throws BadBytes
-/// where no message of this length at most can begin so.
-std::size_t messageSize(const std::string &bytes, std::size_t from, std::size_t longest);
 
 }

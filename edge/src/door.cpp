@@ -22,8 +22,8 @@ constexpr std::chrono::seconds PATIENCE(10);
 constexpr std::chrono::milliseconds TURN(200);
 constexpr std::size_t PIECE = 4096;
 constexpr int SILENCE = 30;  // Seconds behind which the system asks whether a client's machine is still there.
-constexpr int SYSTEMS_ROOM =
-    1 << 18;  // Of what is written to a client: else the system holds megabytes that nobody counts.
+// Of what is written to a client: else the system holds megabytes that nobody counts.
+constexpr int SYSTEMS_ROOM = 1 << 18;
 
 std::string placeOf(const sockaddr_in &address) {
     char text[INET_ADDRSTRLEN];
@@ -35,6 +35,7 @@ std::string placeOf(const sockaddr_in &address) {
 
 Descriptor listener(const std::string &host, int port) {
     Descriptor it(::socket(AF_INET, SOCK_STREAM | SOCK_NONBLOCK | SOCK_CLOEXEC, 0));
+    if (!it) throw std::runtime_error("can't make a socket: " + reason());
     const int one = 1;
     ::setsockopt(it.get(), SOL_SOCKET, SO_REUSEADDR, &one, sizeof one);
     sockaddr_in address{};
@@ -82,7 +83,7 @@ void Door::turn() {
     ::poll(all.data(), all.size(), static_cast<int>(TURN.count()));
     std::size_t at = listeners_.size();
     for (auto it = guests_.begin(); it != guests_.end(); at++) {
-        const bool isOver = all[at].revents ? isDone(*it) : Clock::now() - it->since > PATIENCE;
+        const bool isOver = (all[at].revents && isDone(*it)) || Clock::now() - it->since > PATIENCE;
         if (isOver && it->socket) say("", "a client from " + it->from + " is let go: it didn't log on");
         it = isOver ? guests_.erase(it) : std::next(it);
     }
@@ -136,8 +137,8 @@ bool Door::greet(Guest &guest) {
     const std::size_t size = messageSize(guest.bytes, 0, longest_);
     if (!size) return false;
     if (handOver(guest)) return true;
-    say("", "a client from " + guest.from +
-                " is let go, whose first message is no Logon of a member: " + shown(guest.bytes.substr(0, size)));
+    say("", "a client from " + guest.from + " is let go, whose first message is no Logon of a member: " +
+                shown(masked(guest.bytes.substr(0, size))));
     guest.socket.reset();
     return true;
 }

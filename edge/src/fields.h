@@ -1,5 +1,7 @@
 #pragma once
 
+#include <quickfix/FieldMap.h>
+
 #include <cstring>
 #include <string>
 #include <vector>
@@ -12,7 +14,8 @@ public:
     Fields(const char *from, std::size_t size, char separator) {
         for (const char *const end = from + size; from < end;) {
             int tag = 0;
-            while (from < end && *from >= '0' && *from <= '9') tag = tag * 10 + (*from++ - '0');
+            for (; from < end && *from >= '0' && *from <= '9'; from++)
+                if (tag < GREATEST) tag = tag * 10 + (*from - '0');
             const char *const value = ++from;
             const void *const stop =
                 from < end ? std::memchr(from, separator, static_cast<std::size_t>(end - from)) : nullptr;
@@ -48,6 +51,8 @@ public:
     }
 
 private:
+    static constexpr int GREATEST = 100000000;  // Above this a tag is none of FIX, and stays where it is.
+
     struct Field {
         int tag;
         const char *value;
@@ -62,5 +67,10 @@ private:
 
     std::vector<Field> all_;
 };
+
+/// The value of a field of the library's messages, or nothing.
+inline std::string textOf(const FIX::FieldMap &from, int tag) {
+    return from.isSetField(tag) ? from.getField(tag) : std::string();
+}
 
 }

@@ -3,6 +3,7 @@
 #include <poll.h>
 #include <unistd.h>
 
+#include <algorithm>
 #include <cerrno>
 #include <cstring>
 
@@ -30,6 +31,15 @@ std::string shown(const std::string &text) {
         else if (it < ' ' || it > '~') it = '.';
     }
     return text.size() > LONGEST ? line + " .." : line;
+}
+
+std::string masked(std::string message) {
+    for (const std::string field : {"\001554=", "\001925="})
+        for (std::size_t at = message.find(field); at != std::string::npos; at = message.find(field, at + 1)) {
+            const std::size_t from = at + field.size(), end = std::min(message.find('\1', from), message.size());
+            message.replace(from, end - from, "***");
+        }
+    return message;
 }
 
 std::string reason() {

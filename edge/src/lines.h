@@ -11,6 +11,9 @@ void say(const std::string &who, const std::string &what);
 /// A text of others for a line: bytes that don't print are dots, and a long one is cut.
 std::string shown(const std::string &text);
 
+/// A message with its passwords masked.
+std::string masked(std::string message);
+
 /// What the system says of its last error, in words.
 std::string reason();
 

@@ -1,4 +1,5 @@
 #include <fcntl.h>
+#include <poll.h>
 #include <sys/file.h>
 #include <sys/stat.h>
 
@@ -17,6 +18,9 @@ namespace {
 
 const char *const USAGE = "usage: gikvand-edge [--check|--mend] SETTINGS";
 
+// An edge that was killed may leave its lock behind for a moment, to a child that isn't venue-replay yet.
+constexpr int TRIES = 50, BETWEEN = 20;  // Milliseconds.
+
 /// Makes the edge's folder where it is missing, and keeps other edges away from it.
 edge::Descriptor locked(const std::string &folder) {
     if (::mkdir(folder.c_str(), 0700) && errno != EEXIST)
@@ -24,7 +28,12 @@ edge::Descriptor locked(const std::string &folder) {
     const std::string path = folder + "/lock";
     edge::Descriptor file(::open(path.c_str(), O_RDWR | O_CREAT | O_CLOEXEC, 0600));
     if (!file) throw edge::BadSetting("EdgePath", "can't be used: " + path + ": " + edge::reason());
-    if (::flock(file.get(), LOCK_EX | LOCK_NB)) throw edge::BadSetting("EdgePath", "is another edge's: " + folder);
+    for (int tries = 0; ::flock(file.get(), LOCK_EX | LOCK_NB); tries++) {
+        if (errno != EWOULDBLOCK && errno != EINTR)
+            throw edge::BadSetting("EdgePath", "can't be locked: " + path + ": " + edge::reason());
+        if (tries == TRIES) throw edge::BadSetting("EdgePath", "is another edge's: " + folder);
+        ::poll(nullptr, 0, BETWEEN);
+    }
     return file;
 }
 
@@ -39,18 +48,37 @@ sigset_t heldBack() {
     return signals;
 }
 
-int serve(const edge::Settings &settings, bool mends) {
-    const edge::Descriptor lock = locked(settings.folder);
-    const sigset_t signals = heldBack();
-    std::map<int, std::unique_ptr<edge::Names>> names;
-    for (const edge::MemberSettings &it : settings.members) names[it.number] = edge::lookedThrough(settings, it, mends);
-    if (mends) return 0;
+/// The threads of the edge, which end in order, whatever ends it: nobody comes in any more, then each member's ends,
+/// and only then do the sessions that they use.
+class Running {
+public:
+    Running(edge::Door &door, const std::vector<std::unique_ptr<edge::Member>> &members)
+        : door_(door), members_(members) {}
 
+    ~Running() {
+        door_.stop();
+        for (const auto &it : members_) it->stop();
+    }
+
+    void start() {
+        door_.start();
+        edge::say("", "ready, " + std::to_string(members_.size()) + " members");
+        for (const auto &it : members_) it->start();
+    }
+
+private:
+    edge::Door &door_;
+    const std::vector<std::unique_ptr<edge::Member>> &members_;
+};
+
+/// Serves all members until a signal comes.
+void serve(const edge::Settings &settings, const std::map<int, std::unique_ptr<edge::Names>> &names,
+           const sigset_t &signals) {
     edge::ReplayTurn turn;
     std::vector<std::unique_ptr<edge::Member>> members;
     edge::Door::Members bySession;
     for (const edge::MemberSettings &it : settings.members) {
-        members.emplace_back(new edge::Member(settings, it, *names[it.number], turn));
+        members.emplace_back(new edge::Member(settings, it, *names.at(it.number), turn));
         bySession[it.session] = members.back().get();
     }
     edge::Application application(bySession);
@@ -58,18 +86,22 @@ int serve(const edge::Settings &settings, bool mends) {
     edge::Logs logs(settings.logFolder);
     edge::Door door(application, stores, settings, logs, bySession);
     for (const auto &it : bySession) it.second->attach(*door.getSession(it.first), stores.of(it.first));
-    door.start();
     std::unique_ptr<edge::StatusPage> page;
     if (settings.statusPort) page.reset(new edge::StatusPage(settings.statusPort, members));
-    edge::say("", "ready, " + std::to_string(members.size()) + " members");
-    for (const auto &it : members) it->start();
-
+    Running running(door, members);
+    running.start();
     int signal;
     ::sigwait(&signals, &signal);
-    door.stop();
-    for (const auto &it : members) it->stop();
+}
+
+void run(const edge::Settings &settings, bool mends) {
+    const edge::Descriptor lock = locked(settings.folder);
+    const sigset_t signals = heldBack();
+    std::map<int, std::unique_ptr<edge::Names>> names;
+    for (const edge::MemberSettings &it : settings.members) names[it.number] = edge::lookedThrough(settings, it, mends);
+    if (mends) return;
+    serve(settings, names, signals);
     edge::say("", "stopped");
-    return 0;
 }
 
 }
@@ -83,8 +115,8 @@ int main(int count, char **words) {
     }
     try {
         const edge::Settings settings = edge::readSettings(words[count - 1]);
-        if (option != "--check") return serve(settings, option == "--mend");
-        std::cout << "the settings are right\n";
+        if (option == "--check") std::cout << "the settings are right\n";
+        else run(settings, option == "--mend");
         return 0;
     } catch (const std::exception &why) {
         edge::say("", why.what());

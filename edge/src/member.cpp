@@ -18,16 +18,19 @@ constexpr std::chrono::milliseconds TICK(500), AGAIN(200), REST(1000);
 constexpr std::size_t MOST_HANDED = 16;
 constexpr std::size_t MOST_TO_VENUE = 1 << 20;  // Behind this no more is read of the member.
 
+/// The MsgType of a whole message, or nothing.
+std::string typeOf(const std::string &message) {
+    const std::size_t at = message.find("\00135=");
+    if (at == std::string::npos) return "";
+    return message.substr(at + 4, message.find('\1', at + 4) - (at + 4));
+}
+
 /// Compares in a time that doesn't tell where they differ.
 bool isSame(const std::string &one, const std::string &other) {
     unsigned char differs = one.size() != other.size();
     for (std::size_t at = 0; at < one.size() && at < other.size(); at++)
         differs = static_cast<unsigned char>(differs | (one[at] ^ other[at]));
     return !differs;
-}
-
-std::string fieldOf(const FIX::Message &from, int tag) {
-    return from.isSetField(tag) ? from.getField(tag) : std::string();
 }
 
 }
@@ -81,7 +84,8 @@ void Member::run() {
             if (isStopping_ && client_) endClient("the edge stops");
             else turn();
         } catch (const std::exception &why) {
-            restAfter(why);
+            const std::string &fault = store_->fault();
+            restAfter(fault.empty() ? why.what() : "the store of its session takes nothing in: " + fault);
         }
     }
     if (link_.state() == VenueLink::State::Up && !link_.flush()) say(member_.name(), "the venue: " + link_.why());
@@ -94,9 +98,9 @@ void Member::turnBack() {
 }
 
 /// Something that this member's thread can't go on from: all connections end, and it begins anew from disk and journal.
-void Member::restAfter(const std::exception &why) {
-    if (saidOfVenue_ != why.what()) say(member_.name(), std::string("isn't served: ") + why.what());
-    saidOfVenue_ = why.what();
+void Member::restAfter(const std::string &why) {
+    if (saidOfVenue_ != why) say(member_.name(), "isn't served: " + why);
+    saidOfVenue_ = why;
     state_ = "isn't served";
     link_.end();
     turnBack();
@@ -104,13 +108,19 @@ void Member::restAfter(const std::exception &why) {
     trader_.venueLost();
     trader_.clearFault();
     connectAt_ = Clock::now() + REST;
+    isStoreRead_ = false;
     try {
         if (client_) endClient("it isn't served");
-        session_->refresh();
-        trader_.attach(*session_, store_->told());
-    } catch (const std::exception &also) {
-        say(member_.name(), std::string("its store can't be read: ") + also.what());
+        readStore();
+    } catch (const std::exception &) {
+        // It is tried again before the next connection to the venue, and what is wrong is said then.
     }
+}
+
+void Member::readStore() {
+    session_->refresh();
+    trader_.attach(*session_, store_->told());
+    isStoreRead_ = true;
 }
 
 void Member::turn() {
@@ -119,9 +129,11 @@ void Member::turn() {
     if (hasLink_) readLink();
     if (hasJournal_) readJournal();
     if (hasClient_ && client_) readClient();
+    else if (isHeldUp_) passMessages();
     takeHanded();  // Behind the end of a client that has gone to come back.
     tick();
     if (!trader_.fault().empty()) throw std::runtime_error(trader_.fault());
+    if (isStoreRead_ && !store_->fault().empty()) throw std::runtime_error(store_->fault());
     if (trader_.holdsTooMuch()) throw std::runtime_error("too much comes while the journal is read");
     flush();
 }
@@ -137,13 +149,14 @@ void Member::wait() {
     if (link_.state() != VenueLink::State::Down)
         all[2] = {link_.fd(), static_cast<short>(POLLIN | add(link_.isWriting(), POLLOUT)), 0};
     if (replay_) all[3] = {replay_->fd(), POLLIN, 0};
-    const auto pause = link_.state() == VenueLink::State::Down || wantsReplay_ ? AGAIN / 4 : TICK;
+    auto pause = link_.state() == VenueLink::State::Down || wantsReplay_ ? AGAIN / 4 : TICK;
+    if (isHeldUp_ && client_->takesMore()) pause = pause.zero();
     ::poll(all.data(), all.size(), static_cast<int>(pause.count()));
-    std::uint64_t rings;
-    if (all[0].revents && ::read(bell_.get(), &rings, sizeof rings) < 0) return;
     hasClient_ = all[1].revents & (POLLIN | POLLHUP | POLLERR);
     hasLink_ = all[2].revents & (POLLIN | POLLHUP | POLLERR);
     hasJournal_ = all[3].revents;
+    std::uint64_t rings;
+    if (all[0].revents && ::read(bell_.get(), &rings, sizeof rings) < 0) return;  // It has been read already.
 }
 
 void Member::takeHanded() {
@@ -158,10 +171,10 @@ void Member::takeHanded() {
 
 /// Why this Logon is refused, or nothing.
 std::string Member::refusalOf(const FIX::Message &logon) const {
-    if (!member_.username.empty() && !(isSame(fieldOf(logon, FIX::FIELD::Username), member_.username) &&
-                                       isSame(fieldOf(logon, FIX::FIELD::Password), member_.password)))
+    if (!member_.username.empty() && !(isSame(textOf(logon, FIX::FIELD::Username), member_.username) &&
+                                       isSame(textOf(logon, FIX::FIELD::Password), member_.password)))
         return "Username (553) or Password (554) is wrong";
-    if (fieldOf(logon, FIX::FIELD::ResetSeqNumFlag) == "Y" && !member_.limits.mayReset)
+    if (textOf(logon, FIX::FIELD::ResetSeqNumFlag) == "Y" && !member_.limits.mayReset)
         return "ResetSeqNumFlag (141) isn't taken: it would drop what was missed";
     if (!trader_.isReady()) return "the venue isn't there yet: try again";
     return "";
@@ -174,23 +187,38 @@ void Member::checkLogon(const FIX::Message &logon) const {
     throw FIX::RejectLogon(refusal);
 }
 
-/// Lets a client be this member's, unless there is one. Its Logon hasn't been looked at by the session yet, which obeys
-/// ResetSeqNumFlag before it asks whether the Logon is taken: so that one isn't shown to it.
+/// Whether this is a Logon with ResetSeqNumFlag that is refused, or one that can't be read. The session obeys the flag
+/// before it asks whether the Logon is taken: so it isn't shown that.
+bool Member::isRefusedReset(const std::string &message, const std::string &from) const {
+    try {
+        const FIX::Message logon(message, false);
+        if (textOf(logon, FIX::FIELD::ResetSeqNumFlag) != "Y") return false;
+        const std::string refusal = refusalOf(logon);
+        if (!refusal.empty()) say(member_.name(), "a Logon from " + from + " is refused: " + refusal);
+        return !refusal.empty();
+    } catch (const FIX::Exception &why) {
+        say(member_.name(), "a Logon from " + from + " can't be read: " + shown(why.what()));
+        return true;
+    }
+}
+
+/// Lets a client be this member's, unless there is one.
 void Member::admit(Handed &it) {
     if (client_) {
         say(member_.name(),
             "a second client from " + it.from + " is let go: one is logged on, from " + clientsAddress_);
         return;
     }
+    if (!isStoreRead_) {
+        say(member_.name(),
+            "a client from " + it.from + " is let go: the store can't be read, so nothing can be answered");
+        return;
+    }
     try {
-        const FIX::Message logon(it.bytes.substr(0, messageSize(it.bytes, 0, member_.limits.messageBytes)), false);
-        const std::string refusal = refusalOf(logon);
-        if (!refusal.empty() && fieldOf(logon, FIX::FIELD::ResetSeqNumFlag) == "Y") {
-            say(member_.name(), "a Logon from " + it.from + " is refused: " + refusal);
-            return;
-        }
-    } catch (const FIX::Exception &why) {
-        say(member_.name(), "a Logon from " + it.from + " can't be read: " + shown(why.what()));
+        const std::size_t size = messageSize(it.bytes, 0, member_.limits.messageBytes);
+        if (isRefusedReset(it.bytes.substr(0, size), it.from)) return;
+    } catch (const BadBytes &why) {  // The door lets the longest message of all members pass.
+        say(member_.name(), "a Logon from " + it.from + " can't be read: " + why.what());
         return;
     }
     clientsAddress_ = it.from;
@@ -210,22 +238,29 @@ void Member::readClient() {
     passMessages();
 }
 
-/// Gives the session what whole messages there are.
+/// Gives the session what whole messages there are, while the client takes what that brings. Whoever isn't logged on
+/// behind a message, its Logon or its Logout, goes.
 void Member::passMessages() {
     std::string message;
     try {
-        while (client_ && !client_->isEnding() && client_->next(message)) {
+        while (!client_->isEnding() && client_->takesMore() && client_->next(message)) {
+            const std::string type = typeOf(message);
+            if (type == "A" && isRefusedReset(message, clientsAddress_)) {
+                client_->disconnect();
+                break;
+            }
             trader_.isLast(!client_->hasMore());
-            client_->resends(message.find("\00135=2\1") != std::string::npos);
+            client_->resends(type == "2");
             try {
                 session_->next(message, FIX::UtcTimeStamp());
             } catch (const FIX::InvalidMessage &why) {
                 say(member_.name(), "a message can't be read: " + shown(why.what()));
-                if (!session_->isLoggedOn()) client_->disconnect();
             }
             client_->resends(false);
             if (!trader_.fault().empty()) throw std::runtime_error(trader_.fault());
+            if (!session_->isLoggedOn()) client_->disconnect();
         }
+        isHeldUp_ = client_->hasMore() && !client_->takesMore();
     } catch (const BadBytes &why) {
         endClient(why.what());
     }
@@ -237,12 +272,13 @@ void Member::endClient(const std::string &why) {
     session_->disconnect();
     client_->flush();
     client_.reset();
-    hasClient_ = false;
+    hasClient_ = isHeldUp_ = false;
     trader_.left();
 }
 
 void Member::driveLink() {
     if (link_.state() == VenueLink::State::Down && Clock::now() >= connectAt_) {
+        if (!isStoreRead_) readStore();
         link_.connect();
         if (link_.state() == VenueLink::State::Down) dropLink(link_.why());
     }

@@ -78,6 +78,7 @@ private:
     void admit(Handed &it);
     void readClient();
     void passMessages();
+    bool isRefusedReset(const std::string &message, const std::string &from) const;
     void endClient(const std::string &why);
     void driveLink();
     void readLink();
@@ -86,7 +87,8 @@ private:
     void flush();
     void tick();
     void turnBack();
-    void restAfter(const std::exception &why);
+    void restAfter(const std::string &why);
+    void readStore();
     std::string refusalOf(const FIX::Message &logon) const;
 
     const Settings &settings_;
@@ -111,6 +113,8 @@ private:
     bool wantsReplay_ = false;
     Clock::time_point connectAt_, tickAt_;
     bool hasClient_ = false, hasLink_ = false, hasJournal_ = false;  // Something to be read, as poll says.
+    bool isHeldUp_ = false;    // Messages of the client wait until it takes more of what is written to it.
+    bool isStoreRead_ = true;  // Or it has to be read anew, before anything else is done.
     std::thread thread_;
 };
 

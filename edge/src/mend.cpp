@@ -1,10 +1,9 @@
 #include "mend.h"
 
-#include <sys/stat.h>
-
 #include <algorithm>
 #include <set>
 
+#include "files.h"
 #include "lines.h"
 #include "replay.h"
 #include "reports.h"
@@ -20,12 +19,8 @@ struct Journal {
     std::set<long> numbers;
     std::map<long, std::pair<long, long>> reports;  // By ExecID: the numbers of ClOrdID and OrigClOrdID.
     std::vector<std::pair<long, long>> rejects;     // The same of those that refuse a cancel or a replace.
+    std::set<long> probes;                          // Of the edge: their answers aren't told, so no store has them.
 };
-
-bool isThere(const std::string &path) {
-    struct stat it;
-    return !::stat(path.c_str(), &it);
-}
 
 Journal journalOf(const Settings &settings, const MemberSettings &member) {
     Journal it;
@@ -36,17 +31,20 @@ Journal journalOf(const Settings &settings, const MemberSettings &member) {
         it.last = std::max(it.last, names.first);
         it.numbers.insert(names.first);
         if (report.byte(35) == '8') it.reports[report.number(17)] = names;
-        if (report.byte(35) == '9') it.rejects.push_back(names);
+        if (report.byte(35) != '9') return;
+        if (names.first == names.second) it.probes.insert(names.first);  // Only a probe cancels itself.
+        else it.rejects.push_back(names);
     });
     return it;
 }
 
-/// Names out of the store, by the numbers that the journal's reports have in the same place.
+/// Names out of the store, by the numbers that the journal's reports have in the same place, and those of probes.
 std::map<long, std::string> storedNames(const Settings &settings, const MemberSettings &member,
                                         const Journal &journal) {
     std::map<long, std::string> names;
     std::size_t rejects = 0;
     const bool isWhole = !isThere(toldPath(settings, member));  // It was never emptied.
+    mendStore(settings.storeFolder, member.session);
     const FIX::FileStore store(settings.storeFolder, member.session);
     forEachStored(store, [&](const Fields &stored) {
         if (!Reports::isOfVenue(stored)) return;
@@ -60,6 +58,7 @@ std::map<long, std::string> storedNames(const Settings &settings, const MemberSe
         if (numbers.first) names[numbers.first] = stored.text(11);
         if (numbers.second) names[numbers.second] = stored.text(41);
     });
+    for (const long number : journal.probes) names[number] = PROBE;
     return names;
 }
 
@@ -77,21 +76,31 @@ std::unique_ptr<Names> lookedThrough(const Settings &settings, const MemberSetti
     const std::string path = namesPath(settings, member);
     const Journal journal = journalOf(settings, member);
     const bool isNew = !isThere(path);
-    if (isNew && isThere(settings.storeFolder + "/" + member.session.toString().replace(7, 1, "-") + ".body") && !gives)
-        say(member.name(), path + " isn't there, and is made");
+    if (isNew && isThere(filesOf(settings.storeFolder, member.session) + ".body"))
+        say(member.name(), path + " isn't there, and is made: no name of before is known");
     std::unique_ptr<Names> names(new Names(path, settings.syncsNames, [&] { return journal.last + 1; }));
     const std::set<long> lost = lacking(*names, journal);
     if (lost.empty()) return names;
-    std::map<long, std::string> found, stored = storedNames(settings, member, journal);
+    const std::map<long, std::string> stored = storedNames(settings, member, journal);
+    std::map<long, std::string> named;
+    std::size_t given = 0;
     for (const long number : lost) {
-        const auto name = stored.find(number);
-        if (name == stored.end() && !gives)
+        const auto found = stored.find(number);
+        if (found != stored.end()) {
+            named[number] = found->second;
+            continue;
+        }
+        if (!gives)
             throw Damaged(path + " lacks the number " + std::to_string(number) +
                           ", and the store doesn't tell its name: see \"Recovery\" in EDGE.md");
-        found[number] = name == stored.end() ? "edge-lost-" + std::to_string(number) : name->second;
+        named[number] = "edge-lost-" + std::to_string(number);
+        given++;
     }
-    names->mend(found);
-    say(member.name(), std::to_string(found.size()) + " names were lost, and were found in journal and store");
+    names->mend(named);
+    if (named.size() > given)
+        say(member.name(),
+            std::to_string(named.size() - given) + " names were lost, and were found in journal and store");
+    if (given) say(member.name(), std::to_string(given) + " names are lost, and are edge-lost-.. from now on");
     return names;
 }
 

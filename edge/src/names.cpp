@@ -4,11 +4,11 @@
 #include <sys/stat.h>
 
 #include <algorithm>
-#include <cerrno>
 #include <cstdlib>
 #include <fstream>
 
 #include "checksum.h"
+#include "files.h"
 #include "lines.h"
 
 namespace edge {
@@ -19,30 +19,11 @@ namespace {
 const char *const HEAD = "gikvand-edge names 1 from ";
 constexpr char STRUCK = 's';
 
-void writeAll(int fd, const std::string &bytes, const std::string &path) {
-    for (std::size_t at = 0; at < bytes.size();) {
-        const ssize_t done = ::write(fd, bytes.data() + at, bytes.size() - at);
-        if (done < 0 && errno == EINTR) continue;
-        if (done <= 0) throw std::runtime_error("can't write to " + path + ": " + reason());
-        at += static_cast<std::size_t>(done);
-    }
+Names::Kind kindOf(const std::string &name) {
+    if (name == PROBE) return Names::Kind::Probe;
+    return name.compare(0, std::string(CANCEL).size(), CANCEL) ? Names::Kind::Request : Names::Kind::Cancel;
 }
 
-/// Puts a whole file in the place of this one, or leaves it as it is.
-void replaceFile(const std::string &path, const std::string &bytes) {
-    const std::string other = path + ".new";
-    Descriptor file(::open(other.c_str(), O_WRONLY | O_CREAT | O_TRUNC | O_CLOEXEC, 0600));
-    if (!file) throw std::runtime_error("can't make " + other + ": " + reason());
-    writeAll(file.get(), bytes, other);
-    if (::fsync(file.get()) || ::rename(other.c_str(), path.c_str()))
-        throw std::runtime_error("can't put " + other + " in its place: " + reason());
-}
-
-}
-
-bool Names::exists() const {
-    struct stat it;
-    return !::stat(path_.c_str(), &it);
 }
 
 void Names::make(long first) {
@@ -52,8 +33,9 @@ void Names::make(long first) {
 
 void Names::read() {
     std::ifstream file(path_, std::ios::binary);
+    if (!file) throw std::runtime_error("can't read " + path_ + ": " + reason());
     std::string line;
-    const std::string head = std::getline(file, line) ? bodyOf(line) : "";
+    const std::string head = std::getline(file, line) && !file.eof() ? bodyOf(line) : "";
     if (head.compare(0, std::string(HEAD).size(), HEAD)) throw Damaged("line 1 of " + path_ + " is damaged");
     first_ = next_ = std::atol(head.c_str() + std::string(HEAD).size());
     long long whole = static_cast<long long>(line.size()) + 1;
@@ -64,6 +46,7 @@ void Names::read() {
         behind = isGood ? 0 : behind + 1;
         if (!isGood) say("", "line " + std::to_string(number) + " of " + path_ + " is damaged");
     }
+    if (file.bad()) throw std::runtime_error("can't read " + path_ + " to its end");
     next_ += behind;
     if (!line.empty() && file.eof()) {  // A line that was being written: its request was never sent.
         say("", "the end of " + path_ + " is a line that was cut short, and is taken away");
@@ -160,7 +143,10 @@ bool Names::isProbe(long number) const {
 }
 
 void Names::mend(const std::map<long, std::string> &found) {
-    for (const auto &it : found) put(it.first, it.second, Kind::Request);
+    for (const auto &it : found) {
+        put(it.first, it.second, kindOf(it.second));
+        answered(it.first);
+    }
     std::map<long, const Entry *> all;
     for (const auto &entry : entries_) all[entry.first] = &entry.second;
     std::string bytes = checkedLine(HEAD + std::to_string(first_));
@@ -171,7 +157,6 @@ void Names::mend(const std::map<long, std::string> &found) {
     }
     replaceFile(path_, bytes);
     missing_.clear();
-    for (const auto &it : found) answered(it.first);
     openToAppend();
 }
 

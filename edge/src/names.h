@@ -9,6 +9,7 @@
 #include <vector>
 
 #include "descriptor.h"
+#include "files.h"
 
 namespace edge {
 
@@ -16,6 +17,10 @@ namespace edge {
 class Damaged : public std::runtime_error {
     using std::runtime_error::runtime_error;
 };
+
+// Names of the edge's own, which members can't give: of each probe, and the beginning of those of cancels.
+constexpr const char *PROBE = "edge-probe";
+constexpr const char *CANCEL = "edge-cancel-";
 
 /// The names that a member gives its requests (ClOrdID), and the rising numbers that the venue knows them by. A name is
 /// in the file before its request is sent, a line each with a checksum, so that no number and no name is used twice,
@@ -31,7 +36,7 @@ public:
     /// The names in this file. `first` asks for the first number where there is no such file yet: it is made.
     template <class First>
     Names(const std::string &path, bool syncs, First first) : path_(path), syncs_(syncs) {
-        if (exists()) read();
+        if (isThere(path)) read();
         else make(first());
         openToAppend();
     }
@@ -62,7 +67,8 @@ public:
     /// Numbers that lines are missing of: what was written there can't be read.
     const std::vector<long> &missing() const { return missing_; }
 
-    /// Writes the file anew with these names for numbers that were missing, none of them twice.
+    /// Writes the file anew with these names for numbers that were missing, none of them twice. No member is told that
+    /// one of these is lost: it knows that already, or doesn't know the name.
     void mend(const std::map<long, std::string> &found);
 
 private:
@@ -72,7 +78,6 @@ private:
         bool isOpen;  // No report has answered it, and its member wasn't told that it is lost.
     };
 
-    bool exists() const;
     void make(long first);
     void read();
     void openToAppend();

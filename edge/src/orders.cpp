@@ -2,7 +2,7 @@
 
 #include <quickfix/FixFieldNumbers.h>
 
-#include <cstdlib>
+#include "fields.h"
 
 namespace edge {
 
@@ -15,10 +15,6 @@ namespace FIELD = FIX::FIELD;
 constexpr int OTHER = 99, UNKNOWN_SYMBOL = 1;
 
 constexpr std::size_t LONGEST_NAME = 64;
-
-std::string textOf(const Message &message, int tag) {
-    return message.isSetField(tag) ? message.getField(tag) : std::string();
-}
 
 bool isUsed(int tag, char type) {
     switch (tag) {

@@ -66,8 +66,10 @@ void Replay::finish() {
     int status = 0;
     while (::waitpid(child_, &status, 0) < 0 && errno == EINTR) {}
     child_ = -1;
-    if (status || last_.compare(0, std::string(COUNTS).size(), COUNTS))
-        throw failure("can't read the journal: " + (last_.empty() ? "status " + std::to_string(status) : shown(last_)));
+    if (!status && !last_.compare(0, std::string(COUNTS).size(), COUNTS)) return;
+    const std::string end = WIFEXITED(status) ? "status " + std::to_string(WEXITSTATUS(status))
+                                              : "signal " + std::to_string(WTERMSIG(status));
+    throw failure("can't read the journal: " + (last_.empty() ? end : shown(last_)));
 }
 
 bool Replay::read(const std::function<void(const char *, std::size_t)> &told) {

@@ -3,6 +3,7 @@
 #include <quickfix/FixFieldNumbers.h>
 
 #include <chrono>
+#include <cstdlib>
 #include <ctime>
 
 namespace edge {
@@ -13,6 +14,7 @@ using FIX::Message;
 namespace FIELD = FIX::FIELD;
 
 const char *const SAID_BY_EDGE = "edge: ";
+const char *const LOST = "EL";  // So begins the ExecID of a report of a lost request, with its number behind.
 
 Message made(const char *type) {
     Message it;
@@ -21,7 +23,8 @@ Message made(const char *type) {
 }
 
 void copy(const Message &from, Message &into, int tag) {
-    if (from.isSetField(tag) && !from.getField(tag).empty()) into.setField(tag, from.getField(tag));
+    const std::string text = textOf(from, tag);
+    if (!text.empty()) into.setField(tag, text);
 }
 
 /// The state of an order that the edge speaks of in a cancel reject.
@@ -120,7 +123,7 @@ Message Reports::lost(long number, const std::string &why) const {
     Message told = made("8");
     told.setField(FIELD::ClOrdID, names_.nameOf(number));
     told.setField(FIELD::OrderID, "NONE");
-    told.setField(FIELD::ExecID, "EL" + std::to_string(number));
+    told.setField(FIELD::ExecID, LOST + std::to_string(number));
     told.setField(FIELD::ExecType, "8");
     told.setField(FIELD::OrdStatus, "8");
     told.setField(FIELD::OrdRejReason, "99");
@@ -135,6 +138,11 @@ Message Reports::lost(long number, const std::string &why) const {
 bool Reports::isOfVenue(const Fields &stored) {
     if (stored.byte(35) == '8') return stored.number(17) > 0;
     return stored.byte(35) == '9' && stored.text(58).compare(0, 6, SAID_BY_EDGE);
+}
+
+long Reports::lostOf(const Fields &stored) {
+    const std::string id = stored.byte(35) == '8' ? stored.text(17) : "";
+    return id.compare(0, 2, LOST) ? 0 : std::atol(id.c_str() + 2);
 }
 
 }

@@ -33,6 +33,9 @@ public:
     /// Whether a message that was stored is a report of the venue, and none of the edge's own.
     static bool isOfVenue(const Fields &stored);
 
+    /// The number of the request that a message which was stored says to be lost, or 0.
+    static long lostOf(const Fields &stored);
+
 private:
     FIX::Message executionOf(const Fields &report) const;
     FIX::Message rejectOf(const Fields &report) const;

@@ -1,11 +1,13 @@
 #pragma once
 
 #include <quickfix/Application.h>
-#include <quickfix/FileLog.h>
 #include <quickfix/MessageStore.h>
+#include <quickfix/Utility.h>
 
 #include <map>
 
+#include "files.h"
+#include "log.h"
 #include "member.h"
 #include "names.h"
 #include "settings.h"
@@ -53,10 +55,10 @@ private:
 /// Makes the logs of the sessions, and the one of all.
 class Logs : public FIX::LogFactory {
 public:
-    explicit Logs(const std::string &folder) : folder_(folder) {}
+    explicit Logs(const std::string &folder) : folder_(folder) { FIX::file_mkdir(folder.c_str()); }
 
-    FIX::Log *create() override { return new Log(folder_); }
-    FIX::Log *create(const FIX::SessionID &session) override { return new Log(folder_, session); }
+    FIX::Log *create() override { return new Log(folder_ + "/GLOBAL"); }
+    FIX::Log *create(const FIX::SessionID &session) override { return new Log(filesOf(folder_, session)); }
     void destroy(FIX::Log *log) override { delete log; }
 
 private:

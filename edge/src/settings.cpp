@@ -186,10 +186,19 @@ FIX::SessionSettings forLibrary(const FIX::SessionSettings &all) {
     return library;
 }
 
+/// What is read for all sessions alone can't be another one for one of them.
+void needCommon(const Dictionary &common, const Dictionary &session) {
+    for (const char *name : {"VenuePort", "VenueJournal", "VenueReplay", "Symbols", "SocketAcceptHost", "EdgePath",
+                             "FileStorePath", "FileLogPath", "HttpAcceptPort", "DiskReserve", "SyncNames"})
+        if (session.has(name) && (!common.has(name) || session.getString(name) != common.getString(name)))
+            throw BadSetting(name, "is one for all sessions, and belongs to [DEFAULT]");
+}
+
 void readMembers(const FIX::SessionSettings &all, Settings &into) {
     std::set<int> numbers;
     for (const FIX::SessionID &session : all.getSessions()) {
         needKnownNames(all.get(session));
+        needCommon(all.get(), all.get(session));
         refuseOthers(all.get(session));
         into.members.push_back(memberOf(session, all.get(session)));
         if (!numbers.insert(into.members.back().number).second)

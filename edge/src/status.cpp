@@ -38,7 +38,7 @@ void StatusPage::run() {
 }
 
 void StatusPage::answer(int socket) const {
-    char asked[1024];
+    char asked[8192];  // A browser's whole request: what isn't read of it would cut the answer short.
     if (!waits(socket, PATIENCE)) return;
     const ssize_t count = ::recv(socket, asked, sizeof asked, 0);
     if (count <= 0) return;

@@ -1,30 +1,25 @@
 #include "store.h"
 
-#include <fcntl.h>
 #include <sys/stat.h>
 #include <unistd.h>
 
 #include <algorithm>
+#include <cerrno>
 #include <cstdio>
 #include <cstdlib>
 #include <fstream>
 #include <vector>
 
 #include "checksum.h"
-#include "fields.h"
+#include "files.h"
 #include "lines.h"
 #include "reports.h"
 
 namespace edge {
 
 namespace {
-constexpr int AT_ONCE = 1000;  // Messages that are read from a store in one go.
 
-/// The beginning of the names of a session's files.
-std::string frontOf(const std::string &folder, const FIX::SessionID &session) {
-    return folder + "/" + session.getBeginString().getString() + "-" + session.getSenderCompID().getString() + "-" +
-           session.getTargetCompID().getString();
-}
+constexpr int AT_ONCE = 1000;  // Messages that are read from a store in one go.
 
 /// How many bytes of these entries are whole ones, as "12,3400,330 ", of messages that the body has.
 std::size_t wholeEntries(const std::string &entries, long body) {
@@ -35,34 +30,35 @@ std::size_t wholeEntries(const std::string &entries, long body) {
         const long place = std::strtol(at + 1, &at, 10);
         if (*at != ',') break;
         const long size = std::strtol(at + 1, &at, 10);
-        if (*at != ' ' || place + size > body) break;
+        if (*at != ' ' || place < 0 || size < 0 || place > body || size > body - place) break;
     }
     return static_cast<std::size_t>(from - begin);
 }
 
-/// Takes away what a full disk or a power cut left at the end of a store's places, behind which the library reads
-/// nothing. Gives the store's folder.
-const std::string &mended(const std::string &folder, const std::string &front) {
-    const std::string header = front + ".header";
-    std::ifstream file(header, std::ios::binary);
-    const std::string entries((std::istreambuf_iterator<char>(file)), std::istreambuf_iterator<char>());
-    struct stat body;
-    const bool hasBody = !::stat((front + ".body").c_str(), &body);
-    const std::size_t end = wholeEntries(entries, hasBody ? body.st_size : 0);
-    if (!file || end == entries.size()) return folder;
-    say("", "the end of " + header + " was cut short, and is taken away");
-    if (::truncate(header.c_str(), static_cast<off_t>(end)))
-        throw FIX::ConfigError("can't shorten " + header + ": " + reason());
+/// Mends a session's store, and gives its folder; throws a ConfigError, as the library does where it makes a session.
+const std::string &mended(const std::string &folder, const FIX::SessionID &session) {
+    try {
+        mendStore(folder, session);
+    } catch (const std::runtime_error &why) {
+        throw FIX::ConfigError(why.what());
+    }
     return folder;
 }
 
 }
 
-Told Told::laterOf(const Told &one, const Told &other) {
-    Told it;
-    it.report = std::max(one.report, other.report);
-    it.reject = std::max(one.reject, other.reject);
-    return it;
+void mendStore(const std::string &folder, const FIX::SessionID &session) {
+    const std::string front = filesOf(folder, session), header = front + ".header", body = front + ".body";
+    std::ifstream file(header, std::ios::binary);
+    const std::string entries((std::istreambuf_iterator<char>(file)), std::istreambuf_iterator<char>());
+    struct stat bodys;
+    const bool hasBody = !::stat(body.c_str(), &bodys);
+    if (!hasBody && errno != ENOENT) throw std::runtime_error("can't look at " + body + ": " + reason());
+    const std::size_t end = wholeEntries(entries, hasBody ? bodys.st_size : 0);
+    if (!file || end == entries.size()) return;
+    say("", "the end of " + header + " was cut short, and is taken away");
+    if (::truncate(header.c_str(), static_cast<off_t>(end)))
+        throw std::runtime_error("can't shorten " + header + ": " + reason());
 }
 
 Told ToldFile::read() const {
@@ -77,11 +73,7 @@ Told ToldFile::read() const {
 }
 
 void ToldFile::write(const Told &told) const {
-    const std::string other = path_ + ".new";
-    std::ofstream file(other, std::ios::trunc);
-    file << checkedLine("told " + std::to_string(told.report) + " " + std::to_string(told.reject)) << std::flush;
-    if (!file || std::rename(other.c_str(), path_.c_str()))
-        throw FIX::IOException("can't write " + path_ + ": " + reason());
+    replaceFile(path_, checkedLine("told " + std::to_string(told.report) + " " + std::to_string(told.reject)));
 }
 
 void forEachStored(const FIX::MessageStore &store, const std::function<void(const Fields &)> &look) {
@@ -96,6 +88,7 @@ void forEachStored(const FIX::MessageStore &store, const std::function<void(cons
 Told toldBy(const FIX::MessageStore &store, const Names &names) {
     Told it;
     forEachStored(store, [&](const Fields &stored) {
+        if (const long lost = Reports::lostOf(stored)) it.lost.insert(lost);
         if (!Reports::isOfVenue(stored)) return;
         if (stored.byte(35) == '8') it.report = std::max(it.report, stored.number(17));
         else it.reject = std::max(it.reject, names.numberOf(stored.text(11)));
@@ -105,48 +98,74 @@ Told toldBy(const FIX::MessageStore &store, const Names &names) {
 
 Store::Store(const std::string &folder, const FIX::SessionID &session, const Names &names, const std::string &toldPath,
              std::uint64_t leastRoom)
-    : FIX::FileStore(mended(folder, frontOf(folder, session)), session),
-      front_(frontOf(folder, session)),
+    : FIX::FileStore(mended(folder, session), session),
+      folder_(folder),
+      session_(session),
       names_(names),
       file_(toldPath),
       room_(folder, leastRoom) {}
 
-bool Store::set(int number, const std::string &message) throw(FIX::IOException) {
-    if (!room_.isThere()) throw FIX::IOException("the disk of the store is full");
-    return FIX::FileStore::set(number, message);
+/// Does this, and notes why it fails. Only an IOException may come out of what the library calls: any other one would
+/// end the program.
+template <class Act>
+void Store::noting(Act act) {
+    try {
+        act();
+    } catch (const FIX::IOException &why) {
+        fault_ = why.detail;
+        throw;
+    } catch (const std::exception &why) {
+        fault_ = why.what();
+        throw FIX::IOException(fault_);
+    }
 }
 
+bool Store::set(int number, const std::string &message) throw(FIX::IOException) {
+    noting([&] {
+        if (!fault_.empty()) throw FIX::IOException(fault_);
+        if (!room_.isThere()) throw FIX::IOException("the disk is full");
+        FIX::FileStore::set(number, message);
+    });
+    return true;
+}
+
+void Store::incrNextSenderMsgSeqNum() throw(FIX::IOException) {
+    noting([&] { FIX::FileStore::incrNextSenderMsgSeqNum(); });
+}
+
+void Store::incrNextTargetMsgSeqNum() throw(FIX::IOException) {
+    noting([&] { FIX::FileStore::incrNextTargetMsgSeqNum(); });
+}
+
+/// Where it fails that is noted alone: an exception would end the program where the library makes a session of a new
+/// day.
 void Store::reset() throw(FIX::IOException) {
     try {
-        file_.write(told());
-    } catch (const Damaged &why) {
-        throw FIX::IOException(why.what());
+        noting([&] {
+            file_.write(told());
+            FIX::FileStore::reset();
+            fault_.clear();
+        });
+    } catch (const FIX::IOException &) {
+        // Nothing is put into the store now, so that it isn't taken for an empty one.
     }
-    FIX::FileStore::reset();
 }
 
+/// The first time closes the files: what was still to be written to one of them is written then, and may be cut short.
 void Store::refresh() throw(FIX::IOException) {
-    try {
-        mended("", front_);
-    } catch (const FIX::ConfigError &why) {
-        throw FIX::IOException(why.what());
-    }
-    FIX::FileStore::refresh();
+    noting([&] {
+        FIX::FileStore::refresh();
+        mendStore(folder_, session_);
+        FIX::FileStore::refresh();
+        fault_.clear();
+    });
 }
 
 Told Store::told() const {
-    return Told::laterOf(file_.read(), toldBy(*this, names_));
-}
-
-std::string Log::masked(const std::string &message) {
-    std::string it = message;
-    if (message.find("\00135=A\1") == std::string::npos) return it;
-    for (const char *field : {"\001554=", "\001925="}) {
-        const std::size_t at = it.find(field);
-        if (at == std::string::npos) continue;
-        const std::size_t from = at + 5, end = std::min(it.find('\1', from), it.size());
-        it.replace(from, end - from, "***");
-    }
+    const Told before = file_.read();
+    Told it = toldBy(*this, names_);
+    it.report = std::max(it.report, before.report);
+    it.reject = std::max(it.reject, before.reject);
     return it;
 }
 

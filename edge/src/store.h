@@ -1,12 +1,13 @@
 #pragma once
 
-#include <quickfix/FileLog.h>
 #include <quickfix/FileStore.h>
 
 #include <cstdint>
 #include <functional>
+#include <set>
 #include <string>
 
+#include "fields.h"
 #include "names.h"
 #include "room.h"
 
@@ -16,9 +17,7 @@ namespace edge {
 /// its request. Both rise, so a report is new where it is above.
 struct Told {
     long report = 0, reject = 0;
-
-    /// The later one of both.
-    static Told laterOf(const Told &one, const Told &other);
+    std::set<long> lost;  // The numbers of requests of which the edge said that they never reached the venue.
 };
 
 /// Where a store keeps what it had been told, as the library empties it at the end of a day.
@@ -36,35 +35,42 @@ private:
 Told toldBy(const FIX::MessageStore &store, const Names &names);
 
 /// Calls this with the fields of each message that a store holds, one after another.
-void forEachStored(const FIX::MessageStore &store, const std::function<void(const class Fields &)> &look);
+void forEachStored(const FIX::MessageStore &store, const std::function<void(const Fields &)> &look);
+
+/// Takes away what a full disk or a power cut left at the end of a store's places, behind which the library reads
+/// nothing.
+void mendStore(const std::string &folder, const FIX::SessionID &session);
 
 /// The library's store in files, which notes what it has told before it is emptied, takes nothing in where the disk has
-/// no room left, and mends what a full disk may have cut short: the library reads nothing behind that.
+/// no room left, and mends what a full disk may have cut short.
 class Store : public FIX::FileStore {
 public:
     Store(const std::string &folder, const FIX::SessionID &session, const Names &names, const std::string &toldPath,
           std::uint64_t leastRoom);
 
     bool set(int number, const std::string &message) throw(FIX::IOException) override;
+    void incrNextSenderMsgSeqNum() throw(FIX::IOException) override;
+    void incrNextTargetMsgSeqNum() throw(FIX::IOException) override;
     void reset() throw(FIX::IOException) override;
     void refresh() throw(FIX::IOException) override;
+
+    /// Why something couldn't be kept, or nothing. Nothing is put behind that until the store is read anew, by
+    /// `refresh`.
+    const std::string &fault() const { return fault_; }
 
     /// What the store has, and had before it was emptied.
     Told told() const;
 
 private:
-    const std::string front_;
+    template <class Act>
+    void noting(Act act);
+
+    const std::string folder_;
+    const FIX::SessionID session_;
     const Names &names_;
     const ToldFile file_;
     Room room_;
-};
-
-/// The library's log in files, with passwords masked.
-class Log : public FIX::FileLog {
-public:
-    using FIX::FileLog::FileLog;
-    void onIncoming(const std::string &message) override { FIX::FileLog::onIncoming(masked(message)); }
-    static std::string masked(const std::string &message);
+    std::string fault_;
 };
 
 }

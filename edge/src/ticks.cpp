@@ -1,6 +1,7 @@
 #include "ticks.h"
 
 #include <cstddef>
+#include <limits>
 #include <stdexcept>
 
 namespace edge {
@@ -8,7 +9,7 @@ namespace edge {
 namespace {
 
 constexpr int DECIMALS = 9;
-constexpr std::size_t DIGITS = 9;  // In front of the point: so no product below is above what a long holds.
+constexpr std::size_t DIGITS = 9;  // In front of the point: so billionths are below what a long long holds.
 
 bool isDigit(char it) {
     return it >= '0' && it <= '9';
@@ -45,6 +46,8 @@ Tick::Tick(const std::string &text) : text_(text), decimals_(0), mantissa_(0) {
     decimals_ = point == std::string::npos ? 0 : static_cast<int>(text.size() - point - 1);
     if (decimals_ > DECIMALS) throw std::invalid_argument("a step of more than nine decimals: " + text);
     mantissa_ = static_cast<long>(value / power(DECIMALS - decimals_));
+    if (mantissa_ > std::numeric_limits<long>::max() / MOST)
+        throw std::invalid_argument("too great a step of so many decimals: " + text);
 }
 
 long Tick::stepsOf(const std::string &price) const {

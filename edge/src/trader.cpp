@@ -56,34 +56,39 @@ void Trader::pass(const FIX::Message &message) {
     const Request head = Orders::headOf(message);
     counts_.requests++;
     try {
-        if (!rate_.take())
-            throw Refused(head.isOrder() ? OTHER : EXCHANGE_OPTION,
-                          "more than " + std::to_string(member_.limits.messagesPerSecond) + " requests a second");
         const bool isKnown = names_.numberOf(head.name);
-        if (isKnown && message.getHeader().isSetField(FIX::FIELD::PossDupFlag)) {
+        if (isKnown && textOf(message.getHeader(), FIX::FIELD::PossDupFlag) == "Y") {
             say(member_.name(), "a request that was sent again has been passed on before: " + shown(head.name));
             return;
         }
+        if (!rate_.take())
+            throw Refused(head.isOrder() ? OTHER : EXCHANGE_OPTION,
+                          "more than " + std::to_string(member_.limits.messagesPerSecond) + " requests a second");
         if (isKnown) throw Refused(DUPLICATE, "ClOrdID (11) was used before");
         const Request it = orders_.read(message);
         if (!isReady_) throw Refused(CLOSED, "the venue isn't there");
         needRoom(it);
-        const long original = originalOf(it);
-        const std::string time = timeNow();
-        long number;
-        try {
-            number = names_.add(it.name, Names::Kind::Request);
-        } catch (const std::runtime_error &why) {
-            say(member_.name(), why.what());
-            throw Refused(OTHER, "this request can't be kept on the disk");
-        }
-        const char type[] = {it.type, '\0'};
-        Request &sent = underWay_[number] = it;
-        sent.sequence = link_.send(type, bodyFor(it, number, original, time), time);
-        if (isLast_ && !link_.flush()) return;  // The connection is lost, which the member's next turn sees.
+        if (it.isOrder()) needFewOrders();
+        passOn(it, originalOf(it));
     } catch (const Refused &why) {
         refuse(message, head, why);
     }
+}
+
+/// Keeps the name of a request, and sends the request to the venue by its number.
+void Trader::passOn(const Request &it, long original) {
+    const std::string time = timeNow();
+    long number;
+    try {
+        number = names_.add(it.name, Names::Kind::Request);
+    } catch (const std::runtime_error &why) {
+        say(member_.name(), why.what());
+        throw Refused(OTHER, "this request can't be kept on the disk");
+    }
+    const char type[] = {it.type, '\0'};
+    Request &sent = underWay_[number] = it;
+    sent.sequence = link_.send(type, bodyFor(it, number, original, time), time);
+    if (isLast_ && !link_.flush()) return;  // The connection is lost, which the end of this turn sees.
 }
 
 long Trader::originalOf(const Request &it) const {
@@ -98,13 +103,15 @@ void Trader::needRoom(const Request &it) {
     const bool hasRoom = namesRoom_.isThere() && storeRoom_.isThere();
     if (hasRoom_ && !hasRoom) say(member_.name(), "new orders are refused: the disk is nearly full");
     hasRoom_ = hasRoom;
-    const int reason = it.isOrder() ? OTHER : EXCHANGE_OPTION;
-    if (!hasRoom_) throw Refused(reason, "its disk is nearly full");
+    if (!hasRoom_) throw Refused(it.isOrder() ? OTHER : EXCHANGE_OPTION, "its disk is nearly full");
+}
+
+void Trader::needFewOrders() {
+    if (!member_.limits.openOrders) return;
     const auto isOrder = [](const std::pair<const long, Request> &sent) { return sent.second.isOrder(); };
     const auto underWay = std::count_if(underWay_.begin(), underWay_.end(), isOrder);
-    if (it.isOrder() && member_.limits.openOrders &&
-        open_.size() + static_cast<std::size_t>(underWay) >= static_cast<std::size_t>(member_.limits.openOrders))
-        throw Refused(reason, "more than " + std::to_string(member_.limits.openOrders) + " open orders");
+    if (open_.size() + static_cast<std::size_t>(underWay) >= static_cast<std::size_t>(member_.limits.openOrders))
+        throw Refused(OTHER, "more than " + std::to_string(member_.limits.openOrders) + " open orders");
 }
 
 void Trader::refuse(const FIX::Message &message, const Request &it, const Refused &why) {
@@ -129,10 +136,15 @@ void Trader::recovered(const char *line, std::size_t size) {
     take(Fields(line, size, '|'));
 }
 
-void Trader::endRecovery(bool isLoggedOn) {
+/// The journal has the last report that the store has, or is another one, of which nothing may be told.
+void Trader::needTold() const {
     if (!hasSeenTold_)
         throw std::runtime_error("its store has report " + std::to_string(told_.report) +
                                  ", which the journal hasn't: that is another journal, or an older copy");
+}
+
+void Trader::endRecovery(bool hasClient) {
+    needTold();
     isRecovering_ = false;
     isReady_ = true;
     const std::vector<std::string> held = std::move(held_);
@@ -140,13 +152,12 @@ void Trader::endRecovery(bool isLoggedOn) {
     heldBytes_ = 0;
     for (const std::string &message : held) take(Fields(message.data(), message.size(), '\1'));
     if (!names_.unanswered(names_.last()).empty()) probe();
-    if (isFirst_ && !isLoggedOn && member_.limits.cancelOnDisconnect) isCancelDue_ = true;
-    isFirst_ = false;
+    if (!hasClient && member_.limits.cancelOnDisconnect) isCancelDue_ = true;  // Cancels may have been lost, too.
     if (isCancelDue_) cancelAll();
 }
 
 void Trader::heard(const char *message, std::size_t size) {
-    if (isRecovering_) {
+    if (!isReady_) {
         held_.emplace_back(message, size);
         heldBytes_ += size;
         return;
@@ -163,14 +174,22 @@ void Trader::take(const Fields &report) {
     const char type = report.byte(35);
     if (type == '3' && !isRecovering_) rejected(report);
     if (type != '8' && type != '9') return;
+    const bool isBehind = isBehindTold(report);
     const long number = report.number(11);
-    if (type == '8' && report.number(17) == told_.report) hasSeenTold_ = true;
-    const bool isBehind = type == '8' ? report.number(17) > told_.report : number > told_.reject;
     names_.answered(number);
     underWay_.erase(number);
     if (type == '8' && (isBehind || isRecovering_)) open_.take(report);
     if (isBehind) tell(report);
     counts_.openOrders = static_cast<long>(open_.size());
+}
+
+/// Whether this report stands behind what the store has. All that the journal has in front of the last one were told.
+bool Trader::isBehindTold(const Fields &report) {
+    if (report.byte(35) == '9') return hasSeenTold_ && report.number(11) > told_.reject;
+    const long number = report.number(17);
+    if (number == told_.report) hasSeenTold_ = true;
+    if (number > told_.report) needTold();
+    return number > told_.report;
 }
 
 void Trader::tell(const Fields &report) {
@@ -191,11 +210,15 @@ void Trader::tellLost(long upTo) {
     for (const long number : names_.unanswered(upTo)) tellLost(number, "this request never reached the venue");
 }
 
+/// Tells that a request is lost, unless the store has that: then the edge had ended before it noted it beside the name.
 void Trader::tellLost(long number, const std::string &why) {
-    FIX::Message message = reports_.lost(number, why);
-    send(message);
+    if (!told_.lost.count(number)) {
+        FIX::Message message = reports_.lost(number, why);
+        send(message);
+        told_.lost.insert(number);
+        say(member_.name(), why + ": " + shown(names_.nameOf(number)));
+    }
     names_.strike(number);
-    say(member_.name(), why + ": " + shown(names_.nameOf(number)));
 }
 
 /// The venue rejects a message where it isn't of its profile, as a market order is where its journal is of version 1.
@@ -210,7 +233,7 @@ void Trader::rejected(const Fields &reject) {
 }
 
 void Trader::probe() {
-    const long number = names_.add("edge-probe", Names::Kind::Probe);
+    const long number = names_.add(PROBE, Names::Kind::Probe);
     const std::string time = timeNow();
     link_.send("F", probeFor(settings_.venue.symbols[0], number, time), time);
 }
@@ -227,7 +250,7 @@ void Trader::cancelAll() {
         if (it.second.type != 'F') orders[it.first] = {"", it.second.symbol, it.second.side, false};
     const std::string time = timeNow();
     for (const auto &order : orders) {
-        const std::string name = "edge-cancel-" + std::to_string(names_.last() + 1);
+        const std::string name = CANCEL + std::to_string(names_.last() + 1);
         const long number = names_.add(name, Names::Kind::Cancel);
         link_.send("F", cancelFor(order.second, number, order.first, time), time);
     }

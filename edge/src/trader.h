@@ -55,12 +55,12 @@ public:
     /// The member isn't connected any longer.
     void left();
 
-    /// The journal is to be read, from its beginning on: what comes from the venue waits meanwhile.
+    /// The journal is to be read, from its beginning on.
     void beginRecovery();
     void recovered(const char *line, std::size_t size);
-    void endRecovery(bool isLoggedOn);
+    void endRecovery(bool hasClient);
 
-    /// A message of the venue.
+    /// A message of the venue. It waits until what the journal tells has been taken in, which stands before it.
     void heard(const char *message, std::size_t size);
 
     /// The connection to the venue has ended.
@@ -82,8 +82,12 @@ private:
     void pass(const FIX::Message &message);
     long originalOf(const Request &it) const;
     void needRoom(const Request &it);
+    void needFewOrders();
+    void passOn(const Request &it, long original);
     void refuse(const FIX::Message &message, const Request &it, const Refused &why);
     void take(const Fields &report);
+    bool isBehindTold(const Fields &report);
+    void needTold() const;
     void tell(const Fields &report);
     void tellLost(long upTo);
     void tellLost(long number, const std::string &why);
@@ -103,10 +107,10 @@ private:
     std::map<long, Request> underWay_;  // Requests that no report has answered yet.
     Rate rate_;
     Told told_;
-    std::vector<std::string> held_;  // Messages of the venue, while the journal is read.
+    std::vector<std::string> held_;  // Messages of the venue, until the journal has been read.
     std::size_t heldBytes_ = 0;
     bool hasSeenTold_ = false;  // The journal has the last report that the store has.
-    bool isRecovering_ = false, isReady_ = false, isCancelDue_ = false, isFirst_ = true;
+    bool isRecovering_ = false, isReady_ = false, isCancelDue_ = false;
     std::string fault_;
     Room namesRoom_, storeRoom_;  // For new orders.
     bool hasRoom_ = true, isLast_ = true;

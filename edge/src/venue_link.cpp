@@ -8,30 +8,23 @@
 #include <cstdlib>
 
 #include "fields.h"
+#include "frames.h"
 #include "lines.h"
 #include "reports.h"
 
 namespace edge {
 
 namespace {
-
-constexpr std::size_t BEFORE_LENGTH = 12;  // 8=FIX.4.4|9=
-constexpr std::size_t TRAILER = 7;
-constexpr std::size_t DIGITS = 4;
-
-/// How long the message is that begins here: 0 where that isn't there yet.
-std::size_t wholeSize(const char *from, std::size_t size) {
-    std::size_t at = BEFORE_LENGTH, length = 0;
-    for (; at < size && from[at] >= '0' && from[at] <= '9' && at < BEFORE_LENGTH + DIGITS; at++)
-        length = length * 10 + static_cast<std::size_t>(from[at] - '0');
-    return at < size && at > BEFORE_LENGTH ? at + 1 + length + TRAILER : 0;
-}
-
+constexpr std::size_t LONGEST = 1 << 14;  // Of the venue's messages.
 }
 
 void VenueLink::connect() {
     end();
     socket_.reset(::socket(AF_INET, SOCK_STREAM | SOCK_NONBLOCK | SOCK_CLOEXEC, 0));
+    if (!socket_) {
+        fail("can't connect: " + reason());
+        return;
+    }
     const int one = 1;
     ::setsockopt(socket_.get(), IPPROTO_TCP, TCP_NODELAY, &one, sizeof one);
     sockaddr_in address{};
@@ -112,8 +105,12 @@ bool VenueLink::read(const std::function<void(const char *, std::size_t)> &told)
     const auto look = in_.look([this](char *piece, std::size_t size) { return ::recv(socket_.get(), piece, size, 0); });
     if (look == Inbox::Look::Failed) return fail("can't read: " + reason());
     if (look == Inbox::Look::End) return fail("it closed the connection");
-    for (std::size_t size; (size = wholeSize(in_.data(), in_.size())) && in_.size() >= size; in_.take(size))
-        if (!take(in_.data(), size, told)) return false;
+    try {
+        for (std::size_t size; (size = messageSize(in_.bytes(), in_.at(), LONGEST)); in_.take(size))
+            if (!take(in_.data(), size, told)) return false;
+    } catch (const BadBytes &why) {
+        return fail(why.what());
+    }
     return true;
 }
 

@@ -8,9 +8,9 @@ import threading
 import time
 
 ROOT = os.path.dirname(os.path.dirname(os.path.dirname(os.path.abspath(__file__))))
-sys.path.insert(0, os.path.join(ROOT, "scripts"))
+sys.path.insert(0, os.path.join(ROOT, "dev"))
 
-import needs_python  # (in front of what an older Python can't read)
+import with_scripts  # (in front of what stands there, and of what an older Python can't read)
 from venues import HOST, PATIENCE, REPLAY, Client, Trouble, Venue, free_port, kill_all, replay, running, started
 from venues import order as venue_order  # (in the venue's own profile)
 

@@ -165,6 +165,14 @@ class Engine:
         raise Trouble(f"{self.sender}: no report of {wanted}; there were {self.reports[-4:]}, {self.admin[-2:]}")
 
 
+def at_rest(port, name, quantity=1, member=1):
+    """A member that is logged on, and whose order to buy at 50 rests."""
+    one = Engine(port, member).log_on()
+    one.send("D", order(name, 1, quantity, "50"))
+    one.report(_150="0", _11=name)
+    return one
+
+
 def order(name, side, quantity, price, symbol="ABC", more=""):
     """The body of an order as engines write it."""
     return f"11={name}|21=1|38={quantity}|40=2|44={price}|54={side}|55={symbol}|60={now()}|{more}"

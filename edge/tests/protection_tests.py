@@ -7,10 +7,10 @@ import subprocess
 import time
 import urllib.request
 
-from edges import HOST, JOURNAL, NAMES, PATIENCE, SYMBOLS, Client, Trouble, free_port, kill_all, pair, started
-from edges import stored, told, venue_order
-from engines import Engine, cancel, order, replace
-from gikvand.fix import value
+from edges import HOST, JOURNAL, NAMES, PATIENCE, SYMBOLS, Client, Trouble, again, free_port, kill_all, pair
+from edges import started, stored, told, venue_order
+from engines import Engine, at_rest, cancel, now, order, replace
+from gikvand.fix import framed, value
 from recovery_tests import places, restarted
 from trading_tests import expect
 
@@ -102,6 +102,19 @@ def test_cancel_on_disconnect():
     one.log_on().report(_150="4", _41="c")
 
 
+def test_lost_cancels():
+    """The venue is killed before it has read the cancels of a member that went away: they are sent again."""
+    venue, edge, port = pair(CancelOnDisconnect="Y")
+    one = at_rest(port, "a")
+    venue.pause()
+    one.close()
+    edge.hears("cancels 1 orders")
+    venue.kill()
+    again(port, 1, venue.port)
+    edge.hears("cancels 1 orders")
+    one.log_on().report(_150="4", _41="a")
+
+
 def test_passwords():
     """A session with a password takes no other, keeps it out of its log, and its store is safe from who hasn't it."""
     with open("passwords", "w", encoding="ascii") as file:
@@ -122,6 +135,9 @@ def test_passwords():
     with open(f"log/FIX.4.4-GIKVAND-{NAMES[1]}.messages.current.log", encoding="ascii") as file:
         if "cret" in file.read():
             raise Trouble("the log has a password")
+    refused(Engine(port, 1, sender="DESK-X"), "wasn't answered", "553=desk|554=s=cret|")
+    if "cret" in edge.hears("no Logon of a member"):
+        raise Trouble("a line has a password")
     one = Engine(port, 1).log_on("141=Y|553=desk|554=s=cret|")
     expect((one.next, places(1)), (2, []))
 
@@ -129,15 +145,18 @@ def test_passwords():
 def test_no_reset():
     """A member's ResetSeqNumFlag isn't taken where the settings don't say so, since it would drop what was missed."""
     venue, edge, port = pair()
-    one = Engine(port, 1).log_on()
-    one.send("D", order("a", 1, 1, "50"))
-    one.report(_150="0")
+    one = at_rest(port, "a")
     one.log_out()
     refused(one, "wasn't answered", "141=Y|")
     edge.hears("is refused: ResetSeqNumFlag (141) isn't taken")
     expect(places(1), [1])
     one.out -= 1  # Its Logon was never looked at.
+    one.log_on().write("A", "98=0|108=30|141=Y|")
+    edge.hears("is refused: ResetSeqNumFlag (141) isn't taken")
+    while one.pump(1):
+        pass
     one.log_on()
+    expect(places(1), [1])
 
 
 def narrow(port):
@@ -184,6 +203,34 @@ def test_slow_reader():
     expect(places(1), [int(value(it, "17")) for it in told(1)])
 
 
+def figure(page, name):
+    """A figure of C1, of the page."""
+    with urllib.request.urlopen(f"http://127.0.0.1:{page}/metrics", timeout=30) as answer:
+        lines = answer.read().decode().splitlines()
+    return int(next(line for line in lines if line.startswith(f'{name}{{member="C1"}}')).split()[1])
+
+
+def test_many_resends():
+    """A member asks for all again a hundred times in one go, and takes nothing: the edge holds no more than for one."""
+    page = free_port(1)
+    venue, edge, port = pair(common={"HttpAcceptPort": page}, MaxUnsentBytes="65536")
+    one = at_rest(port, "a")
+    for _ in range(300):
+        one.send("D", order("a", 1, 1, "50"))
+        one.report(_150="8")
+    first, one.out = one.out, one.out + 100
+    head = f"49={one.sender}|52={now()}|56={one.target}"
+    one.socket.sendall(b"".join(framed(f"35=2|34={at}|{head}|7=1|16=0|") for at in range(first, one.out)))
+    most, end = 0, time.monotonic() + 3
+    while time.monotonic() < end:
+        most = max(most, figure(page, "gikvand_edge_unsent_bytes"))
+        time.sleep(0.1)
+    if not 1000 < most < 200000:
+        raise Trouble(f"the edge holds {most} bytes for a member")
+    one.settle()
+    expect(sum(value(it, "43") == "Y" and value(it, "150") == "0" for it in one.came), 100)
+
+
 def test_deaf_for_a_minute():
     """A member takes nothing for a minute, in which another trades with it all the time; then it is told all of it."""
     venue, edge, port = pair(2)
@@ -208,9 +255,7 @@ def test_status_page():
     """The page says how each member fares, as words and as figures, on loopback alone."""
     page = free_port(1)
     venue, edge, port = pair(2, common={"HttpAcceptPort": str(page)})
-    one = Engine(port, 1).log_on()
-    one.send("D", order("a", 1, 1, "50"))
-    one.report(_150="0")
+    one = at_rest(port, "a")
     one.send("D", order("a", 1, 1, "50"))
     one.report(_150="8")
     with urllib.request.urlopen(f"http://127.0.0.1:{page}/", timeout=30) as answer:
@@ -218,9 +263,7 @@ def test_status_page():
     expect(lines[0], "C1 (DESK-A): serves, logged on, 2 requests, 1 refused by the edge, 1 reports, the last 1, "
                      "1 open orders, 0 bytes not taken")
     expect(lines[1][:27], "C2 (DESK-B): serves, away, ")
-    with urllib.request.urlopen(f"http://127.0.0.1:{page}/metrics", timeout=30) as answer:
-        if 'gikvand_edge_open_orders{member="C1"} 1\n' not in answer.read().decode():
-            raise Trouble("the figures lack the open orders")
+    expect(figure(page, "gikvand_edge_open_orders"), 1)
 
 
 def fill(path, left):
@@ -249,9 +292,7 @@ def test_full_disk():
     with small_disk():
         common = {"EdgePath": "disk/edge", "FileStorePath": "disk/store", "DiskReserve": "2000000"}
         venue, edge, port = pair(2, started(JOURNAL, 3, list(SYMBOLS)), common=common)
-        one, other = Engine(port, 1).log_on(), Engine(port, 2).log_on()
-        one.send("D", order("a", 1, 100, "50"))
-        one.report(_150="0")
+        one, other = at_rest(port, "a", 100), Engine(port, 2).log_on()
         fill("disk", 1000000)
         time.sleep(0.1)
         one.send("D", order("b", 1, 100, "50"))
@@ -282,6 +323,42 @@ def test_full_disk():
             expect(came, wanted)
 
 
+def test_full_store():
+    """A heartbeat that can't be kept on the disk: it is said, and all goes on with room, the log as well."""
+    with small_disk():
+        common = {"FileStorePath": "disk/store", "FileLogPath": "disk/log", "DiskReserve": "500000"}
+        venue, edge, port = pair(common=common)
+        one = Engine(port, 1, heartbeat=1).log_on()
+        fill("disk", 0)
+        edge.hears("C1: isn't served: the store of its session takes nothing in: the disk is full")
+        os.remove("disk/ballast")
+        edge.hears("C1: serves, behind report")
+        one.close()
+        one.log_on().send("D", order("a", 1, 1, "50"))
+        one.report(_150="0")
+        with open(f"disk/log/FIX.4.4-GIKVAND-{NAMES[1]}.messages.current.log", encoding="ascii") as file:
+            expect([value(it.replace("\x01", "|"), "11") for it in file if "\x0135=D" in it], ["a"])
+
+
+def test_store_away():
+    """The folder of the stores goes away and comes back, like an unmounted disk: it is said, and nothing is lost."""
+    venue, edge, port = pair()
+    one = at_rest(port, "a")
+    os.rename("store", "away")
+    time.sleep(0.1)
+    one.send("1", "112=x|")
+    edge.hears("C1: isn't served: the store of its session takes nothing in: can't look at store")
+    edge.hears("C1: isn't served: the store of its session takes nothing in: Configuration failed")
+    refused(Engine(port, 1), "wasn't answered")
+    edge.hears("is let go: the store can't be read")
+    os.rename("away", "store")
+    edge.hears("C1: serves, behind report 1")
+    one.close()
+    one.log_on().send("D", order("b", 1, 1, "50"))
+    one.report(_150="0", _11="b")
+    expect(places(1), [1, 2])
+
+
 def test_names_disk():
     """A request whose name can't be kept is refused, and the venue never sees it; the name may be used later."""
     with small_disk():
@@ -303,7 +380,7 @@ def test_names_disk():
         expect(len(places(1)), at + 1)
 
 
-TESTS = [test_rate, test_open_orders, test_message_size, test_cancel_on_disconnect, test_passwords, test_no_reset,
-         test_slow_reader, test_status_page, test_full_disk,
-         test_names_disk]
+TESTS = [test_rate, test_open_orders, test_message_size, test_cancel_on_disconnect, test_lost_cancels, test_passwords,
+         test_no_reset, test_slow_reader, test_many_resends, test_status_page, test_full_disk, test_full_store,
+         test_store_away, test_names_disk]
 LONG_TESTS = [test_deaf_for_a_minute]

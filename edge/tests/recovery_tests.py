@@ -1,11 +1,12 @@
 """Members, edge and venue end at any moment and come back: what was missed is told once, and no name is used twice."""
 import os
-import signal
-import subprocess
+import time
 
-from edges import EDGE, JOURNAL, REPLAY, Client, Edge, Trouble, again, pair, stored, told, venue_order
-from engines import Engine, cancel, order
+from edges import JOURNAL, PATIENCE, REPLAY, SYMBOLS, Client, Edge, Trouble, again, free_port, pair, started, stored
+from edges import told, venue_order
+from engines import Engine, at_rest, cancel, order
 from gikvand.fix import fields_of, value
+from relay import Relay
 from trading_tests import expect
 
 
@@ -23,13 +24,30 @@ def places(member):
     return [int(value(it, "17")) for it in stored(member) if (value(it, "17") or "").isdecimal()]
 
 
+def names_file(change):
+    """Changes the bytes of the file of names."""
+    with open("edge/C1.names", "r+b") as file:
+        data = change(file.read())
+        file.seek(0)
+        file.truncate()
+        file.write(data)
+
+
 def two_members():
     """A venue, an edge, its port and two members that are logged on; an order of the first one rests."""
     venue, edge, port = pair(2)
-    one, other = Engine(port, 1).log_on(), Engine(port, 2).log_on()
-    one.send("D", order("a", 1, 100, "50"))
-    one.report(_150="0")
-    return venue, edge, port, one, other
+    return venue, edge, port, at_rest(port, "a", 100), Engine(port, 2).log_on()
+
+
+def unread_order(first, second):
+    """An edge, its port, a member and the venue, which is stopped: the member's first order rests there, and the second
+    one waits to be read."""
+    venue, edge, port = pair()
+    one = at_rest(port, first)
+    venue.pause()
+    one.send("D", order(second, 1, 1, "50"))
+    one.settle()
+    return venue, edge, port, one
 
 
 def test_away():
@@ -94,13 +112,7 @@ def test_edge_first():
 
 def test_lost_request():
     """A request that the venue hadn't taken in when it was killed: its member is told, once; the name stays used."""
-    venue, edge, port = pair()
-    one = Engine(port, 1).log_on()
-    one.send("D", order("kept", 1, 1, "50"))
-    one.report(_150="0")
-    os.kill(venue.process.pid, signal.SIGSTOP)
-    one.send("D", order("lost", 1, 1, "50"))
-    one.settle()
+    venue, edge, port, one = unread_order("kept", "lost")
     venue.kill()
     again(port, 1, venue.port)
     got = fields_of(one.report(_11="lost"))
@@ -108,7 +120,8 @@ def test_lost_request():
     one.send("D", order("lost", 1, 1, "50"))
     expect(value(one.report(_11="lost"), "103"), "6")
     edge.kill()
-    restarted()
+    names_file(lambda data: b"".join(it for it in data.splitlines(keepends=True) if not it.endswith(b" s \n")))
+    restarted()  # As where it was killed before it noted that its member was told.
     one.close()
     one.log_on().send("D", order("next", 1, 1, "50"))
     one.report(_11="next", _150="0")
@@ -118,15 +131,9 @@ def test_lost_request():
 
 def test_request_under_way():
     """The edge is killed when a request is at the venue, which hasn't read it yet: its report is told all the same."""
-    venue, edge, port = pair()
-    one = Engine(port, 1).log_on()
-    one.send("D", order("first", 1, 1, "50"))
-    one.report(_150="0")
-    os.kill(venue.process.pid, signal.SIGSTOP)
-    one.send("D", order("second", 1, 1, "50"))
-    one.settle()
+    venue, edge, port, one = unread_order("first", "second")
     edge.kill()
-    os.kill(venue.process.pid, signal.SIGCONT)
+    venue.go_on()
     edge = restarted()
     one.close()
     one.log_on().report(_150="0", _11="second")
@@ -136,17 +143,37 @@ def test_request_under_way():
     expect(sum("never reached" in it for it in stored(1)), 0)
 
 
+def forget(count):
+    """Lets the session of C1 expect the last messages of the member once more, so many of them."""
+    with open("store/FIX.4.4-GIKVAND-DESK-A.seqnums", "r+", encoding="ascii") as file:
+        sender, target = file.read().split(" : ")
+        file.seek(0)
+        file.write(f"{sender} : {int(target) - count:010}")
+
+
+def test_many_sent_again():
+    """More requests that are sent again than the rate allows: none is refused, since each was passed on before."""
+    venue, edge, port = pair(MaxMessagesPerSecond="3")
+    one = at_rest(port, "a")
+    for name in "bcde":
+        time.sleep(0.4)
+        one.send("D", order(name, 1, 1, "50"))
+        one.report(_150="0", _11=name)
+    edge.kill()
+    forget(5)
+    edge = restarted()
+    one.close()
+    one.log_on().settle()
+    edge.hears("has been passed on before: e")
+    expect([value(it, "11") for it in one.history if value(it, "150") == "8"], [])
+
+
 def test_sent_again():
     """What is sent again with PossDupFlag, since the edge was killed before it noted the number, is taken once."""
     venue, edge, port = pair()
-    one = Engine(port, 1).log_on()
-    one.send("D", order("a", 1, 1, "50"))
-    one.report(_150="0")
+    one = at_rest(port, "a")
     edge.kill()
-    with open("store/FIX.4.4-GIKVAND-DESK-A.seqnums", encoding="ascii") as file:
-        sender, target = file.read().split(" : ")
-    with open("store/FIX.4.4-GIKVAND-DESK-A.seqnums", "w", encoding="ascii") as file:
-        file.write(f"{sender} : {int(target) - 1:010}")
+    forget(1)
     edge = restarted()
     one.close()
     one.log_on().send("D", order("b", 1, 1, "50"))
@@ -166,78 +193,44 @@ def trade_a_little(port):
     return one
 
 
-def names_file(change):
-    """Changes the bytes of the file of names."""
-    with open("edge/C1.names", "r+b") as file:
-        data = change(file.read())
-        file.seek(0)
-        file.truncate()
-        file.write(data)
+def sell(other, name, quantity):
+    """Lets a member of the venue itself sell so many at 50, and waits until it has."""
+    other.send("D", venue_order(name, 2, quantity, 5000))
+    while value(other.next(), "150") != "F":
+        pass
 
 
-def flip(data, at):
-    return data[:at] + bytes([data[at] ^ 1]) + data[at + 1:]
+class Together(Relay):
+    """A relay that keeps the venue's Logon, and passes it on in one piece with what comes behind."""
+    kept = ""
+
+    def pass_on(self, text, is_members, to):
+        if is_members:
+            return super().pass_on(text, is_members, to)
+        if value(text, "35") == "A":
+            with self.changed:
+                self.kept = text
+                self.changed.notify_all()
+            return True
+        text, self.kept = self.kept + text, ""
+        return super().pass_on(text, is_members, to)
 
 
-def test_damaged_names():
-    """The file of names cut and with bits flipped: found at the start, and made whole out of journal and store."""
-    venue, edge, port = pair()
-    one = trade_a_little(port)
-    edge.stop()
-    with open("edge/C1.names", "rb") as file:
-        whole = file.read()
-    lines = whole.splitlines(keepends=True)
-    starts = [sum(map(len, lines[:at])) for at in range(len(lines))]
-    changes = [lambda data, at=at: flip(data, at) for at in (starts[1], starts[3] + 12, starts[7] + 10, len(whole) - 2)]
-    cuts = (starts[1], starts[4], starts[4] + 5, starts[7], len(whole) - 1)
-    changes += [lambda data, at=at: data[:at] for at in cuts]
-    for change in changes:
-        names_file(lambda _: change(whole))
-        edge = restarted()
-        edge.stop()
-        with open("edge/C1.names", "rb") as file:
-            if file.read().replace(b" s \n", b"") == b"" or sorted(one_line(it) for it in names()) != sorted(
-                    f"n{at}" for at in range(6)) + ["none"]:
-                raise Trouble(f"the names are {names()}")
-    edge = restarted()
-    one.log_on().send("D", order("n3", 1, 1, "50"))
-    expect(value(one.report(_150="8"), "103"), "6")
-    one.send("F", cancel("c", "n2", 1))
-    one.report(_150="4", _41="n2")
-
-
-def names():
-    with open("edge/C1.names", encoding="ascii") as file:
-        return [line.rstrip("\n") for line in file if " r " in line]
-
-
-def one_line(line):
-    return line.split(" ", 3)[3]
-
-
-def test_lost_names():
-    """Names that neither journal nor store tell any more: refused with a line; --mend gives some, none used again."""
-    venue, edge, port = pair()
-    trade_a_little(port)
-    edge.stop()
-    for name in os.listdir("store"):
-        os.remove(f"store/{name}")
-    names_file(lambda data: b"".join(data.splitlines(keepends=True)[:3]))
-    edge = Edge(settings())
-    edge.hears("lacks the number 3, and the store doesn't tell its name")
-    expect(edge.status(), 1)
-    ran = subprocess.run([EDGE, "--mend", "edge.cfg"], capture_output=True, text=True, timeout=60)
-    expect(ran.returncode, 0)
-    edge = restarted()
-    one = Engine(port, 1).log_on()
-    one.send("D", order("new", 1, 1, "50"))
-    expect(value(one.report(_150="0", _11="new"), "11"), "new")
-    expect([value(it, "11") for it in told(1) if value(it, "150") == "0"], ["1", "2", "3", "4", "5", "6", "8"])
-    names_file(lambda data: flip(data, 3))
-    edge.stop()
-    edge = Edge(settings())
-    edge.hears("line 1 of edge/C1.names is damaged")
-    expect(edge.status(), 1)
+def test_behind_logon():
+    """A report that comes in one piece with the venue's Logon is told behind what the journal has in front of it."""
+    venue, edge, port = pair(1, started(JOURNAL, 2, list(SYMBOLS)))
+    one, other = at_rest(port, "a", 100), Client(venue.port, 2).log_on()
+    edge.kill()
+    sell(other, 1, 10)
+    relay = Together(free_port(1), venue.port)
+    relay.start()
+    edge = Edge(settings().replace(f"VenuePort={venue.port}", f"VenuePort={relay.door.getsockname()[1]}"))
+    relay.wait(lambda: relay.kept, PATIENCE)
+    sell(other, 2, 10)
+    edge.ready()
+    one.close()
+    one.log_on().report(_150="F", _151="80")
+    expect(places(1), [int(value(it, "17")) for it in told(1)])
 
 
 SLOW_REPLAY = """#!/bin/sh
@@ -259,19 +252,14 @@ def test_meanwhile():
     venue = again(port, 2, venue.port)
     open("go", "w", encoding="ascii").close()
     edge = Edge(settings().replace(REPLAY, os.path.abspath("slow-replay"))).ready()
-    one = Engine(port, 1).log_on()
-    one.send("D", order("a", 1, 10, "50"))
-    one.report(_150="0")
+    one = at_rest(port, "a", 10)
     os.remove("go")
     os.remove("read")
     venue.kill()
     again(port, 2, venue.port)
     while not os.path.exists("read"):
         one.pump(0.02)
-    other = Client(venue.port, 2).log_on()
-    other.send("D", venue_order(1, 2, 4, 5000))
-    while value(other.next(), "150") != "F":
-        pass
+    sell(Client(venue.port, 2).log_on(), 1, 4)
     one.send("D", order("b", 1, 10, "50"))
     expect(value(one.report(_11="b"), "103"), "2")
     open("go", "w", encoding="ascii").close()
@@ -280,24 +268,32 @@ def test_meanwhile():
 
 
 def test_other_journal():
-    """A journal that lacks what the store has told isn't gone on from: it is another one, or an older copy."""
-    venue, edge, port = pair()
+    """A journal that lacks what the store has told isn't gone on from: it is another one, or an older copy. Nothing of
+    it is told, not even what has greater numbers."""
+    venue, edge, port = pair(1, started(JOURNAL, 2, list(SYMBOLS)))
     trade_a_little(port)
     edge.stop()
     venue.stop()
     for name in (JOURNAL, "edge/C1.names"):
         os.remove(name)
-    again(port, 1, venue.port)
+    again(port, 2, venue.port)
+    for member, orders in ((2, 6), (1, 1)):
+        one = Client(venue.port, member).log_on()
+        for name in range(1, orders + 1):
+            one.send("D", venue_order(name, 1, 1, 5000))
+            one.next()
+        one.close()
     edge = Edge(settings())
+    edge.hears("C1: edge/C1.names isn't there, and is made")
     edge.hears("C1: isn't served: its store has report 6, which the journal hasn't")
+    time.sleep(2.5)  # It tries again each second.
+    expect((places(1), [it for it in edge.lines if ": serves" in it]), ([1, 2, 3, 4, 5, 6], []))
 
 
 def test_new_day():
     """The library empties a store at its day's end: nothing of the day before is told again, and nothing is missed."""
     venue, edge, port = pair()
-    one = Engine(port, 1).log_on()
-    one.send("D", order("a", 1, 1, "50"))
-    one.report(_150="0")
+    one = at_rest(port, "a")
     one.send("F", cancel("b", "zz", 1))
     one.send("F", cancel("c", "a", 2))
     one.report(_35="9", _11="c")
@@ -307,36 +303,19 @@ def test_new_day():
         file.write("20250102-09:30:00")
     edge = restarted()
     expect(places(1), [])
-    one = Engine(port, 1).log_on()
-    one.send("D", order("d", 1, 1, "50"))
-    one.report(_150="0", _11="d")
+    one = at_rest(port, "d")
     expect([len(places(1)), len([it for it in one.history if "|35=9|" in it])], [1, 0])
     edge.kill()
-    restarted()
+    edge = restarted()
     expect(len(places(1)), 1)
-
-
-def test_torn_store():
-    """An entry that a full disk has cut short at the end of a store: found at the start, and all behind it is kept."""
-    venue, edge, port = pair()
-    one = trade_a_little(port)
     edge.stop()
-    with open("store/FIX.4.4-GIKVAND-DESK-A.header", "a", encoding="ascii") as file:
-        file.write("11,30")
-    edge = restarted()
-    one.log_on().send("D", order("more", 1, 1, "50"))
-    one.report(_150="0", _11="more")
-    edge.kill()
-    edge = restarted()
-    wanted = [int(value(it, "17")) for it in told(1) if value(it, "17")]
-    expect(places(1), wanted)
-    edge.kill()
-    with open("store/FIX.4.4-GIKVAND-DESK-A.body", "r+b") as file:
-        file.truncate(os.path.getsize(file.name) - 9)  # A power cut took the end of the last report.
-    restarted()
-    expect(places(1), wanted)
+    for name in ("edge/C1.told", "store/FIX.4.4-GIKVAND-DESK-A.session"):  # Another day, and what was told is damaged.
+        with open(name, "w", encoding="ascii") as file:
+            file.write("20250102-09:30:00")
+    edge = Edge(settings())
+    edge.hears("line 1 of edge/C1.told is damaged")
+    expect(edge.status(), 1)
 
 
 TESTS = [test_away, test_venue_restarts, test_edge_first, test_lost_request, test_request_under_way, test_sent_again,
-         test_damaged_names, test_lost_names, test_torn_store, test_meanwhile,
-         test_other_journal, test_new_day]
+         test_many_sent_again, test_behind_logon, test_meanwhile, test_other_journal, test_new_day]

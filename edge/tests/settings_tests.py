@@ -1,49 +1,59 @@
 """What is wrong in a settings file is said in one line with its name, and nothing starts."""
+import fcntl
 import os
 import subprocess
+import time
 
 from edges import EDGE, Edge, Trouble, free_port, members_of, pair, settings_of
 
 SECRETS = "passwords"
-WRONG = [  # What is other than it should be, of all sessions or of one, and the name in the line.
-    ({"VenuePort": None}, {}, "VenuePort: is missing"),
-    ({"VenuePort": "0"}, {}, "VenuePort: isn't 1 to 65528"),
-    ({"VenuePort": "nine"}, {}, "VenuePort: is no number"),
-    ({"VenueJournal": None}, {}, "VenueJournal: is missing"),
-    ({"VenueReplay": "/nowhere"}, {}, "VenueReplay: can't be used"),
-    ({"Symbols": None}, {}, "Symbols: is missing"),
-    ({"Symbols": "ABC"}, {}, "Symbols: isn't of SYMBOL:STEP"),
-    ({"Symbols": "ABC:0"}, {}, "Symbols: no step"),
-    ({"Symbols": "ABC:1 ABC:2"}, {}, "Symbols: has one twice"),
-    ({"Symbols": "abc:1"}, {}, "Symbols: isn't of SYMBOL:STEP"),
-    ({"EdgePath": None}, {}, "EdgePath: is missing"),
-    ({"FileStorePath": None}, {}, "FileStorePath: is missing"),
-    ({"FileLogPath": None}, {}, "FileLogPath: is missing"),
-    ({"SocketAcceptHost": "localhost"}, {}, "SocketAcceptHost: is no address"),
-    ({"HttpAcceptPort": "x"}, {}, "HttpAcceptPort: is no number"),
-    ({"DiskReserve": "-1"}, {}, "DiskReserve: is no number"),
-    ({"StartTime": None}, {}, "StartTime: is missing"),
-    ({"EndTime": "25:00"}, {}, "EndTime: isn't HH:MM:SS"),
-    ({"DataDictionary": "/nowhere"}, {}, "DataDictionary: can't be used"),
-    ({"ConnectionType": "initiator"}, {}, "ConnectionType: isn't acceptor"),
-    ({"BeginString": "FIX.4.2"}, {}, "BeginString: isn't FIX.4.4"),
-    ({"ResetOnLogon": "Y"}, {}, "ResetOnLogon: would drop"),
-    ({"PersistMessages": "N"}, {}, "PersistMessages: has to be Y"),
-    ({"CancelOnDisconect": "Y"}, {}, "CANCELONDISCONECT: is no setting"),
-    ({}, {"Member": None}, "Member: is missing"),
-    ({}, {"Member": "C9"}, "Member: isn't C1 to C8"),
-    ({}, {"SocketAcceptPort": None}, "SocketAcceptPort: is missing"),
-    ({}, {"SocketAcceptPort": "70000"}, "SocketAcceptPort: isn't 1 to 65535"),
-    ({}, {"MaxOpenOrders": "many"}, "MaxOpenOrders: is no number"),
-    ({}, {"MaxMessagesPerSecond": ""}, "MaxMessagesPerSecond: is empty"),
-    ({}, {"MaxMessageBytes": "10"}, "MaxMessageBytes: isn't 256 to 65536"),
-    ({}, {"CancelOnDisconnect": "yes"}, "CancelOnDisconnect: is neither Y nor N"),
-    ({}, {"DropFields": "1 x"}, "DropFields: has what is no tag"),
-    ({}, {"LastCapacity": "9"}, "LastCapacity: isn't 1 to 4"),
-    ({}, {"Username": "desk"}, "PasswordFile: is missing"),
-    ({}, {"Username": "desk", "PasswordFile": "/nowhere"}, "PasswordFile: can't be read"),
-    ({}, {"Username": "desk", "PasswordFile": SECRETS}, "PasswordFile: may be used by others"),
-]
+# What is wrong of a setting of all sessions, or of one, and what is said behind its name. None: it is left out.
+WRONG = {
+    "VenuePort": {None: "is missing", "0": "isn't 1 to 65528", "nine": "is no number"},
+    "VenueJournal": {None: "is missing"},
+    "VenueReplay": {"/nowhere": "can't be used"},
+    "Symbols": {None: "is missing", "ABC": "isn't of SYMBOL:STEP", "ABC:0": "no step", "ABC:1 ABC:2": "has one twice",
+                "abc:1": "isn't of SYMBOL:STEP", "ABC:99999.000000001": "too great a step"},
+    "EdgePath": {None: "is missing"},
+    "FileStorePath": {None: "is missing"},
+    "FileLogPath": {None: "is missing"},
+    "SocketAcceptHost": {"localhost": "is no address"},
+    "HttpAcceptPort": {"x": "is no number"},
+    "DiskReserve": {"-1": "is no number"},
+    "StartTime": {None: "is missing"},
+    "EndTime": {"25:00": "isn't HH:MM:SS"},
+    "DataDictionary": {"/nowhere": "can't be used"},
+    "ConnectionType": {"initiator": "isn't acceptor"},
+    "BeginString": {"FIX.4.2": "isn't FIX.4.4"},
+    "ResetOnLogon": {"Y": "would drop"},
+    "PersistMessages": {"N": "has to be Y"},
+    "CANCELONDISCONECT": {"Y": "is no setting"},
+}
+WRONG_OF_ONE = {
+    "Member": {None: "is missing", "C9": "isn't C1 to C8"},
+    "SocketAcceptPort": {None: "is missing", "70000": "isn't 1 to 65535"},
+    "MaxOpenOrders": {"many": "is no number"},
+    "MaxMessagesPerSecond": {"": "is empty"},
+    "MaxMessageBytes": {"10": "isn't 256 to 65536"},
+    "CancelOnDisconnect": {"yes": "is neither Y nor N"},
+    "DropFields": {"1 x": "has what is no tag"},
+    "LastCapacity": {"9": "isn't 1 to 4"},
+    "FileStorePath": {"elsewhere": "is one for all sessions"},
+    "SyncNames": {"Y": "is one for all sessions"},
+}
+WRONG_USERS = {"PasswordFile: is missing": {}, "PasswordFile: can't be read": {"PasswordFile": "/nowhere"},
+               "PasswordFile: may be used by others": {"PasswordFile": SECRETS}}
+
+
+def wrong_settings():
+    """Each wrong setting: those of all sessions, those of the one, and what is said."""
+    for is_of_all, those in ((True, WRONG), (False, WRONG_OF_ONE)):
+        for name, values in those.items():
+            for value, fault in values.items():
+                it = {name: value}
+                yield (it, {}, f"{name}: {fault}") if is_of_all else ({}, it, f"{name}: {fault}")
+    for fault, it in WRONG_USERS.items():
+        yield {}, {"Username": "desk", **it}, fault
 
 
 def said(settings):
@@ -60,7 +70,7 @@ def test_wrong_settings():
         file.write("desk:secret\n")
     os.chmod(SECRETS, 0o644)
     port = free_port(2)
-    for common, session, wanted in WRONG:
+    for common, session, wanted in wrong_settings():
         members = [{**it, **session} for it in members_of(1, port)]
         status, lines = said(settings_of({"VenuePort": port + 1, **common}, members))
         if status != 1 or len(lines) != 1 or not lines[0].startswith(f"gikvand-edge: {wanted}"):
@@ -96,7 +106,7 @@ def test_more_settings():
 
 
 def test_second_edge():
-    """A second edge with the same folder, or on the same port, ends at once; --check says that settings are right."""
+    """A second edge with the same folder, or with a port that is taken, ends; one whose folder is left soon starts."""
     venue, edge, port = pair()
     with open("edge.cfg", encoding="ascii") as file:
         settings = file.read()
@@ -104,11 +114,20 @@ def test_second_edge():
     second.hears("EdgePath: is another edge's")
     third = Edge(settings.replace("EdgePath=edge", "EdgePath=other").replace("Path=store", "Path=store2"))
     third.hears(f"can't listen on 127.0.0.1:{port}")
-    if [second.status(), third.status()] != [1, 1]:
+    fourth = Edge(settings.replace("Path=", "Path=more-").replace(f"AcceptPort={port}", f"AcceptPort={free_port(1)}")
+                  .replace("[DEFAULT]", f"[DEFAULT]\nHttpAcceptPort={port}"))
+    fourth.hears(f"can't listen on 127.0.0.1:{port}")
+    if [second.status(), third.status(), fourth.status()] != [1, 1, 1]:
         raise Trouble("another edge started")
     ran = subprocess.run([EDGE, "--check", "edge.cfg"], capture_output=True, text=True, timeout=30)
     if (ran.returncode, ran.stdout) != (0, "the settings are right\n"):
         raise Trouble(f"--check: {ran}")
+    edge.stop()
+    with open("edge/lock", encoding="ascii") as file:  # As a child of an edge that was killed holds it.
+        fcntl.flock(file, fcntl.LOCK_EX)
+        last = Edge(settings)
+        time.sleep(0.4)
+    last.ready()
 
 
 TESTS = [test_wrong_settings, test_more_settings, test_second_edge]

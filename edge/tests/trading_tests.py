@@ -123,6 +123,9 @@ def test_refused_fields():
     expect(value(one.report(_150="0"), "17"), "1")
     one.send("D", order("good", 1, 10, "50"))
     expect(value(one.report(_150="8"), "103"), "6")
+    one.write("D", order("good", 1, 10, "50"), head="43=N|")
+    one.out += 1
+    expect(value(one.report(_150="8"), "103"), "6")
     one.send("F", cancel("c1", "never", 1))
     expect(value(one.report(_35="9"), "102"), "1")
     one.send("F", cancel("good", "good", 1))
