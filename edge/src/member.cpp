@@ -7,6 +7,7 @@
 
 #include <array>
 #include <cstdint>
+#include <cstdlib>
 
 #include "lines.h"
 
@@ -17,10 +18,12 @@ namespace {
 constexpr std::chrono::milliseconds TICK(500), AGAIN(200), REST(1000);
 constexpr std::size_t MOST_HANDED = 16;
 constexpr std::size_t MOST_TO_VENUE = 1 << 20;  // Behind this no more is read of the member.
+constexpr std::size_t MOST_BEHIND_GAPS = 32 << 20;
+constexpr std::size_t BESIDE_MESSAGE = 1 << 10;  // What the library takes for a message beside its bytes, about.
 
-/// The MsgType of a whole message, or nothing.
-std::string typeOf(const std::string &message) {
-    const std::size_t at = message.find("\00135=");
+/// The value of this field in a whole message, as "\00135=" names it; or nothing.
+std::string fieldOf(const std::string &message, const char *name) {
+    const std::size_t at = message.find(name);
     if (at == std::string::npos) return "";
     return message.substr(at + 4, message.find('\1', at + 4) - (at + 4));
 }
@@ -225,6 +228,7 @@ void Member::admit(Handed &it) {
     client_.reset(
         new Connection(std::move(it.socket), it.bytes, member_.limits.messageBytes, member_.limits.unsentBytes));
     session_->setResponder(client_.get());
+    behindGaps_ = 0;
     hasClient_ = false;
     say(member_.name(), "a client from " + clientsAddress_);
     passMessages();
@@ -244,26 +248,39 @@ void Member::passMessages() {
     std::string message;
     try {
         while (!client_->isEnding() && client_->takesMore() && client_->next(message)) {
-            const std::string type = typeOf(message);
-            if (type == "A" && isRefusedReset(message, clientsAddress_)) {
-                client_->disconnect();
-                break;
-            }
-            trader_.isLast(!client_->hasMore());
-            client_->resends(type == "2");
-            try {
-                session_->next(message, FIX::UtcTimeStamp());
-            } catch (const FIX::InvalidMessage &why) {
-                say(member_.name(), "a message can't be read: " + shown(why.what()));
-            }
-            client_->resends(false);
-            if (!trader_.fault().empty()) throw std::runtime_error(trader_.fault());
+            passMessage(message);
             if (!session_->isLoggedOn()) client_->disconnect();
         }
         isHeldUp_ = client_->hasMore() && !client_->takesMore();
     } catch (const BadBytes &why) {
         endClient(why.what());
     }
+}
+
+void Member::passMessage(const std::string &message) {
+    const std::string type = fieldOf(message, "\00135=");
+    if (type == "A" && isRefusedReset(message, clientsAddress_)) {
+        client_->disconnect();
+        return;
+    }
+    boundGap(message);
+    trader_.isLast(!client_->hasMore());
+    client_->resends(type == "2");
+    try {
+        session_->next(message, FIX::UtcTimeStamp());
+    } catch (const FIX::InvalidMessage &why) {
+        say(member_.name(), "a message can't be read: " + shown(why.what()));
+    }
+    client_->resends(false);
+    if (!trader_.fault().empty()) throw std::runtime_error(trader_.fault());
+}
+
+/// Counts what comes behind a gap in the client's numbers: the session keeps that until its number is due, or for ever
+/// where the client passes the number over, and has no bound for it.
+void Member::boundGap(const std::string &message) {
+    if (std::atol(fieldOf(message, "\00134=").c_str()) <= session_->getExpectedTargetNum()) return;
+    behindGaps_ += message.size() + BESIDE_MESSAGE;
+    if (behindGaps_ > MOST_BEHIND_GAPS) throw BadBytes("too much comes behind a gap in its numbers");
 }
 
 /// Ends the client's connection; the session learns that it is gone.

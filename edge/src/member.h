@@ -78,6 +78,8 @@ private:
     void admit(Handed &it);
     void readClient();
     void passMessages();
+    void passMessage(const std::string &message);
+    void boundGap(const std::string &message);
     bool isRefusedReset(const std::string &message, const std::string &from) const;
     void endClient(const std::string &why);
     void driveLink();
@@ -113,6 +115,7 @@ private:
     bool wantsReplay_ = false;
     Clock::time_point connectAt_, tickAt_;
     bool hasClient_ = false, hasLink_ = false, hasJournal_ = false;  // Something to be read, as poll says.
+    std::size_t behindGaps_ = 0;  // So much of what this client sent came behind gaps in its numbers.
     bool isHeldUp_ = false;    // Messages of the client wait until it takes more of what is written to it.
     bool isStoreRead_ = true;  // Or it has to be read anew, before anything else is done.
     std::thread thread_;

@@ -59,6 +59,7 @@ WRONG = {
     "prices without decimals": Wrong("ticks", "if (!decimals_) return digits;", "return digits;", "each_report"),
     "any field": Wrong("orders", "if (!isUsed(field.getTag(), type) && ", "if (false && ", "refused_fields"),
     "no bound on what isn't taken": Wrong("connection", "return unsent() > most_;", "return false;", "slow_reader"),
+    "no bound behind a gap": Wrong("member", "    boundGap(message);\n", "", "endless_gap"),
     "no rate": Wrong("trader", "    if (left_ < 1) return false;\n", "", "test_rate"),
     "any password": Wrong("member", "isSame(textOf(logon, FIX::FIELD::Password), member_.password)", "true",
                           "passwords"),
