@@ -159,7 +159,8 @@ class Figures:
             print(f"{name}: {plain(it.median)} {self.units[name]}")
             print(f"# {name}: {plain(it.least)} to {plain(it.greatest)} in {len(found)} run{'s' * (len(found) > 1)}")
         for name, twin in self.pairs():
-            print(f"# {of(name)}: {self.ratio(name, twin).shown(3)} of the C++'s {self.what(name)}")
+            best = f"of the best rounds {number(self.best_ratio(name, twin), 3)}"
+            print(f"# {of(name)}: {self.ratio(name, twin).shown(3)} of the C++'s {self.what(name)}, {best}")
         print(f"# {cores()} cores, of which others took {self.most_by_others:.1f} at most", flush=True)
 
     def pairs(self) -> list[tuple[str, str]]:
@@ -177,15 +178,25 @@ class Figures:
         rounds = spread([one / max(two, NOTHING) for one, two in zip(mine, other)])
         return rounds._replace(median=statistics.median(mine) / max(statistics.median(other), NOTHING))
 
+    def best(self, name: str) -> float:
+        """The greatest rate, or the least time: what was measured while the host took least away."""
+        return (max if self.what(name) == "rate" else min)(self.values[name])
+
+    def best_ratio(self, name: str, twin: str) -> float:
+        """That of the best rounds of each."""
+        return self.best(name) / max(self.best(twin), NOTHING)
+
     def table(self) -> str:
         """All of them as Markdown."""
-        twins, rows = dict(self.pairs()), ["| figure | project | C++ | project : C++ |", "|---|---|---|---|"]
+        heads = ["figure", "project", "C++", "project : C++", "best : best"]
+        twins, rows = dict(self.pairs()), [f"| {' | '.join(heads)} |", "|---" * len(heads) + "|"]
         for name in self.values:
             if PROJECT not in name:
                 continue
-            own, other, ratio = spread(self.values[name]).shown(), "", ""
+            own, other, ratio, best = spread(self.values[name]).shown(), "", "", ""
             if name in twins:
                 other = spread(self.values[twins[name]]).shown()
                 ratio = f"{self.ratio(name, twins[name]).shown(3)} of its {self.what(name)}"
-            rows.append(f"| `{of(name)}`, {self.units[name]} | {own} | {other} | {ratio} |")
+                best = number(self.best_ratio(name, twins[name]), 3)
+            rows.append(f"| `{of(name)}`, {self.units[name]} | {own} | {other} | {ratio} | {best} |")
         return "\n".join(rows)
