@@ -32,7 +32,7 @@ last-stands nodes levels are k q is =
     (next_point nodes levels) (prev_point nodes levels) are.rings (End k))
 
 module _ (nodes : List Node) (levels levels' : List Level) (are : AreLevels nodes levels) (p : ℕ) (o : Order)
-    (last : Option ℕ) (m : Level)
+    (i : ℕ) (last : Option ℕ) (m : Level)
     (within : p < length nodes) (free : order_at nodes p ≡ None) (total : o.total ≤ 1000000)
     (later : ComesLater (places_of nodes) o)
     (last_is : last ≡ last_of levels (key_of o)) (changes : Changes levels levels' (key_of o) (Some m))
@@ -43,14 +43,14 @@ module _ (nodes : List Node) (levels levels' : List Level) (are : AreLevels node
   k = key_of o
 
   abbrev nodes' : List Node
-  nodes' = nodes_with nodes last p o
+  nodes' = nodes_with nodes last p o i
 
   last-in : (l : Option ℕ) → l ≡ last_of levels k → IsWithinNodes nodes l
   last-in None is = tt
   last-in (Some q) is = let at_q = last-stands nodes levels are k q (sym is) in within-nodes nodes q at_q.order at_q.is
 
   abbrev seen : Seen nodes nodes' p (Some o)
-  seen = with-seen nodes last p o (last-in last last_is) within
+  seen = with-seen nodes last p o i (last-in last last_is) within
 
   abbrev sets : Sets (order_at nodes) (order_at nodes') p (Some o)
   sets = seen-sets nodes nodes' p (Some o) seen
@@ -76,8 +76,8 @@ module _ (nodes : List Node) (levels levels' : List Level) (are : AreLevels node
   next-turns : Turns (order_at nodes) (λ q. (node_at nodes q).next) (λ q. (node_at nodes' q).next) (first_of levels)
       (first_of levels') p k last (Some p)
   next-turns = record {
-    at_from = from-last last last_is (with-next nodes last p o (last-in last last_is) within) m_first;
-    links = with-next-else nodes last p o (last-in last last_is) within;
+    at_from = from-last last last_is (with-next nodes last p o i (last-in last last_is) within) m_first;
+    links = with-next-else nodes last p o i (last-in last last_is) within;
     ends = λ j other. ap (option_map (λ (l : Level). l.first)) (changes.others j other);
   }
 
@@ -85,12 +85,12 @@ module _ (nodes : List Node) (levels levels' : List Level) (are : AreLevels node
       (last_of levels') p k None (Some p)
   prev-turns = record {
     at_from = last-now;
-    links = λ q other not. with-prev nodes last p o (last-in last last_is) within q other;
+    links = λ q other not. with-prev nodes last p o i (last-in last last_is) within q other;
     ends = λ j other. ap (option_map (λ (l : Level). l.last)) (changes.others j other);
   }
 
-  here-now : node_at nodes' p ≡ node_behind last o
-  here-now = with-here nodes last p o (last-in last last_is) within
+  here-now : node_at nodes' p ≡ node_behind last o i
+  here-now = with-here nodes last p o i (last-in last last_is) within
 
   next-moves : Moves (next_point nodes levels) (next_point nodes' levels') (At p) (end_to last k) (End k) (At p)
   next-moves = moves (order_at nodes) (order_at nodes') (λ q. (node_at nodes q).next) (λ q. (node_at nodes' q).next)

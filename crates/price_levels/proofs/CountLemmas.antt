@@ -68,6 +68,10 @@ one-look side price levels i d true parts lt is =
 one-look side price levels i d false parts lt is =
     inr (refl, ends-before (λ (l : Level). is_better side l.key.price price) levels parts i d (sym is) lt)
 
+pub look-most : (n : ℕ) (b : Bool) → n ≡ bool_byte b → n ≤ 1
+look-most n true is = omega (arith, is)
+look-most n false is = omega (arith, is)
+
 -- one level more is looked at: it is counted, or those of a better price ended
 pub count-on : (at next n end : ℕ) (b : Bool) → ((b ≡ true) × (next < end)) ⊎ ((b ≡ false) × (end ≤ next))
     → n ≡ bool_byte b →

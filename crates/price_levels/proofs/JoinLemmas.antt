@@ -50,7 +50,7 @@ module _ {nodes : List Node} {free : List ℕ} {levels : List Level} {place at :
   vacant-there = taken-vacant nodes free place it.arena
 
   -- its level is there: it is behind the last one now
-  module _ (yes : there ≡ true) (l : Level) (l_is : l ≡ get_or levels at l) where
+  module _ (i : ℕ) (yes : there ≡ true) (l : Level) (l_is : l ≡ get_or levels at l) where
     level-at : IsLevelAt levels at (key_of o) l
     level-at = found-holds levels at (key_of o) it.ordered.in_order it.search.before it.search.behind l
         (it.holds_is ∙ yes) l_is
@@ -70,8 +70,8 @@ module _ {nodes : List Node} {free : List ℕ} {levels : List Level} {place at :
     longer-changes : Changes levels (levels_with levels at (longer ∷ [])) (key_of o) (Some longer)
     longer-changes = replaced levels at (key_of o) l it.ordered.in_order level-at longer refl
 
-    longer-come : AreLevels (nodes_with nodes (Some l.last) place o) (levels_with levels at (longer ∷ []))
-    longer-come = come nodes levels (levels_with levels at (longer ∷ [])) it.ordered place o (Some l.last) longer
+    longer-come : AreLevels (nodes_with nodes (Some l.last) place o i) (levels_with levels at (longer ∷ []))
+    longer-come = come nodes levels (levels_with levels at (longer ∷ [])) it.ordered place o i (Some l.last) longer
         vacant-there.0 vacant-there.1 it.total it.later
         (sym (ap (option_map (λ (m : Level). m.last)) level-found)) longer-changes refl
         (sym (ap (option_map (λ (m : Level). m.first)) level-found))
@@ -79,30 +79,30 @@ module _ {nodes : List Node} {free : List ℕ} {levels : List Level} {place at :
 
     pub join-fits : l.left + leaves o < 2 ^ 64
     join-fits =
-        let fits = total-fits (nodes_with nodes (Some l.last) place o) longer-come.bounds (key_of o) in
+        let fits = total-fits (nodes_with nodes (Some l.last) place o i) longer-come.bounds (key_of o) in
         let left = longer-come.left (key_of o) in
         let is = left-is (levels_with levels at (longer ∷ [])) (key_of o) longer longer-changes.here in
         omega (arith, fits, left, is)
 
-    join-seen : Seen nodes (nodes_with nodes (Some l.last) place o) place (Some o)
-    join-seen = with-seen nodes (Some l.last) place o join-last vacant-there.0
+    join-seen : Seen nodes (nodes_with nodes (Some l.last) place o i) place (Some o)
+    join-seen = with-seen nodes (Some l.last) place o i join-last vacant-there.0
 
-    pub join-places : (nodes' : List Node) → nodes' ≡ nodes_with nodes (Some l.last) place o
+    pub join-places : (nodes' : List Node) → nodes' ≡ nodes_with nodes (Some l.last) place o i
         → places_of nodes' ≡ slice_set (places_of nodes) place (Some o)
     join-places nodes' nodes_are = ap places_of nodes_are ∙ join-seen.places
 
     pub join-levels : (nodes' : List Node) (levels' : List Level) (left : ℕ)
-        → nodes' ≡ nodes_with nodes (Some l.last) place o → left ≡ leaves o
+        → nodes' ≡ nodes_with nodes (Some l.last) place o i → left ≡ leaves o
         → levels' ≡ slice_set levels at (record l { last = place; left = l.left + left }) → IsLevels nodes' free levels'
     join-levels nodes' levels' left nodes_are left_is levels_are =
-        whole nodes' (nodes_with nodes (Some l.last) place o) free free levels' (levels_with levels at (longer ∷ []))
+        whole nodes' (nodes_with nodes (Some l.last) place o i) free free levels' (levels_with levels at (longer ∷ []))
         nodes_are refl
         (levels_are ∙ ap (λ x. slice_set levels at (record l { last = place; left = l.left + x })) left_is
         ∙ set-with levels at longer level-at.within)
-        (taken nodes free place it.arena (nodes_with nodes (Some l.last) place o) o join-seen) longer-come
+        (taken nodes free place it.arena (nodes_with nodes (Some l.last) place o i) o join-seen) longer-come
 
   -- it isn't: the order opens one
-  module _ (no : there ≡ false) where
+  module _ (i : ℕ) (no : there ≡ false) where
     abbrev is_none : holds levels at (key_of o) ≡ false
     is_none = it.holds_is ∙ no
 
@@ -112,24 +112,24 @@ module _ {nodes : List Node} {free : List ℕ} {levels : List Level} {place at :
     no-level : level_of (key_of o) levels ≡ None
     no-level = none-there levels at (key_of o) it.ordered.in_order it.search.before it.search.behind is_none
 
-    open-seen : Seen nodes (nodes_with nodes None place o) place (Some o)
-    open-seen = with-seen nodes None place o tt vacant-there.0
+    open-seen : Seen nodes (nodes_with nodes None place o i) place (Some o)
+    open-seen = with-seen nodes None place o i tt vacant-there.0
 
-    pub open-places : (nodes' : List Node) → nodes' ≡ nodes_with nodes None place o
+    pub open-places : (nodes' : List Node) → nodes' ≡ nodes_with nodes None place o i
         → places_of nodes' ≡ slice_set (places_of nodes) place (Some o)
     open-places nodes' nodes_are = ap places_of nodes_are ∙ open-seen.places
 
     pub open-levels : (nodes' : List Node) (levels' : List Level) (k : Key) (left : ℕ)
-        → nodes' ≡ nodes_with nodes None place o → k ≡ key_of o → left ≡ leaves o
+        → nodes' ≡ nodes_with nodes None place o i → k ≡ key_of o → left ≡ leaves o
         → levels' ≡ insert levels at (record { key = k; first = place; last = place; left = left })
         → IsLevels nodes' free levels'
     open-levels nodes' levels' k left nodes_are k_is left_is levels_are =
-        whole nodes' (nodes_with nodes None place o) free free levels' (insert levels at alone) nodes_are refl
+        whole nodes' (nodes_with nodes None place o i) free free levels' (insert levels at alone) nodes_are refl
         (levels_are
         ∙ ap (λ (j : Key). insert levels at (record { key = j; first = place; last = place; left = left })) k_is
         ∙ ap (λ x. insert levels at (record { key = key_of o; first = place; last = place; left = x })) left_is)
-        (taken nodes free place it.arena (nodes_with nodes None place o) o open-seen)
-        (come nodes levels (insert levels at alone) it.ordered place o None alone vacant-there.0 vacant-there.1 it.total
+        (taken nodes free place it.arena (nodes_with nodes None place o i) o open-seen)
+        (come nodes levels (insert levels at alone) it.ordered place o i None alone vacant-there.0 vacant-there.1 it.total
         it.later (sym (ap (option_map (λ (m : Level). m.last)) no-level))
         (opened levels at alone it.ordered.in_order it.search.before it.search.behind is_none) refl refl
         (sym (zero-add (leaves o)) ∙ ap (λ x. unwrap_or (option_map (λ (m : Level). m.left) x) 0 + leaves o)

@@ -8,6 +8,7 @@ mod LeftLemmas
 mod ArenaLemmas
 mod CountLemmas
 mod SearchLemmas
+mod PlaceLemmas
 mod Comings
 mod Leavings
 mod Changings
@@ -26,5 +27,6 @@ mod LadderLemmas
 mod LadderCalls
 mod LadderSearches
 mod FoundLemmas
+mod NamedLadders
 mod LadderEnds
 mod GapLemmas

@@ -106,37 +106,37 @@ seen-sets old new p o seen =
     }
 
 -- an order comes to a place
-module _ (nodes : List Node) (last : Option ℕ) (p : ℕ) (o : Order) (last_in : IsWithinNodes nodes last)
+module _ (nodes : List Node) (last : Option ℕ) (p : ℕ) (o : Order) (i : ℕ) (last_in : IsWithinNodes nodes last)
     (within : p < length nodes) where
   pub with-within : p < length (set_next nodes last (Some p))
   with-within = let long = length-next nodes last (Some p) in omega (arith, long, within)
 
-  pub with-seen : Seen nodes (nodes_with nodes last p o) p (Some o)
+  pub with-seen : Seen nodes (nodes_with nodes last p o i) p (Some o)
   with-seen = record {
-    places = map-set (λ n. n.order) (set_next nodes last (Some p)) p (node_behind last o)
+    places = map-set (λ n. n.order) (set_next nodes last (Some p)) p (node_behind last o i)
         ∙ ap (λ ps. slice_set ps p (Some o))
         (next-kept (λ n. n.order) (λ n v. refl) nodes last (Some p));
-    long = length-set (set_next nodes last (Some p)) p (node_behind last o) ∙ length-next nodes last (Some p);
+    long = length-set (set_next nodes last (Some p)) p (node_behind last o i) ∙ length-next nodes last (Some p);
     within = within;
   }
 
-  pub with-here : node_at (nodes_with nodes last p o) p ≡ node_behind last o
-  with-here = written (set_next nodes last (Some p)) p (node_behind last o) with-within
+  pub with-here : node_at (nodes_with nodes last p o i) p ≡ node_behind last o i
+  with-here = written (set_next nodes last (Some p)) p (node_behind last o i) with-within
 
-  pub with-next : (q : ℕ) → q ≢ p → last ≡ Some q → (node_at (nodes_with nodes last p o) q).next ≡ Some p
+  pub with-next : (q : ℕ) → q ≢ p → last ≡ Some q → (node_at (nodes_with nodes last p o i) q).next ≡ Some p
   with-next q other is = ap (λ (n : Node). n.next)
-      (not-written (set_next nodes last (Some p)) p q (node_behind last o) other)
+      (not-written (set_next nodes last (Some p)) p q (node_behind last o i) other)
       ∙ next-there nodes last (Some p) q last_in is
 
-  pub with-next-else : (q : ℕ) → q ≢ p → last ≢ Some q → (node_at (nodes_with nodes last p o) q).next
+  pub with-next-else : (q : ℕ) → q ≢ p → last ≢ Some q → (node_at (nodes_with nodes last p o i) q).next
       ≡ (node_at nodes q).next
   with-next-else q other not = ap (λ (n : Node). n.next)
-      (not-written (set_next nodes last (Some p)) p q (node_behind last o) other
+      (not-written (set_next nodes last (Some p)) p q (node_behind last o i) other
       ∙ next-else nodes last (Some p) q not)
 
-  pub with-prev : (q : ℕ) → q ≢ p → (node_at (nodes_with nodes last p o) q).prev ≡ (node_at nodes q).prev
+  pub with-prev : (q : ℕ) → q ≢ p → (node_at (nodes_with nodes last p o i) q).prev ≡ (node_at nodes q).prev
   with-prev q other = ap (λ (n : Node). n.prev)
-      (not-written (set_next nodes last (Some p)) p q (node_behind last o) other)
+      (not-written (set_next nodes last (Some p)) p q (node_behind last o i) other)
       ∙ kept (λ n. n.prev) nodes (set_next nodes last (Some p))
       (next-kept (λ n. n.prev) (λ n v. refl) nodes last (Some p)) q
 
@@ -150,21 +150,24 @@ module _ (nodes : List Node) (p : ℕ) (prev next : Option ℕ) (prev_in : IsWit
   abbrev around : List Node
   around = set_prev between next prev
 
+  abbrev left : Node
+  left = record (node_at around p) { order = None }
+
   pub without-long : length around ≡ length nodes
   without-long = length-prev between next prev ∙ length-next nodes prev next
 
   pub without-seen : Seen nodes (nodes_without nodes p prev next) p None
   without-seen = record {
-    places = map-set (λ n. n.order) around p vacant
+    places = map-set (λ n. n.order) around p left
         ∙ ap (λ ps. slice_set ps p None)
         (prev-kept (λ n. n.order) (λ n v. refl) between next prev ∙ next-kept (λ n. n.order)
         (λ n v. refl) nodes prev next);
-    long = length-set around p vacant ∙ without-long;
+    long = length-set around p left ∙ without-long;
     within = within;
   }
 
   next-around : (q : ℕ) → q ≢ p → (node_at (nodes_without nodes p prev next) q).next ≡ (node_at between q).next
-  next-around q other = ap (λ (n : Node). n.next) (not-written around p q vacant other)
+  next-around q other = ap (λ (n : Node). n.next) (not-written around p q left other)
       ∙ kept (λ n. n.next) between around (prev-kept (λ n. n.next) (λ n v. refl) between next prev) q
 
   pub without-next : (q : ℕ) → q ≢ p → prev ≡ Some q → (node_at (nodes_without nodes p prev next) q).next ≡ next
@@ -179,14 +182,14 @@ module _ (nodes : List Node) (p : ℕ) (prev next : Option ℕ) (prev_in : IsWit
   next_in' (Some q) h = let long = length-next nodes prev next in omega (arith, long, h)
 
   pub without-prev : (q : ℕ) → q ≢ p → next ≡ Some q → (node_at (nodes_without nodes p prev next) q).prev ≡ prev
-  without-prev q other is = ap (λ (n : Node). n.prev) (not-written around p q vacant other)
+  without-prev q other is = ap (λ (n : Node). n.prev) (not-written around p q left other)
       ∙ prev-there between next prev q
       (next_in' next next_in) is
 
   pub without-prev-else : (q : ℕ) → q ≢ p → next ≢ Some q
       → (node_at (nodes_without nodes p prev next) q).prev ≡ (node_at nodes q).prev
   without-prev-else q other not = ap (λ (n : Node). n.prev)
-      (not-written around p q vacant other ∙ prev-else between next prev q not)
+      (not-written around p q left other ∙ prev-else between next prev q not)
       ∙ kept (λ n. n.prev) nodes between (next-kept (λ n. n.prev) (λ n v. refl) nodes prev next) q
 
 -- another order at a place

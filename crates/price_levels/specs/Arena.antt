@@ -12,7 +12,7 @@ use Rattle.price_levels.specs.Keys.{key_of, same_key, InOrder, level_of, key_cro
 
 -- a free place
 abbrev pub vacant : Node
-vacant = record { order = None; prev = None; next = None }
+vacant = record { order = None; prev = None; next = None; ladder = 0 }
 
 abbrev pub node_at : List Node → ℕ → Node
 node_at nodes p = get_or nodes p vacant
@@ -120,17 +120,20 @@ abbrev pub set_prev : List Node → Option ℕ → Option ℕ → List Node
 set_prev nodes None neighbour = nodes
 set_prev nodes (Some p) neighbour = slice_set nodes p (record (node_at nodes p) { prev = neighbour })
 
--- an order at a place that was free, behind the last of its level or alone
-abbrev pub node_behind : Option ℕ → Order → Node
-node_behind last o = record { order = Some o; prev = last; next = None }
+-- an order at a place that was free, behind the last of its level or alone, in a ladder
+abbrev pub node_behind : Option ℕ → Order → ℕ → Node
+node_behind last o ladder = record { order = Some o; prev = last; next = None; ladder = ladder }
 
 -- the nodes when it stands there
-abbrev pub nodes_with : List Node → Option ℕ → ℕ → Order → List Node
-nodes_with nodes last p o = slice_set (set_next nodes last (Some p)) p (node_behind last o)
+abbrev pub nodes_with : List Node → Option ℕ → ℕ → Order → ℕ → List Node
+nodes_with nodes last p o ladder = slice_set (set_next nodes last (Some p)) p (node_behind last o ladder)
 
 -- the nodes when the order at a place is gone
+abbrev pub without : List Node → ℕ → List Node
+without nodes p = slice_set nodes p (record (node_at nodes p) { order = None })
+
 abbrev pub nodes_without : List Node → ℕ → Option ℕ → Option ℕ → List Node
-nodes_without nodes p prev next = slice_set (set_prev (set_next nodes prev next) next prev) p vacant
+nodes_without nodes p prev next = without (set_prev (set_next nodes prev next) next prev) p
 
 -- a level whose outmost order on one side is gone: where there is no neighbour on that side, the other one is outmost now
 abbrev pub outmost : Option ℕ → Option ℕ → ℕ → ℕ

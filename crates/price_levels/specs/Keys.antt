@@ -16,6 +16,10 @@ use Rattle.price_levels.specs.declared.keys.Level.{Level}
 abbrev pub key_of : Order → Key
 key_of o = record { symbol = o.symbol; side = o.side; price = o.price }
 
+-- the level of a symbol, side and price
+abbrev pub key_with : List ℕ → Side → ℕ → Key
+key_with symbol side price = record { symbol = symbol; side = side; price = price }
+
 abbrev pub same_key : Key → Key → Bool
 same_key a b = bytes_eq a.symbol b.symbol && (same_side a.side b.side && nat_eq a.price b.price)
 

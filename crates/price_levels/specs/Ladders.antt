@@ -1,10 +1,11 @@
 -- The levels in ladders: those of all symbols and sides between two fences are a list of their own.
-use Rattle.std.specs.Prelude.{◌≡◌, ⊤, ℕ, zero, suc, ◌+◌, ◌<◌, ◌≤◌, Bool, true, false, List, [], ◌∷◌, ◌++◌, length, map, get_or, take, drop, if◌then◌else◌}
+use Rattle.std.specs.Prelude.{◌≡◌, ⊤, ℕ, zero, suc, ◌+◌, ◌<◌, ◌≤◌, Bool, true, false, List, [], ◌∷◌, ◌++◌, length, map, get_or, take, drop, MatchOption, if◌then◌else◌}
 use Rattle.std.specs.List.{AllByRecursion}
 use Rattle.std.specs.Str.{bytes_eq}
 use Rattle.venue_model.specs.declared.orders.Side.{Side}
 use Rattle.venue_model.specs.declared.orders.Side.TheVariants.{Buy, Sell}
 use Rattle.price_levels.specs.declared.keys.Level.{Level}
+use Rattle.price_levels.specs.declared.nodes.Node.{Node}
 use Rattle.price_levels.specs.declared.ladder.TheConstants.{GAP}
 use Rattle.price_levels.specs.declared.ladders.Fence.{Fence}
 use Rattle.price_levels.specs.declared.ladders.Home.{Home}
@@ -69,6 +70,13 @@ BelongsToHome [] zero symbol side = ⊤
 BelongsToHome [] (suc i) symbol side = ⊥
 BelongsToHome (f ∷ fences) zero symbol side = is_before f symbol side ≡ true
 BelongsToHome (f ∷ fences) (suc i) symbol side = (is_before f symbol side ≡ false) × BelongsToHome fences i symbol side
+
+-- the ladder that a node names is its order's
+abbrev pub NamesLadder : List Fence → Node → Type 0
+NamesLadder fences n = MatchOption n.order ⊤ (λ o. BelongsToHome fences n.ladder o.symbol o.side)
+
+abbrev pub NameLadders : List Fence → List Node → Type 0
+NameLadders fences nodes = AllByRecursion (NamesLadder fences) nodes
 
 -- the rung's ladder is theirs, and none of their levels stands farther on
 pub record IsHome (l : Laddered) (r : Rung) (symbol : List ℕ) (side : Side) : Type 0 where

@@ -4,24 +4,25 @@ ghost use Rattle.std.specs.Vec.{vec_len, vec_capacity};
 ghost use Rattle.price_levels.specs.Keys.{key_of};
 ghost use Rattle.price_levels.specs.Places.{standing, ComesLater};
 ghost use Rattle.price_levels.specs.Arena.{IsWithinNodes, IsArena, AreLevels, IsLevels, IsChange, places_of, order_at, nodes_with, nodes_without, level_without, levels_with};
-ghost use Rattle.price_levels.specs.Ladders.{IsOn, all, rung_number};
+ghost use Rattle.price_levels.specs.Ladders.{NameLadders, IsOn, all, rung_number};
 
 use crate::keys::{Level, key_of};
 use crate::ladders::{Ladders, Rung};
-use crate::nodes::{Node, VACANT, set_next, set_prev};
+use crate::nodes::{Node, set_next, set_prev};
 use venue_model::Order;
 
-/// An order takes a free place behind the last one of its level, whose place is given, or alone.
-fn seat(nodes: &mut Vec<Node>, last: Option<usize>, place: usize, order: &Order)
+/// An order takes a free place behind the last one of its level, whose place is given, or alone, in this ladder.
+fn seat(nodes: &mut Vec<Node>, last: Option<usize>, place: usize, order: &Order, ladder: usize)
     requires last { IsWithinNodes nodes.old.items last }
     requires place { place < length nodes.old.items }
-    ensures { nodes.new.items ≡ nodes_with nodes.old.items last place order.now }
+    ensures { nodes.new.items ≡ nodes_with nodes.old.items last place order.now ladder }
 {
     set_next(nodes, last, Some(place));
     nodes[place] = Node {
         order: Some(*order),
         prev: last,
         next: None,
+        ladder,
     };
 }
 
@@ -34,20 +35,21 @@ pub(crate) fn push(
     order: &Order,
 ) -> usize
     requires levels { IsLevels nodes.old.items free.old.items (all ladders.old) }
+    requires named { NameLadders ladders.old.fences nodes.old.items }
     requires room { (length (standing (places_of nodes.old.items)) < length nodes.old.items)
         × (length nodes.old.items ≤ ladders.old.room) }
     requires later { ComesLater (places_of nodes.old.items) order.now }
     requires quantity { order.now.total ≤ 1000000 }
     ensures levels { IsLevels nodes.new.items free.new.items (all ladders.new) }
+    ensures named { NameLadders ladders.new.fences nodes.new.items }
     ensures free { (result < length nodes.old.items) × (order_at nodes.old.items result ≡ None) }
     ensures places { places_of nodes.new.items ≡ slice_set (places_of nodes.old.items) result (Some order.now) }
     ensures capacity { (vec_capacity free.new ≡ vec_capacity free.old) × (ladders.new.room ≡ ladders.old.room) }
 {
-    let key = key_of(order);
-    let ladder = ladders.ladder_of(&order.symbol, order.side);
-    let rung = ladders.search_in(ladder, &key);
     let place = free.pop().unwrap();
-    if ladders.holds(rung, &key) {
+    let ladder = ladders.ladder_of(&order.symbol, order.side);
+    let (rung, holds) = ladders.search_in(ladder, &order.symbol, order.side, order.price);
+    if holds {
         let level = ladders.level(rung);
         let longer = Level {
             last: place,
@@ -55,11 +57,11 @@ pub(crate) fn push(
             ..level
         };
         ladders.set(rung, longer);
-        seat(nodes, Some(level.last), place, order);
+        seat(nodes, Some(level.last), place, order, ladder);
     } else {
-        seat(nodes, None, place, order);
+        seat(nodes, None, place, order, ladder);
         let alone = Level {
-            key,
+            key: key_of(order),
             first: place,
             last: place,
             left: order.leaves(),
@@ -78,7 +80,7 @@ fn unseat(nodes: &mut Vec<Node>, place: usize, prev: Option<usize>, next: Option
 {
     set_next(nodes, prev, next);
     set_prev(nodes, next, prev);
-    nodes[place] = VACANT;
+    nodes[place].order = None;
 }
 
 /// A level loses an order between these neighbours, with what was left of it: the last one takes the level along.
@@ -92,6 +94,7 @@ fn shorten(
     requires on { IsOn ladders.old rung }
     ensures levels { (level : Level) → level ≡ get_or (all ladders.old) (rung_number ladders.old rung) level →
         all ladders.new ≡ levels_with (all ladders.old) (rung_number ladders.old rung) (level_without level prev next quantity) }
+    ensures fences { ladders.new.fences ≡ ladders.old.fences }
     ensures room { ladders.new.room ≡ ladders.old.room }
 {
     let level = ladders.level(rung);
@@ -127,32 +130,37 @@ pub(crate) fn take_out(
     place: usize,
 )
     requires levels { IsLevels nodes.old.items free.old.items (all ladders.old) }
+    requires named { NameLadders ladders.old.fences nodes.old.items }
     requires stands { order_at nodes.old.items place ≢ None }
     requires capacity { length nodes.old.items ≤ vec_capacity free.old }
     ensures levels { IsLevels nodes.new.items free.new.items (all ladders.new) }
+    ensures named { NameLadders ladders.new.fences nodes.new.items }
     ensures places { places_of nodes.new.items ≡ slice_set (places_of nodes.old.items) place None }
     ensures capacity { (vec_capacity free.new ≡ vec_capacity free.old) × (ladders.new.room ≡ ladders.old.room) }
 {
-    let node = nodes[place];
-    let order = node.order.unwrap();
-    let rung = ladders.search(&key_of(&order));
-    shorten(ladders, rung, node.prev, node.next, order.leaves());
-    unseat(nodes, place, node.prev, node.next);
+    let node = &nodes[place];
+    let order = node.order.as_ref().unwrap();
+    let (rung, _holds) = ladders.search_in(node.ladder, &order.symbol, order.side, order.price);
+    let (prev, next) = (node.prev, node.next);
+    shorten(ladders, rung, prev, next, order.leaves());
+    unseat(nodes, place, prev, next);
     free.push_reserved(place);
 }
 
 /// The order at a place is another now, of its level and stamp, with no more to fill.
 pub(crate) fn change(nodes: &mut Vec<Node>, ladders: &mut Ladders, place: usize, order: &Order)
     requires levels { AreLevels nodes.old.items (all ladders.old) }
+    requires named { NameLadders ladders.old.fences nodes.old.items }
     requires change { IsChange (order_at nodes.old.items place) order.now }
     ensures levels { AreLevels nodes.new.items (all ladders.new) }
+    ensures named { NameLadders ladders.new.fences nodes.new.items }
     ensures free { (free : List ℕ) → IsArena nodes.old.items free → IsArena nodes.new.items free }
     ensures places { places_of nodes.new.items ≡ slice_set (places_of nodes.old.items) place (Some order.now) }
     ensures room { ladders.new.room ≡ ladders.old.room }
 {
     let node = nodes[place];
     let old = node.order.unwrap();
-    let rung = ladders.search(&key_of(order));
+    let (rung, _holds) = ladders.search_in(node.ladder, &old.symbol, old.side, old.price);
     let level = ladders.level(rung);
     let level = Level {
         left: level.left.saturating_sub(old.leaves()) + order.leaves(),

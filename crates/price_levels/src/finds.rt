@@ -1,23 +1,31 @@
 //! What is found among the levels: the best order of a symbol and side, the next one, and what an order would cross.
 ghost use Rattle.std.specs.Prelude.{◌≡◌, ◌≢◌, ◌<◌, ◌^◌, None, MatchOption};
 ghost use Rattle.price_levels.specs.Places.{NoneOf, PricedBest, NoneBehind, NextBehind, crossing_leaves};
-ghost use Rattle.price_levels.specs.Keys.{key_crossed};
+ghost use Rattle.price_levels.specs.Keys.{key_with, key_crossed, same_key};
 ghost use Rattle.price_levels.specs.Arena.{AreLevels, crossed_left, of_side, first_in, holds, places_of, order_at};
-ghost use Rattle.price_levels.specs.Ladders.{all};
+ghost use Rattle.price_levels.specs.Ladders.{NameLadders, all};
 
-use crate::keys::{Key, Level, key_of, same_key};
+use crate::keys::Level;
 use crate::ladders::{Ladders, Rung};
 use crate::nodes::Node;
 use venue_model::{Order, Side, Symbol};
 
-/// Whether the level at this place is the key's.
-pub(crate) fn holds(levels: &[Level], at: usize, key: &Key) -> bool
-    ensures { result ≡ holds levels.now at key.now }
+/// Whether a level is the one of a symbol, side and price.
+fn is_level(level: &Level, symbol: &Symbol, side: Side, price: u64) -> bool
+    ensures { result ≡ same_key level.now.key (key_with symbol.now side price) }
 {
-    at < levels.len() && same_key(&levels[at].key, key)
+    level.key.symbol.is(symbol) && level.key.side.is(side) && level.key.price == price
+}
+
+/// Whether the level at this place is the one of a symbol, side and price.
+pub(crate) fn holds(levels: &[Level], at: usize, symbol: &Symbol, side: Side, price: u64) -> bool
+    ensures { result ≡ holds levels.now at (key_with symbol.now side price) }
+{
+    at < levels.len() && is_level(&levels[at], symbol, side, price)
 }
 
 /// Whether a level is one of the symbol and side.
+#[inline(always)]
 pub(crate) fn is_of(level: &Level, symbol: &Symbol, side: Side) -> bool
     ensures { result ≡ of_side symbol.now side level.now.key }
 {
@@ -64,6 +72,7 @@ pub(crate) fn best(
 /// The place of the order that comes next behind the one at this place.
 pub(crate) fn after(nodes: &Vec<Node>, ladders: &Ladders, place: usize) -> Option<usize>
     requires levels { AreLevels nodes.now.items (all ladders.now) }
+    requires named { NameLadders ladders.now.fences nodes.now.items }
     requires stands { order_at nodes.now.items place ≢ None }
     ensures { MatchOption result (NoneBehind (places_of nodes.now.items) place)
         (NextBehind (places_of nodes.now.items) place) }
@@ -73,7 +82,7 @@ pub(crate) fn after(nodes: &Vec<Node>, ladders: &Ladders, place: usize) -> Optio
         return Some(next);
     }
     let order = node.order.unwrap();
-    let rung = ladders.search(&key_of(&order));
+    let (rung, _holds) = ladders.search_in(node.ladder, &order.symbol, order.side, order.price);
     let next = Rung {
         at: rung.at + 1,
         ..rung

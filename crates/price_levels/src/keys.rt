@@ -1,10 +1,11 @@
 //! The levels in their order: by symbol, buys before sells, and of one symbol and side from the best price on. A key's
-//! place among them is found by halving; among levels of its symbol and side, those of a better price are counted.
+//! place among them is mostly where its price leads to, or else found by halving; among levels of its symbol and side, those
+//! of a better price are counted.
 ghost use Rattle.std.specs.Prelude.{◌≡◌, ◌<◌, ◌≤◌, ◌+◌, length, take, drop, true, false, if◌then◌else◌};
 ghost use Rattle.std.specs.List.{AllByRecursion};
 ghost use Rattle.venue_model.specs.Orders.{is_better};
 ghost use Rattle.price_levels.specs.Arena.{of_side};
-ghost use Rattle.price_levels.specs.Keys.{key_of, same_key, key_before, symbol_before, before_side, InOrder, count_better, BetterFirst};
+ghost use Rattle.price_levels.specs.Keys.{key_of, key_before, symbol_before, before_side, InOrder, count_better, BetterFirst};
 
 use std::cmp::Ordering;
 use venue_model::{Order, Side, Symbol};
@@ -40,13 +41,6 @@ pub(crate) fn key_of(order: &Order) -> Key
     }
 }
 
-/// Whether both are one level's.
-pub(crate) fn same_key(key: &Key, other: &Key) -> bool
-    ensures { result ≡ same_key key.now other.now }
-{
-    key.symbol.is(&other.symbol) && key.side.is(other.side) && key.price == other.price
-}
-
 /// Whether a symbol stands before another.
 fn symbol_before(symbol: &Symbol, other: &Symbol) -> bool
     ensures { result ≡ symbol_before symbol.now other.now }
@@ -58,7 +52,7 @@ fn symbol_before(symbol: &Symbol, other: &Symbol) -> bool
 }
 
 /// Whether a price stands before another of its side.
-fn price_before(side: Side, price: u64, other: u64) -> bool
+pub(crate) fn price_before(side: Side, price: u64, other: u64) -> bool
     ensures { result ≡ is_better side price other }
 {
     match side {
@@ -68,7 +62,7 @@ fn price_before(side: Side, price: u64, other: u64) -> bool
 }
 
 /// Whether a level stands before another.
-pub(crate) fn comes_before(key: &Key, other: &Key) -> bool
+fn comes_before(key: &Key, other: &Key) -> bool
     ensures { result ≡ key_before key.now other.now }
 {
     if key.symbol.is(&other.symbol) {
@@ -108,8 +102,7 @@ pub(crate) fn search_price(levels: &[Level], key: &Key) -> usize
 }
 
 /// How many levels have a better price, where those stand first. Where they end is a matter of chance, which a processor
-/// can't foresee. So they are counted without a branch: among seven where they mostly end, or else eight at a time and
-/// then one by one.
+/// can't foresee. So they are counted without a branch: eight at a time and then one by one.
 #[inline(always)]
 fn count_better(levels: &[Level], side: Side, price: u64) -> usize
     requires { BetterFirst side price levels.now }
@@ -118,15 +111,36 @@ fn count_better(levels: &[Level], side: Side, price: u64) -> usize
     if levels.len() < 8 {
         return count_some(levels, side, price, 0, levels.len());
     }
-    let near = near(levels, side, price);
-    if are_better_ahead(levels, side, price, near)
-        && none_better_from(levels, side, price, near + 7)
-    {
-        return count_some(levels, side, price, near, 7);
-    }
     let (from, upto) = halve(levels, side, price);
     let at = count_eights(levels, side, price, from, upto);
     count_some(levels, side, price, at.min(levels.len() - 7), 7)
+}
+
+/// Where a price is looked for first: among levels of one symbol and side mostly its place. No clause says so, and who
+/// asks sees whether it is.
+#[inline(always)]
+pub(crate) fn likely_place(levels: &[Level], side: Side, price: u64) -> usize
+    ensures { result ≤ length levels.now }
+{
+    match side {
+        Side::Buy => place_near(levels, Side::Buy, price),
+        Side::Sell => place_near(levels, Side::Sell, price),
+    }
+}
+
+/// The first place, unless the level there has a better price. Else those of a better price are counted among seven where
+/// they mostly end, without a branch.
+#[inline(always)]
+fn place_near(levels: &[Level], side: Side, price: u64) -> usize
+    ensures { result ≤ length levels.now }
+{
+    if levels.is_empty() || !price_before(side, levels[0].key.price, price) {
+        return 0;
+    }
+    if levels.len() < 8 {
+        return count_some(levels, side, price, 0, levels.len());
+    }
+    count_some(levels, side, price, near(levels, side, price), 7)
 }
 
 /// Where seven levels begin, up to the place that the price would have if each tick from the first level's on had one.
@@ -142,32 +156,6 @@ fn near(levels: &[Level], side: Side, price: u64) -> usize
         Side::Sell => price.saturating_sub(first),
     };
     (ticks as usize).saturating_sub(7).min(levels.len() - 7)
-}
-
-/// Whether all levels ahead of a place have a better price.
-#[inline(always)]
-fn are_better_ahead(levels: &[Level], side: Side, price: u64, at: usize) -> bool
-    requires order { BetterFirst side price levels.now }
-    requires within { at ≤ length levels.now }
-    ensures { result ≡ true → at ≤ count_better side price levels.now }
-{
-    if at == 0 {
-        return true;
-    }
-    price_before(side, levels[at - 1].key.price, price)
-}
-
-/// Whether no level from a place on has a better price.
-#[inline(always)]
-fn none_better_from(levels: &[Level], side: Side, price: u64, at: usize) -> bool
-    requires order { BetterFirst side price levels.now }
-    requires within { at ≤ length levels.now }
-    ensures { result ≡ true → count_better side price levels.now ≤ at }
-{
-    if at == levels.len() {
-        return true;
-    }
-    !price_before(side, levels[at].key.price, price)
 }
 
 /// Halves the levels until few are left: from one place up to another. Those of a better price end there.
@@ -210,14 +198,14 @@ fn count_eights(levels: &[Level], side: Side, price: u64, from: usize, upto: usi
     from + 8 * eights
 }
 
-/// Of so many levels from a place on, where those of a better price end, counts these and all ahead of the place.
+/// Of so many levels from a place on, counts those of a better price, and all ahead of the place. If those of a better
+/// price stand first and end there, these are all of them.
 #[inline(always)]
 fn count_some(levels: &[Level], side: Side, price: u64, from: usize, many: usize) -> usize
-    requires order { BetterFirst side price levels.now }
-    requires from { from ≤ count_better side price levels.now }
-    requires upto { count_better side price levels.now ≤ from + many }
-    requires within { from + many ≤ length levels.now }
-    ensures { result ≡ count_better side price levels.now }
+    requires { from + many ≤ length levels.now }
+    ensures most { result ≤ from + many }
+    ensures all { BetterFirst side price levels.now → from ≤ count_better side price levels.now →
+        count_better side price levels.now ≤ from + many → result ≡ count_better side price levels.now }
 {
     let mut at = from;
     'levels: for next in 0..many {

@@ -1,14 +1,14 @@
 //! One ladder: levels in a list that may begin behind a gap, so that the best of them come and go without a move of those
 //! behind. Contracts see the levels alone.
-ghost use Rattle.std.specs.Prelude.{◌≡◌, ◌↔◌, ◌<◌, ◌≤◌, [], true, false, length, take, drop, slice_set, IfOk};
+ghost use Rattle.std.specs.Prelude.{◌≡◌, ◌↔◌, ◌<◌, ◌≤◌, [], true, false, length, take, drop, get_or, slice_set, IfOk};
 ghost use Rattle.std.specs.List.{AllByRecursion, insert};
 ghost use Rattle.std.specs.Vec.{vec_capacity};
-ghost use Rattle.price_levels.specs.Arena.{of_side, first_in, levels_with};
-ghost use Rattle.price_levels.specs.Keys.{key_before, before_side, InOrder};
+ghost use Rattle.price_levels.specs.Arena.{of_side, first_in, holds, levels_with};
+ghost use Rattle.price_levels.specs.Keys.{key_with, key_before, before_side, InOrder};
 ghost use Rattle.price_levels.specs.Ladders.{IsBehindGap};
 
-use crate::finds::{first_in, is_of};
-use crate::keys::{Key, Level, comes_before, search, search_price, search_side};
+use crate::finds::{first_in, holds, is_of};
+use crate::keys::{Key, Level, likely_place, price_before, search, search_price, search_side};
 use std::alloc::{AllocError, Global};
 use std::marker::Model;
 use venue_model::{Side, Symbol};
@@ -58,6 +58,15 @@ impl Ladder {
         &self.list[self.start..]
     }
 
+    /// The level at a place.
+    #[inline(always)]
+    pub(crate) fn level(&self, at: usize) -> Level
+        requires { at < length self.now.items }
+        ensures { result ≡ get_or self.now.items at result }
+    {
+        self.list[self.start + at]
+    }
+
     /// The level at a place is another now.
     #[inline(always)]
     pub(crate) fn set(&mut self, at: usize, level: Level)
@@ -86,8 +95,23 @@ impl Ladder {
         }
     }
 
-    /// The level at a place goes. Those ahead of it move, and the gap grows, or those behind it move, whichever are fewer.
+    /// The level at a place goes. If it is the best, the gap grows, unless it is as long as it may be.
+    #[inline(always)]
     pub(crate) fn remove(&mut self, at: usize)
+        requires { at < length self.old.items }
+        ensures levels { self.new.items ≡ levels_with self.old.items at [] }
+        ensures room { self.new.room ≡ self.old.room }
+    {
+        if at == 0 && self.start < GAP {
+            self.start += 1;
+        } else {
+            self.close_up(at);
+        }
+    }
+
+    /// The same for any level: those ahead of it move, and the gap grows, or those behind it move, whichever are fewer.
+    #[inline(never)]
+    fn close_up(&mut self, at: usize)
         requires { at < length self.old.items }
         ensures levels { self.new.items ≡ levels_with self.old.items at [] }
         ensures room { self.new.room ≡ self.old.room }
@@ -133,25 +157,74 @@ fn close(list: &mut Vec<Level>, start: usize)
     list.truncate(count);
 }
 
-/// The place of a key in a ladder: the first one for the best price, and else by prices alone, where all its levels are of
-/// the key's symbol and side.
+/// The place of a symbol, side and price in a ladder, mostly where the price leads to, and whether their level stands
+/// there.
 #[inline(always)]
-pub(crate) fn place_in(levels: &[Level], key: &Key) -> usize
+pub(crate) fn place_in(levels: &[Level], symbol: &Symbol, side: Side, price: u64) -> (usize, bool)
+    requires { InOrder levels.now }
+    ensures within { result.0 ≤ length levels.now }
+    ensures before { AllByRecursion (λ l. key_before l.key (key_with symbol.now side price) ≡ true) (take result.0 levels.now) }
+    ensures behind { AllByRecursion (λ l. key_before l.key (key_with symbol.now side price) ≡ false) (drop result.0 levels.now) }
+    ensures holds { result.1 ≡ holds levels.now result.0 (key_with symbol.now side price) }
+{
+    let at = likely_place(levels, side, price);
+    if holds(levels, at, symbol, side, price) {
+        return (at, true);
+    }
+    if are_ahead(levels, at, symbol, side, price) && none_from(levels, at, symbol, side, price) {
+        return (at, false);
+    }
+    let found = search_all(levels, symbol, side, price);
+    (found, holds(levels, found, symbol, side, price))
+}
+
+/// Whether the level ahead of a place is of the symbol and side, and of a better price: so all ahead of it stand before.
+#[inline(always)]
+fn are_ahead(levels: &[Level], at: usize, symbol: &Symbol, side: Side, price: u64) -> bool
+    requires order { InOrder levels.now }
+    requires within { at ≤ length levels.now }
+    ensures { result ≡ true → AllByRecursion (λ l. key_before l.key (key_with symbol.now side price) ≡ true) (take at levels.now) }
+{
+    if at == 0 {
+        return true;
+    }
+    let level = &levels[at - 1];
+    is_of(level, symbol, side) && price_before(side, level.key.price, price)
+}
+
+/// Whether the level at a place is of the symbol and side, and of no better price: so none from it on stands before.
+#[inline(always)]
+fn none_from(levels: &[Level], at: usize, symbol: &Symbol, side: Side, price: u64) -> bool
+    requires order { InOrder levels.now }
+    requires within { at ≤ length levels.now }
+    ensures { result ≡ true → AllByRecursion (λ l. key_before l.key (key_with symbol.now side price) ≡ false) (drop at levels.now) }
+{
+    if at == levels.len() {
+        return true;
+    }
+    let level = &levels[at];
+    is_of(level, symbol, side) && !price_before(side, level.key.price, price)
+}
+
+/// The place of a symbol, side and price among all levels of a ladder: by prices alone, where all are of the symbol and
+/// side.
+#[cold]
+#[inline(never)]
+fn search_all(levels: &[Level], symbol: &Symbol, side: Side, price: u64) -> usize
     requires { InOrder levels.now }
     ensures within { result ≤ length levels.now }
-    ensures before { AllByRecursion (λ l. key_before l.key key.now ≡ true) (take result levels.now) }
-    ensures behind { AllByRecursion (λ l. key_before l.key key.now ≡ false) (drop result levels.now) }
+    ensures before { AllByRecursion (λ l. key_before l.key (key_with symbol.now side price) ≡ true) (take result levels.now) }
+    ensures behind { AllByRecursion (λ l. key_before l.key (key_with symbol.now side price) ≡ false) (drop result levels.now) }
 {
-    if levels.is_empty() {
-        return 0;
-    }
-    if !comes_before(&levels[0].key, key) {
-        return 0;
-    }
-    if are_of(levels, &key.symbol, key.side) {
-        search_price(levels, key)
+    let key = Key {
+        symbol: *symbol,
+        side,
+        price,
+    };
+    if are_of(levels, symbol, side) {
+        search_price(levels, &key)
     } else {
-        search(levels, key)
+        search(levels, &key)
     }
 }
 

@@ -4,12 +4,12 @@ ghost use Rattle.std.specs.Prelude.{◌≡◌, ◌↔◌, ◌<◌, ◌≤◌, �
 ghost use Rattle.std.specs.Vec.{vec_len, vec_capacity};
 ghost use Rattle.std.specs.List.{AllByRecursion, insert};
 ghost use Rattle.venue_model.specs.Orders.{opposite};
-ghost use Rattle.price_levels.specs.Keys.{key_before, before_side, InOrder};
+ghost use Rattle.price_levels.specs.Keys.{key_with, key_before, before_side, InOrder};
 ghost use Rattle.price_levels.specs.Arena.{holds, first_in, crossed_left, levels_with};
 ghost use Rattle.price_levels.specs.declared.ladders.Fence.{Fence};
 ghost use Rattle.price_levels.specs.Ladders.{BelongsToHome, IsRung, IsOn, IsHome, IsHomeOf, IsEmpty, all, rung_number};
 
-use crate::finds::{crossed_left, first_in, holds};
+use crate::finds::{crossed_left, first_in};
 use crate::keys::{Key, Level, comes_before_side};
 use crate::ladder::{Ladder, place_in, start_of};
 use std::alloc::{AllocError, Global};
@@ -123,30 +123,27 @@ impl Ladders {
         fence_at(&self.fences, symbol, side)
     }
 
-    /// The place of a key: all levels ahead of it stand before the key, and none from it on does.
+    /// The place of a symbol, side and price, whose ladder is known: all levels ahead of it stand before them, and none
+    /// from it on does. And whether the level there is theirs.
     #[inline(always)]
-    pub(crate) fn search(&self, key: &Key) -> Rung
-        requires { InOrder (all self.now) }
-        ensures rung { IsRung self.now result }
-        ensures home { IsHome self.now result key.now.symbol key.now.side }
-        ensures before { AllByRecursion (λ l. key_before l.key key.now ≡ true) (take (rung_number self.now result) (all self.now)) }
-        ensures behind { AllByRecursion (λ l. key_before l.key key.now ≡ false) (drop (rung_number self.now result) (all self.now)) }
-    {
-        self.search_in(self.ladder_of(&key.symbol, key.side), key)
-    }
-
-    /// The same in the key's ladder, which is known.
-    #[inline(always)]
-    pub(crate) fn search_in(&self, ladder: usize, key: &Key) -> Rung
+    pub(crate) fn search_in(
+        &self,
+        ladder: usize,
+        symbol: &Symbol,
+        side: Side,
+        price: u64,
+    ) -> (Rung, bool)
         requires order { InOrder (all self.now) }
-        requires belongs { BelongsToHome self.now.fences ladder key.now.symbol key.now.side }
-        ensures rung { IsRung self.now result }
-        ensures home { IsHome self.now result key.now.symbol key.now.side }
-        ensures before { AllByRecursion (λ l. key_before l.key key.now ≡ true) (take (rung_number self.now result) (all self.now)) }
-        ensures behind { AllByRecursion (λ l. key_before l.key key.now ≡ false) (drop (rung_number self.now result) (all self.now)) }
+        requires belongs { BelongsToHome self.now.fences ladder symbol.now side }
+        ensures rung { IsRung self.now result.0 }
+        ensures home { IsHome self.now result.0 symbol.now side }
+        ensures before { AllByRecursion (λ l. key_before l.key (key_with symbol.now side price) ≡ true) (take (rung_number self.now result.0) (all self.now)) }
+        ensures behind { AllByRecursion (λ l. key_before l.key (key_with symbol.now side price) ≡ false) (drop (rung_number self.now result.0) (all self.now)) }
+        ensures holds { result.1 ≡ holds (all self.now) (rung_number self.now result.0) (key_with symbol.now side price) }
+        ensures on { result.1 ≡ true → IsOn self.now result.0 }
     {
-        let at = place_in(self.ladders[ladder].levels(), key);
-        Rung { ladder, at }
+        let (at, holds) = place_in(self.ladders[ladder].levels(), symbol, side, price);
+        (Rung { ladder, at }, holds)
     }
 
     /// The place of a symbol and side: all levels ahead of it stand before those, and none from it on does. And the place
@@ -165,22 +162,12 @@ impl Ladders {
         (Rung { ladder, at }, first)
     }
 
-    /// Whether the level at this place is the key's.
-    pub(crate) fn holds(&self, rung: Rung, key: &Key) -> bool
-        requires rung { IsRung self.now rung }
-        requires home { IsHome self.now rung key.now.symbol key.now.side }
-        ensures holds { result ≡ holds (all self.now) (rung_number self.now rung) key.now }
-        ensures on { result ≡ true → IsOn self.now rung }
-    {
-        holds(self.ladders[rung.ladder].levels(), rung.at, key)
-    }
-
     /// The level at a place.
     pub(crate) fn level(&self, rung: Rung) -> Level
         requires { IsOn self.now rung }
         ensures { result ≡ get_or (all self.now) (rung_number self.now rung) result }
     {
-        self.ladders[rung.ladder].levels()[rung.at]
+        self.ladders[rung.ladder].level(rung.at)
     }
 
     /// The level at a place is another of its key now.
@@ -188,6 +175,7 @@ impl Ladders {
         requires on { IsOn self.old rung }
         requires key { level.key ≡ (get_or (all self.old) (rung_number self.old rung) level).key }
         ensures levels { all self.new ≡ slice_set (all self.old) (rung_number self.old rung) level }
+        ensures fences { self.new.fences ≡ self.old.fences }
         ensures room { self.new.room ≡ self.old.room }
     {
         self.ladders[rung.ladder].set(rung.at, level);
@@ -199,6 +187,7 @@ impl Ladders {
         requires home { IsHome self.old rung level.key.symbol level.key.side }
         requires room { length (all self.old) < self.old.room }
         ensures levels { all self.new ≡ insert (all self.old) (rung_number self.old rung) level }
+        ensures fences { self.new.fences ≡ self.old.fences }
         ensures room { self.new.room ≡ self.old.room }
     {
         self.ladders[rung.ladder].insert(rung.at, level);
@@ -208,6 +197,7 @@ impl Ladders {
     pub(crate) fn remove(&mut self, rung: Rung)
         requires { IsOn self.old rung }
         ensures levels { all self.new ≡ levels_with (all self.old) (rung_number self.old rung) [] }
+        ensures fences { self.new.fences ≡ self.old.fences }
         ensures room { self.new.room ≡ self.old.room }
     {
         self.ladders[rung.ladder].remove(rung.at);

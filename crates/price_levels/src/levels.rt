@@ -46,14 +46,15 @@ impl Model for Levels {
     ghost use Rattle.std.specs.Vec.{vec_capacity};
     ghost use Rattle.price_levels.specs.Places.{Places};
     ghost use Rattle.price_levels.specs.Arena.{places_of, IsLevels};
-    ghost use Rattle.price_levels.specs.Ladders.{all};
+    ghost use Rattle.price_levels.specs.Ladders.{NameLadders, all};
 
     ghost Value = { Places };
 
     ghost view = { λ l. places_of l.nodes.items };
 
     ghost invariant = { λ l. IsLevels l.nodes.items l.free.items (all l.ladders)
-        × (length l.nodes.items ≤ vec_capacity l.free) × (length l.nodes.items ≤ l.ladders.room) };
+        × (length l.nodes.items ≤ vec_capacity l.free) × (length l.nodes.items ≤ l.ladders.room)
+        × NameLadders l.ladders.fences l.nodes.items };
 }
 
 impl Levels {

@@ -1,15 +1,17 @@
-//! The arena's nodes: at each place an order and its neighbours in its level, or nothing.
+//! The arena's nodes: at each place an order with its neighbours in its level and its ladder, or nothing.
 ghost use Rattle.std.specs.Prelude.{◌≡◌, ◌<◌, length, MatchOption, slice_set};
 ghost use Rattle.price_levels.specs.Arena.{set_next, set_prev, IsWithinNodes};
 
 use venue_model::Order;
 
-/// An order and the places of its neighbours in its level: the one before it, and the one behind it.
+/// An order, the places of its neighbours in its level, the one before it and the one behind it, and its ladder. Of a free
+/// place nobody reads what stands beside the order.
 #[derive(Clone, Copy)]
 pub(crate) struct Node {
     pub(crate) order: Option<Order>,
     pub(crate) prev: Option<usize>,
     pub(crate) next: Option<usize>,
+    pub(crate) ladder: usize,
 }
 
 /// A free place.
@@ -17,6 +19,7 @@ pub(crate) const VACANT: Node = Node {
     order: None,
     prev: None,
     next: None,
+    ladder: 0,
 };
 
 /// The order behind the one at a place, where there is one, is another now.

@@ -1,18 +1,19 @@
 -- The neighbour, or else the first order of the next level.
-use Rattle.std.proofs.Common.{arith, sym, subst}
+use Rattle.std.proofs.Common.{refl, arith, sym, subst}
 use Rattle.std.specs.Prelude.{MatchOption}
 use Rattle.price_levels.specs.Places.{NoneBehind, NextBehind}
 use Rattle.price_levels.specs.Arena.{places_of}
 use Rattle.price_levels.specs.Ladders.{all}
 use Rattle.price_levels.proofs.FoundLemmas.{Found, found, next-fits, next-rung, next-found, read-neighbour}
-use Rattle.price_levels.proofs.finds.after.Goals.{After-search-rung}
+use Rattle.price_levels.proofs.NamedLadders.{its-ladder}
+use Rattle.price_levels.proofs.finds.after.Goals.{After-search_in-holds}
 use Rattle.price_levels.proofs.finds.after.Goals as goal
 
-it : (c : After-search-rung) → Found c.args.nodes.now.items c.args.ladders.now c.args.place c.index-node.result.now
-    c.unwrap-order.result c.search-rung.result
+it : (c : After-search_in-holds) → Found c.args.nodes.now.items c.args.ladders.now c.args.place c.index-node.result.now
+    c.unwrap-order.result c.search_in-holds.result.0
 it c =
-    let search = c.search-rung.ensures in
-    found _ _ _ _ _ _ c.key_of.result c.requires.stands c.index-node.ensures c.unwrap-order.ensures c.key_of.ensures
+    let search = c.search_in-holds.ensures in
+    found _ _ _ _ _ _ _ c.requires.stands c.index-node.ensures c.unwrap-order.ensures refl
     search.rung search.home (record { before = search.before; behind = search.behind })
 
 pub returns-in-Some : goal.returns-in-Some
@@ -20,12 +21,12 @@ returns-in-Some c = read-neighbour c.args.nodes.now.items (all c.args.ladders.no
     c.in-Some.next c.requires.levels c.requires.stands c.index-node.ensures c.in-Some.is
 
 pub overflow_add-next : goal.overflow_add-next
-overflow_add-next c = let fits = next-fits c.requires.levels (it (goal.at.overflow_add-next c).After-search-rung) in
+overflow_add-next c = let fits = next-fits c.requires.levels (it (goal.at.overflow_add-next c).After-search_in-holds) in
     omega (arith, fits)
 
 pub first_in-requires : goal.first_in-requires
 first_in-requires c =
-    let it = it (goal.at.first_in-requires c).After-search-rung in
+    let it = it (goal.at.first_in-requires c).After-search_in-holds in
     record {
       rung = next-rung c.requires.levels it;
       home = record { belongs = it.home.belongs; alone = it.home.alone };
@@ -38,7 +39,7 @@ returns-in_err-number c =
     (sym c.from_residual.ensures)
     (subst (λ r. MatchOption r (NoneBehind (places_of nodes) c.args.place)
     (λ b. NextBehind (places_of nodes) c.args.place b.0)) c.in_err-number.was
-    (next-found c.requires.levels (it (goal.at.returns-in_err-number c).After-search-rung) c.in_default.is
+    (next-found c.requires.levels (it (goal.at.returns-in_err-number c).After-search_in-holds) c.in_default.is
     c.first_in.result c.first_in.ensures))
 
 pub returns : goal.returns
@@ -46,5 +47,9 @@ returns c =
     let nodes = c.args.nodes.now.items in
     subst (λ r. MatchOption r (NoneBehind (places_of nodes) c.args.place)
     (λ b. NextBehind (places_of nodes) c.args.place b.0)) c.in_ok-number.was
-    (next-found c.requires.levels (it (goal.at.returns c).After-search-rung) c.in_default.is c.first_in.result
+    (next-found c.requires.levels (it (goal.at.returns c).After-search_in-holds) c.in_default.is c.first_in.result
     c.first_in.ensures)
+
+pub search_in-holds-requires-clause-belongs : goal.search_in-holds-requires-clause-belongs
+search_in-holds-requires-clause-belongs c =
+    its-ladder _ _ _ _ _ c.requires.named c.requires.stands c.index-node.ensures c.unwrap-order.ensures

@@ -19,4 +19,5 @@ invariant_of-self c =
       },
       omega (arith, long, before.1),
       omega (arith, long, levels, before.2),
+      c.change.ensures.named,
     )

@@ -2,6 +2,7 @@
 use Rattle.std.proofs.Common.{◌≡◌, arith, ap, sym, ◌∙◌, subst}
 use Rattle.price_levels.specs.Arena.{places_of, IsLevels}
 use Rattle.price_levels.proofs.EmptyLemmas.{first-none, first-more, empty, empty-places, AreFirst}
+use Rattle.price_levels.proofs.NamedLadders.{none-named}
 use Rattle.price_levels.proofs.levels.Levels.new.Goals as goal
 
 pub loop-place-init : goal.loop-place-init
@@ -34,4 +35,5 @@ invariant_of-result c =
           (empty c.in_ok-nodes.nodes.items c.loop-place.free.items n items c.requires.quantities first),
       omega (arith, long, c.in_ok-nodes.nodes.ok.0, c.loop-place.invariant.1),
       (let room = c.in_ok-ladders.ensures.1 in omega (arith, long, c.in_ok-nodes.nodes.ok.0, room)),
+      none-named c.in_ok-ladders.ladders.fences c.in_ok-nodes.nodes.items n items,
     )

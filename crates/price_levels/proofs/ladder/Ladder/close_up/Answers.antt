@@ -5,7 +5,7 @@ use Rattle.price_levels.specs.declared.keys.Level.{Level}
 use Rattle.price_levels.specs.Arena.{levels_with}
 use Rattle.price_levels.specs.Ladders.{Levelled}
 use Rattle.price_levels.proofs.GapLemmas.{goes-behind}
-use Rattle.price_levels.proofs.ladder.Ladder.remove.Goals as goal
+use Rattle.price_levels.proofs.ladder.Ladder.close_up.Goals as goal
 
 pub returns-else-at-len-clause-levels : goal.returns-else-at-len-clause-levels
 returns-else-at-len-clause-levels c =
