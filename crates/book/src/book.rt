@@ -14,6 +14,7 @@ use crate::listing::next;
 use crate::logic::BookLogic;
 use crate::reports::{output, put};
 use crate::resting::RestingOrders;
+use crate::symbol_spots::SymbolSpots;
 use price_levels::{ReadCounter, Reads};
 use std::alloc::{AllocError, Global};
 use std::marker::Model;
@@ -24,6 +25,8 @@ use venue_model::{Cause, Command, Limits, MOST_GATEWAYS, Malformed, Order, Outpu
 #[derive(Drop)]
 pub struct Book {
     pub(crate) logic: BookLogic,
+    // (where the symbols of new orders are looked for)
+    pub(crate) spots: SymbolSpots,
     pub(crate) orders: RestingOrders,
     pub(crate) greatest: [u64; MOST_GATEWAYS],
     // (no other module sees it, so a command reads orders by the one count that `apply` begins)
@@ -68,8 +71,10 @@ impl Book {
         requires { IsBook logic.symbols orders greatest }
         ensures { result ≡ record { limits = logic; state = record { orders = orders; greatest = greatest }; reads = 0 } }
     {
+        let spots = SymbolSpots::of(logic.symbols());
         Book {
             logic,
+            spots,
             orders,
             greatest,
             counter,

@@ -13,6 +13,7 @@ mod reports;
 mod requests;
 mod resting;
 mod snapshot;
+mod symbol_spots;
 
 pub use book::Book;
 pub use laws::{

@@ -1,7 +1,5 @@
 //! What the rings know of the book: the meaning of a history, over the venue's symbols.
 ghost use Rattle.std.specs.Prelude.{◌≡◌, ℕ};
-ghost use Rattle.std.specs.List.{list_any};
-ghost use Rattle.std.specs.Str.{bytes_eq};
 ghost use Rattle.venue_model.specs.Spelling.{AreSymbols};
 ghost use Rattle.venue_model.specs.Step.{IsCommand};
 ghost use Rattle.book.specs.Histories.{reads_at};
@@ -78,13 +76,6 @@ impl BookLogic {
         ensures range { IsCommand result }
     {
         decode(bytes, self.cut <= sequence)
-    }
-
-    /// Whether the venue trades the symbol.
-    pub(crate) fn has(&self, symbol: &Symbol) -> bool
-        ensures { result ≡ list_any (bytes_eq symbol.now) self.now.symbols }
-    {
-        self.symbols().iter().any(|known| symbol.is(known))
     }
 }
 

@@ -205,8 +205,10 @@ pub(crate) fn enter(
 {
     match terms {
         TimeInForce::Day => {
-            if orders.none_crossed(incoming) {
-                orders.push(incoming);
+            // (a copy, for speed: the fewer uses an order has, the better the compiler sees what else may change it)
+            let order = *incoming;
+            if orders.none_crossed(&order) {
+                orders.push(&order);
             } else {
                 trade_and_rest(orders, incoming, cause, out, reads);
             }

@@ -19,7 +19,7 @@ use price_levels::Reads;
 use venue_model::{
     Cause, CxlRejReason, CxlRejResponseTo, ExecType, MOST_RESTING, NewOrderSingle, OrdRejReason,
     Order, OrderCancelReject, OrderCancelReplaceRequest, OrderCancelRequest, Output, Report,
-    TimeInForce,
+    Symbol, TimeInForce,
 };
 
 impl Book {
@@ -42,6 +42,13 @@ impl Book {
         self.orders.named(client, name, reads)
     }
 
+    /// Whether the venue trades the symbol.
+    fn trades(&self, symbol: &Symbol) -> bool
+        ensures { result ≡ list_any (bytes_eq symbol.now) self.now.limits.symbols }
+    {
+        self.spots.has(self.logic.symbols(), symbol)
+    }
+
     /// Why a new order is refused: the first reason that holds.
     fn new_refusal(&self, client: u8, order: &NewOrderSingle) -> Option<OrdRejReason>
         requires from { 1 ≤ client }
@@ -50,9 +57,9 @@ impl Book {
     {
         if order.cl_ord_id <= self.greatest_of(client) {
             Some(OrdRejReason::DuplicateOrder)
-        } else if !self.logic.has(&order.symbol) {
+        } else if !self.trades(&order.symbol) {
             Some(OrdRejReason::UnknownSymbol)
-        } else if order.terms().rests() && MOST_RESTING <= self.orders.len() {
+        } else if MOST_RESTING <= self.orders.len() && order.terms().rests() {
             Some(OrdRejReason::BookFull)
         } else {
             None
@@ -105,11 +112,12 @@ impl Book {
         ensures room { vec_capacity out.new ≡ vec_capacity out.old }
         ensures reads { NewReads self.old.limits.symbols self.old.state cause request.now reads.new }
     {
-        let order = entering(cause, request);
         if let Some(reason) = self.new_refusal(cause.gateway, request) {
-            tell(out, cause, ExecType::Rejected { reason }, &order);
+            let exec_type = ExecType::Rejected { reason };
+            tell(out, cause, exec_type, &entering(cause, request));
             return;
         }
+        let order = entering(cause, request);
         self.admit(cause, ExecType::New, &order, request.terms(), out, reads);
     }
 
@@ -175,12 +183,13 @@ impl Book {
             put(out, &cancel_reject(cause, request, named, reason));
             return;
         }
-        let _ = self.take_out(cause.gateway, request.orig_cl_ord_id);
-        self.accept(cause.gateway, request.cl_ord_id);
+        // (told first, from where it is named: its fields needn't be kept while it is taken out)
         let exec_type = ExecType::Canceled {
             orig_cl_ord_id: Some(request.orig_cl_ord_id),
         };
         tell(out, cause, exec_type, &canceled(request, named.unwrap()));
+        let _ = self.take_out(cause.gateway, request.orig_cl_ord_id);
+        self.accept(cause.gateway, request.cl_ord_id);
     }
 
     /// OrderCancelReplaceRequest: it is refused, or the order that it names is amended.
