@@ -313,15 +313,3 @@ pub at-all : {X : Type 0} (P : X → Type 0) (xs : List X) → AllByRecursion P 
 at-all P [] all i d within = absurd (omega arith)
 at-all P (x ∷ xs) all zero d within = all.0
 at-all P (x ∷ xs) all (suc i) d within = at-all P xs all.1 i d (omega arith)
-
--- where the first level isn't before a key, none is
-pub none-before : (k : Key) (levels : List Level) (d : Level) → InOrder levels
-    → key_before (get_or levels 0 d).key k ≡ false →
-    AllByRecursion (λ (m : Level). key_before m.key k ≡ false) levels
-none-before k [] d order not = tt
-none-before k (x ∷ levels) d order not = (
-  not,
-  all-map (λ (m : Level). key_before x.key m.key ≡ true) (λ (m : Level). key_before m.key k ≡ false)
-      (λ m before. false-if (key_before m.key k)
-      (λ h. not-both (key_before x.key k) (key-trans x.key m.key k before h) not)) levels order.0,
-)

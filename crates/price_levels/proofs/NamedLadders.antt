@@ -6,7 +6,8 @@ use Rattle.price_levels.specs.declared.keys.Key.{Key}
 use Rattle.price_levels.specs.declared.nodes.Node.{Node}
 use Rattle.price_levels.specs.declared.ladders.Fence.{Fence}
 use Rattle.price_levels.specs.Keys.{key_of}
-use Rattle.price_levels.specs.Arena.{vacant, node_at, order_at, set_next, set_prev, node_behind, nodes_with, nodes_without}
+use Rattle.price_levels.specs.Arena.{vacant, node_at, order_at, set_next, set_prev, node_behind}
+use Rattle.price_levels.specs.Arena.{nodes_with, nodes_without}
 use Rattle.price_levels.specs.Ladders.{BelongsToHome, NamesLadder, NameLadders}
 use Rattle.price_levels.proofs.LadderCalls.{all-set}
 use Rattle.price_levels.proofs.LadderEnds.{all-alike}
@@ -42,7 +43,8 @@ module _ (fences : List Fence) where
       (prev-named (set_next nodes prev next) next prev (next-named nodes prev next named)) tt
 
   -- the ladder of an order that was read
-  pub its-ladder : (nodes : List Node) (p : ℕ) (n : Node) (o : Order) → NameLadders fences nodes → order_at nodes p ≢ None
+  pub its-ladder : (nodes : List Node) (p : ℕ) (n : Node) (o : Order) → NameLadders fences nodes
+      → order_at nodes p ≢ None
       → n ≡ get_or nodes p n → n.order ≡ Some o → BelongsToHome fences n.ladder o.symbol o.side
   its-ladder nodes p n o named some is o_is =
       subst (λ x. MatchOption x ⊤ (λ (y : Order). BelongsToHome fences n.ladder y.symbol y.side)) o_is

@@ -24,7 +24,8 @@ module _ (k : Key) (levels : List Level) (order : InOrder levels) (at : ℕ) (l 
   all-ahead some within is before = all-take (λ (m : Level). key_before m.key k ≡ true) levels at within (λ i d lt.
       parted (λ j. key_before j k) (λ a b h g. key-trans a b k h g) levels order i (at - 1) d (omega (arith, lt))
       (omega (arith, some, within))
-      (ap (λ (m : Level). key_before m.key k) (get_or_default levels (at - 1) d l (omega (arith, some, within)) ∙ sym is)
+      (ap (λ (m : Level). key_before m.key k) (get_or_default levels (at - 1) d l (omega (arith, some, within))
+          ∙ sym is)
       ∙ before))
 
   -- the level at the place doesn't
@@ -32,8 +33,10 @@ module _ (k : Key) (levels : List Level) (order : InOrder levels) (at : ℕ) (l 
       → AllByRecursion (λ (m : Level). key_before m.key k ≡ false) (drop at levels)
   none-behind within is not = all-drop (λ (m : Level). key_before m.key k ≡ false) levels at (λ i d le lt.
       elim (key_before (get_or levels i d).key k) as (λ t. key_before (get_or levels i d).key k ≡ t → t ≡ false) [
-        | true ↦ λ h. absurd (true≢false (sym (parted (λ j. key_before j k) (λ a b f g. key-trans a b k f g) levels order
-            at i d le lt h) ∙ ap (λ (m : Level). key_before m.key k) (get_or_default levels at d l within ∙ sym is) ∙ not))
+        | true ↦ λ h. absurd (true≢false (sym (parted (λ j. key_before j k) (λ a b f g. key-trans a b k f g) levels
+            order
+            at i d le lt h) ∙ ap (λ (m : Level). key_before m.key k) (get_or_default levels at d l within
+                ∙ sym is) ∙ not))
         | false ↦ λ h. refl
       ] refl)
 

@@ -129,11 +129,11 @@ abbrev pub nodes_with : List Node → Option ℕ → ℕ → Order → ℕ → L
 nodes_with nodes last p o ladder = slice_set (set_next nodes last (Some p)) p (node_behind last o ladder)
 
 -- the nodes when the order at a place is gone
-abbrev pub without : List Node → ℕ → List Node
-without nodes p = slice_set nodes p (record (node_at nodes p) { order = None })
+abbrev pub vacated : List Node → ℕ → List Node
+vacated nodes p = slice_set nodes p (record (node_at nodes p) { order = None })
 
 abbrev pub nodes_without : List Node → ℕ → Option ℕ → Option ℕ → List Node
-nodes_without nodes p prev next = without (set_prev (set_next nodes prev next) next prev) p
+nodes_without nodes p prev next = vacated (set_prev (set_next nodes prev next) next prev) p
 
 -- a level whose outmost order on one side is gone: where there is no neighbour on that side, the other one is outmost now
 abbrev pub outmost : Option ℕ → Option ℕ → ℕ → ℕ

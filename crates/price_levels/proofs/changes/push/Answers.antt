@@ -9,7 +9,8 @@ use Rattle.price_levels.proofs.changes.push.Goals.{After-search_in-holds}
 use Rattle.price_levels.proofs.changes.push.Goals as goal
 
 it : (c : After-search_in-holds) → Comes c.args.nodes.now.items c.pop.new.self.items (all c.args.ladders.now)
-    c.unwrap-place.result (rung_number c.args.ladders.now c.search_in-holds.result.0) c.args.order.now c.search_in-holds.result.1
+    c.unwrap-place.result (rung_number c.args.ladders.now c.search_in-holds.result.0) c.args.order.now
+        c.search_in-holds.result.1
 it c =
     let search = c.search_in-holds.ensures in
     comes c.requires.levels c.pop.ensures.items c.unwrap-place.ensures refl
@@ -21,7 +22,8 @@ level-level-requires c = c.search_in-holds.ensures.on c.if-holds.true
 
 pub seat-requires-clause-last : goal.seat-requires-clause-last
 seat-requires-clause-last c =
-    join-last (it (goal.at.seat-requires-clause-last c).After-search_in-holds) c.ladder_of-ladder.result c.if-holds.true _ c.level-level.ensures
+    join-last (it (goal.at.seat-requires-clause-last c).After-search_in-holds) c.ladder_of-ladder.result
+        c.if-holds.true _ c.level-level.ensures
 
 pub seat-requires-clause-place : goal.seat-requires-clause-place
 seat-requires-clause-place c = (vacant-there (it (goal.at.seat-requires-clause-place c).After-search_in-holds)).0
@@ -32,7 +34,8 @@ seat-requires-else-holds-clause-place c =
 
 pub overflow_add-longer : goal.overflow_add-longer
 overflow_add-longer c =
-    let fits = join-fits (it (goal.at.overflow_add-longer c).After-search_in-holds) c.ladder_of-ladder.result c.if-holds.true _ c.level-level.ensures in
+    let fits = join-fits (it (goal.at.overflow_add-longer c).After-search_in-holds) c.ladder_of-ladder.result
+        c.if-holds.true _ c.level-level.ensures in
     omega (arith, fits, c.leaves.ensures)
 
 pub set-requires-clause-key : goal.set-requires-clause-key
@@ -43,7 +46,8 @@ set-requires-clause-key c =
 
 pub insert-requires-clause-room : goal.insert-requires-clause-room
 insert-requires-clause-room c =
-    let more = open-room (it (goal.at.insert-requires-clause-room c).After-search_in-holds) c.ladder_of-ladder.result c.if-holds.false c.requires.room.0 in
+    let more = open-room (it (goal.at.insert-requires-clause-room c).After-search_in-holds) c.ladder_of-ladder.result
+        c.if-holds.false c.requires.room.0 in
     omega (arith, more, c.requires.room.1)
 
 pub returns-then-holds : goal.returns-then-holds
@@ -51,7 +55,8 @@ returns-then-holds c =
     let it = it (goal.at.returns-then-holds c).After-search_in-holds in
     let l_is = c.level-level.ensures in
     record {
-      levels = join-levels it c.ladder_of-ladder.result c.if-holds.true _ l_is _ _ _ c.seat.ensures c.leaves.ensures c.set.ensures.levels;
+      levels = join-levels it c.ladder_of-ladder.result c.if-holds.true _ l_is _ _ _ c.seat.ensures c.leaves.ensures
+          c.set.ensures.levels;
       named = subst (λ fences. NameLadders fences c.seat.new.nodes.items) (sym c.set.ensures.fences)
           (subst (NameLadders c.args.ladders.now.fences) (sym c.seat.ensures) (with-named c.args.ladders.now.fences
           c.args.nodes.now.items (Some c.level-level.result.last) c.unwrap-place.result c.args.order.now
@@ -66,7 +71,8 @@ returns-else-holds c =
     let it = it (goal.at.returns-else-holds c).After-search_in-holds in
     let nodes_are = c.seat-else-holds.ensures in
     record {
-      levels = open-levels it c.ladder_of-ladder.result c.if-holds.false _ _ _ _ nodes_are c.key_of.ensures c.leaves-else-holds.ensures
+      levels = open-levels it c.ladder_of-ladder.result c.if-holds.false _ _ _ _ nodes_are c.key_of.ensures
+          c.leaves-else-holds.ensures
           c.insert.ensures.levels;
       named = subst (λ fences. NameLadders fences c.seat-else-holds.new.nodes.items) (sym c.insert.ensures.fences)
           (subst (NameLadders c.args.ladders.now.fences) (sym nodes_are) (with-named c.args.ladders.now.fences
