@@ -38,7 +38,7 @@ ABOVE, BELOW = 0.02, 0.04
 SYMBOLS = ["A", "BB", "CCC", "DDDD", "EEEEE", "F6", "G77", "H888"]
 
 # How many instructions each run has.
-COUNTS = {"session": 22_567_000, "one_symbol": 25_676_000, "eight_symbols": 27_623_000}
+COUNTS = {"session": 22_598_000, "one_symbol": 25_448_000, "eight_symbols": 27_536_000}
 
 
 class Run(NamedTuple):
