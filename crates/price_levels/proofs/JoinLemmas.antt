@@ -130,7 +130,7 @@ module _ {nodes : List Node} {free : List ℕ} {levels : List Level} {place at :
         ∙ ap (λ x. insert levels at (record { key = key_of o; first = place; last = place; left = x })) left_is)
         (taken nodes free place it.arena (nodes_with nodes None place o i) o open-seen)
         (come nodes levels (insert levels at alone) it.ordered place o i None alone vacant-there.0 vacant-there.1
-            it.total
+        it.total
         it.later (sym (ap (option_map (λ (m : Level). m.last)) no-level))
         (opened levels at alone it.ordered.in_order it.search.before it.search.behind is_none) refl refl
         (sym (zero-add (leaves o)) ∙ ap (λ x. unwrap_or (option_map (λ (m : Level). m.left) x) 0 + leaves o)

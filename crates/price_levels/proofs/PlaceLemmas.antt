@@ -25,7 +25,7 @@ module _ (k : Key) (levels : List Level) (order : InOrder levels) (at : ℕ) (l 
       parted (λ j. key_before j k) (λ a b h g. key-trans a b k h g) levels order i (at - 1) d (omega (arith, lt))
       (omega (arith, some, within))
       (ap (λ (m : Level). key_before m.key k) (get_or_default levels (at - 1) d l (omega (arith, some, within))
-          ∙ sym is)
+      ∙ sym is)
       ∙ before))
 
   -- the level at the place doesn't
@@ -36,7 +36,7 @@ module _ (k : Key) (levels : List Level) (order : InOrder levels) (at : ℕ) (l 
         | true ↦ λ h. absurd (true≢false (sym (parted (λ j. key_before j k) (λ a b f g. key-trans a b k f g) levels
             order
             at i d le lt h) ∙ ap (λ (m : Level). key_before m.key k) (get_or_default levels at d l within
-                ∙ sym is) ∙ not))
+            ∙ sym is) ∙ not))
         | false ↦ λ h. refl
       ] refl)
 

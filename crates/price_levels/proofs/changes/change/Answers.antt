@@ -31,8 +31,11 @@ set-requires c =
     let old = c.level-level.result in
     let on = on c.requires.levels (it (goal.at.set-requires c).After-search_in-holds) in
     let new = record old { left = c.saturating_sub.result + c.leaves-2.result } in
-    record { on = on; key = same-key c.args.ladders.now c.search_in-holds.result.0 old new on c.level-level.ensures
-        refl }
+    record {
+      on = on;
+      key = same-key c.args.ladders.now c.search_in-holds.result.0 old new on c.level-level.ensures
+          refl;
+    }
 
 pub overflow_add-level : goal.overflow_add-level
 overflow_add-level c =
@@ -60,7 +63,7 @@ returns-clause-levels c =
 pub search_in-holds-requires-clause-belongs : goal.search_in-holds-requires-clause-belongs
 search_in-holds-requires-clause-belongs c =
     its-ladder _ _ _ _ _ c.requires.named (change-stands _ _ c.requires.change) c.index-node.ensures
-        c.unwrap-old.ensures
+    c.unwrap-old.ensures
 
 pub returns-clause-named : goal.returns-clause-named
 returns-clause-named c = subst (λ fences. NameLadders fences (slice_set c.args.nodes.now.items

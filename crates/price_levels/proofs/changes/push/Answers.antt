@@ -10,7 +10,7 @@ use Rattle.price_levels.proofs.changes.push.Goals as goal
 
 it : (c : After-search_in-holds) → Comes c.args.nodes.now.items c.pop.new.self.items (all c.args.ladders.now)
     c.unwrap-place.result (rung_number c.args.ladders.now c.search_in-holds.result.0) c.args.order.now
-        c.search_in-holds.result.1
+    c.search_in-holds.result.1
 it c =
     let search = c.search_in-holds.ensures in
     comes c.requires.levels c.pop.ensures.items c.unwrap-place.ensures refl
@@ -23,7 +23,7 @@ level-level-requires c = c.search_in-holds.ensures.on c.if-holds.true
 pub seat-requires-clause-last : goal.seat-requires-clause-last
 seat-requires-clause-last c =
     join-last (it (goal.at.seat-requires-clause-last c).After-search_in-holds) c.ladder_of-ladder.result
-        c.if-holds.true _ c.level-level.ensures
+    c.if-holds.true _ c.level-level.ensures
 
 pub seat-requires-clause-place : goal.seat-requires-clause-place
 seat-requires-clause-place c = (vacant-there (it (goal.at.seat-requires-clause-place c).After-search_in-holds)).0
@@ -35,7 +35,7 @@ seat-requires-else-holds-clause-place c =
 pub overflow_add-longer : goal.overflow_add-longer
 overflow_add-longer c =
     let fits = join-fits (it (goal.at.overflow_add-longer c).After-search_in-holds) c.ladder_of-ladder.result
-        c.if-holds.true _ c.level-level.ensures in
+    c.if-holds.true _ c.level-level.ensures in
     omega (arith, fits, c.leaves.ensures)
 
 pub set-requires-clause-key : goal.set-requires-clause-key
@@ -47,7 +47,7 @@ set-requires-clause-key c =
 pub insert-requires-clause-room : goal.insert-requires-clause-room
 insert-requires-clause-room c =
     let more = open-room (it (goal.at.insert-requires-clause-room c).After-search_in-holds) c.ladder_of-ladder.result
-        c.if-holds.false c.requires.room.0 in
+    c.if-holds.false c.requires.room.0 in
     omega (arith, more, c.requires.room.1)
 
 pub returns-then-holds : goal.returns-then-holds

@@ -11,4 +11,4 @@ returns-then-is_of c = λ better.
     let l = c.index-levels-at.result in
     all-ahead k c.args.levels.now c.requires.order c.args.at l (omega (arith, c.if-at-eq0.false)) c.requires.within
     c.index-levels-at.is (by-price l.key k (sym c.is_of.ensures ∙ c.if-is_of.true) ∙ sym c.price_before.ensures
-        ∙ better)
+    ∙ better)

@@ -11,7 +11,7 @@ use Rattle.price_levels.proofs.ladders.Ladders.search_in.Goals as goal
 pub index-requires : goal.index-requires
 index-requires c =
     let within = there (key-ladder (key_with c.args.symbol.now c.args.side c.args.price) c.args.ladder
-        c.self.invariant c.self.view_is
+    c.self.invariant c.self.view_is
     c.requires.belongs) in
     omega (arith, within, c.self.inside.ladders.ok.0)
 
@@ -32,7 +32,7 @@ returns c =
     let rung = is-rung its here read at found.within in
     let home = is-home its here read at found.within in
     let it = one-ladder c.self.inside.ladders.items (record { ladder = c.args.ladder; at = at }) c.self.view_is
-        rung.ladder
+    rung.ladder
     here in
     record {
       rung = rung;

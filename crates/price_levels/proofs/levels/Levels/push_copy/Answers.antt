@@ -9,6 +9,9 @@ invariant_of-self c =
     c.push.ensures.places in
     let free = c.push.ensures.capacity.0 in
     let levels = c.push.ensures.capacity.1 in
-    let before = c.self.invariant in
-    (c.push.ensures.levels, omega (arith, long, free, before.1), omega (arith, long, levels, before.2),
-        c.push.ensures.named)
+    let before = c.self.invariant in (
+      c.push.ensures.levels,
+      omega (arith, long, free, before.1),
+      omega (arith, long, levels, before.2),
+      c.push.ensures.named,
+    )

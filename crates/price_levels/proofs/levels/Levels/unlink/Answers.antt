@@ -9,6 +9,9 @@ invariant_of-self c =
     c.take_out.ensures.places in
     let free = c.take_out.ensures.capacity.0 in
     let levels = c.take_out.ensures.capacity.1 in
-    let before = c.self.invariant in
-    (c.take_out.ensures.levels, omega (arith, long, free, before.1), omega (arith, long, levels, before.2),
-        c.take_out.ensures.named)
+    let before = c.self.invariant in (
+      c.take_out.ensures.levels,
+      omega (arith, long, free, before.1),
+      omega (arith, long, levels, before.2),
+      c.take_out.ensures.named,
+    )
