@@ -14,7 +14,7 @@ use Rattle.price_levels.specs.declared.ladders.Fence.{Fence}
 use Rattle.price_levels.specs.Keys.{key_before, before_side, symbol_before, InOrder}
 use Rattle.price_levels.specs.Arena.{of_side}
 use Rattle.price_levels.specs.Ladders.{joined, is_before, BelongsToHome, AreParted}
-use Rattle.price_levels.proofs.KeyLemmas.{Before, before-is, before-means, key-apart, key-trans, symbol-trans}
+use Rattle.price_levels.proofs.KeyLemmas.{Before, before-is, before-means, key-apart, symbol-trans}
 use Rattle.price_levels.proofs.KeyLemmas.{symbol-cases}
 use Rattle.price_levels.proofs.LevelLists.{all-map, all-append, order-back, order-front}
 use Rattle.price_levels.proofs.SearchLemmas.{BeforeSide, side-means, side-is-before, order-at, all-take}
