@@ -1,5 +1,5 @@
-//! What stands in the words of a row: the head of a message in the input ring, the head of a text in the output ring, and
-//! behind either its bytes.
+//! What stands in the words of a row: the head of a message in the input ring, the head of a text in the output ring,
+//! and behind either its bytes.
 ghost use Rattle.std.specs.Prelude.{◌≡◌, ◌+◌, ◌*◌, ◌/◌, ◌<◌, ◌≤◌, length};
 ghost use Rattle.venue_model.specs.History.{Message};
 ghost use Rattle.ring_words.specs.Log.{IsEntry};

@@ -1,5 +1,5 @@
-//! A law of the rule that holds between any two steps, in the words of those who read it: a function that does nothing, whose contract
-//! is the law.
+//! A law of the rule that holds between any two steps, in the words of those who read it: a function that does nothing,
+//! whose contract is the law.
 ghost use Rattle.std.specs.Prelude.{◌≡◌, ℕ, ◌≤◌, length};
 ghost use Rattle.atomic_table.specs.Table.{State};
 ghost use Rattle.ring_words.specs.Meeting.{IsPresent, HasSeenJournalled};
@@ -12,8 +12,8 @@ ghost use Rattle.ring_words.specs.declared.view.View.{View};
 
 use venue_model::Logic;
 
-/// No gateway is ahead of the journal: between any two steps of all threads, what a gateway has seen is a beginning of the
-/// entries that the journaller has handed on. So each message whose reports a gateway may take is journalled.
+/// No gateway is ahead of the journal: between any two steps of all threads, what a gateway has seen is a beginning of
+/// the entries that the journaller has handed on. So each message whose reports a gateway may take is journalled.
 pub fn no_gateway_is_ahead_of_the_journal<L: Logic>()
     ensures { (terms : Terms L) (s : State Boxed (View L)) (p q : Person) (k : ℕ) → Lawful terms s → IsPresent s p
         → IsPresent s q → p.role ≡ Gateway k → q.role ≡ Journal → q.sequence ≤ length q.seen

@@ -32,7 +32,7 @@ pub use seats::reader::{
 };
 pub use setup::Setup;
 pub use steps::{
-    outputs_available, put_output, read_output, release, release_kept, release_marshalled,
-    release_written,
+    copy_output, outputs_available, put_output, read_output, release, release_kept,
+    release_marshalled, release_written,
 };
 pub use view::{Load, Part, Person, Role, Sent, View};

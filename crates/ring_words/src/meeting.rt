@@ -28,8 +28,9 @@ impl<L: Logic, const N: usize, const M: usize, const G: usize> Rings<L, N, M, G>
         self.table.shared.join_seat::<Together>(first, persons);
     }
 
-    /// Two gateways meet: of what they had seen one history begins the other, and afterwards both have seen the longer, which is legal
-    /// for both. The processed word is loaded by both at once; the table's own moves, which join the two seats and split them again, load it too.
+    /// Two gateways meet: of what they had seen one history begins the other, and afterwards both have seen the longer,
+    /// which is legal for both. The processed word is loaded by both at once; the table's own moves, which join the two
+    /// seats and split them again, load it too.
     pub fn meet(&self, one: &mut GatewaySeat<L>, other: &mut GatewaySeat<L>)
         requires one { IsAt self.now one.old }
         requires other { IsAt self.now other.old }
@@ -44,8 +45,8 @@ impl<L: Logic, const N: usize, const M: usize, const G: usize> Rings<L, N, M, G>
         other.processed = Some(found);
     }
 
-    /// A gateway meets the journaller: what it had seen begins what the journaller has released, and afterwards it has seen all of that,
-    /// which is legal for it.
+    /// A gateway meets the journaller: what it had seen begins what the journaller has released, and afterwards it has
+    /// seen all of that, which is legal for it.
     pub fn meet_journal(&self, gateway: &mut GatewaySeat<L>, journal: &mut JournalSeat<L>)
         requires gateway { IsAt self.now gateway.old }
         requires journal { IsAt self.now journal.old }

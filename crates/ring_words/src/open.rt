@@ -211,9 +211,9 @@ impl<L: Logic, const N: usize, const M: usize, const G: usize> Rings<L, N, M, G>
 }
 
 impl<L: Logic + Drop, const N: usize, const M: usize, const G: usize> Rings<L, N, M, G> {
-    /// Rings of `N` and `M` rows for `G` gateways, behind this history, whose number of outputs is given. All input words
-    /// begin at its length, all output words at `given`, and all rows are empty.
-    /// Each row of the output ring has a box in its slot, and processor and marshaller have one each to exchange.
+    /// Rings of `N` and `M` rows for `G` gateways, behind this history, whose number of outputs is given. All input
+    /// words begin at its length, all output words at `given`, and all rows are empty. Each row of the output ring has
+    /// a box in its slot, and processor and marshaller have one each to exchange.
     pub fn open(
         alloc: Global,
         logic: L,

@@ -13,7 +13,8 @@ pub(crate) const CLAIM: usize = 8;
 pub(crate) const UNMARSHALLED: usize = 16;
 /// The journaller's word.
 pub(crate) const JOURNALLED: usize = 24;
-/// The marshaller's word, the first of those that begin at the number of outputs given: the taken words follow, and published.
+/// The marshaller's word, the first of those that begin at the number of outputs given: the taken words follow, and
+/// published.
 pub(crate) const MARSHALLED: usize = 32;
 /// How far apart the taken words are. That of gateway k lies k times so far behind marshalled.
 pub(crate) const TAKEN_STRIDE: usize = 8;

@@ -1,5 +1,5 @@
-//! What the slots of the output ring hold: one box for each row, with an output and its place. The processor puts a full
-//! one in, the marshaller takes it out to copy the output, and brings it back.
+//! What the slots of the output ring hold: one box for each row, with an output and its place. The processor puts a
+//! full one in, the marshaller takes it out to copy the output, and brings it back.
 ghost use Rattle.std.specs.Prelude.{◌≡◌, vec_len, IfOk};
 
 use std::alloc::{AllocError, Global};

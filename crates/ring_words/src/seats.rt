@@ -1,4 +1,5 @@
-//! The seats: one for each gateway and one for each stage. Only `Rings::open` and `open_behind` make them, and each is used by one thread.
+//! The seats: one for each gateway and one for each stage. Only `Rings::open` and `open_behind` make them, and each is
+//! used by one thread.
 pub(crate) mod gateway;
 pub(crate) mod marshaller;
 pub(crate) mod processor;

@@ -1,4 +1,5 @@
-//! The slots of the output ring. Who has taken one out exchanges what it holds for a box of its own, before it brings the slot back.
+//! The slots of the output ring. Who has taken one out exchanges what it holds for a box of its own, before it brings
+//! the slot back.
 ghost use Rattle.std.specs.Prelude.{◌≡◌, ◌%◌, [], ◌∷◌};
 ghost use Rattle.ring_words.specs.Slots.{Boxed};
 

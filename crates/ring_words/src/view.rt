@@ -1,4 +1,5 @@
-//! What those at the table know. No value of these types is ever made: they stand in views, which exist in proofs alone.
+//! What those at the table know. No value of these types is ever made: they stand in views, which exist in proofs
+//! alone.
 use crate::report::PlacedOutput;
 use std::collections::LinkedList;
 use venue_model::Entry;
@@ -29,8 +30,8 @@ pub struct Load {
     pub value: u64,
 }
 
-/// The row under way: its sequence or place, and the words stored so far in it, in order, of the message, the command, the address or the text.
-/// Of the processor the place is always the published word.
+/// The row under way: its sequence or place, and the words stored so far in it, in order, of the message, the command,
+/// the address or the text. Of the processor the place is always the published word.
 pub struct Part {
     pub sequence: u64,
     pub words: LinkedList<u64>,
@@ -41,8 +42,8 @@ pub struct Person {
     pub role: Role,
     /// The entries that it knows to be the log's first.
     pub seen: LinkedList<Entry>,
-    /// The value of the control word that it alone stores: of unmarshaller, journaller and processor the sequence of the next entry, of the marshaller and of a
-    /// gateway the place of the next output. All below it is done.
+    /// The value of the control word that it alone stores: of unmarshaller, journaller and processor the sequence of
+    /// the next entry, of the marshaller and of a gateway the place of the next output. All below it is done.
     pub sequence: u64,
     /// What it published, in order.
     pub mine: LinkedList<Sent>,
@@ -50,7 +51,8 @@ pub struct Person {
     pub claims: LinkedList<u64>,
     /// All its loads, in order.
     pub loads: LinkedList<Load>,
-    /// The row that it has under its hands. `row.sequence` says which row that is; of unmarshaller and marshaller those from `sequence` up to it stand whole.
+    /// The row that it has under its hands. `row.sequence` says which row that is; of unmarshaller and marshaller those
+    /// from `sequence` up to it stand whole.
     pub row: Part,
     /// The report that the processor puts, or that the marshaller took to copy it: the slot of its row is out.
     pub out: Option<PlacedOutput>,

@@ -1,5 +1,5 @@
-//! The four stages of one venue together, whoever lets them work: one thread, which polls them in the order in which a message meets
-//! them, or a thread for each.
+//! The four stages of one venue together, whoever lets them work: one thread, which polls them in the order in which a
+//! message meets them, or a thread for each.
 ghost use Rattle.std.specs.Prelude.{◌≡◌, ◌↔◌, length, vec_len, false, true, IfOk, IfErr};
 ghost use Rattle.ring_words.specs.Crew.{AreGateways, AreNew};
 ghost use Rattle.ring_words.specs.Ending.{AreSpent};
@@ -71,9 +71,9 @@ impl<D: JournalDisk> Model for Crew<D> {
 pub type CrewAndGateways<D> = (Crew<D>, Vec<GatewaySeat<BookLogic>>);
 
 impl<D: JournalDisk> Crew<D> {
-    /// The stages at the seats of rings that were just opened with these limits' logic, the journal of the history that they were opened
-    /// with, and the book of that history, and the gateways' seats. Where memory for the outputs of one command or for the entries of one block is refused, the
-    /// journal is given back.
+    /// The stages at the seats of rings that were just opened with these limits' logic, the journal of the history that
+    /// they were opened with, and the book of that history, and the gateways' seats. Where memory for the outputs of
+    /// one command or for the entries of one block is refused, the journal is given back.
     pub fn new<const N: usize, const M: usize, const G: usize>(
         alloc: Global,
         rings: &Rings<BookLogic, N, M, G>,
@@ -114,8 +114,9 @@ impl<D: JournalDisk> Crew<D> {
         Ok((crew, gateways))
     }
 
-    /// Lets each stage poll once, in the order in which a message meets them, so that what was published is kept, one message processed, and
-    /// one output marshalled. Where the journal failed, what isn't kept isn't processed. Takes no memory.
+    /// Lets each stage poll once, in the order in which a message meets them, so that what was published is kept, one
+    /// message processed, and one output marshalled. Where the journal failed, what isn't kept isn't processed. Takes
+    /// no memory.
     pub fn poll<const N: usize, const M: usize, const G: usize>(
         &mut self,
         rings: &Rings<BookLogic, N, M, G>,

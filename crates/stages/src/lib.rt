@@ -1,5 +1,5 @@
-//! The stages between the gateways, one thread each: a message goes through unmarshaller and journaller, which work side by side, and
-//! then through the processor and its book; their outputs go through the marshaller. No call waits.
+//! The stages between the gateways, one thread each: a message goes through unmarshaller and journaller, which work
+//! side by side, and then through the processor and its book; their outputs go through the marshaller. No call waits.
 #![tactic(auto)]
 
 mod crew;

@@ -7,8 +7,8 @@ pub enum Turn {
     Did(u64),
     /// The words that were read in this call showed nothing new.
     Idle,
-    /// The output ring had no room for some outputs of one command, of the processor alone: they are left, and the next poll goes on with
-    /// them.
+    /// The output ring had no room for some outputs of one command, of the processor alone: they are left, and the next
+    /// poll goes on with them.
     OutFull,
     /// 41: an append failed, of the journaller alone. From then on it is always this, and nothing more is handed on.
     JournalFailed,

@@ -9,8 +9,9 @@ use crate::view::View;
 use atomic_table::Seat;
 use std::marker::Model;
 
-/// A gateway's place at the table. It holds the gateway's number, how many outputs it took, and the processed value that it loaded last, if any: the
-/// processed word only rises, so a claim that this value leaves room for needs no look at the word.
+/// A gateway's place at the table. It holds the gateway's number, how many outputs it took, and the processed value
+/// that it loaded last, if any: the processed word only rises, so a claim that this value leaves room for needs no look
+/// at the word.
 #[derive(Drop)]
 pub struct GatewaySeat<L> {
     pub(crate) seat: Seat<Slot, View<L>>,
@@ -47,7 +48,8 @@ impl<L> GatewaySeat<L> {
         self.number
     }
 
-    /// The processed value that the gateway loaded last: so many sequences were processed by then, and by now maybe more. None where none was loaded.
+    /// The processed value that the gateway loaded last: so many sequences were processed by then, and by now maybe
+    /// more. None where none was loaded.
     pub fn processed(&self) -> Option<u64>
         ensures value { result ≡ last_load processed_word None self.now.who.loads }
     {

@@ -8,8 +8,8 @@ use crate::view::View;
 use atomic_table::Seat;
 use std::marker::Model;
 
-/// The marshaller's place at the table. It holds its own word, and a spare box, which lies in a row while the output there is
-/// copied.
+/// The marshaller's place at the table. It holds its own word, and a spare box, which lies in a row while the output
+/// there is copied.
 #[derive(Drop)]
 pub struct MarshalSeat<L> {
     pub(crate) seat: Seat<Slot, View<L>>,

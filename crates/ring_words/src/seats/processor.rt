@@ -10,9 +10,10 @@ use atomic_table::Seat;
 use std::marker::Model;
 use venue_model::MOST_GATEWAYS;
 
-/// The processor's place at the table. It holds the length of the history that it knows, its own word, the unmarshalled value that it loaded
-/// last, how many outputs are published, of each gateway the taken value that it loaded last, if any, and a spare box for the next output. The taken
-/// words only rise, so outputs that these values leave room for need no look at the words.
+/// The processor's place at the table. It holds the length of the history that it knows, its own word, the unmarshalled
+/// value that it loaded last, how many outputs are published, of each gateway the taken value that it loaded last, if
+/// any, and a spare box for the next output. The taken words only rise, so outputs that these values leave room for
+/// need no look at the words.
 #[derive(Drop)]
 pub struct ProcessSeat<L> {
     pub(crate) seat: Seat<Slot, View<L>>,
@@ -71,8 +72,8 @@ impl<L> ProcessSeat<L> {
         self.published
     }
 
-    /// The value of this gateway's taken word that the processor loaded last: so many outputs were taken by then, and by now maybe more. None where none
-    /// was loaded.
+    /// The value of this gateway's taken word that the processor loaded last: so many outputs were taken by then, and
+    /// by now maybe more. None where none was loaded.
     pub fn taken(&self, gateway: u64) -> Option<u64>
         requires gateway { (1 ≤ gateway) × (gateway ≤ 8) }
         ensures value { result ≡ last_load (taken_word gateway) None self.now.who.loads }

@@ -43,8 +43,8 @@ impl Reader for Journalling {
     ghost reads = { inr refl };
 }
 
-/// The place at the table of a stage that reads what gateways published. It holds the length of the history that it knows, and its
-/// own word.
+/// The place at the table of a stage that reads what gateways published. It holds the length of the history that it
+/// knows, and its own word.
 #[derive(Drop)]
 pub struct ReaderSeat<L, R: Reader> {
     pub(crate) seat: Seat<Slot, View<L>>,

@@ -1,5 +1,6 @@
-//! The single steps of a gateway, each a load, a store or a compare-exchange of one word: it claims sequences and publishes messages at the input
-//! ring, and at the output ring it reads every output's address, and the text of those that go to its client.
+//! The single steps of a gateway, each a load, a store or a compare-exchange of one word: it claims sequences and
+//! publishes messages at the input ring, and at the output ring it reads every output's address, and the text of those
+//! that go to its client.
 ghost use Rattle.std.specs.Prelude.{◌≡◌, ◌≢◌, suc, ◌<◌, ◌≤◌, ◌^◌, ◌+◌, length};
 ghost use Rattle.venue_model.specs.History.{Message};
 ghost use Rattle.ring_words.specs.Places.{claim, processed, marshalled, out_row};
@@ -58,8 +59,8 @@ impl<L: Logic, const N: usize, const M: usize, const G: usize> Rings<L, N, M, G>
             .compare_exchange::<ClaimNext>(&mut seat.seat, CLAIM, from, from + 1)
     }
 
-    /// Stores a word of the message in the row of a sequence that the gateway claimed: the first one, or one behind or among
-    /// those stored so far.
+    /// Stores a word of the message in the row of a sequence that the gateway claimed: the first one, or one behind or
+    /// among those stored so far.
     pub fn store_raw(&self, seat: &mut GatewaySeat<L>, sequence: u64, word: usize, value: u64)
         requires at { IsAt self.now seat.old }
         requires claimed { 0 < times_in sequence seat.old.who.claims }
@@ -88,8 +89,8 @@ impl<L: Logic, const N: usize, const M: usize, const G: usize> Rings<L, N, M, G>
             .store::<StoreAvailability>(&mut seat.seat, place, sequence + 1);
     }
 
-    /// Loads marshalled. Where it lies above the gateway's own word there is an output at that place, and the gateway knows a history that
-    /// has it and is legal: it has the gateway's messages exactly where these were published.
+    /// Loads marshalled. Where it lies above the gateway's own word there is an output at that place, and the gateway
+    /// knows a history that has it and is legal: it has the gateway's messages exactly where these were published.
     pub fn load_marshalled(&self, seat: &mut GatewaySeat<L>) -> u64
         requires at { IsAt self.now seat.old }
         ensures own { seat.old.who.sequence ≤ result }
@@ -101,7 +102,8 @@ impl<L: Logic, const N: usize, const M: usize, const G: usize> Rings<L, N, M, G>
             .load::<SeeMarshalled>(&mut seat.seat, MARSHALLED)
     }
 
-    /// Loads the address of an output that is marshalled and that the gateway hasn't taken: the gateway that it goes to.
+    /// Loads the address of an output that is marshalled and that the gateway hasn't taken: the gateway that it goes
+    /// to.
     pub fn load_address(&self, seat: &mut GatewaySeat<L>, place: u64) -> u64
         requires at { IsAt self.now seat.old }
         requires from { seat.old.who.sequence ≤ place }

@@ -9,8 +9,8 @@ use crate::rings::Rings;
 use crate::seats::reader::JournalSeat;
 use venue_model::{Kept, Logic};
 
-/// Hands all sequences below `upto` on to the processor, as far as the journaller is concerned: what a crash now may leave begins with
-/// their entries.
+/// Hands all sequences below `upto` on to the processor, as far as the journaller is concerned: what a crash now may
+/// leave begins with their entries.
 pub fn release_kept<L: Logic, const N: usize, const M: usize, const G: usize, K: Kept>(
     rings: &Rings<L, N, M, G>,
     seat: &mut JournalSeat<L>,

@@ -14,8 +14,9 @@ use crate::seats::marshaller::MarshalSeat;
 use venue_model::{Logic, Output};
 
 impl<L: Logic, const N: usize, const M: usize, const G: usize> Rings<L, N, M, G> {
-    /// Stores a word of the text of an output that is published and not released: the first one, or one behind or among those stored
-    /// so far. Of a row behind the one under way that is the first one, when that row's text is written whole.
+    /// Stores a word of the text of an output that is published and not released: the first one, or one behind or among
+    /// those stored so far. Of a row behind the one under way that is the first one, when that row's text is written
+    /// whole.
     pub fn store_text(&self, seat: &mut MarshalSeat<L>, place: u64, word: usize, value: u64)
         requires at { IsAt self.now seat.old }
         requires from { seat.old.who.sequence ≤ place }
@@ -32,8 +33,8 @@ impl<L: Logic, const N: usize, const M: usize, const G: usize> Rings<L, N, M, G>
     }
 }
 
-/// How many outputs are published: the marshaller may read those from its own word on. Loads published; the marshaller then knows a history that has
-/// so many outputs.
+/// How many outputs are published: the marshaller may read those from its own word on. Loads published; the marshaller
+/// then knows a history that has so many outputs.
 pub fn outputs_available<L: Logic, const N: usize, const M: usize, const G: usize>(
     rings: &Rings<L, N, M, G>,
     seat: &mut MarshalSeat<L>,
@@ -47,8 +48,9 @@ pub fn outputs_available<L: Logic, const N: usize, const M: usize, const G: usiz
         .load::<SeePublished>(&mut seat.seat, PUBLISHED)
 }
 
-/// Reads an output that is published and that the marshaller hasn't released. It is copied once, to the place that is lent.
-pub fn read_output<L: Logic, const N: usize, const M: usize, const G: usize>(
+/// Copies an output that is published and that the marshaller hasn't released to the place that is lent: `read_output`,
+/// for who has a place where it stays.
+pub fn copy_output<L: Logic, const N: usize, const M: usize, const G: usize>(
     rings: &Rings<L, N, M, G>,
     seat: &mut MarshalSeat<L>,
     place: u64,
@@ -69,7 +71,24 @@ pub fn read_output<L: Logic, const N: usize, const M: usize, const G: usize>(
     shared.load::<GiveReport<N, M>>(&mut seat.seat, word);
 }
 
-/// Hands all outputs below `upto` on to the gateways, when their texts are written: the last of them is that of the row under way.
+/// Reads an output that is published and that the marshaller hasn't released, and gives it back.
+pub fn read_output<L: Logic, const N: usize, const M: usize, const G: usize>(
+    rings: &Rings<L, N, M, G>,
+    seat: &mut MarshalSeat<L>,
+    place: u64,
+) -> Output
+    requires at { IsAt rings.now seat.old }
+    requires from { seat.old.who.sequence ≤ place }
+    requires to { Shows published seat.old.who place }
+    ensures copied { FindsCopy (L.outputs rings.now.logic seat.old.who.seen) seat.old (out_row N M place 0) place result seat.new }
+{
+    let mut output = seat.spare.output;
+    copy_output(rings, seat, place, &mut output);
+    output
+}
+
+/// Hands all outputs below `upto` on to the gateways, when their texts are written: the last of them is that of the row
+/// under way.
 pub fn release_marshalled<L: Logic, const N: usize, const M: usize, const G: usize>(
     rings: &Rings<L, N, M, G>,
     seat: &mut MarshalSeat<L>,

@@ -1,4 +1,5 @@
-//! The single steps of the processor: it stands behind unmarshaller and journaller, and puts outputs into rows that every gateway has passed.
+//! The single steps of the processor: it stands behind unmarshaller and journaller, and puts outputs into rows that
+//! every gateway has passed.
 ghost use Rattle.std.specs.Prelude.{◌≡◌, suc, ◌<◌, ◌≤◌, ◌+◌, length, take};
 ghost use mathlib.Core.Option.{some};
 ghost use lib.ListN.{get_elem?};
@@ -40,7 +41,8 @@ impl<L: Logic, const N: usize, const M: usize, const G: usize> Rings<L, N, M, G>
         found
     }
 
-    /// Loads the journaller's word: the processor then knows all entries below it and below the unmarshalled value that it loaded last.
+    /// Loads the journaller's word: the processor then knows all entries below it and below the unmarshalled value that
+    /// it loaded last.
     pub fn load_journalled(&self, seat: &mut ProcessSeat<L>) -> u64
         requires at { IsAt self.now seat.old }
         ensures found { FindsJournalled seat.old result seat.new }
@@ -87,8 +89,9 @@ impl<L: Logic, const N: usize, const M: usize, const G: usize> Rings<L, N, M, G>
     }
 }
 
-/// Gives the rows of all sequences below `upto` back to the gateways (Disruptor paper, "Sequencing": the sequence by which
-/// a consumer says how far it is), when all their outputs are published. From then on the seat reads none of them.
+/// Gives the rows of all sequences below `upto` back to the gateways (Disruptor paper, "Sequencing": the sequence by
+/// which a consumer says how far it is), when all their outputs are published. From then on the seat reads none of
+/// them.
 pub fn release<L: Logic, const N: usize, const M: usize, const G: usize>(
     rings: &Rings<L, N, M, G>,
     seat: &mut ProcessSeat<L>,
@@ -107,8 +110,8 @@ pub fn release<L: Logic, const N: usize, const M: usize, const G: usize>(
     seat.sequence = upto;
 }
 
-/// Puts the next output whole into the row of its place, and then raises published by one. It is the output at that place of the entries
-/// that the processor has processed and of the next one, which it saw journalled.
+/// Puts the next output whole into the row of its place, and then raises published by one. It is the output at that
+/// place of the entries that the processor has processed and of the next one, which it saw journalled.
 pub fn put_output<L: Logic, const N: usize, const M: usize, const G: usize>(
     rings: &Rings<L, N, M, G>,
     seat: &mut ProcessSeat<L>,

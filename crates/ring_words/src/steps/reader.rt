@@ -1,4 +1,5 @@
-//! The single steps that unmarshaller and journaller have in common: each reads what gateways published, side by side with the other.
+//! The single steps that unmarshaller and journaller have in common: each reads what gateways published, side by side
+//! with the other.
 ghost use Rattle.std.specs.Prelude.{◌≡◌, ◌<◌, ◌≤◌, ◌+◌, IsTrue, IsFalse};
 ghost use mathlib.Core.Option.{some};
 ghost use lib.ListN.{get_elem?};
@@ -16,8 +17,8 @@ use crate::seats::reader::{Reader, ReaderSeat};
 use venue_model::Logic;
 
 impl<L: Logic, const N: usize, const M: usize, const G: usize> Rings<L, N, M, G> {
-    /// Loads the availability word of the next sequence that the seat doesn't know. True where it was published: then the
-    /// seat knows its entry.
+    /// Loads the availability word of the next sequence that the seat doesn't know. True where it was published: then
+    /// the seat knows its entry.
     pub fn load_availability<R: Reader>(&self, seat: &mut ReaderSeat<L, R>) -> bool
         requires at { IsAt self.now seat.old }
         ensures fresh { IsTrue result → FindsEntry N seat.old seat.new }
@@ -35,7 +36,8 @@ impl<L: Logic, const N: usize, const M: usize, const G: usize> Rings<L, N, M, G>
         fresh
     }
 
-    /// Loads a raw word of an entry that the stage knows and hasn't released: word 0 has gateway and length, the bytes follow.
+    /// Loads a raw word of an entry that the stage knows and hasn't released: word 0 has gateway and length, the bytes
+    /// follow.
     pub fn load_raw<R: Reader>(
         &self,
         seat: &mut ReaderSeat<L, R>,

@@ -12,8 +12,9 @@ use crate::seats::reader::UnmarshalSeat;
 use venue_model::Logic;
 
 impl<L: Logic, const N: usize, const M: usize, const G: usize> Rings<L, N, M, G> {
-    /// Stores a word of the command of an entry that the unmarshaller knows and hasn't released: the first one, or one behind or among
-    /// those stored so far. Of a row behind the one under way that is the first one, when that row's command is written whole.
+    /// Stores a word of the command of an entry that the unmarshaller knows and hasn't released: the first one, or one
+    /// behind or among those stored so far. Of a row behind the one under way that is the first one, when that row's
+    /// command is written whole.
     pub fn store_command(&self, seat: &mut UnmarshalSeat<L>, sequence: u64, word: usize, value: u64)
         requires at { IsAt self.now seat.old }
         requires from { seat.old.who.sequence ≤ sequence }
@@ -30,8 +31,8 @@ impl<L: Logic, const N: usize, const M: usize, const G: usize> Rings<L, N, M, G>
     }
 }
 
-/// Hands all sequences below `upto` on to the processor, as far as the unmarshaller is concerned, when their commands are written: the last of
-/// them is the row under way.
+/// Hands all sequences below `upto` on to the processor, as far as the unmarshaller is concerned, when their commands
+/// are written: the last of them is the row under way.
 pub fn release_written<L: Logic, const N: usize, const M: usize, const G: usize>(
     rings: &Rings<L, N, M, G>,
     seat: &mut UnmarshalSeat<L>,

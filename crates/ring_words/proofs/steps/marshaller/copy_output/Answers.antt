@@ -9,7 +9,7 @@ use Rattle.ring_words.specs.At.{At, seated}
 use Rattle.ring_words.specs.Steps.{Seated}
 use Rattle.ring_words.proofs.Becomes.{steps}
 use Rattle.ring_words.proofs.Marshalling.{loads_taking_in, loads_giving_back, exchanged_twice, copied_output, copied}
-use Rattle.ring_words.proofs.steps.marshaller.read_output.Goals as goal
+use Rattle.ring_words.proofs.steps.marshaller.copy_output.Goals as goal
 
 pub load-requires : goal.load-requires
 load-requires g c = let key = c.rings.inside.table.shared.key in
