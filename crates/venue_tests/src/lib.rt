@@ -1,5 +1,5 @@
-//! Tests of the whole listening venue, threads included: members whose clients come in at ports in memory, over a disk
-//! in memory, without a socket. This crate holds nothing else.
+//! Tests of the whole venue, threads included: clients come in at ports or over a wire in memory, over a disk in
+//! memory, without a socket. This crate holds nothing else.
 #![tactic(auto)]
 
 #[cfg(test)]

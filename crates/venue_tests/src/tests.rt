@@ -2,7 +2,9 @@
 //! the day behind one of those.
 
 mod clients;
+mod failing_sync;
 mod judging;
+mod meeting;
 mod messages;
 mod slow_disk;
 mod trading_days;

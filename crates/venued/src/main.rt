@@ -7,8 +7,6 @@ ghost use Rattle.std.specs.IoError.{error_kind};
 
 mod ports;
 mod running;
-#[cfg(test)]
-mod tests;
 mod words;
 
 use crate::ports::local_ports;

@@ -52,8 +52,9 @@ pub fn run<P: Folder, W: Wire, E: Write>(
     }
 }
 
-/// Opens the file of the journal, or makes it, and listens over it for `G` members at these ports: the program's status, the disk if the
-/// file could be opened, and the ports. The status is that of `listen`, or 1, with the fault's line, where the file couldn't be opened.
+/// Opens the file of the journal, or makes it, and listens over it for `G` members at these ports: the program's
+/// status, the disk if the file could be opened, and the ports. The status is that of `listen`, or 1, with the fault's
+/// line, where the file couldn't be opened.
 pub fn run_listening<
     R: Threads + Clock + Parks + AllocGlobal + Sync,
     Q: Gate + Sync,

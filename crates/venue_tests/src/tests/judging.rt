@@ -109,9 +109,9 @@ impl Ledger {
         false
     }
 
-    /// How many outputs of the day the member's clients were told, one client behind the other. Each was told its Logon,
-    /// then one output to the member behind the other, and maybe its Logout, and nothing else. Before a client's first
-    /// one there may be some that nobody was told, and behind its last.
+    /// How many outputs of the day the member's clients were told, one client behind the other. Each was told its
+    /// Logon, then one output to the member behind the other, and maybe its Logout, and nothing else. Before a client's
+    /// first one there may be some that nobody was told, and behind its last.
     pub fn told(&self, member: u8, wires: &[MemWire]) -> Result<usize, Fail> {
         let mut all = Given {
             count: 0,

@@ -182,7 +182,8 @@ impl Usher {
         }
     }
 
-    /// The journaller has had its turn. What it has handed on is told, before all are to end where its journal has failed.
+    /// The journaller has had its turn. What it has handed on is told, before all are to end where its journal has
+    /// failed.
     fn linger(&self) {
         self.ended.fetch_add(1, Ordering::SeqCst);
         for _ in 0..LINGERING {

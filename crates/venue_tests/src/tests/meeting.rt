@@ -1,17 +1,16 @@
-//! A venue of two members: each of its six workers has a thread of its own, so that all of them are at their first turns together.
+//! A venue of two members: each of its six workers has a thread of its own, so that all of them are at their first
+//! turns together.
 
-mod failing_sync;
-
-use gateway::{MemPort, MemWire};
-use journal::{MemDisk, format};
-use std::alloc::Global;
+use super::fresh;
+use super::trading_days::limits;
+use disks::MemDisk;
 use std::rt::Clock;
 use std::sync::atomic::{AtomicBool, Ordering};
 use std::test::Fail;
 use std::thread;
 use std::thread::Threads;
 use venue::{StopSign, listen};
-use venue_model::Limits;
+use wires::{MemPort, MemWire};
 use workers::{Gate, Parks, Station};
 
 /// How often a worker lets others run before it gives up waiting for them.
@@ -97,40 +96,20 @@ impl StopSign for WhenMet<'_> {
     }
 }
 
-/// A venue's limits, with the one symbol ABC.
-fn limits(alloc: Global) -> Result<Limits, Fail> {
-    let words = [String::from_str(alloc, "ABC")?];
-    match Limits::new(alloc, &words) {
-        Ok(limits) => Ok(limits),
-        Err(_) => Err(Fail::from("no symbols")),
-    }
-}
-
 /// The venue's status behind the meeting, and what it printed, at two ports at which nobody comes.
 fn serve_two<R: Threads + Clock + Parks + AllocGlobal + Sync>(
     rt: &R,
     meeting: &Meeting,
 ) -> Result<(u8, Vec<u8>), Fail> {
     let alloc = rt.alloc();
-    let mut disk = MemDisk::new(alloc, b"")?;
-    format(&mut disk, 1)?;
+    let disk = fresh(alloc)?;
     let (mut out, mut err) = (Vec::new(alloc), Vec::new(alloc));
     let mut sign = WhenMet(meeting);
     let mut ports = Vec::with_capacity(alloc, 2)?;
     ports.push(Box::new(alloc, MemPort::new(alloc, 1, Vec::new(alloc))?)?)?;
     ports.push(Box::new(alloc, MemPort::new(alloc, 2, Vec::new(alloc))?)?)?;
     let limits = limits(alloc)?;
-    let (status, _, _) = listen::<
-        R,
-        Meeting,
-        MemDisk,
-        MemWire,
-        MemPort,
-        WhenMet<'_>,
-        Vec<u8>,
-        Vec<u8>,
-        2,
-    >(
+    let (status, _, _) = listen::<_, _, MemDisk, MemWire, _, _, _, _, 2>(
         rt, meeting, limits, ports, disk, &mut sign, &mut out, &mut err,
     );
     Ok((status, out))

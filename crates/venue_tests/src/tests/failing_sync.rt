@@ -1,11 +1,11 @@
-//! A session over standard streams whose first order can't be brought to the disk.
+//! A session over a wire in memory whose first order can't be brought to the disk.
 
-use crate::tests::limits;
-use gateway::MemWire;
-use journal::{Call, MemDisk, entries, format};
-use std::alloc::Global;
+use super::trading_days::limits;
+use super::{OPENING, fresh};
+use disks::Call;
 use std::test::Fail;
 use venue::serve;
+use wires::MemWire;
 
 /// A Logon and an order to buy 100 at 50.
 const INPUT: &[u8] =
@@ -17,20 +17,10 @@ const INPUT: &[u8] =
 const LOGON_IS_TOLD: &[u8] =
     b"8=FIX.4.4\x019=63\x0135=A\x0149=VENUE\x0156=C1\x0134=1\x0152=20250102-09:30:00\x0198=0\x01108=0\x01141=Y\x0110=026\x01";
 
-/// A disk with an empty journal, and how many calls it takes to open that.
-fn empty_journal(alloc: Global) -> Result<(MemDisk, usize), Fail> {
-    let mut disk = MemDisk::new(alloc, b"")?;
-    format(&mut disk, 1)?;
-    let formatted = disk.calls().len();
-    entries(alloc, &mut disk)?;
-    let opening = disk.calls().len().wrapping_sub(formatted);
-    Ok((disk, opening))
-}
-
 #[test]
 fn first_sync_fails(rt: HostRuntime) -> Result<(), Fail> {
-    let (mut disk, opening) = empty_journal(rt.alloc())?;
-    disk.fail_at(opening.wrapping_add(2) as u64, 0);
+    let mut disk = fresh(rt.alloc())?;
+    disk.fail_at(OPENING + 2, 0);
     let mut wire = MemWire::new(rt.alloc(), INPUT)?;
     let mut err = Vec::new(rt.alloc());
     let (status, disk) = serve(rt.alloc(), limits(rt.alloc())?, disk, &mut wire, &mut err);
