@@ -6,8 +6,9 @@ ghost use Rattle.barrier.specs.Availability.{Shown, BehindBoth};
 use ring_words::{ProcessSeat, Reader, ReaderSeat, Rings};
 use venue_model::Logic;
 
-/// How many entries the seat of unmarshaller or journaller knows: it may read those from its own word on. Loads the availability words of the next sequences, up to the
-/// first that isn't published yet or until a whole ring is known (Disruptor paper, "Sequencing" and "Batching Effect").
+/// How many entries the seat of unmarshaller or journaller knows: it may read those from its own word on. Loads the
+/// availability words of the next sequences, up to the first that isn't published yet or until a whole ring is known
+/// (Disruptor paper, "Sequencing" and "Batching Effect").
 pub fn available<L: Logic, R: Reader, const N: usize, const M: usize, const G: usize>(
     rings: &Rings<L, N, M, G>,
     seat: &mut ReaderSeat<L, R>,
@@ -26,8 +27,8 @@ pub fn available<L: Logic, R: Reader, const N: usize, const M: usize, const G: u
     seat.known()
 }
 
-/// How many entries the processor knows: it may read the commands of those from its own word on. Loads the unmarshaller's word, then the journaller's, and answers
-/// the lesser.
+/// How many entries the processor knows: it may read the commands of those from its own word on. Loads the
+/// unmarshaller's word, then the journaller's, and answers the lesser.
 pub fn commands_available<L: Logic, const N: usize, const M: usize, const G: usize>(
     rings: &Rings<L, N, M, G>,
     seat: &mut ProcessSeat<L>,

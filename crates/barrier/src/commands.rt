@@ -15,8 +15,9 @@ use command_words::{COMMAND_WORDS, pack, unpack, words_of};
 use ring_words::{ProcessSeat, Rings, UnmarshalSeat};
 use venue_model::{Command, Logic};
 
-/// Writes the command of an entry that the unmarshaller knows and hasn't released, with the number of the entry's gateway, into the
-/// entry's row. Rows are written in order: the first that isn't released, the one under way again, or when that is written whole the next one.
+/// Writes the command of an entry that the unmarshaller knows and hasn't released, with the number of the entry's
+/// gateway, into the entry's row. Rows are written in order: the first that isn't released, the one under way again, or
+/// when that is written whole the next one.
 pub fn write_command<L: Logic, const N: usize, const M: usize, const G: usize>(
     rings: &Rings<L, N, M, G>,
     seat: &mut UnmarshalSeat<L>,

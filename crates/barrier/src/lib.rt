@@ -1,5 +1,5 @@
-//! The barriers of both rings: how a stage reads entries or outputs behind its barrier and releases their rows, and how a gateway takes outputs.
-//! A message goes through here from a ring to who reads it, after it was published.
+//! The barriers of both rings: how a stage reads entries or outputs behind its barrier and releases their rows, and how
+//! a gateway takes outputs. A message goes through here from a ring to who reads it, after it was published.
 #![tactic(auto)]
 
 mod availability;
@@ -13,6 +13,7 @@ pub use commands::{read_command, write_command};
 pub use outputs::write_text;
 pub use reading::read_raw;
 pub use ring_words::{
-    outputs_available, read_output, release, release_kept, release_marshalled, release_written,
+    copy_output, outputs_available, read_output, release, release_kept, release_marshalled,
+    release_written,
 };
 pub use taking::{Head, Take, take_output};

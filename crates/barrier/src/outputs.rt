@@ -9,8 +9,9 @@ ghost use Rattle.ring_words.specs.Steps.{Shows, MayWriteText};
 use ring_words::{MarshalSeat, Rings, TextHead, whole_word_at, word_at};
 use venue_model::{Logic, OutputType};
 
-/// Writes the text of an output that is published and not released into its row: MsgType, SendingTime and the body, at most 320 bytes. Rows are
-/// written in order: the first that isn't released, the one under way again, or when that is written whole the next one.
+/// Writes the text of an output that is published and not released into its row: MsgType, SendingTime and the body, at
+/// most 320 bytes. Rows are written in order: the first that isn't released, the one under way again, or when that is
+/// written whole the next one.
 pub fn write_text<L: Logic, const N: usize, const M: usize, const G: usize>(
     rings: &Rings<L, N, M, G>,
     seat: &mut MarshalSeat<L>,

@@ -25,8 +25,8 @@ fn read_head<L: Logic, R: Reader, const N: usize, const M: usize, const G: usize
     Raw::from_word(rings.load_raw(seat, sequence, 0))
 }
 
-/// Reads the message of a sequence that the seat knows and hasn't released into the front of the buffer, and answers whose it is and how
-/// long. What stands behind the message is unspecified.
+/// Reads the message of a sequence that the seat knows and hasn't released into the front of the buffer, and answers
+/// whose it is and how long. What stands behind the message is unspecified.
 pub fn read_raw<L: Logic, R: Reader, const N: usize, const M: usize, const G: usize>(
     rings: &Rings<L, N, M, G>,
     seat: &mut ReaderSeat<L, R>,

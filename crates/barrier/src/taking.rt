@@ -13,8 +13,8 @@ ghost use Rattle.barrier.specs.Taking.{OnlyLoads, IsTextHead, Carries, TakesNext
 use ring_words::{GatewaySeat, Rings, TextHead};
 use venue_model::{LONGEST_MESSAGE, Logic, OutputType};
 
-/// What stands in front of an output's body: MsgType (35), SendingTime (52) as the number of its 14 digits, and how many bytes the body
-/// has, at most 320.
+/// What stands in front of an output's body: MsgType (35), SendingTime (52) as the number of its 14 digits, and how
+/// many bytes the body has, at most 320.
 #[derive(Clone, Copy, Debug, PartialEq, Eq)]
 pub struct Head {
     pub msg_type: OutputType,
@@ -56,8 +56,8 @@ fn read_head<L: Logic, const N: usize, const M: usize, const G: usize>(
     }
 }
 
-/// Reads the text of an output that is marshalled and that the gateway hasn't taken: its body into the front of the buffer. What stands
-/// behind the body is unspecified.
+/// Reads the text of an output that is marshalled and that the gateway hasn't taken: its body into the front of the
+/// buffer. What stands behind the body is unspecified.
 fn read_text<L: Logic, const N: usize, const M: usize, const G: usize>(
     rings: &Rings<L, N, M, G>,
     seat: &mut GatewaySeat<L>,
@@ -81,8 +81,8 @@ fn read_text<L: Logic, const N: usize, const M: usize, const G: usize>(
 
 /// Takes the next output: the one at the place that the gateway's count says. The count then rises by one. It is an
 /// output of one history. That history is legal for this gateway, it begins with what the gateway had seen, and the
-/// gateway has seen it afterwards. Where the marshalled word shows no output, the load of that word is all that is done.
-/// Behind the body the buffer's bytes are unspecified. Takes no memory and never waits.
+/// gateway has seen it afterwards. Where the marshalled word shows no output, the load of that word is all that is
+/// done. Behind the body the buffer's bytes are unspecified. Takes no memory and never waits.
 pub fn take_output<L: Logic, const N: usize, const M: usize, const G: usize>(
     rings: &Rings<L, N, M, G>,
     seat: &mut GatewaySeat<L>,

@@ -118,8 +118,8 @@ fn choose_by(
     Ok(outputs)
 }
 
-/// Lets a new book do the chosen commands. It answers how many outputs those had that fill the book, how many the others
-/// had, and how long these took.
+/// Lets a new book do the chosen commands. It answers how many outputs those had that fill the book, how many the
+/// others had, and how long these took.
 fn time<R: Clock + AllocGlobal>(
     rt: &R,
     resting: u32,

@@ -1,4 +1,5 @@
-//! Measures a part of the venue by itself: FIX read and written, the book, the way through the rings and stages, or blocks kept.
+//! Measures a part of the venue by itself: FIX read and written, the book, the way through the rings and stages, or
+//! blocks kept.
 #![tactic(auto)]
 
 ghost use Rattle.std.specs.Prelude.{◌≤◌, IfOk};

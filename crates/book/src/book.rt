@@ -21,7 +21,8 @@ use std::marker::Model;
 use venue_model::{Cause, Command, Limits, MOST_GATEWAYS, Malformed, Order, Output, Report};
 
 /// The resting orders, each client's greatest accepted ClOrdID, and how many resting orders the last command read.
-/// Contracts see the venue's limits, the state, in which the orders stand in the order of their stamps, and that number.
+/// Contracts see the venue's limits, the state, in which the orders stand in the order of their stamps, and that
+/// number.
 #[derive(Drop)]
 pub struct Book {
     pub(crate) logic: BookLogic,
@@ -53,7 +54,8 @@ impl Book {
         Book::of(alloc, BookLogic::of(limits))
     }
 
-    /// The empty book of a venue with this logic: with its symbols. From which entry on market orders are read is no matter to a book.
+    /// The empty book of a venue with this logic: with its symbols. From which entry on market orders are read is no
+    /// matter to a book.
     pub fn of(alloc: Global, logic: BookLogic) -> Result<Book, AllocError>
         ensures { IfOk result (λ b. b ≡ record { limits = logic; state = empty; reads = 0 }) }
     {
@@ -90,16 +92,16 @@ impl Book {
         self.orders.len()
     }
 
-    /// How many resting orders the last command read, of those that it matched or named. Prices and sums that the levels
-    /// keep aren't counted.
+    /// How many resting orders the last command read, of those that it matched or named. Prices and sums that the
+    /// levels keep aren't counted.
     pub fn reads(&self) -> u64
         ensures { result ≡ self.now.reads }
     {
         self.reads
     }
 
-    /// Does what the command at this sequence asks, and puts its outputs into `out`, which is empty and has room for the
-    /// 8,194 that a command has at most. It always succeeds: no memory is asked for.
+    /// Does what the command at this sequence asks, and puts its outputs into `out`, which is empty and has room for
+    /// the 8,194 that a command has at most. It always succeeds: no memory is asked for.
     pub fn apply(
         &mut self,
         sequence: u64,
@@ -124,9 +126,9 @@ impl Book {
 
     /// The resting orders one by one: from `None` the first, from an order that rests the one behind it, and `None`
     /// behind the last. They stand by symbol in the order of the command line, buys before sells, each ahead of the
-    /// next. An order is known by its client and ClOrdID; behind one that doesn't rest comes `None`. It takes no memory.
-    /// A call looks the order's name up and, behind the last order of a price, searches the price levels once for that
-    /// order and once for each later symbol and side (at most 16 in all), until an order is there.
+    /// next. An order is known by its client and ClOrdID; behind one that doesn't rest comes `None`. It takes no
+    /// memory. A call looks the order's name up and, behind the last order of a price, searches the price levels once
+    /// for that order and once for each later symbol and side (at most 16 in all), until an order is there.
     pub fn after(&self, from: Option<Order>) -> Option<Order>
         ensures first { from ≡ None → result ≡ slice_get (listing self.now.limits.symbols self.now.state.orders) 0 }
         ensures next { (before behind : List Order) (o : Order) → from ≡ Some o →

@@ -1,5 +1,5 @@
-//! Laws of matching, in the words of those who trade and audit: functions that do nothing, whose contracts are the laws.
-//! They speak of the definitions that the book is proved to follow, so they hold of the book.
+//! Laws of matching, in the words of those who trade and audit: functions that do nothing, whose contracts are the
+//! laws. They speak of the definitions that the book is proved to follow, so they hold of the book.
 ghost use Rattle.std.specs.Prelude.{◌≡◌, ◌≢◌, ℕ, ◌+◌, ◌≤◌, ◌^◌, min, nat_lt, true, false, List, [], ◌∷◌, ◌++◌, Some, length, map, filter, sum_by};
 ghost use Rattle.std.specs.List.{AllByRecursion};
 ghost use Rattle.std.specs.List.Sorted.{IsPermutation};
@@ -35,8 +35,8 @@ pub fn outputs_only_grow()
         state symbols (rs ++ r ∷ []) ≡ (step symbols (state symbols rs) (length rs) r).state }
 {}
 
-/// Whatever is asked is answered, and first to who has asked: the first output of a command goes to the gateway that it came
-/// through. Only a message that asks for nothing has none.
+/// Whatever is asked is answered, and first to who has asked: the first output of a command goes to the gateway that it
+/// came through. Only a message that asks for nothing has none.
 pub fn each_command_is_answered_first()
     ensures { (symbols : Symbols) (s : State) (sequence : ℕ) (r : Request) → r.command ≢ Void
         → AnswersFirst r.gateway (step symbols s sequence r).outputs }
@@ -141,9 +141,9 @@ pub fn no_order_is_overfilled()
         → AllByRecursion KeepsTotal (outputs symbols rs) }
 {}
 
-/// A market order takes what there is: it crosses each order that rests just where their symbols are one and their sides are
-/// two, whatever the price. It never comes in to rest; all that rest after any history have a price. And a full book doesn't
-/// refuse it.
+/// A market order takes what there is: it crosses each order that rests just where their symbols are one and their
+/// sides are two, whatever the price. It never comes in to rest; all that rest after any history have a price. And a
+/// full book doesn't refuse it.
 pub fn market_orders_take_what_there_is()
     ensures crosses { (limits : Limits) (h : History) (c : Cause) (n : NewOrderSingle) → n.ord_type ≡ Market
         → AllByRecursion (CrossesAnyPrice (entering c n)) (state_of limits h).orders }
@@ -153,8 +153,8 @@ pub fn market_orders_take_what_there_is()
         → new_refusal symbols s client n ≢ Some BookFull }
 {}
 
-/// The stamp of a resting order is the sequence of a command of the history: after so many commands, or after a history of so
-/// many messages, all stamps are below their number. So the next command's sequence is behind them all.
+/// The stamp of a resting order is the sequence of a command of the history: after so many commands, or after a history
+/// of so many messages, all stamps are below their number. So the next command's sequence is behind them all.
 pub fn stamps_are_sequences()
     ensures commands { (symbols : Symbols) (rs : List Request) → Below (length rs) (state symbols rs).orders }
     ensures history { (limits : Limits) (h : History) → Below (length h) (state_of limits h).orders }
@@ -168,10 +168,10 @@ pub fn a_state_can_be_a_snapshot()
         → length h ≤ 2 ^ 48 → SpellsItsState limits h }
 {}
 
-/// A snapshot spells one state. The counts and the greatest ClOrdIDs of any two states that it is the snapshot of are the
-/// same, and so are their orders, which may stand in another order where some have one stamp; where stamps rise in the one
-/// and don't fall in the other, both are one. And a state has one snapshot with these counts, if stamps rise within each of
-/// its price levels: the one that the book writes.
+/// A snapshot spells one state. The counts and the greatest ClOrdIDs of any two states that it is the snapshot of are
+/// the same, and so are their orders, which may stand in another order where some have one stamp; where stamps rise in
+/// the one and don't fall in the other, both are one. And a state has one snapshot with these counts, if stamps rise
+/// within each of its price levels: the one that the book writes.
 pub fn a_snapshot_spells_one_state()
     ensures counts { (symbols : Symbols) (bytes : List ℕ) (s r : State) → (both : SpellsBoth symbols bytes s r)
         → (both.its_commands ≡ both.commands) × (both.its_told ≡ both.told) }

@@ -8,9 +8,9 @@ use fix_orders::decode;
 use std::marker::Model;
 use venue_model::{Command, Limits, Logic, MOST_SYMBOLS, Symbol};
 
-/// The meaning of a history of entries for a venue with these limits: each entry's command by the rules of reading, market
-/// orders from the cut on, and the outputs of one book of one thread. It is copied freely and takes no memory. Contracts
-/// see the limits.
+/// The meaning of a history of entries for a venue with these limits: each entry's command by the rules of reading,
+/// market orders from the cut on, and the outputs of one book of one thread. It is copied freely and takes no memory.
+/// Contracts see the limits.
 #[derive(Clone, Copy)]
 pub struct BookLogic {
     symbols: [Symbol; MOST_SYMBOLS],
@@ -69,8 +69,8 @@ impl BookLogic {
         &self.symbols[..self.count]
     }
 
-    /// The command of the entry at this sequence, whose message has these bytes, whatever they are. Below the cut a market
-    /// order is rejected as it was before there were any.
+    /// The command of the entry at this sequence, whose message has these bytes, whatever they are. Below the cut a
+    /// market order is rejected as it was before there were any.
     pub fn read(&self, sequence: u64, bytes: &[u8]) -> Command
         ensures value { (gateway : ℕ) → result ≡ reads_at self.now sequence (record { gateway = gateway; bytes = bytes.now }) }
         ensures range { IsCommand result }

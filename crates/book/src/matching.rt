@@ -18,8 +18,8 @@ use price_levels::Reads;
 use std::cmp::min;
 use venue_model::{Cause, ExecType, Order, Output, TimeInForce};
 
-/// Fills the order that the incoming one fills next, as far as both go. It answers that order as it was, or `None` where
-/// the match is over.
+/// Fills the order that the incoming one fills next, as far as both go. It answers that order as it was, or `None`
+/// where the match is over.
 fn next_fill(orders: &mut RestingOrders, incoming: &Order, reads: &mut Reads) -> Option<Order>
     requires standing { IsBookList orders.old }
     requires in_range { InRange incoming.now }

@@ -1,5 +1,5 @@
-//! Where the orders rest, by their names: from a client and its ClOrdID to a place. A table of slots with open addressing,
-//! made once: each name's place is found, put in and taken out by the way from its home slot.
+//! Where the orders rest, by their names: from a client and its ClOrdID to a place. A table of slots with open
+//! addressing, made once: each name's place is found, put in and taken out by the way from its home slot.
 ghost use Rattle.std.specs.Prelude.{◌≡◌, ◌≢◌, ◌<◌, ◌+◌, [], None, Some, length, IfOk};
 ghost use Rattle.book.specs.IndexNames.{most_entries, place_of, with_name, without_name};
 
@@ -9,8 +9,8 @@ use slots::{FREE, IndexEntry, SLOTS, Slot, close, reach};
 use std::alloc::{AllocError, Global};
 use std::marker::Model;
 
-/// Places by the client (1 to 8) and the ClOrdID of the order that rests there. Contracts see the entries, in an order of
-/// which they say nothing.
+/// Places by the client (1 to 8) and the ClOrdID of the order that rests there. Contracts see the entries, in an order
+/// of which they say nothing.
 #[derive(Drop)]
 pub(crate) struct OrderIndex {
     slots: Vec<Slot>,

@@ -1,5 +1,5 @@
-//! The resting orders: levels, and the index of names, kept together. Each order is found by its client and name, and the
-//! one ahead of all others by its level. Contracts see one list, in the order of the stamps.
+//! The resting orders: levels, and the index of names, kept together. Each order is found by its client and name, and
+//! the one ahead of all others by its level. Contracts see one list, in the order of the stamps.
 ghost use Rattle.std.specs.Prelude.{◌≡◌, ◌≢◌, ◌<◌, ◌≤◌, ◌+◌, ◌-◌, ◌^◌, true, not, [], ◌∷◌, ◌++◌, None, Some, length, map, filter, find, sum_by, IfOk, MatchOption, if◌then◌else◌};
 ghost use Rattle.venue_model.specs.Orders.{leaves};
 ghost use Rattle.venue_model.specs.Match.{crossing};
@@ -39,8 +39,8 @@ impl Model for RestingOrders {
 }
 
 impl RestingOrders {
-    /// No order rests. All room is made here, for the orders of these symbols apart from one another; no other call asks
-    /// for memory. The counter isn't kept: each call that reads an order is handed a count.
+    /// No order rests. All room is made here, for the orders of these symbols apart from one another; no other call
+    /// asks for memory. The counter isn't kept: each call that reads an order is handed a count.
     pub(crate) fn new(
         alloc: Global,
         symbols: &[Symbol],
@@ -115,8 +115,8 @@ impl RestingOrders {
         self.levels.unlink(Place::at(number as usize))
     }
 
-    /// Gives the client's order of this name another name and a total that is no more than it was, and more than what was
-    /// filled of it. It keeps its place in time.
+    /// Gives the client's order of this name another name and a total that is no more than it was, and more than what
+    /// was filled of it. It keeps its place in time.
     pub(crate) fn amend(&mut self, client: u8, name: u64, new_name: u64, total: u64)
         requires there { MatchOption (find (is_named client name) self.old) ⊥ (CanAmend total) }
         requires fresh { NoneNamed client new_name self.old }
@@ -128,8 +128,8 @@ impl RestingOrders {
         self.index.insert(client, new_name, number);
     }
 
-    /// Fills the first of the orders that the incoming one crosses, as far as both go. It answers that order as it was, or
-    /// `None` where none is crossed. `reads` counts the read of that order.
+    /// Fills the first of the orders that the incoming one crosses, as far as both go. It answers that order as it was,
+    /// or `None` where none is crossed. `reads` counts the read of that order.
     pub(crate) fn fill_first(&mut self, incoming: &Order, reads: &mut Reads) -> Option<Order>
         requires reads { reads.old < 2 ^ 64 - 1 }
         requires some { 0 < leaves incoming.now }
@@ -178,7 +178,8 @@ impl RestingOrders {
         Some(self.levels.get(place, &mut counter.begin()))
     }
 
-    /// The order that comes next behind the client's one of this name, of its symbol and side. `None` where it is the last.
+    /// The order that comes next behind the client's one of this name, of its symbol and side. `None` where it is the
+    /// last.
     pub(crate) fn behind(&self, client: u8, name: u64, counter: &ReadCounter) -> Option<Order>
         requires { find (is_named client name) self.now ≢ None }
         ensures { (o : Order) → find (is_named client name) self.now ≡ Some o

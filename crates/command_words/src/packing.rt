@@ -1,5 +1,5 @@
-//! Commands as words: the unmarshaller packs the command of an entry into the entry's row, and the processor unpacks it.
-//! Nothing outside this module knows the words' layout.
+//! Commands as words: the unmarshaller packs the command of an entry into the entry's row, and the processor unpacks
+//! it. Nothing outside this module knows the words' layout.
 //!
 //! Word 0 is the head; its fields are given with their bits, from the lowest one on:
 //!
@@ -11,7 +11,8 @@
 //! | 3 replace: 3 | 4 | side 1, TimeInForce 2, quantity 20, price 20 | SendingTime, ClOrdID, OrigClOrdID, Symbol |
 //! | 4 malformed: 3 | 4 | reason 3, type of the message 2, tag 32 | SendingTime, MsgSeqNum |
 //!
-//! The price is 0 where there is none, in a market order. A symbol is one word: its bytes, big-endian, with zeros behind them.
+//! The price is 0 where there is none, in a market order. A symbol is one word: its bytes, big-endian, with zeros
+//! behind them.
 ghost use Rattle.std.specs.Prelude.{◌≡◌, ℕ, ◌^◌, ◌<◌, ◌≤◌, List, ◌∷◌, length, take};
 ghost use Rattle.venue_model.specs.Spelling.{IsSpelling};
 ghost use Rattle.venue_model.specs.Step.{IsCommand};

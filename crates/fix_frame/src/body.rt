@@ -1,12 +1,13 @@
-//! The body of a message, read once: a message's frame is judged but for the fields of its body, and these are judged as
-//! they are read.
+//! The body of a message, read once: a message's frame is judged but for the fields of its body, and these are judged
+//! as they are read.
 ghost use Rattle.std.specs.Prelude.{◌<◌, length};
 ghost use Rattle.fix_frame.specs.Cuts.{EndsInSoh};
 ghost use Rattle.fix_frame.specs.OneProof.{Ends-prop};
 
 use crate::field::{Field, Fields, read_field};
 
-/// The bytes of a body from some field on. Whether they are a run of fields shows as they are read: then they are used up.
+/// The bytes of a body from some field on. Whether they are a run of fields shows as they are read: then they are used
+/// up.
 #[derive(Clone, Copy, Debug)]
 pub struct Body<'a> {
     pub(crate) rest: &'a [u8],

@@ -43,8 +43,8 @@ pub(crate) fn length_in_front(bytes: &[u8]) -> (u16, usize)
     (so_far, at)
 }
 
-/// How many of these bytes the next step takes, behind those that are held, which begin a head whose digits spell `so_far`:
-/// all of a head, or a byte of it. And what the digits spell before the last of them.
+/// How many of these bytes the next step takes, behind those that are held, which begin a head whose digits spell
+/// `so_far`: all of a head, or a byte of it. And what the digits spell before the last of them.
 pub(crate) fn head_stride(so_far: u16, held: &[u8], more: &[u8]) -> (u16, usize)
     requires some { 0 < length more.now }
     requires heading { IsHeading held.now so_far }

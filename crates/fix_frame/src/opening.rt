@@ -1,5 +1,5 @@
-//! A message opened: its frame is judged, but for what stands in its body. Behind the input ring this is the first thing that
-//! happens to a message.
+//! A message opened: its frame is judged, but for what stands in its body. Behind the input ring this is the first
+//! thing that happens to a message.
 ghost use Rattle.std.specs.Prelude.{◌≡◌, List, MatchOption};
 ghost use Rattle.fix_frame.specs.Grammar.{Field, IsFrame, most_in};
 ghost use Rattle.fix_frame.specs.Bodies.{bytes_left, OpensTo, IsHeaded};

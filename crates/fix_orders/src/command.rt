@@ -25,8 +25,8 @@ use venue_model::{
     RefMsgType, Side, Symbol, TimeInForce,
 };
 
-/// The command of an entry's bytes, whatever they are: none but exactly one frame asks anything. Where `market` is false, an order with
-/// 40=1 is read by the table of limit orders, as before there were market orders, and so rejected.
+/// The command of an entry's bytes, whatever they are: none but exactly one frame asks anything. Where `market` is
+/// false, an order with 40=1 is read by the table of limit orders, as before there were market orders, and so rejected.
 pub fn decode(bytes: &[u8], market: bool) -> Command
     ensures value { result ≡ reads market bytes.now }
     ensures frame { (fields : List Field) →
@@ -78,8 +78,8 @@ fn command_in(mut body: Body, market: bool) -> Command
     }
 }
 
-/// Reads the fields behind a header by their table; none where they are no run of fields. They are read again only where
-/// they ask for a market order.
+/// Reads the fields behind a header by their table; none where they are no run of fields. They are read again only
+/// where they ask for a market order.
 fn read_fields<'a>(
     kind: RefMsgType,
     body: Body<'a>,

@@ -38,7 +38,8 @@ pub struct OrderFields<'a> {
 }
 
 impl<'a> OrderFields<'a> {
-    /// What is found of all the fields that are left of a message, by this table; none where the bytes are no run of fields.
+    /// What is found of all the fields that are left of a message, by this table; none where the bytes are no run of
+    /// fields.
     pub fn read(table: Table, mut body: Body<'a>) -> Option<OrderFields<'a>>
         requires { length (bytes_left body) ≤ most_in }
         ensures { MatchOption result (IsRun (bytes_left body.entry) → ⊥)

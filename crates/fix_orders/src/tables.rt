@@ -1,5 +1,5 @@
-//! The tables by which order messages are read, one for each type and one more for market orders, and the tags behind the
-//! header with what each table has of them (docs/PROFILE.md, "Order messages").
+//! The tables by which order messages are read, one for each type and one more for market orders, and the tags behind
+//! the header with what each table has of them (docs/PROFILE.md, "Order messages").
 ghost use Rattle.std.specs.Prelude.{◌≡◌, ◌<◌, MatchOption, IsFalse};
 ghost use Rattle.fix_orders.specs.Formats.{ord_type_code};
 ghost use Rattle.fix_orders.specs.Reading.{ref_type, table_for, is_among};

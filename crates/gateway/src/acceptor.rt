@@ -37,8 +37,8 @@ impl<W: Wire + Drop> Acceptor<W> {
     ghost use Rattle.gateway.specs.Gateways.{begun, is_pressed};
     ghost use Rattle.gateway.specs.Seats.{HasSeen, StaysSeated};
 
-    /// The acceptor of a seat that `Rings::open` made, without a client. All room of its sessions is made here; that of a wire is the wire's. Where
-    /// room is refused, the seat comes back.
+    /// The acceptor of a seat that `Rings::open` made, without a client. All room of its sessions is made here; that of
+    /// a wire is the wire's. Where room is refused, the seat comes back.
     pub fn new(
         alloc: Global,
         seat: GatewaySeat<BookLogic>,
@@ -144,7 +144,8 @@ impl<W: Wire + Drop> Acceptor<W> {
 impl<W: ClientWire + Drop> Acceptor<W> {
     ghost use Rattle.gateway.specs.Accepting.{IsAwaited};
 
-    /// Sends what the client's wire holds, as far as that is taken now. (Behind a turn in which nothing moved it was told to rest, and sent it.)
+    /// Sends what the client's wire holds, as far as that is taken now. (Behind a turn in which nothing moved it was
+    /// told to rest, and sent it.)
     pub fn flush(&mut self)
         ensures { self.new ≡ self.old }
     {

@@ -1,5 +1,6 @@
-//! A gateway: the sessions of one client, at a seat of the rings. Each turn writes, reads, hears, publishes and hands on a little, so that
-//! one thread can take the turns of several. Without a session it passes its outputs over, so that the output ring doesn't wait for it.
+//! A gateway: the sessions of one client, at a seat of the rings. Each turn writes, reads, hears, publishes and hands
+//! on a little, so that one thread can take the turns of several. Without a session it passes its outputs over, so that
+//! the output ring doesn't wait for it.
 ghost use Rattle.std.specs.Prelude.{◌≡◌, ◌≢◌, ◌↔◌, ◌≤◌, ◌<◌, ◌^◌, [], None, true, false, length, IfOk, IfErr};
 
 use crate::ending::{Reason, Turned};
@@ -68,8 +69,8 @@ impl Gateway {
     ghost use Rattle.gateway.specs.TurnParts.{Hears, Publishes, Reads, HandsOn, Rests, Stuck};
     ghost use Rattle.gateway.specs.Seats.{HasSeen, StaysSeated, LooksOnce, MayEnter, MayLook, Uses, ledger_of};
 
-    /// The gateway of a seat that `Rings::open` made, or that a gateway gave back. All its room is made here; no session is begun. Where room is
-    /// refused, the seat comes back.
+    /// The gateway of a seat that `Rings::open` made, or that a gateway gave back. All its room is made here; no
+    /// session is begun. Where room is refused, the seat comes back.
     pub fn new(
         alloc: Global,
         seat: GatewaySeat<BookLogic>,
@@ -173,7 +174,8 @@ impl Gateway {
         self.session.is_holding()
     }
 
-    /// Whether it has to go on by itself: a message waits for room, bytes stand to be written, or the client has closed its side.
+    /// Whether it has to go on by itself: a message waits for room, bytes stand to be written, or the client has closed
+    /// its side.
     pub fn is_pressed(&self) -> bool
         ensures { result ≡ is_pressed self.now.front }
     {
@@ -268,8 +270,8 @@ impl Gateway {
         }
     }
 
-    /// Unless the session closes, takes an output, if there is one. It is handed to the client that it goes to, if that is logged on, and else
-    /// passed over. Answers whether there was one.
+    /// Unless the session closes, takes an output, if there is one. It is handed to the client that it goes to, if that
+    /// is logged on, and else passed over. Answers whether there was one.
     fn hand_on<const N: usize, const M: usize, const G: usize>(
         &mut self,
         rings: &Rings<BookLogic, N, M, G>,

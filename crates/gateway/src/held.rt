@@ -1,5 +1,5 @@
-//! The message that a session holds until it is published. Its bytes lie in place: they are copied once, out of the frame
-//! that they came in, and the ring's rows are written from here.
+//! The message that a session holds until it is published. Its bytes lie in place: they are copied once, out of the
+//! frame that they came in, and the ring's rows are written from here.
 ghost use Rattle.std.specs.Prelude.{◌≡◌, ◌≢◌, ◌≤◌, Some, None, length, is_some};
 ghost use Rattle.gateway.specs.Judging.{Holds};
 

@@ -1,6 +1,6 @@
-//! A client's sessions between its wire and the venue: bytes are read, cut into frames and judged; what is to be answered is answered, an
-//! order is held until it is published, and the venue's outputs are handed on. No call of a gateway waits for another thread, and
-//! none but `new` takes memory.
+//! A client's sessions between its wire and the venue: bytes are read, cut into frames and judged; what is to be
+//! answered is answered, an order is held until it is published, and the venue's outputs are handed on. No call of a
+//! gateway waits for another thread, and none but `new` takes memory.
 #![tactic(auto)]
 
 mod acceptor;

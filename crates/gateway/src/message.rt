@@ -1,5 +1,5 @@
-//! The fields of a message to the client, with the two parties' names and its time: what happens to an answer or an output
-//! before its frame is written.
+//! The fields of a message to the client, with the two parties' names and its time: what happens to an answer or an
+//! output before its frame is written.
 ghost use Rattle.std.specs.Prelude.{◌≡◌, ◌<◌, ◌≤◌, [], ◌∷◌, ◌++◌, length, take};
 ghost use Rattle.fix_orders.specs.Text.{field};
 ghost use Rattle.fix_frame.specs.Grammar.{print_fields};
@@ -11,8 +11,8 @@ ghost use Rattle.gateway.specs.Verdict.{client_name, venue_name};
 use arrayvec::ArrayVec;
 use fix_orders::{put_bytes, put_field, put_number, time_text};
 
-/// Writes the fields of a message from the gateway to its client at the buffer's front, the header's with this text of SendingTime (52) and
-/// those of the body, and answers how many bytes they have.
+/// Writes the fields of a message from the gateway to its client at the buffer's front, the header's with this text of
+/// SendingTime (52) and those of the body, and answers how many bytes they have.
 pub fn put_fields(
     fields: &mut [u8; 512],
     gateway: u8,
@@ -47,7 +47,8 @@ fn put_header(fields: &mut [u8], gateway: u8, number: u64, msg_type: &[u8], mome
     put_field(fields, end, 52, moment)
 }
 
-/// Writes the first three of them, which are as long for each gateway: MsgType (35), SenderCompID (49) and TargetCompID (56).
+/// Writes the first three of them, which are as long for each gateway: MsgType (35), SenderCompID (49) and TargetCompID
+/// (56).
 #[inline(always)]
 fn put_parties(fields: &mut [u8], gateway: u8, msg_type: u8) -> usize
     requires gateway { gateway < 10 }

@@ -1,5 +1,5 @@
-//! The bytes that stand to be written to the client. A message's frame is written here at once, behind those that stand here; flushes take
-//! them off the front.
+//! The bytes that stand to be written to the client. A message's frame is written here at once, behind those that stand
+//! here; flushes take them off the front.
 ghost use Rattle.std.specs.Prelude.{◌≡◌, ◌+◌, ◌≤◌, [], ◌++◌, length, drop};
 ghost use Rattle.fix_orders.specs.Text.{Said};
 ghost use Rattle.gateway.specs.Standing.{message_text};
@@ -15,7 +15,8 @@ const SIZE: usize = 1024;
 /// How many bytes the fields of a message have at most.
 const FIELDS: usize = 512;
 
-/// Bytes to write. They lie in place, beside the room in which a message's fields are gathered, and contracts see them as a list.
+/// Bytes to write. They lie in place, beside the room in which a message's fields are gathered, and contracts see them
+/// as a list.
 #[derive(Drop)]
 pub struct Outgoing {
     bytes: [u8; 1024],

@@ -1,5 +1,5 @@
-//! A gateway's seat at the rings, as its session uses it: one call publishes what the client sent, the other looks for what the venue
-//! has for it. Behind them stand the input ring and the output ring.
+//! A gateway's seat at the rings, as its session uses it: one call publishes what the client sent, the other looks for
+//! what the venue has for it. Behind them stand the input ring and the output ring.
 ghost use Rattle.std.specs.Prelude.{◌≤◌, length};
 ghost use Rattle.gateway.specs.Ledgers.{PublishTells, TakeTells};
 ghost use Rattle.ring_words.specs.At.{IsAt};

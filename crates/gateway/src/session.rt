@@ -1,5 +1,5 @@
-//! The pure session: it hears a client's frames one by one, answers them, holds an order message until it is published, and
-//! numbers all that is written. It knows no wire and no ring.
+//! The pure session: it hears a client's frames one by one, answers them, holds an order message until it is published,
+//! and numbers all that is written. It knows no wire and no ring.
 ghost use Rattle.std.specs.Prelude.{◌≡◌, ◌≢◌, ◌↔◌, ◌+◌, ◌≤◌, ◌<◌, ◌^◌, [], Some, None, false, IfOk, length, drop, is_some};
 ghost use Rattle.fix_orders.specs.Text.{Said};
 

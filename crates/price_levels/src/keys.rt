@@ -1,6 +1,6 @@
 //! The levels in their order: by symbol, buys before sells, and of one symbol and side from the best price on. A key's
-//! place among them is mostly where its price leads to, or else found by halving; among levels of its symbol and side, those
-//! of a better price are counted.
+//! place among them is mostly where its price leads to, or else found by halving; among levels of its symbol and side,
+//! those of a better price are counted.
 ghost use Rattle.std.specs.Prelude.{◌≡◌, ◌<◌, ◌≤◌, ◌+◌, length, take, drop, true, false, if◌then◌else◌};
 ghost use Rattle.std.specs.List.{AllByRecursion};
 ghost use Rattle.venue_model.specs.Orders.{is_better};
@@ -101,8 +101,8 @@ pub(crate) fn search_price(levels: &[Level], key: &Key) -> usize
     }
 }
 
-/// How many levels have a better price, where those stand first. Where they end is a matter of chance, which a processor
-/// can't foresee. So they are counted without a branch: eight at a time and then one by one.
+/// How many levels have a better price, where those stand first. Where they end is a matter of chance, which a
+/// processor can't foresee. So they are counted without a branch: eight at a time and then one by one.
 #[inline(always)]
 fn count_better(levels: &[Level], side: Side, price: u64) -> usize
     requires { BetterFirst side price levels.now }
@@ -128,8 +128,8 @@ pub(crate) fn likely_place(levels: &[Level], side: Side, price: u64) -> usize
     }
 }
 
-/// The first place, unless the level there has a better price. Else those of a better price are counted among seven where
-/// they mostly end, without a branch.
+/// The first place, unless the level there has a better price. Else those of a better price are counted among seven
+/// where they mostly end, without a branch.
 #[inline(always)]
 fn place_near(levels: &[Level], side: Side, price: u64) -> usize
     ensures { result ≤ length levels.now }
@@ -180,8 +180,8 @@ fn halve(levels: &[Level], side: Side, price: u64) -> (usize, usize)
     (from, upto)
 }
 
-/// Of the levels from one place up to another, where those of a better price end, passes over eight at a time that are all
-/// better. It looks at the last of each eight.
+/// Of the levels from one place up to another, where those of a better price end, passes over eight at a time that are
+/// all better. It looks at the last of each eight.
 #[inline(always)]
 fn count_eights(levels: &[Level], side: Side, price: u64, from: usize, upto: usize) -> usize
     requires order { BetterFirst side price levels.now }

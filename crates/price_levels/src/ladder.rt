@@ -1,5 +1,5 @@
-//! One ladder: levels in a list that may begin behind a gap, so that the best of them come and go without a move of those
-//! behind. Contracts see the levels alone.
+//! One ladder: levels in a list that may begin behind a gap, so that the best of them come and go without a move of
+//! those behind. Contracts see the levels alone.
 ghost use Rattle.std.specs.Prelude.{◌≡◌, ◌↔◌, ◌<◌, ◌≤◌, [], true, false, length, take, drop, get_or, slice_set, IfOk};
 ghost use Rattle.std.specs.List.{AllByRecursion, insert};
 ghost use Rattle.std.specs.Vec.{vec_capacity};
@@ -13,8 +13,8 @@ use std::alloc::{AllocError, Global};
 use std::marker::Model;
 use venue_model::{Side, Symbol};
 
-/// The gap is at most so many levels long. Each ladder has so much more room than its levels need, and so not all of them
-/// begin at the same place of a page: their first levels, which are read most, would push one another out of a
+/// The gap is at most so many levels long. Each ladder has so much more room than its levels need, and so not all of
+/// them begin at the same place of a page: their first levels, which are read most, would push one another out of a
 /// processor's nearest memory.
 pub(crate) const GAP: usize = 27;
 
@@ -77,8 +77,8 @@ impl Ladder {
         self.list[self.start + at] = level;
     }
 
-    /// A level comes, ahead of the one that stands there now. Those ahead of it move into the gap, or those behind it move,
-    /// whichever are fewer.
+    /// A level comes, ahead of the one that stands there now. Those ahead of it move into the gap, or those behind it
+    /// move, whichever are fewer.
     pub(crate) fn insert(&mut self, at: usize, level: Level)
         requires at { at ≤ length self.old.items }
         requires room { length self.old.items < self.old.room }
@@ -178,7 +178,8 @@ pub(crate) fn place_in(levels: &[Level], symbol: &Symbol, side: Side, price: u64
     (found, holds(levels, found, symbol, side, price))
 }
 
-/// Whether the level ahead of a place is of the symbol and side, and of a better price: so all ahead of it stand before.
+/// Whether the level ahead of a place is of the symbol and side, and of a better price: so all ahead of it stand
+/// before.
 #[inline(always)]
 fn are_ahead(levels: &[Level], at: usize, symbol: &Symbol, side: Side, price: u64) -> bool
     requires order { InOrder levels.now }

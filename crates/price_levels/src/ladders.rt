@@ -146,8 +146,8 @@ impl Ladders {
         (Rung { ladder, at }, holds)
     }
 
-    /// The place of a symbol and side: all levels ahead of it stand before those, and none from it on does. And the place
-    /// of the first order of the level there, with its price, if that is one of the symbol and side.
+    /// The place of a symbol and side: all levels ahead of it stand before those, and none from it on does. And the
+    /// place of the first order of the level there, with its price, if that is one of the symbol and side.
     #[inline(always)]
     pub(crate) fn search_side(&self, symbol: &Symbol, side: Side) -> (Rung, Option<(usize, u64)>)
         requires { InOrder (all self.now) }
@@ -229,8 +229,8 @@ impl Ladders {
     }
 }
 
-/// The fences of these symbols, two of each, each ahead of those that it is before. So each symbol and side has a ladder
-/// alone, which is for speed: a clause has their number alone.
+/// The fences of these symbols, two of each, each ahead of those that it is before. So each symbol and side has a
+/// ladder alone, which is for speed: a clause has their number alone.
 fn fences_of(alloc: Global, symbols: &[Symbol]) -> Result<Vec<Fence>, AllocError>
     requires { length symbols.now ≤ 8 }
     ensures { IfOk result (λ fences. length fences.items ≡ 2 * length symbols.now) }

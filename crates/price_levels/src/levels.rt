@@ -58,9 +58,9 @@ impl Model for Levels {
 }
 
 impl Levels {
-    /// Room for this many orders, all places free, and the right to begin counts of what is read of them. It is all made
-    /// here; no other call asks for memory. The orders of each of these symbols, and of each side, are found without regard
-    /// to those of the others.
+    /// Room for this many orders, all places free, and the right to begin counts of what is read of them. It is all
+    /// made here; no other call asks for memory. The orders of each of these symbols, and of each side, are found
+    /// without regard to those of the others.
     pub fn make(
         alloc: Global,
         symbols: &[Symbol],
@@ -149,8 +149,8 @@ impl Levels {
         self.nodes[place.number].order.unwrap()
     }
 
-    /// The place of the order of a symbol and side that is ahead of all others, or `None` where there is none. It reads no
-    /// order.
+    /// The place of the order of a symbol and side that is ahead of all others, or `None` where there is none. It reads
+    /// no order.
     pub fn best(&self, symbol: &Symbol, side: Side) -> Option<Place>
         ensures { MatchOption result (NoneOf symbol.now side self.now) (λ p. BestOf symbol.now side self.now p.number) }
     {
@@ -168,8 +168,8 @@ impl Levels {
         Some((Place { number }, price))
     }
 
-    /// The place of the order that comes next behind the one at a place: of those of its symbol and side that it is ahead
-    /// of, the one ahead of all others. `None` where it is the last.
+    /// The place of the order that comes next behind the one at a place: of those of its symbol and side that it is
+    /// ahead of, the one ahead of all others. `None` where it is the last.
     pub fn after(&self, place: Place) -> Option<Place>
         requires { get_or self.now place.number None ≢ None }
         ensures { MatchOption result (NoneBehind self.now place.number) (λ p. NextBehind self.now place.number p.number) }
@@ -188,8 +188,8 @@ impl Levels {
         change(&mut self.nodes, &mut self.ladders, place.number, &order);
     }
 
-    /// Gives the order at a place another name and a total that is no more than it was, and more than what was filled of it.
-    /// It keeps its place in time.
+    /// Gives the order at a place another name and a total that is no more than it was, and more than what was filled
+    /// of it. It keeps its place in time.
     pub fn amend(&mut self, place: Place, cl_ord_id: u64, total: u64)
         requires { HoldsAt self.old place.number (CanAmend total) }
         ensures { self.new ≡ changed (renamed_to cl_ord_id total) self.old place.number }

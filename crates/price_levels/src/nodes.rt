@@ -4,8 +4,8 @@ ghost use Rattle.price_levels.specs.Arena.{set_next, set_prev, IsWithinNodes};
 
 use venue_model::Order;
 
-/// An order, the places of its neighbours in its level, the one before it and the one behind it, and its ladder. Of a free
-/// place nobody reads what stands beside the order.
+/// An order, the places of its neighbours in its level, the one before it and the one behind it, and its ladder. Of a
+/// free place nobody reads what stands beside the order.
 #[derive(Clone, Copy)]
 pub(crate) struct Node {
     pub(crate) order: Option<Order>,

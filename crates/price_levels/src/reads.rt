@@ -3,8 +3,8 @@ ghost use Rattle.std.specs.Prelude.{◌≡◌, ◌<◌, ◌+◌, ◌-◌, ◌^�
 
 use std::marker::Model;
 
-/// The right to begin counts. Levels come with theirs, and nobody can make another: who isn't given it can read orders by
-/// a count that was handed to him alone.
+/// The right to begin counts. Levels come with theirs, and nobody can make another: who isn't given it can read orders
+/// by a count that was handed to him alone.
 #[derive(Drop)]
 pub struct ReadCounter {
     _sealed: (),

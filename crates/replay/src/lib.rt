@@ -1,5 +1,5 @@
-//! Replay: the book and all outputs out of a journal, and a report of them in text. It stands on what the journaller has kept, and reads
-//! it as the processor did. The program `venue-replay` is `report_file` and what stands beside it.
+//! Replay: the book and all outputs out of a journal, and a report of them in text. It stands on what the journaller
+//! has kept, and reads it as the processor did. The program `venue-replay` is `report_file` and what stands beside it.
 #![tactic(auto)]
 
 mod adding;

@@ -18,10 +18,10 @@ use std::io;
 use std::io::Write;
 use venue_model::Limits;
 
-/// Prints to `out` the report of the subject of a lent disk's journal, and answers the program's status: the book from the newest
-/// snapshot on, or all outputs to a client. The status is 0 once the whole report is printed and flushed. It is 1 where
-/// the journal can't be replayed, with the fault's line on `err`, and where a write to `out` or its flush fails, without a
-/// line. A line on `err` that can't be printed is let go.
+/// Prints to `out` the report of the subject of a lent disk's journal, and answers the program's status: the book from
+/// the newest snapshot on, or all outputs to a client. The status is 0 once the whole report is printed and flushed. It
+/// is 1 where the journal can't be replayed, with the fault's line on `err`, and where a write to `out` or its flush
+/// fails, without a line. A line on `err` that can't be printed is let go.
 pub fn report<D: JournalDisk, O: Write, E: Write>(
     alloc: Global,
     subject: Subject,

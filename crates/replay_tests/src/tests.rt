@@ -30,8 +30,8 @@ const NEXT_GATE: u64 = 285;
 /// What stands after a crash where bytes weren't synced: those that were written, or this one.
 const FILLS: [Option<u8>; 4] = [None, Some(0x00), Some(0x01), Some(0xff)];
 
-/// Behind which of the four calls of the disk the program stops, and whether a replay then begins at the snapshot, by what
-/// stands after a crash: behind the third one the gate's byte isn't synced, and is open where it is `01`.
+/// Behind which of the four calls of the disk the program stops, and whether a replay then begins at the snapshot, by
+/// what stands after a crash: behind the third one the gate's byte isn't synced, and is open where it is `01`.
 const STOPS: [(usize, [bool; 4]); 4] = [
     (1, [false; 4]),
     (2, [false; 4]),

@@ -30,8 +30,8 @@ pub enum ClaimRefusal {
     Exhausted,
 }
 
-/// A claimed sequence, below 2^48. It must be spent, by `publish`: the stages wait for its message, and only its gateway may
-/// put it there. It can't be dropped, so a program that forgets one isn't accepted.
+/// A claimed sequence, below 2^48. It must be spent, by `publish`: the stages wait for its message, and only its
+/// gateway may put it there. It can't be dropped, so a program that forgets one isn't accepted.
 pub struct Claim {
     pub(crate) sequence: u64,
     ghost small: { sequence < 2 ^ 48 },
@@ -53,15 +53,16 @@ impl Claim {
     }
 }
 
-/// Whether the sequence `at` has a free row in a ring of so many, by this processed value. It may have been loaded after the claim word, so it may
-/// have passed `at`.
+/// Whether the sequence `at` has a free row in a ring of so many, by this processed value. It may have been loaded
+/// after the claim word, so it may have passed `at`.
 fn has_room(at: u64, processed: u64, rows: u64) -> bool
     ensures { IsTrue result ↔ (at < processed + rows) }
 {
     at < processed || at - processed < rows
 }
 
-/// Whether the processed value that the seat loaded last leaves room for the sequence `at`. Where none was loaded nothing is said to be free.
+/// Whether the processed value that the seat loaded last leaves room for the sequence `at`. Where none was loaded
+/// nothing is said to be free.
 fn keeps_room<L>(seat: &GatewaySeat<L>, at: u64, rows: u64) -> bool
     ensures room { IsTrue result → (p : ℕ) × (last_processed seat.now.who.loads ≡ Some p) × (at < p + rows) }
     ensures full { IsFalse result → ShowsFull rows (last_processed seat.now.who.loads) at }
@@ -72,9 +73,9 @@ fn keeps_room<L>(seat: &GatewaySeat<L>, at: u64, rows: u64) -> bool
     }
 }
 
-/// Looks whether the sequence `at` has a free row. The processed word only rises, so an earlier value that leaves room is
-/// as good as one loaded now. The word is loaded only where there is no such value, since the processor writes its cache
-/// line.
+/// Looks whether the sequence `at` has a free row. The processed word only rises, so an earlier value that leaves room
+/// is as good as one loaded now. The word is loaded only where there is no such value, since the processor writes its
+/// cache line.
 fn sees_room<L: Logic, const N: usize, const M: usize, const G: usize>(
     rings: &Rings<L, N, M, G>,
     seat: &mut GatewaySeat<L>,
@@ -93,9 +94,9 @@ fn sees_room<L: Logic, const N: usize, const M: usize, const G: usize>(
     has_room(at, processed, N as u64)
 }
 
-/// Tries once to claim the next sequence of the input ring for this gateway: the claim word is loaded; then, where the processed value
-/// loaded last shows no room, the processed word; then the claim word is compared and exchanged (docs/RINGS.md, "The twenty kinds of
-/// step", 1 to 3).
+/// Tries once to claim the next sequence of the input ring for this gateway: the claim word is loaded; then, where the
+/// processed value loaded last shows no room, the processed word; then the claim word is compared and exchanged
+/// (docs/RINGS.md, "The twenty kinds of step", 1 to 3).
 pub fn try_claim<L: Logic, const N: usize, const M: usize, const G: usize>(
     rings: &Rings<L, N, M, G>,
     seat: &mut GatewaySeat<L>,

@@ -37,8 +37,8 @@ fn store_words<L: Logic, const N: usize, const M: usize, const G: usize>(
 }
 
 impl Claim {
-    /// Publishes these bytes as the gateway's message at the claimed sequence, which it answers: first the words of the message,
-    /// then the availability word (docs/RINGS.md, "The twenty kinds of step", 4 and 5).
+    /// Publishes these bytes as the gateway's message at the claimed sequence, which it answers: first the words of the
+    /// message, then the availability word (docs/RINGS.md, "The twenty kinds of step", 4 and 5).
     pub fn publish<L: Logic, const N: usize, const M: usize, const G: usize>(
         self,
         rings: &Rings<L, N, M, G>,

@@ -1,4 +1,5 @@
-//! Outputs on their way into the output ring: the processor looks how many there is room for, and puts one after another.
+//! Outputs on their way into the output ring: the processor looks how many there is room for, and puts one after
+//! another.
 ghost use Rattle.std.specs.Prelude.{◌↔◌, ℕ, ◌+◌, ◌<◌, ◌≤◌, IsTrue, IsFalse};
 ghost use Rattle.ring_words.specs.At.{IsAt, SamePlace};
 ghost use Rattle.ring_words.specs.Steps.{HasOutputRoom};
@@ -18,8 +19,8 @@ fn leaves_room(taken: u64, published: u64, wanted: u64, rows: u64) -> bool
     }
 }
 
-/// Whether there is room for all outputs wanted by the taken values that the seat loaded last. Where one of them wasn't loaded nothing is said to be
-/// free.
+/// Whether there is room for all outputs wanted by the taken values that the seat loaded last. Where one of them wasn't
+/// loaded nothing is said to be free.
 fn keeps_room<L>(seat: &ProcessSeat<L>, gateways: u64, wanted: u64, rows: u64) -> bool
     requires gateways { gateways ≤ 8 }
     ensures room { IsTrue result → KeepsRoom gateways rows seat.now.who wanted }
@@ -37,8 +38,8 @@ fn keeps_room<L>(seat: &ProcessSeat<L>, gateways: u64, wanted: u64, rows: u64) -
     true
 }
 
-/// How many outputs more the output ring has room for: its number of rows, less the amount by which published is above the least taken
-/// word. Loads the taken word of each gateway once.
+/// How many outputs more the output ring has room for: its number of rows, less the amount by which published is above
+/// the least taken word. Loads the taken word of each gateway once.
 fn look_for_room<L: Logic, const N: usize, const M: usize, const G: usize>(
     rings: &Rings<L, N, M, G>,
     seat: &mut ProcessSeat<L>,
@@ -57,9 +58,9 @@ fn look_for_room<L: Logic, const N: usize, const M: usize, const G: usize>(
 }
 
 /// How many outputs more the output ring has room for, where so many are wanted (Disruptor paper, "Sequencing": the
-/// producer stays behind the slowest consumer). The taken words only rise, so earlier values that leave room for all are
-/// as good as those loaded now. The words are loaded only where there are no such values, since each gateway writes the
-/// cache line of its own.
+/// producer stays behind the slowest consumer). The taken words only rise, so earlier values that leave room for all
+/// are as good as those loaded now. The words are loaded only where there are no such values, since each gateway writes
+/// the cache line of its own.
 pub fn room<L: Logic, const N: usize, const M: usize, const G: usize>(
     rings: &Rings<L, N, M, G>,
     seat: &mut ProcessSeat<L>,

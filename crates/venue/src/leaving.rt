@@ -1,5 +1,6 @@
-//! A client whose session has ended. What it was told last still goes out, and its connection is closed in such an order that nothing of that is
-//! lost: a connection that is closed while bytes of the client lie unread is reset, and then the client may lose what it hasn't read yet.
+//! A client whose session has ended. What it was told last still goes out, and its connection is closed in such an
+//! order that nothing of that is lost: a connection that is closed while bytes of the client lie unread is reset, and
+//! then the client may lose what it hasn't read yet.
 ghost use Rattle.std.specs.Prelude.{◌≡◌, true};
 ghost use Rattle.venue.specs.Leaving.{BeginsLeaving, GoesOnLeaving, ReadsOver};
 
@@ -29,8 +30,8 @@ impl<W: ClientWire + Drop> Leaving<W> {
         }
     }
 
-    /// Sends what is left, says that this was all, and reads over what the client still sends. Says whether the client has closed its side too, its
-    /// wire failed, or it was waited for long enough.
+    /// Sends what is left, says that this was all, and reads over what the client still sends. Says whether the client
+    /// has closed its side too, its wire failed, or it was waited for long enough.
     pub fn has_left(&mut self) -> bool
         ensures { GoesOnLeaving W.tells self.old self.new result }
     {

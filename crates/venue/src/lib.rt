@@ -1,5 +1,6 @@
-//! The venue behind its journal: its rings and stages open behind the history that stands there. Then one client is served over a wire, or
-//! members at ports of their own, each gateway and each stage on a thread of its own, until it is told to stop.
+//! The venue behind its journal: its rings and stages open behind the history that stands there. Then one client is
+//! served over a wire, or members at ports of their own, each gateway and each stage on a thread of its own, until it
+//! is told to stop.
 #![tactic(auto)]
 
 mod fault;

@@ -1,4 +1,5 @@
-//! The listening mode: gateways at ports of their own, each of them and each stage on a thread of its own, until the venue is told to stop.
+//! The listening mode: gateways at ports of their own, each of them and each stage on a thread of its own, until the
+//! venue is told to stop.
 ghost use Rattle.std.specs.Prelude.{◌≡◌, ◌≤◌, ◌^◌, false, length, vec_len, IfOk, IfErr};
 ghost use Rattle.std.specs.Thread.{IsSync};
 ghost use denote.Param.Send.{IsSend};
@@ -75,7 +76,8 @@ fn work_all<
     )
 }
 
-/// Lets them work under a watch, which says when the venue is ready, and tells them to stop; says whether all of them have begun.
+/// Lets them work under a watch, which says when the venue is ready, and tells them to stop; says whether all of them
+/// have begun.
 fn serve_members<
     R: Threads + Clock + Parks + Sync,
     Q: Gate + Sync,
@@ -132,8 +134,8 @@ fn end_of(failed: bool, ready: bool) -> Result<(), ServeFault>
     Ok(())
 }
 
-/// The program's status for the end, with the fault's line, or else the line of what had been done when the venue stopped. A line that
-/// can't be printed is let go.
+/// The program's status for the end, with the fault's line, or else the line of what had been done when the venue
+/// stopped. A line that can't be printed is let go.
 fn say_end<O: Write, E: Write>(
     end: Result<(), ServeFault>,
     summary: Summary,
@@ -178,8 +180,8 @@ fn close<D: JournalDisk, const G: usize>(
     crew.close(rings, seats)
 }
 
-/// The members of these seats, at these ports, which are open then; or the fault and the ports, which told nothing: 44, or a port that
-/// can't be had.
+/// The members of these seats, at these ports, which are open then; or the fault and the ports, which told nothing: 44,
+/// or a port that can't be had.
 fn open_members<W: ClientWire + Drop, X: Port<Wire = W> + Drop, const G: usize>(
     alloc: Global,
     rings: &VenueRings<G>,
@@ -208,10 +210,11 @@ fn open_members<W: ClientWire + Drop, X: Port<Wire = W> + Drop, const G: usize>(
     Ok(Members { posts, ports, home })
 }
 
-/// Serves `G` members, each at its port, behind the history of the journal on the disk, until the sign to stop is there, and gives disk and ports
-/// back. Answers the program's status: 0; 1, with the fault's line, where the journal can't be opened, a port can't be had or room was
-/// refused, before anybody was served; 2, with the line of the journal, where that failed. What is left of the sign from before is taken away
-/// first. All room but that of connections is taken before the first is let in. Market orders are read from the journal's cut on; that of the
+/// Serves `G` members, each at its port, behind the history of the journal on the disk, until the sign to stop is
+/// there, and gives disk and ports back. Answers the program's status: 0; 1, with the fault's line, where the journal
+/// can't be opened, a port can't be had or room was refused, before anybody was served; 2, with the line of the
+/// journal, where that failed. What is left of the sign from before is taken away first. All room but that of
+/// connections is taken before the first is let in. Market orders are read from the journal's cut on; that of the
 /// limits isn't used.
 pub fn listen<
     R: Threads + Clock + Parks + AllocGlobal + Sync,

@@ -1,4 +1,5 @@
-//! A member of the listening venue: its gateway, with the client that is connected, and the port at which its clients come in.
+//! A member of the listening venue: its gateway, with the client that is connected, and the port at which its clients
+//! come in.
 ghost use Rattle.std.specs.Prelude.{◌≡◌, ◌↔◌, true, false, Some, None, IfSome};
 ghost use Rattle.ring_words.specs.At.{IsAt};
 ghost use Rattle.gateway.specs.Accepting.{told_by, without_client};
@@ -19,12 +20,13 @@ use std::alloc::Global;
 use std::rt::Clock;
 use workers::{Gate, Outcome, Parking, Parks, Signals, Station, Worker, work};
 
-/// Each so many turns, a millisecond or two, what waits in the client's wire is sent, also where something moves in all of them: while others'
-/// outputs come by without a pause, no turn is quiet. Sent more often, it would go out in smaller pieces while many messages are under way.
+/// Each so many turns, a millisecond or two, what waits in the client's wire is sent, also where something moves in all
+/// of them: while others' outputs come by without a pause, no turn is quiet. Sent more often, it would go out in
+/// smaller pieces while many messages are under way.
 const SENDS: u16 = 1_024;
 
-/// A member's gateway with its clients: the one that is connected, and since when it has kept the gateway waiting; and the one whose
-/// session ended last, while it leaves.
+/// A member's gateway with its clients: the one that is connected, and since when it has kept the gateway waiting; and
+/// the one whose session ended last, while it leaves.
 #[derive(Drop)]
 pub struct Desk<W: ClientWire + Drop> {
     pub acceptor: Acceptor<W>,
@@ -36,7 +38,8 @@ pub struct Desk<W: ClientWire + Drop> {
     pub is_wanted: bool,
 }
 
-/// A member's place in the venue, made before anybody is served. What a wire takes of memory lies in a box, whatever its size.
+/// A member's place in the venue, made before anybody is served. What a wire takes of memory lies in a box, whatever
+/// its size.
 #[derive(Drop)]
 pub struct Post<W: ClientWire + Drop> {
     /// The member's number, 1 to 8.
@@ -44,7 +47,8 @@ pub struct Post<W: ClientWire + Drop> {
     pub desk: Box<Desk<W>>,
 }
 
-/// Lets the gateway take its turn, and says whether something moved. A client whose session has ended leaves from now on.
+/// Lets the gateway take its turn, and says whether something moved. A client whose session has ended leaves from now
+/// on.
 fn take_turn<W: ClientWire + Drop, X: Port<Wire = W>, const G: usize>(
     rings: &VenueRings<G>,
     desk: &mut Desk<W>,
@@ -68,7 +72,8 @@ fn take_turn<W: ClientWire + Drop, X: Port<Wire = W>, const G: usize>(
     true
 }
 
-/// Goes on with the client that leaves, if there is one, and says whether it has left now: then the port has its wire back.
+/// Goes on with the client that leaves, if there is one, and says whether it has left now: then the port has its wire
+/// back.
 fn see_off<W: ClientWire + Drop, X: Port<Wire = W>, const G: usize>(
     rings: &VenueRings<G>,
     desk: &mut Desk<W>,
@@ -163,14 +168,14 @@ fn send_on<W: ClientWire + Drop>(desk: &mut Desk<W>)
     }
 }
 
-/// Whether, behind a turn in which nothing moved, the session of the client that is connected is on its way to its end: the client has closed its
-/// side, or doesn't take what it is told.
+/// Whether, behind a turn in which nothing moved, the session of the client that is connected is on its way to its end:
+/// the client has closed its side, or doesn't take what it is told.
 fn is_ending<W: ClientWire + Drop>(desk: &Desk<W>) -> bool {
     desk.leaving.is_none() && desk.acceptor.is_pressed() && !desk.acceptor.is_holding()
 }
 
-/// Behind the gateway's turn, in which something moved or not: what waits is sent, if it is time to, a client that is silent is let go, and the
-/// port is looked at where the session is ending.
+/// Behind the gateway's turn, in which something moved or not: what waits is sent, if it is time to, a client that is
+/// silent is let go, and the port is looked at where the session is ending.
 fn tend<C: Clock, W: ClientWire + Drop, X: Port<Wire = W>>(
     clock: &C,
     desk: &mut Desk<W>,
@@ -186,8 +191,8 @@ fn tend<C: Clock, W: ClientWire + Drop, X: Port<Wire = W>>(
     desk.is_wanted = !has_moved && is_ending(desk) && port.is_wanted();
 }
 
-/// One turn of the gateway, and of the client that leaves; where clients may come, also a look at the port, unless one is there or leaves.
-/// Says whether something moved.
+/// One turn of the gateway, and of the client that leaves; where clients may come, also a look at the port, unless one
+/// is there or leaves. Says whether something moved.
 fn attend<C: Clock, W: ClientWire + Drop, X: Port<Wire = W>, const G: usize>(
     clock: &C,
     rings: &VenueRings<G>,
@@ -224,7 +229,8 @@ fn is_pressed<W: ClientWire + Drop>(desk: &Desk<W>) -> bool
     desk.leaving.is_some() || desk.acceptor.is_pressed()
 }
 
-/// What a turn of this desk came to for its thread, in which something moved or not, and which began with a message held or not.
+/// What a turn of this desk came to for its thread, in which something moved or not, and which began with a message
+/// held or not.
 fn outcome<W: ClientWire + Drop>(desk: &Desk<W>, held: bool, has_moved: bool) -> Outcome
     ensures { result ≡ outcome_at held has_moved (is_pressed_at desk.now) desk.now.is_wanted }
 {
@@ -316,8 +322,8 @@ fn park_at<R: Parks, X: Port>(rt: &R, port: &mut Box<X>) -> Option<(Parking, Wak
     Some((parking, waker))
 }
 
-/// Lets the member's clients trade, one after another, until the signals say stop, and gives its seat back, and its port, which has all
-/// their wires.
+/// Lets the member's clients trade, one after another, until the signals say stop, and gives its seat back, and its
+/// port, which has all their wires.
 pub fn trade<
     R: Clock + Parks,
     Q: Gate,

@@ -1,5 +1,5 @@
-//! All members of the listening venue: their gateways are made and their ports opened before anybody is served, each trades on a thread of
-//! its own, and all seats and ports come back.
+//! All members of the listening venue: their gateways are made and their ports opened before anybody is served, each
+//! trades on a thread of its own, and all seats and ports come back.
 ghost use Rattle.std.specs.Prelude.{◌≡◌, ◌+◌, ◌≤◌, ◌<◌, ◌^◌, [], ◌∷◌, ◌++◌, length, vec_len, false, IfOk, IfErr, IfSome, IfNone, MatchOption, OnOk};
 ghost use Rattle.std.specs.Vec.{vec_capacity};
 ghost use Rattle.std.specs.Thread.{IsSync};
@@ -37,7 +37,8 @@ pub struct Home<X> {
     pub ports: Vec<Box<X>>,
 }
 
-/// All members, each with its post and its port, and the lists in which their seats and ports come back, which have room for them.
+/// All members, each with its post and its port, and the lists in which their seats and ports come back, which have
+/// room for them.
 #[derive(Drop)]
 pub struct Members<W: ClientWire + Drop, X> {
     pub posts: Vec<Post<W>>,
@@ -216,8 +217,8 @@ fn split_last<W: ClientWire + Drop, X: Port<Wire = W> + Drop, const G: usize>(
     Ok(Split { others, post, port })
 }
 
-/// Lets all members trade, each at its port on a thread of its own, until the signals say stop. While threads run no memory is
-/// taken but for connections, and a little as each begins, for its rest.
+/// Lets all members trade, each at its port on a thread of its own, until the signals say stop. While threads run no
+/// memory is taken but for connections, and a little as each begins, for its rest.
 pub fn trade_all<
     R: Threads + Clock + Parks + Sync,
     Q: Gate + Sync,

@@ -1,4 +1,5 @@
-//! The mode `-`: one client's session over a wire, its turns and the polls of the stages taken one behind the other on this thread.
+//! The mode `-`: one client's session over a wire, its turns and the polls of the stages taken one behind the other on
+//! this thread.
 ghost use Rattle.std.specs.Prelude.{◌≡◌, ◌⊎◌, ◌↔◌, ◌≤◌, [], ◌∷◌, true, false, vec_len, OnOk, OnErr};
 ghost use Rattle.std.specs.Vec.{vec_capacity};
 ghost use Rattle.ring_words.specs.At.{IsAt};
@@ -30,9 +31,9 @@ use std::alloc::{AllocError, Global};
 use std::io::Write;
 use venue_model::Limits;
 
-/// Serves the client of gateway 1 until its session ends, behind the history of the journal on the disk, and gives the disk back. Market orders
-/// are read from the journal's cut on; that of the limits isn't used. Answers
-/// the program's status: 0; 1, with the fault's line, where the journal can't be opened or room was refused, before a byte is read or
+/// Serves the client of gateway 1 until its session ends, behind the history of the journal on the disk, and gives the
+/// disk back. Market orders are read from the journal's cut on; that of the limits isn't used. Answers the program's
+/// status: 0; 1, with the fault's line, where the journal can't be opened or room was refused, before a byte is read or
 /// written; 2, with the line of the journal, where that failed. All room is taken before the session begins.
 pub fn serve<D: JournalDisk, W: Wire, E: Write>(
     alloc: Global,

@@ -1,5 +1,5 @@
-//! How long a member's client has kept its gateway waiting, for its Logon or for the rest of a message. One that does so for too
-//! long is let go, if another one waits at the port: so nobody keeps a member out by saying nothing.
+//! How long a member's client has kept its gateway waiting, for its Logon or for the rest of a message. One that does
+//! so for too long is let go, if another one waits at the port: so nobody keeps a member out by saying nothing.
 ghost use Rattle.std.specs.Prelude.{◌≡◌, ◌↔◌, ◌-◌, ◌<◌, Some, None, true};
 ghost use Rattle.venue.specs.Silences.{begun_at};
 ghost use Rattle.venue.specs.declared.silence.TheConstants.{PATIENCE};

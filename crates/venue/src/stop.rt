@@ -1,4 +1,5 @@
-//! How the venue is told to stop: by a file that appears beside its journal, since a program of this language can't catch signals.
+//! How the venue is told to stop: by a file that appears beside its journal, since a program of this language can't
+//! catch signals.
 ghost use Rattle.std.specs.Prelude.{◌≡◌, ◌≢◌, ◌++◌, IfOk, codes, string_bytes};
 ghost use Rattle.venue.specs.Stopping.{LooksForStop};
 

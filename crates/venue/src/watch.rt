@@ -92,8 +92,8 @@ fn watch_on<P: Pauses, G: Signalling, S: StopSign, O: Write>(
     true
 }
 
-/// Watches until the signals say stop, or the sign is there; then the signals say stop. Answers whether all workers have
-/// begun: the line that says so is printed then, and is let go where it can't be.
+/// Watches until the signals say stop, or the sign is there; then the signals say stop. Answers whether all workers
+/// have begun: the line that says so is printed then, and is let go where it can't be.
 pub fn watch<'a, C: Clock, G: Signalling, S: StopSign, O: Write>(
     clock: &'a C,
     signals: &G,

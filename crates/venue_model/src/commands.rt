@@ -54,8 +54,8 @@ impl OrdType {
         self == OrdType::Market
     }
 
-    /// The price by which an order of this side crosses others: a limit order's own. A market order has one that all prices
-    /// of the other side meet, 1,000,000 where it buys and 0 where it sells.
+    /// The price by which an order of this side crosses others: a limit order's own. A market order has one that all
+    /// prices of the other side meet, 1,000,000 where it buys and 0 where it sells.
     pub fn price_of(self, side: Side) -> u64
         ensures { result ≡ price_of side self }
     {
@@ -85,8 +85,8 @@ pub struct NewOrderSingle {
 }
 
 impl NewOrderSingle {
-    /// The terms on which it comes in: those of its message, but what isn't filled at once of a market order is canceled
-    /// where its message would have it rest.
+    /// The terms on which it comes in: those of its message, but what isn't filled at once of a market order is
+    /// canceled where its message would have it rest.
     pub fn terms(&self) -> TimeInForce
         ensures { result ≡ terms_of self.now }
     {

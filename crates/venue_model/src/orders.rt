@@ -1,5 +1,5 @@
-//! An order as it rests in the book and as reports show it: what is left of it, what a fill or a replace makes of it, and
-//! which orders it crosses.
+//! An order as it rests in the book and as reports show it: what is left of it, what a fill or a replace makes of it,
+//! and which orders it crosses.
 ghost use Rattle.std.specs.Prelude.{◌≡◌, ◌<◌, ◌+◌, ◌*◌, ◌^◌};
 ghost use Rattle.venue_model.specs.Orders.{opposite, same_side, meets, leaves, crosses};
 ghost use Rattle.venue_model.specs.Match.{filled};

@@ -5,8 +5,8 @@ ghost use Rattle.venue_model.specs.History.{History};
 use crate::Entry;
 use std::marker::Model;
 
-/// The entries of a history, in order, as contracts see them. It takes no memory and its calls do nothing, so a history can be spoken of when
-/// none of its entries is kept.
+/// The entries of a history, in order, as contracts see them. It takes no memory and its calls do nothing, so a history
+/// can be spoken of when none of its entries is kept.
 #[derive(Drop)]
 pub struct Past {
     pub ghost entries: { History },

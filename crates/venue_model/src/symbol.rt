@@ -64,8 +64,8 @@ impl Symbol {
         0 < name.len() && name.len() <= LONGEST_SYMBOL && has_name_bytes(name)
     }
 
-    /// Whether both are one symbol. It is what `==` answers, said of the names: their eight bytes tell them apart, since
-    /// no zero stands in a name.
+    /// Whether both are one symbol. It is what `==` answers, said of the names: their eight bytes tell them apart,
+    /// since no zero stands in a name.
     pub fn is(&self, other: &Symbol) -> bool
         ensures { result ≡ bytes_eq self.now other.now }
     {

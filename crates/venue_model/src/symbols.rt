@@ -1,4 +1,5 @@
-//! The table of the symbols that the venue trades, and from which entry on market orders are read: both fixed for a run.
+//! The table of the symbols that the venue trades, and from which entry on market orders are read: both fixed for a
+//! run.
 ghost use Rattle.std.specs.Prelude.{◌≡◌, ◌≤◌, ◌^◌, [], ◌∷◌, ◌++◌, map, string_bytes, IfOk, OnOk, IsErrOf};
 ghost use Rattle.std.specs.List.{list_any};
 ghost use Rattle.std.specs.Str.{bytes_eq};
@@ -21,8 +22,8 @@ pub enum LimitsFault {
     Memory,
 }
 
-/// The symbols (1 to 8) in the order of the command line, numbered by place, and the cut: the first sequence at which market
-/// orders are read. Contracts see a record with the list and the cut.
+/// The symbols (1 to 8) in the order of the command line, numbered by place, and the cut: the first sequence at which
+/// market orders are read. Contracts see a record with the list and the cut.
 #[derive(Drop)]
 pub struct Limits {
     symbols: IndexSet<Symbol>,
@@ -59,8 +60,8 @@ impl Limits {
         Ok(Limits { symbols, cut: 0 })
     }
 
-    /// The same symbols, and market orders are read from the entry of this sequence on (at most 2^48): in a journal that was
-    /// begun before there were any, they stay the Rejects that they were.
+    /// The same symbols, and market orders are read from the entry of this sequence on (at most 2^48): in a journal
+    /// that was begun before there were any, they stay the Rejects that they were.
     pub fn cut_at(self, cut: u64) -> Limits
         requires { cut ≤ 2 ^ 48 }
         ensures { result ≡ record self { cut = cut } }

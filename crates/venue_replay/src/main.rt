@@ -1,5 +1,5 @@
-//! The program `venue-replay`: it reads its words, and does what they ask over the folder of its journal, standard output
-//! and standard error.
+//! The program `venue-replay`: it reads its words, and does what they ask over the folder of its journal, standard
+//! output and standard error.
 #![tactic(auto)]
 
 ghost use Rattle.std.specs.Prelude.{◌≡◌, ◌↔◌};

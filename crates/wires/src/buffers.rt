@@ -102,8 +102,8 @@ impl ReadAhead {
     }
 }
 
-/// Bytes that wait to be sent. Contracts see them in order. There is room for twice as many as may wait: those that were
-/// sent stay in front of them until they are as many, so that no more bytes are moved than were sent.
+/// Bytes that wait to be sent. Contracts see them in order. There is room for twice as many as may wait: those that
+/// were sent stay in front of them until they are as many, so that no more bytes are moved than were sent.
 #[derive(Drop)]
 pub struct Waiting {
     bytes: Vec<u8>,

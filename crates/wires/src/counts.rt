@@ -5,8 +5,8 @@ ghost use Rattle.wires.specs.Counting.{CountsRead, CountsWrite};
 
 use super::{TryRead, TryWrite};
 
-/// How many calls failed, how many reads and how many writes answered `Nothing`, and how many reads answered `End`. A count that is full
-/// stays.
+/// How many calls failed, how many reads and how many writes answered `Nothing`, and how many reads answered `End`. A
+/// count that is full stays.
 #[derive(Clone, Copy, Debug, PartialEq, Eq)]
 pub struct Counts {
     pub failures: u64,

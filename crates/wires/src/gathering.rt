@@ -16,11 +16,12 @@ use std::marker::Model;
 
 /// A wire in front of another one. A read hands out what was read ahead, and the wire below is read only where that is
 /// nothing. What is written waits: it is sent by `flush`, by `rest` where it is told to rest, and, as far as one write
-/// of the wire below takes it, by a write that finds many bytes waiting. So a write never answers `Nothing`. Once a write
-/// of the wire below has failed, this one is broken: each later read and write fails. So it is once a write finds all
-/// room taken of which the wire below takes none, and where, once that was so full, too many writes in a row find that
-/// its client hasn't caught up, or once its client is given up. Bytes that wait as it is dropped are lost. It tells the bytes that the wire below tells:
-/// those that it handed out of what that gave, and those that went out or wait. Contracts see a `Gathering`.
+/// of the wire below takes it, by a write that finds many bytes waiting. So a write never answers `Nothing`. Once a
+/// write of the wire below has failed, this one is broken: each later read and write fails. So it is once a write finds
+/// all room taken of which the wire below takes none, and where, once that was so full, too many writes in a row find
+/// that its client hasn't caught up, or once its client is given up. Bytes that wait as it is dropped are lost. It
+/// tells the bytes that the wire below tells: those that it handed out of what that gave, and those that went out or
+/// wait. Contracts see a `Gathering`.
 #[derive(Drop)]
 pub struct GatheringWire<W: Wire + Drop> {
     below: W,
@@ -79,8 +80,8 @@ impl<W: Wire + Drop> GatheringWire<W> {
         &self.below
     }
 
-    /// Counts a write that comes before the client has caught up since its bytes filled the backlog. Once there were too
-    /// many the wire is broken; says whether it is.
+    /// Counts a write that comes before the client has caught up since its bytes filled the backlog. Once there were
+    /// too many the wire is broken; says whether it is.
     fn is_too_late(&mut self) -> bool
         requires { broken_of self.old ≡ false }
         ensures counts { CountsLate (length (waiting_of self.old)) (late_of self.old) (late_of self.new) }
@@ -97,8 +98,8 @@ impl<W: Wire + Drop> GatheringWire<W> {
         self.broken
     }
 
-    /// Sends what waits, as far as the wire below takes it, and says whether it sends nothing more: nothing waits, or it
-    /// is broken.
+    /// Sends what waits, as far as the wire below takes it, and says whether it sends nothing more: nothing waits, or
+    /// it is broken.
     fn send_waiting(&mut self) -> bool
         ensures told { told_gathering W.tells self.new ≡ told_gathering W.tells self.old }
         ensures sends { broken_of self.old ≡ false → Sends (holding W.tells self.old) (holding W.tells self.new) }

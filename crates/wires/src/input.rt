@@ -5,8 +5,8 @@ ghost use Rattle.wires.specs.Inputs.{Fills};
 use crate::wire::{TryRead, Wire};
 use std::marker::Model;
 
-/// How many bytes one read takes at most: some thirty messages, since a wire that may wait is read only once nothing else
-/// is left to do.
+/// How many bytes one read takes at most: some thirty messages, since a wire that may wait is read only once nothing
+/// else is left to do.
 const SIZE: usize = 4096;
 
 /// The bytes of the last read that are left. They lie in place, and contracts see them as a list.

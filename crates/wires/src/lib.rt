@@ -1,5 +1,5 @@
-//! Wires: where a client's bytes come in and where those to it go out. They know no session, no ring and no FIX. `MemWire` is for tests,
-//! `StdWire` for standard input and output, `TcpWire` for a client that came over TCP or
+//! Wires: where a client's bytes come in and where those to it go out. They know no session, no ring and no FIX.
+//! `MemWire` is for tests, `StdWire` for standard input and output, `TcpWire` for a client that came over TCP or
 //! another `Stream`.
 #![tactic(auto)]
 

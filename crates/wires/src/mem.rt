@@ -1,4 +1,5 @@
-//! A wire in memory, for tests: a stream in memory, of whose answers it counts those that moved nothing. It tells all bytes.
+//! A wire in memory, for tests: a stream in memory, of whose answers it counts those that moved nothing. It tells all
+//! bytes.
 ghost use Rattle.std.specs.Prelude.{◌≡◌, ◌<◌, ◌≤◌, [], length, take, true, false, IfOk};
 ghost use Rattle.wires.specs.Wires.{ReadTells, WriteTells, counts_of};
 ghost use Rattle.wires.specs.MemWires.{new_memory, told_memory, ReadsMemory, WritesMemory};

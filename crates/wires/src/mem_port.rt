@@ -42,7 +42,8 @@ impl Model for MemPort {
 }
 
 impl MemPort {
-    /// A port of this number at which these clients are to come, the last one first. Nothing has moved over their wires yet.
+    /// A port of this number at which these clients are to come, the last one first. Nothing has moved over their wires
+    /// yet.
     pub fn new(alloc: Global, number: u16, coming: Vec<MemWire>) -> Result<MemPort, AllocError>
         requires unmoved { AllByRecursion IsUnmoved coming.items }
         ensures { IfOk result (λ port. port ≡

@@ -9,7 +9,8 @@ use std::io;
 use std::io::ErrorKind;
 use std::marker::Model;
 
-/// A stream in memory. It is set by calls that hand it on, as `MemStream::new(alloc, input)?.in_pieces(1).staying_open()`.
+/// A stream in memory. It is set by calls that hand it on, as `MemStream::new(alloc,
+/// input)?.in_pieces(1).staying_open()`.
 #[derive(Drop)]
 pub struct MemStream {
     input: Vec<u8>,

@@ -1,5 +1,5 @@
-//! A member's port: where its clients come in, each with its wire, and where the wires go that aren't used any more. A venue knows no
-//! more of a network than this trait: `MemPort` is for tests, `TcpPort` is the machine's.
+//! A member's port: where its clients come in, each with its wire, and where the wires go that aren't used any more. A
+//! venue knows no more of a network than this trait: `MemPort` is for tests, `TcpPort` is the machine's.
 ghost use Rattle.std.specs.Prelude.{◌≡◌, true, false, IfNone};
 ghost use Rattle.wires.specs.Ports.{Register, LetsIn, SeesLeave};
 
@@ -15,7 +15,8 @@ pub trait Port {
     /// Its number, and the wires of its clients as far as it tells them.
     ghost tells: { Self → Register };
 
-    /// That one look for a client that waits, and nothing else, showed none. Code over any port knows this of its calls alone.
+    /// That one look for a client that waits, and nothing else, showed none. Code over any port knows this of its calls
+    /// alone.
     ghost looked: { Self → Self → Type 0 };
 
     /// Its number, as TCP has it.
@@ -26,13 +27,13 @@ pub trait Port {
     fn open(&mut self) -> bool
         ensures { tells self.new ≡ tells self.old };
 
-    /// Has this thread's rest end where a client comes in, or has sent or taken something, if the port can have that: its sockets are
-    /// registered there from now on.
+    /// Has this thread's rest end where a client comes in, or has sent or taken something, if the port can have that:
+    /// its sockets are registered there from now on.
     fn watch(&mut self, registry: &Registry)
         ensures { tells self.new ≡ tells self.old };
 
-    /// The wire of the client that waits, if one does. It doesn't wait for one. A client whose wire can't be made is let go, and one
-    /// that can't be taken now is tried again by a later call.
+    /// The wire of the client that waits, if one does. It doesn't wait for one. A client whose wire can't be made is
+    /// let go, and one that can't be taken now is tried again by a later call.
     fn accept(&mut self, alloc: Global) -> Option<Self::Wire>
         requires one { (tells self.old).out ≡ false }
         ensures tells { LetsIn Self.Wire.tells (tells self.old) (tells self.new) result }

@@ -14,8 +14,8 @@ pub trait Stream {
     /// The bytes that writes have taken so far, `None` where it tells none.
     ghost took: { Self → Option (List ℕ) };
 
-    /// Reads into the buffer's front, and says how many bytes: none where the other end has said that it writes no more.
-    /// What stands behind them in the buffer is unspecified.
+    /// Reads into the buffer's front, and says how many bytes: none where the other end has said that it writes no
+    /// more. What stands behind them in the buffer is unspecified.
     fn read(&mut self, buf: &mut [u8]) -> io::Result<usize>
         requires { 0 < length buf.old }
         ensures gives { MovesBytes (gave self.old) (gave self.new) buf.new result }

@@ -10,8 +10,8 @@ use crate::stream::Stream;
 use crate::wire::{TryRead, TryWrite, Wire};
 use std::io;
 
-/// A wire over a stream, which tells the bytes that the stream tells. A call that was interrupted, or would have waited,
-/// answers `Nothing`: a later one tries again.
+/// A wire over a stream, which tells the bytes that the stream tells. A call that was interrupted, or would have
+/// waited, answers `Nothing`: a later one tries again.
 #[derive(Drop)]
 pub struct StreamWire<S> {
     stream: S,

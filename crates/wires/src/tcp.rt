@@ -16,8 +16,8 @@ use std::net::TcpStream;
 /// A wire that gathers in front of a stream.
 pub type TcpWire<S = TcpStream> = GatheringWire<StreamWire<S>>;
 
-/// The wire over a stream that never waits, which is given back in its wire where there is no memory. Nothing was read or
-/// written: it tells what the stream told.
+/// The wire over a stream that never waits, which is given back in its wire where there is no memory. Nothing was read
+/// or written: it tells what the stream told.
 pub fn wire_over<S: Stream + Drop>(
     alloc: Global,
     stream: S,
@@ -30,8 +30,8 @@ pub fn wire_over<S: Stream + Drop>(
     GatheringWire::new(alloc, StreamWire::new(stream))
 }
 
-/// The wire over a stream that was accepted: from now on that never waits, sends at once what it is given, and ends where the
-/// client's machine has vanished. It is closed where it can't be set so, or there is no memory.
+/// The wire over a stream that was accepted: from now on that never waits, sends at once what it is given, and ends
+/// where the client's machine has vanished. It is closed where it can't be set so, or there is no memory.
 pub fn tcp_wire(alloc: Global, stream: TcpStream) -> io::Result<TcpWire>
     ensures fresh { IfOk result (IsFresh ⟦<StreamWire<TcpStream> as Wire>⟧.tells) }
     ensures stream { IfOk result (λ wire. stream_of (below_of wire) ≡ stream) }

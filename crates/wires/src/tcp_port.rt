@@ -53,8 +53,8 @@ impl<'a, R: Net<Listener = TcpListener, Stream = TcpStream>> TcpPort<'a, R> {
         Some(stream)
     }
 
-    /// Has the rest of the thread that serves this port end where this socket is ready, if there is one. Where that can't be had, a rest ends
-    /// by itself.
+    /// Has the rest of the thread that serves this port end where this socket is ready, if there is one. Where that
+    /// can't be had, a rest ends by itself.
     fn watch_over<S: AsRawFd>(&self, socket: &S) {
         if let Some(registry) = &self.registry {
             let _ = registry.register(

@@ -1,5 +1,5 @@
-//! A client whose machine has vanished without a word, as one whose power or cable is gone: the system asks a silent client
-//! whether it is still there, and ends the connection of one that doesn't answer.
+//! A client whose machine has vanished without a word, as one whose power or cable is gone: the system asks a silent
+//! client whether it is still there, and ends the connection of one that doesn't answer.
 
 use libc::net as c;
 use std::io;
@@ -13,8 +13,8 @@ const FIRST_ASKED: i32 = 30;
 /// It is asked again each so many seconds.
 const ASKED_AGAIN: i32 = 10;
 
-/// It has vanished where it hasn't answered for so many milliseconds, a minute. So has one that takes no byte of those sent to it for as
-/// long, whether its machine still answers or not.
+/// It has vanished where it hasn't answered for so many milliseconds, a minute. So has one that takes no byte of those
+/// sent to it for as long, whether its machine still answers or not.
 const UNHEARD: i32 = 60_000;
 
 /// The value of an option, as the system takes it.

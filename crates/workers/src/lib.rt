@@ -1,5 +1,5 @@
-//! Stages and gateways at the rings as workers: each takes its turns on a thread of its own until it is told to stop, and
-//! all come back.
+//! Stages and gateways at the rings as workers: each takes its turns on a thread of its own until it is told to stop,
+//! and all come back.
 #![tactic(auto)]
 
 mod counted;

@@ -19,8 +19,8 @@ pub struct Parking {
 
 /// What gives threads their places to rest.
 pub trait Parks {
-    /// A place to rest, and what wakes the thread that rests there; or none, where the system has no descriptors for it or there is no
-    /// memory.
+    /// A place to rest, and what wakes the thread that rests there; or none, where the system has no descriptors for it
+    /// or there is no memory.
     fn parking(&self) -> Option<(Parking, Waker)>;
 }
 

@@ -8,17 +8,19 @@ use std::rt::Clock;
 use std::thread;
 use std::time::Duration;
 
-/// After so many turns in a row that found nothing to do, a thread says that it rests. It looks once more, and then it parks. They take about a
-/// millisecond: longer than the other stages, the disk among them, have a message, so that none parks while messages are under way. It spins
-/// between the first of them, and then lets others run: there may be fewer cores than workers, and one that only spins keeps theirs from those
-/// who have work.
+/// After so many turns in a row that found nothing to do, a thread says that it rests. It looks once more, and then it
+/// parks. They take about a millisecond: longer than the other stages, the disk among them, have a message, so that
+/// none parks while messages are under way. It spins between the first of them, and then lets others run: there may be
+/// fewer cores than workers, and one that only spins keeps theirs from those who have work.
 const AWAKE: u64 = 2_000;
 
-/// How long it parks at most, in milliseconds. It is woken where there may be something to do, so this is for what nobody wakes it for.
+/// How long it parks at most, in milliseconds. It is woken where there may be something to do, so this is for what
+/// nobody wakes it for.
 const LONGEST_REST: u64 = 100;
 
-/// After so many turns in a row a thread sleeps whose worker is to look again soon. So it has a share of the room that others make in a full
-/// ring: one that lets them run, and looks again when its turn comes, finds that room taken by who looked sooner, as long as that one has more.
+/// After so many turns in a row a thread sleeps whose worker is to look again soon. So it has a share of the room that
+/// others make in a full ring: one that lets them run, and looks again when its turn comes, finds that room taken by
+/// who looked sooner, as long as that one has more.
 const SPINS: u64 = 8;
 
 /// How long it sleeps then, in microseconds.
@@ -49,11 +51,12 @@ pub trait Pauses {
     ghost use Rattle.std.specs.Prelude.{ℕ, Bool};
     ghost use Rattle.workers.specs.declared.rest.Pause.{Pause};
 
-    /// That it was asked for this pause, which isn't to park, and for nothing else, and so became the other one. Code over any machine knows
-    /// this of its calls alone.
+    /// That it was asked for this pause, which isn't to park, and for nothing else, and so became the other one. Code
+    /// over any machine knows this of its calls alone.
     ghost paused: { Pause → Self → Self → Type 0 };
 
-    /// That it was asked to park for so long, and for nothing else, whether it was woken, and that it became the other one.
+    /// That it was asked to park for so long, and for nothing else, whether it was woken, and that it became the other
+    /// one.
     ghost parked: { ℕ → Bool → Self → Self → Type 0 };
 
     /// Begins anew with the shortest moments.
@@ -139,7 +142,8 @@ fn idle_pause(before: u64) -> Pause
     Pause::Park(LONGEST_REST)
 }
 
-/// What it does behind a turn that found nothing, as so many before it in a row, where its worker is to look again soon.
+/// What it does behind a turn that found nothing, as so many before it in a row, where its worker is to look again
+/// soon.
 fn pressed_pause(before: u64) -> Pause
     ensures { result ≡ pressed_pause before }
 {
@@ -210,8 +214,8 @@ impl<P: Pauses> Rest<P> {
     }
 
     /// Lets the thread rest as what its last turn came to asks for, and says whether it is to go on. While there is
-    /// nothing to do it spins, then lets other threads run, then says that it rests, looks once more, and parks; work makes it spin again, and so
-    /// does who wakes it.
+    /// nothing to do it spins, then lets other threads run, then says that it rests, looks once more, and parks; work
+    /// makes it spin again, and so does who wakes it.
     pub fn goes_on(&mut self, outcome: Outcome) -> bool
         ensures goes_on { result ≡ has_more outcome }
         ensures rests { ThreadRests P.paused P.parked outcome self.old self.new }

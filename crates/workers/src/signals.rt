@@ -1,5 +1,5 @@
-//! What the threads of a venue tell each other beside the rings: that all of them have begun, that one rests and is to be woken, and that
-//! all are to end.
+//! What the threads of a venue tell each other beside the rings: that all of them have begun, that one rests and is to
+//! be woken, and that all are to end.
 ghost use Rattle.std.specs.Prelude.{◌≡◌, ◌<◌, true, false};
 ghost use Rattle.workers.specs.declared.waking.TheConstants.{PLACES};
 
@@ -86,7 +86,8 @@ impl Signals {
         }
     }
 
-    /// This worker has begun, and its thread is woken so, if it can be. The last one wakes the others, which wait for it.
+    /// This worker has begun, and its thread is woken so, if it can be. The last one wakes the others, which wait for
+    /// it.
     pub fn begin(&self, worker: Station, waker: Option<Waker>) {
         if let Some(waker) = waker {
             let _ = self.wakers[place(worker)].try_set(waker);
@@ -108,8 +109,8 @@ impl Signals {
         self.asleep.fetch_or(own(worker), Ordering::SeqCst);
     }
 
-    /// This worker did something, and rests no more: those that rest and may have work by that are woken. Where none does
-    /// this is one load.
+    /// This worker did something, and rests no more: those that rest and may have work by that are woken. Where none
+    /// does this is one load.
     pub fn rouse(&self, worker: Station) {
         let resting = self.asleep.load(Ordering::SeqCst);
         if resting & own(worker) != 0 {

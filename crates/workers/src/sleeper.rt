@@ -39,8 +39,8 @@ impl<'a, C: Clock, S: Signalling> Sleeper<'a, C, S> {
     }
 }
 
-/// Gives the thread that calls the name of its worker, for who looks at the threads of a process: `gateway1` to `gateway8`, or that
-/// of its stage. Where the system refuses it, the thread keeps the name that it has.
+/// Gives the thread that calls the name of its worker, for who looks at the threads of a process: `gateway1` to
+/// `gateway8`, or that of its stage. Where the system refuses it, the thread keeps the name that it has.
 fn name_thread(worker: Station) {
     let mut gateway = *b"gateway0";
     let name: &[u8] = match worker {

@@ -37,8 +37,8 @@ fn poll_at<Q: Gate, R, S: Stage<R>>(gate: &Q, rings: &R, station: Station, stage
     outcome(turn)
 }
 
-/// Wakes those who may have work by a poll for which the output ring had no room: of a command's outputs it may have published those that there
-/// was room for.
+/// Wakes those who may have work by a poll for which the output ring had no room: of a command's outputs it may have
+/// published those that there was room for.
 fn rouse_if_pressed<G: Signalling>(signals: &G, station: Station, outcome: Outcome) {
     if outcome == Outcome::Pressed {
         signals.rouse(station);

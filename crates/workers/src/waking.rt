@@ -41,8 +41,9 @@ pub fn own(worker: Station) -> u64
     1 << place(worker)
 }
 
-/// The bits of those who may have work by what this worker did. Of gateway and readers they are all stages down the line, so that these
-/// wake side by side, and not one behind the other. Nobody is woken for room in a ring: who waits for that looks again soon.
+/// The bits of those who may have work by what this worker did. Of gateway and readers they are all stages down the
+/// line, so that these wake side by side, and not one behind the other. Nobody is woken for room in a ring: who waits
+/// for that looks again soon.
 pub fn wakes(worker: Station) -> u64
     ensures { result ≡ wakes worker }
 {

@@ -95,8 +95,8 @@ fn work_on<P: Pauses, Q: Gate, W: Worker, S: Signalling>(
     Ended::TookAll
 }
 
-/// Lets the worker of this station take turns until it is over or the signals say stop, and says why it took no more. Where its thread has a
-/// place to rest, it is woken there; else it sleeps for short.
+/// Lets the worker of this station take turns until it is over or the signals say stop, and says why it took no more.
+/// Where its thread has a place to rest, it is woken there; else it sleeps for short.
 pub fn work<C: Clock, Q: Gate, W: Worker, S: Signalling>(
     clock: &C,
     gate: &Q,

@@ -9,8 +9,8 @@ pub const ORDER: &[u8; 125] =
 /// The sum of what is read of the order: SendingTime, ClOrdID, Price, OrderQty, and how long Symbol is.
 pub const SUM: u64 = 20_250_102_093_000 + 1 + 50 + 100 + 3;
 
-/// Decodes the order so many times, each time copied into the buffer of its reader, as the unmarshaller reads a message out
-/// of its row, and answers the sum of all that was read.
+/// Decodes the order so many times, each time copied into the buffer of its reader, as the unmarshaller reads a message
+/// out of its row, and answers the sum of all that was read.
 pub fn read_orders(copies: u32) -> u64 {
     let mut message = [0; 125];
     let mut sum = 0u64;

@@ -12,7 +12,8 @@ use std::alloc::Global;
 use venue_model::{Entry, LONGEST_MESSAGE};
 use workers::{Outcome, Worker};
 
-/// How many turns in a row a gateway may find nothing to do, and no hang: some seconds where it waits for room, in naps of some microseconds.
+/// How many turns in a row a gateway may find nothing to do, and no hang: some seconds where it waits for room, in naps
+/// of some microseconds.
 const MOST_IDLE: u64 = 50_000;
 
 /// The byte that ends each field.
@@ -130,8 +131,8 @@ impl<const G: usize> Worker for Gateway<'_, G> {
 
     ghost further = { λ x y z first second. tt };
 
-    /// Takes the next output; where there is none, publishes the next message, or waits for room. It is over once it has taken or passed
-    /// over an output for each command.
+    /// Takes the next output; where there is none, publishes the next message, or waits for room. It is over once it
+    /// has taken or passed over an output for each command.
     fn turn(&mut self) -> Outcome {
         if self.seat.taken() >= self.commands || self.has_given_up() {
             return Outcome::Over;

@@ -14,8 +14,8 @@ const SPREAD: u64 = 0x9E37_79B9_7F4A_7C15;
 /// The slots' number is 2 to the 13: a product of 64 bits has its upper 13 left when these are gone.
 const LOWER: u64 = 1 << 51;
 
-/// A client's name for one of its orders (ClOrdID), and the place where the order rests. Contracts see an index as a list
-/// of these.
+/// A client's name for one of its orders (ClOrdID), and the place where the order rests. Contracts see an index as a
+/// list of these.
 #[derive(Clone, Copy)]
 pub(crate) struct IndexEntry {
     pub(crate) client: u8,

@@ -42,8 +42,8 @@ impl Book {
 }
 
 impl Restored {
-    /// The book of a venue with this logic that the bytes of a snapshot spell, and the counts behind it: its own snapshot
-    /// with these counts has the same bytes. `Memory` says nothing of the bytes.
+    /// The book of a venue with this logic that the bytes of a snapshot spell, and the counts behind it: its own
+    /// snapshot with these counts has the same bytes. `Memory` says nothing of the bytes.
     pub fn of(alloc: Global, bytes: &[u8], logic: BookLogic) -> Result<Restored, RestoreFault>
         ensures limits { IfOk result (λ r. r.book.limits ≡ logic) }
         ensures spelled { IfOk result (λ r. SnapshotOf logic.symbols r.book.state r.commands r.outputs bytes.now) }

@@ -1,4 +1,5 @@
-//! What stands in the words of a command: the kinds, the places of the fields in a head, and the fields as numbers and back.
+//! What stands in the words of a command: the kinds, the places of the fields in a head, and the fields as numbers and
+//! back.
 ghost use Rattle.std.specs.Prelude.{◌≡◌, ℕ, ◌/◌, ◌%◌, ◌<◌, ◌≤◌, List, not, nat_eq, Some};
 ghost use Rattle.std.specs.List.{prefix_len};
 ghost use Rattle.venue_model.specs.Spelling.{IsSpelling};

@@ -1,4 +1,5 @@
-//! Journals on a disk of which one call fails, or behind one of whose calls the program stops: what `open` finds behind a crash.
+//! Journals on a disk of which one call fails, or behind one of whose calls the program stops: what `open` finds behind
+//! a crash.
 ghost use Rattle.std.specs.Prelude.{◌≡◌, ◌≤◌, length};
 
 use super::journals::{FRESH, ONE_ENTRY};
@@ -11,8 +12,8 @@ use venue_model::Entry;
 /// What stands after a crash where bytes weren't synced: those that were written, or this one.
 const FILLS: [Option<u8>; 4] = [None, Some(0x00), Some(0x01), Some(0xff)];
 
-/// At which of the four device calls of the first append it is cut short, how many bytes that one puts if it fails, and whether `open` then
-/// finds the block, by what stands after a crash.
+/// At which of the four device calls of the first append it is cut short, how many bytes that one puts if it fails, and
+/// whether `open` then finds the block, by what stands after a crash.
 type Cut = (usize, usize, [bool; 4]);
 
 const NONE: [bool; 4] = [false; 4];
@@ -39,8 +40,8 @@ const STOPS: [Cut; 4] = [
     (4, 0, [true; 4]),
 ];
 
-/// Adds these entries to a journal without any, in blocks of this size, until one fails; behind that each answers 41. Gives the number of
-/// entries that were answered, and the disk.
+/// Adds these entries to a journal without any, in blocks of this size, until one fails; behind that each answers 41.
+/// Gives the number of entries that were answered, and the disk.
 fn add_blocks(
     mut journal: Journal<MemDisk>,
     all: &[Entry],
@@ -247,7 +248,8 @@ fn left(alloc: Global, fill: Option<u8>) -> Result<Vec<u8>, AllocError> {
     Ok(bytes)
 }
 
-/// The disk on which a journal could not be opened, since this call failed, the write of the half synced one among them.
+/// The disk on which a journal could not be opened, since this call failed, the write of the half synced one among
+/// them.
 fn unopened(alloc: Global, call: usize) -> Result<MemDisk, Fail> {
     let mut disk = half_synced(alloc)?;
     disk.fail_at((call as u64).wrapping_sub(1), 0);
@@ -257,7 +259,8 @@ fn unopened(alloc: Global, call: usize) -> Result<MemDisk, Fail> {
     }
 }
 
-/// What a crash leaves of the disk, where this stands in place of what isn't synced: the journal of one entry, with that in it.
+/// What a crash leaves of the disk, where this stands in place of what isn't synced: the journal of one entry, with
+/// that in it.
 fn expect_left<A: Abort>(
     rt: &A,
     alloc: Global,
@@ -308,7 +311,8 @@ fn opening_fails(rt: HostRuntime) -> Result<(), Fail> {
 /// Twenty blocks of two entries each.
 const BLOCKS: usize = 20;
 
-/// Whether a crash leaves a beginning of whole blocks with all entries that were answered, whatever it fills: at most one block more.
+/// Whether a crash leaves a beginning of whole blocks with all entries that were answered, whatever it fills: at most
+/// one block more.
 fn are_kept(alloc: Global, disk: &MemDisk, answered: usize, all: &[Entry]) -> Result<bool, Fail> {
     for fill in FILLS {
         let found = found(alloc, disk, fill, all)?;

@@ -1,6 +1,6 @@
-//! Gateways and stages, each gateway and the stages on a thread of their own: each order comes through once and whole, and each gateway takes
-//! the acknowledgements of its own orders, in its order and word for word, and passes over those of the others. Two meet at the end, and the
-//! rings are closed behind them.
+//! Gateways and stages, each gateway and the stages on a thread of their own: each order comes through once and whole,
+//! and each gateway takes the acknowledgements of its own orders, in its order and word for word, and passes over those
+//! of the others. Two meet at the end, and the rings are closed behind them.
 ghost use Rattle.std.specs.Prelude.{◌≡◌, ◌≤◌, IfSome};
 ghost use Rattle.ring_words.specs.At.{IsAt};
 ghost use Rattle.stages.specs.Crews.{AreAt};
@@ -31,8 +31,8 @@ pub struct Day {
     pub outputs: u64,
 }
 
-/// Takes or passes over the next output, if there is one, and says whether that was right: one of its own is its next report, and the last
-/// of all comes with both reports of each of its orders taken.
+/// Takes or passes over the next output, if there is one, and says whether that was right: one of its own is its next
+/// report, and the last of all comes with both reports of each of its orders taken.
 fn take_next<const N: usize, const M: usize, const G: usize>(
     gateway: &mut Member<'_, N, M, G>,
     client: u8,
@@ -57,7 +57,8 @@ fn take_next<const N: usize, const M: usize, const G: usize>(
     right && (gateway.seat.taken() != day.outputs || *told / 2 == day.each && *told % 2 == 0)
 }
 
-/// Publishes the client's orders, which wakes stages that rest, and takes or passes over all outputs. Gives the seat back, where that was soon done and right.
+/// Publishes the client's orders, which wakes stages that rest, and takes or passes over all outputs. Gives the seat
+/// back, where that was soon done and right.
 fn trade<const N: usize, const M: usize, const G: usize>(
     rings: &TestRings<N, M, G>,
     seat: GatewaySeat<BookLogic>,
@@ -175,7 +176,8 @@ pub fn run<R: Threads + Sync, const N: usize, const M: usize, const G: usize>(
     Some((one?, other?, stages?))
 }
 
-/// Lets two gateways at new rings trade. Then they meet, and the rings are closed. Answers what had been done, where that was soon.
+/// Lets two gateways at new rings trade. Then they meet, and the rings are closed. Answers what had been done, where
+/// that was soon.
 fn close_behind<R: Threads + Sync, const N: usize, const M: usize, const G: usize>(
     rt: &R,
     alloc: Global,

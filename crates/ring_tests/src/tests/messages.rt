@@ -1,4 +1,5 @@
-//! What clients send, and what they are sent: texts, with lengths and sums computed outside, where `|` stands for the byte 01.
+//! What clients send, and what they are sent: texts, with lengths and sums computed outside, where `|` stands for the
+//! byte 01.
 ghost use Rattle.std.specs.Prelude.{◌≤◌, vec_len, IfOk};
 
 use std::alloc::{AllocError, Global};

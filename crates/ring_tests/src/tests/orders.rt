@@ -1,4 +1,5 @@
-//! Orders that tell their client and their number, and what is reported of them: each is accepted and then cancelled, since nobody sells.
+//! Orders that tell their client and their number, and what is reported of them: each is accepted and then cancelled,
+//! since nobody sells.
 
 /// The first order of C1: to buy 1 at 1 immediately, or to cancel.
 const ORDER: &[u8; 130] =

@@ -1,4 +1,5 @@
-//! Seven outputs go through an output ring of two rows: the processor puts more only as both gateways take them or pass them over.
+//! Seven outputs go through an output ring of two rows: the processor puts more only as both gateways take them or pass
+//! them over.
 ghost use Rattle.std.specs.Prelude.{◌≤◌};
 ghost use Rattle.stages.specs.Crews.{AreAt};
 

@@ -14,7 +14,8 @@ use std::process::Abort;
 use std::test::Fail;
 use venue_model::LONGEST_MESSAGE;
 
-/// Both claim, one after the other, and both publish AB, the other one first: until then the stages find nothing. Answers the sequences.
+/// Both claim, one after the other, and both publish AB, the other one first: until then the stages find nothing.
+/// Answers the sequences.
 fn publish_both<const N: usize, const M: usize, const G: usize>(
     rings: &TestRings<N, M, G>,
     one: &mut Member<'_, N, M, G>,

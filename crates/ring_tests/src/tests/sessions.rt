@@ -80,8 +80,8 @@ fn turn<const N: usize, const M: usize, const G: usize>(
     }
 }
 
-/// Serves a session for so many turns at most, with a poll of each stage behind each turn. Where it ended, says why, and in which turn of
-/// those in a row in which nothing moved.
+/// Serves a session for so many turns at most, with a poll of each stage behind each turn. Where it ended, says why,
+/// and in which turn of those in a row in which nothing moved.
 fn serve<const N: usize, const M: usize, const G: usize>(
     rings: &TestRings<N, M, G>,
     stages: &mut Stages,
@@ -136,8 +136,8 @@ fn is_told<A: Abort>(rt: &A, alloc: Global, wire: &MemWire, told: &str) -> Resul
     Ok(())
 }
 
-/// Serves a client over this wire until its session ends, and then, over another one, a Logon. Says how the first session ended; how many
-/// reports were passed over so far; and what the other wire took.
+/// Serves a client over this wire until its session ends, and then, over another one, a Logon. Says how the first
+/// session ended; how many reports were passed over so far; and what the other wire took.
 fn serve_again<const N: usize, const M: usize, const G: usize>(
     alloc: Global,
     limits: &Limits,
@@ -170,8 +170,8 @@ fn serve_abc_again(
     serve_again::<4, 4, 1>(alloc, &limits, wire, next)
 }
 
-/// The session over this wire ends so, no report is passed over, the wire took so many bytes of what the buyer is told, and the session behind
-/// it is answered.
+/// The session over this wire ends so, no report is passed over, the wire took so many bytes of what the buyer is told,
+/// and the session behind it is answered.
 fn ends<A: Abort>(
     rt: &A,
     alloc: Global,

@@ -1,5 +1,5 @@
-//! Four gateways and the four stages, each on a thread of its own, at rings of two rows each: every order passes full rings, and each gateway
-//! takes its own reports and passes over those of the others.
+//! Four gateways and the four stages, each on a thread of its own, at rings of two rows each: every order passes full
+//! rings, and each gateway takes its own reports and passes over those of the others.
 ghost use Rattle.std.specs.Prelude.{◌≡◌, ◌+◌, vec_len, IfSome, OnOk};
 ghost use Rattle.ring_words.specs.At.{IsAt};
 ghost use Rattle.stages.specs.Crews.{AreAt};
@@ -59,7 +59,8 @@ fn trade_all<R: Threads + Sync>(
     Some((first?, second?, third?, fourth?))
 }
 
-/// Lets all four trade beside the stages, each of these on a thread of its own, too. Gives all back, where that was soon done and right.
+/// Lets all four trade beside the stages, each of these on a thread of its own, too. Gives all back, where that was
+/// soon done and right.
 fn run_all<R: Threads + Clock + Parks + Sync>(
     rt: &R,
     alloc: Global,
