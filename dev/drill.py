@@ -8,11 +8,11 @@ import threading
 import time
 from collections.abc import Callable, Iterator
 
-from drill_machines import BRICK, SHARED, Machine, await_that
+from drill_machines import BRICK, SHARED, Machine
 from drill_store import FOLDER, Store, contents
 from drill_venue import PORT, STEP, SYMBOL, Unit, alone, first_ready, watched
 from traders import Member, Rounds, request
-from venues import Client, Trouble, message
+from venues import Client, Trouble, await_that, message
 
 MEMBERS = [1, 2, 3, 4]
 ENOUGH = 100     # Answers that each member gets before something happens.

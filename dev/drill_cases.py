@@ -1,14 +1,16 @@
 """What happens to the machines of dev/failover-drill, and what has to hold then. Not a script."""
+import contextlib
 import os
 import shutil
 import time
 
 from drill import ENOUGH, Drill, await_answers, cease, heard, looked_at, send_one_more, stop_listening, trading
-from drill_machines import HOME, Machine, await_that, ran
+from drill_machines import HOME, Machine, ran
+from drill_store import contents
 from drill_venue import Unit, alone
 from gikvand.programs import ROOT
 from traders import Member
-from venues import Trouble
+from venues import Trouble, await_that
 
 HOLD, HELD, HOLDS = (f"{HOME}/{it}" for it in ("hold", "held", "hold.so"))
 
@@ -29,6 +31,30 @@ def killed(drill: Drill, machine: Machine) -> str:
     drill.check(new.machine, traders)
     drill.end(new, drill.traded_on(new))
     return drill.took("a killed process: the next machine is ready after", new.ready(since) - since)
+
+
+def looked(drill: Drill, machine: Machine) -> str:
+    """The process is killed right behind a write that makes a block count. The other machines have looked at the journal
+    right before it: what they saw then may not be what they go on from."""
+    if not shutil.which("cc"):
+        return "isn't tried: it needs cc"
+    unit = drill.serve(machine, [*holding(), *alone()])
+    standbys = drill.standbys(machine)
+    traders = trading(machine, drill.rounds)
+    cease(traders)
+    with open(HOLD, "wb"):
+        send_one_more(traders[0])
+    await_that("a write is held", lambda: os.path.exists(HELD))
+    for it in standbys:
+        contents(drill.store.journal(it.machine))
+    os.remove(HOLD)
+    cease(traders)
+    since = time.monotonic()
+    unit.end()
+    new = drill.goes_on(standbys, since)
+    drill.check(new.machine, traders)
+    drill.end(new, drill.traded_on(new))
+    return drill.took("killed behind a look: the next machine is ready after", new.ready(since) - since)
 
 
 def dies(drill: Drill, machine: Machine) -> str:
@@ -155,12 +181,15 @@ def half(drill: Drill, machine: Machine) -> str:
 def holding() -> list[str]:
     """The words before a program whose writes of one byte, which make a block count, wait as long as HOLD is there."""
     ran("cc", "-shared", "-fPIC", "-O1", "-o", HOLDS, os.path.join(ROOT, "dev/drill_hold.c"))
+    with contextlib.suppress(FileNotFoundError):
+        os.remove(HELD)
     return ["env", f"LD_PRELOAD={HOLDS}", f"HOLD={HOLD}", f"HELD={HELD}"]
 
 
-CASES = {"killed": killed, "dies": dies, "parted": parted, "joined": joined, "watched": watch_ends, "brick": brick,
-         "half": half}
+CASES = {"killed": killed, "looked": looked, "dies": dies, "parted": parted, "joined": joined, "watched": watch_ends,
+         "brick": brick, "half": half}
 
 # What may be left out, the case that has to fail then, and in how many rounds at the most.
-PLANTS = {"strict-locks": ("joined", 1), "quorum": ("parted", 1), "step": ("half", 6), "watch": ("watched", 1)}
+PLANTS = {"strict-locks": ("joined", 1), "quorum": ("parted", 1), "direct-io": ("looked", 1), "step": ("half", 6),
+          "watch": ("watched", 1)}
 BY_CHANCE = ["no-views"]  # What may be left out too, and is seen to do harm in few rounds alone.

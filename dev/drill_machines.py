@@ -9,10 +9,9 @@ import signal
 import struct
 import subprocess
 import sys
-import time
-from collections.abc import Callable, Iterator
+from collections.abc import Iterator
 
-from venues import PATIENCE, Trouble
+from venues import Trouble, await_that
 
 INSIDE = "FAILOVER_DRILL_INSIDE"
 HOME = "/mnt"            # Where all that the drill makes lies: in memory, and seen by its own processes alone.
@@ -96,15 +95,6 @@ def make_switch() -> None:
     ran("mount", "-t", "tmpfs", "tmpfs", HOME)
     ran("ip", "link", "add", "switch", "type", "bridge")
     ran("ip", "link", "set", "switch", "up")
-
-
-def await_that(what: str, holds: Callable[[], object], pause: float = 0.02) -> None:
-    """Waits until something holds."""
-    end = time.monotonic() + PATIENCE
-    while not holds():
-        if time.monotonic() > end:
-            raise Trouble(f"{what}: not within {PATIENCE} seconds")
-        time.sleep(pause)
 
 
 def children(pid: int) -> list[int]:

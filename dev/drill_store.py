@@ -8,9 +8,9 @@ import uuid
 from collections.abc import Callable
 
 import journals
-from drill_machines import BRICK, SHARED, Machine, await_that, ran
+from drill_machines import BRICK, SHARED, Machine, ran
 from gikvand.programs import ROOT
-from venues import Trouble
+from venues import Trouble, await_that
 
 SETTINGS = os.path.join(ROOT, "contrib/standby/volume-settings")
 VOLUME, ON_BRICK = "venue", f"{BRICK}/venue"
@@ -19,7 +19,8 @@ KEPT = [JOURNAL, f"{JOURNAL}.symbols"]  # What has to be the same on all bricks.
 GLUSTERD = 24007  # Its port.
 READS = 100       # Of the journal, so that one sees which brick they come from.
 PID = f"cat /run/gluster/vols/{VOLUME}/*.pid"  # Prints that of a machine's brick.
-NO_VIEWS = ["-o", "entry-timeout=0,attribute-timeout=0,negative-timeout=1"]
+NO_VIEWS = "entry-timeout=0,attribute-timeout=0,negative-timeout=1"
+OPTIONS = f"{NO_VIEWS},direct-io-mode=enable"  # Of the mount.
 VIEWS = ("quick-read", "stat-prefetch", "open-behind", "read-ahead", "io-cache", "readdir-ahead")
 OTHERWISE = {  # What a setting is where it is left out.
     "strict-locks": ["client.strict-locks", "off"],
@@ -93,8 +94,8 @@ class Store:
 
     def mount(self, machine: Machine) -> None:
         """Mounts the volume there, once there are bricks enough."""
-        views = [] if self.left_out == "no-views" else NO_VIEWS
-        words = machine.words("mount", "-t", "glusterfs", *views, f"{machine.address}:/{VOLUME}", SHARED)
+        options = {"no-views": "rw", "direct-io": NO_VIEWS}.get(self.left_out, OPTIONS)
+        words = machine.words("mount", "-t", "glusterfs", "-o", options, f"{machine.address}:/{VOLUME}", SHARED)
         await_that(f"{machine.name} mounts the volume",
                    lambda: not subprocess.run(words, capture_output=True).returncode, 0.3)
 

@@ -4,10 +4,10 @@ import os
 import threading
 import time
 
-from drill_machines import SHARED, Machine, await_that, children, kill
+from drill_machines import SHARED, Machine, children, kill
 from drill_store import FOLDER, JOURNAL
 from gikvand.programs import ROOT, VENUED
-from venues import Trouble
+from venues import Trouble, await_that
 
 STANDBY = os.path.join(ROOT, "contrib/standby")
 STEP, SERVE = (os.path.join(STANDBY, it) for it in ("before-start", "serve"))

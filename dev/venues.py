@@ -10,6 +10,7 @@ import subprocess
 import sys
 import tempfile
 import threading
+import time
 
 import with_scripts  # (in front of what stands there, and of what an older Python can't read)
 from gikvand import programs
@@ -20,9 +21,33 @@ from gikvand.programs import REPLAY, ROOT, VENUED, Trouble
 TIME = "20250102-09:30:00"
 PATIENCE = int(os.environ.get("VENUE_PATIENCE", "30"))  # Seconds to wait for what has to come.
 TRIES = 10                   # Rows of ports to try: another process may take one before the venue does.
+LATE = 3                     # Tries that have to come too late, one behind the other, so that it isn't the machine's doing.
 COUNTS = re.compile(r"venued: (\w+), (\d+) commands, (\d+) outputs")
 
 running = []
+
+
+class Late(Trouble):
+    """What came too late: by the venue, or since the machine itself stood still for a moment."""
+
+
+def in_some_try(run, what):
+    """What `run` of a try's number comes to, which may come too late in all tries but the last."""
+    for number in range(1, LATE):
+        try:
+            return run(number)
+        except Late as why:
+            print(f"{what}: once more: {why}", flush=True)
+    return run(LATE)
+
+
+def await_that(what, holds, pause=0.02):
+    """Waits until something holds."""
+    end = time.monotonic() + PATIENCE
+    while not holds():
+        if time.monotonic() > end:
+            raise Trouble(f"{what}: not within {PATIENCE} seconds")
+        time.sleep(pause)
 
 
 def need_programs():

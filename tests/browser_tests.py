@@ -8,13 +8,11 @@ import signal
 import socket
 import subprocess
 import sys
-import time
-from collections.abc import Callable
 from unittest import mock
 
 from gikvand import board, pages
 from made_journals import JOURNAL, TOOLS, contents, expect, gikvand, made, put
-from venues import HOST, PATIENCE, Lines, Trouble, free_port, running
+from venues import HOST, PATIENCE, Lines, Trouble, await_that, free_port, running
 
 
 def port_in(address: str) -> int:
@@ -81,10 +79,10 @@ def browsers() -> None:
         heard = one.makefile("rb")
         for number in range(30):
             shown.put(b"%d" % number + b" " * 1_000_000 * (number < 29))
-            await_that(lambda: heard.readline().startswith(b"data: %d" % number), f"{number} is heard")
+            await_that(f"{number} is heard", lambda: heard.readline().startswith(b"data: %d" % number))
         for it in (heard, one, deaf):
             it.close()
-        await_that(lambda: shown.listeners == 0, "who left is let go")
+        await_that("who left is let go", lambda: shown.listeners == 0)
 
 
 def slow_browsers() -> None:
@@ -95,13 +93,13 @@ def slow_browsers() -> None:
         idle = [socket.create_connection((HOST, port_in(address)), PATIENCE) for _ in range(5)]
         idle[0].sendall(b"GET /")
         deaf = listening(address)
-        await_that(lambda: shown.listeners == 1, "the deaf one listens")
-        await_that(lambda: shown.put(b"%d" % next(count) + b" " * 1_000_000) or shown.listeners == 0,
-                   "the deaf one is let go")
+        await_that("the deaf one listens", lambda: shown.listeners == 1)
+        await_that("the deaf one is let go",
+                   lambda: shown.put(b"%d" % next(count) + b" " * 1_000_000) or shown.listeners == 0)
         for it in idle:
             expect(it.recv(10), b"")
         slow = socket.create_connection((HOST, port_in(address)))
-        await_that(lambda: is_cut(slow), "who sends byte by byte is let go")
+        await_that("who sends byte by byte is let go", lambda: is_cut(slow))
         deaf.close()
 
 
@@ -114,11 +112,11 @@ def crowds() -> None:
         def is_full() -> bool:
             crowd.append(socket.create_connection((HOST, port_in(address))))
             return not asked_quietly(address, path)
-        await_that(is_full, "there is no room")
+        await_that("there is no room", is_full)
         expect(len(crowd) >= pages.MOST, True)
         for it in crowd:
             it.close()
-        await_that(lambda: PAGE.encode() in asked_quietly(address, path), "there is room again")
+        await_that("there is room again", lambda: PAGE.encode() in asked_quietly(address, path))
 
 
 def is_cut(it: socket.socket) -> bool:
@@ -134,14 +132,6 @@ def asked_quietly(address: str, path: str) -> bytes:
     with contextlib.suppress(OSError):
         return asked(address, get(path))
     return b""
-
-
-def await_that(is_so: Callable[[], object], words: str) -> None:
-    end = time.monotonic() + PATIENCE
-    while not is_so():
-        if time.monotonic() > end:
-            raise Trouble(f"within {PATIENCE} seconds it isn't so that {words}")
-        time.sleep(0.01)
 
 
 class Running:

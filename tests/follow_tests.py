@@ -21,7 +21,7 @@ from journals import Entry
 from made_journals import (BEHIND, DAY, JOURNAL, TOOLS, Made, contents, each_version, expect, gikvand, made, put,
                            with_byte)
 from traders import Member
-from venues import PATIENCE, Client, Trouble, Venue, free_port, running, started
+from venues import PATIENCE, Client, Trouble, Venue, await_that, free_port, running, started
 
 
 Came = tuple[int, list[str], list[str]]  # A status, and the lines of both outputs.
@@ -324,20 +324,25 @@ class Follower:
 
 
 def await_copy(path: str, size: int) -> None:
-    end = time.monotonic() + PATIENCE
-    while not os.path.exists(path) or os.path.getsize(path) < size or contents(path)[size - 1:] != b"\0":
-        if time.monotonic() > end:
-            raise Trouble(f"the copy isn't there within {PATIENCE} seconds")
-        time.sleep(0.01)
+    await_that("the copy is there",
+               lambda: os.path.exists(path) and os.path.getsize(path) >= size and contents(path)[size - 1:] == b"\0")
+
+
+def entries_in(path: str) -> int:
+    """How many entries a copy has, which may not be there yet."""
+    return len(journals.read(contents(path)).entries) if os.path.exists(path) else 0
 
 
 def followed_while_in_use() -> None:
-    """Members trade, and the follower is killed again and again: at each moment the copy is a beginning, and it catches up."""
+    """Members trade, and the follower is killed again and again, as it begins or once it has copied more: at each moment the copy
+    is a beginning, and it catches up."""
     venue = started(JOURNAL, 2)
     traders = [Member(Client(venue.port, it).socket, it, 1, 0.01) for it in (1, 2)]
     chance, seen = random.Random(1), []
-    for _ in range(6):
-        follower = Follower(JOURNAL, "the.copy")
+    for number in range(6):
+        before, follower = entries_in("the.copy"), Follower(JOURNAL, "the.copy")
+        if number % 2:
+            await_that("the copy grows", lambda: entries_in("the.copy") > before + 50)
         for _ in range(10):
             time.sleep(chance.random() * 0.05)
             if os.path.exists("the.copy"):
@@ -366,7 +371,7 @@ def a_standby() -> None:
         venue = started(JOURNAL, 1)
         follower = follower or Follower(JOURNAL, "the.copy").has_caught_up()
         trader = Member(Client(venue.port, 1).socket, 1, first, 0.01)
-        time.sleep(0.2)
+        await_that("the member is answered", lambda: trader.answered() > 50)
         if is_last:
             trader.cease()
             counts = venue.stop()

@@ -38,7 +38,7 @@ from corners import LOGON, SYMBOLS, Corner, all_corners, buy, cut, market, sell,
 from hostile_bytes import kept_difference
 from replay_rules import line_of
 from rules import Judged, sealed, told
-from venues import REPLAY, VENUED, Trouble, need_programs
+from venues import LATE, REPLAY, VENUED, Trouble, need_programs
 from wrong_package import WRONG as WRONG_PACKAGES
 from wrong_rules import WRONG
 from wrong_tools import WRONG as WRONG_TOOLS
@@ -210,10 +210,20 @@ def refused(words: list[str], wrong: str, settings: dict[str, str]) -> tuple[str
     return name, None
 
 
+def in_some_try(refuses: Callable, words: tuple) -> tuple[str, str | None]:
+    """What a run comes to, which may be no refusal in all tries but the last: where a machine stands still for a moment, who is
+    never let go seems to be."""
+    for _ in range(LATE):
+        name, why = refuses(*words)
+        if not why:
+            break
+    return name, why
+
+
 def all_refuse(runs: list[tuple], refuses: Callable = refuses) -> tuple[int, list[str]]:
     """Tries these, some side by side."""
     with concurrent.futures.ThreadPoolExecutor(TOGETHER) as pool:
-        said = list(pool.map(lambda it: refuses(*it), runs))
+        said = list(pool.map(lambda it: in_some_try(refuses, it), runs))
     return len(runs), [f"{name}: {why}" for name, why in said if why]
 
 

@@ -22,8 +22,8 @@ sys.path.insert(0, os.path.join(ROOT, "dev"))
 import with_scripts  # (in front of what stands there, and of what an older Python can't read)
 import journals
 from traders import Member, check_told, narrow_client, sip
-from venues import HOST, PATIENCE, VENUED, Client, Trouble, Venue, framed, free_port, in_a_folder, main_of, market_order
-from venues import message, order, replay, started, value
+from venues import HOST, PATIENCE, VENUED, Client, Late, Trouble, Venue, framed, free_port, in_a_folder, in_some_try
+from venues import main_of, market_order, message, order, replay, started, value
 
 UNPRINTED = re.compile(r"\|(?:8|9|34|49|56|10)=[^|]*(?=\|)")
 DAYS = ["first_trade", "time_priority", "sweep_two_levels", "fill_or_kill", "replace_and_place_in_queue",
@@ -137,7 +137,12 @@ def trades_of_eight():
 
 def two_slow_of_eight():
     """Of eight members one takes none of its reports, and one takes few: the six others lose none, and don't wait for them."""
-    venue = started(JOURNAL, 8)
+    in_some_try(lambda number: six_beside_two_slow_ones(f"{number}.journal"), "two_slow_of_eight")
+
+
+def six_beside_two_slow_ones(journal):
+    """The six trade for two seconds, in which they never wait for an answer for more than one."""
+    venue = started(journal, 8)
     deaf, slow = narrow_client(venue.port, 7), narrow_client(venue.port, 8)
     threading.Thread(target=sip, args=(slow, 0.1, []), daemon=True).start()
     traders = [Member(Client(venue.port, it).socket, it, 1, pause=0.2) for it in range(1, 7)]
@@ -151,7 +156,7 @@ def two_slow_of_eight():
     silence = max(it.silence() for it in traders)
     for it in traders:
         it.cease()
-    kept = {it.member: replay(JOURNAL, f"C{it.member}")[0] for it in traders}
+    kept = {it.member: replay(journal, f"C{it.member}")[0] for it in traders}
     for it in traders:
         awaits(it, len(kept[it.member]))
     venue.stop()
@@ -160,7 +165,7 @@ def two_slow_of_eight():
         check_told(it, told, kept[it.member])
         expect(len(told), len(kept[it.member]))
     if silence > 1:
-        raise Trouble(f"expected an answer within a second came none for {silence:.1f} s")
+        raise Late(f"expected an answer within a second came none for {silence:.1f} s")
 
 
 def awaits(trader, count):
@@ -505,16 +510,21 @@ def processor_time(process):
     return (int(user) + int(system)) / os.sysconf("SC_CLK_TCK")
 
 
+def rests(venue):
+    """It takes hardly any processor time for a while, once it has had time to fall asleep."""
+    time.sleep(FALLS_ASLEEP)
+    before = processor_time(venue.process)
+    time.sleep(A_REST)
+    if (taken := (processor_time(venue.process) - before) / A_REST) > MOST_IDLE:
+        raise Late(f"expected at most {MOST_IDLE:.0%} of a core while it idles came {taken:.0%}")
+
+
 def an_idle_venue():
     """A venue in which nothing happens, with a member that is connected and one that isn't, leaves the processor to others
     once its workers rest, and still answers."""
     venue = started(JOURNAL, 2)
     client = trades_once(venue, 1, 1)
-    time.sleep(FALLS_ASLEEP)
-    before = processor_time(venue.process)
-    time.sleep(A_REST)
-    if (taken := (processor_time(venue.process) - before) / A_REST) > MOST_IDLE:
-        raise Trouble(f"expected at most {MOST_IDLE:.0%} of a core while it idles came {taken:.0%}")
+    in_some_try(lambda _: rests(venue), "an_idle_venue")
     client.send("D", order(2, 2, 10, 50))
     hears_reports(client, "17=2|150=0|")
     expect(venue.stop(), (2, 2))

@@ -6,10 +6,10 @@ import os
 import re
 import subprocess
 import tempfile
-import time
 
 from checks import ROOT, contents, expect, ran, text_of
-from venues import PATIENCE, Trouble
+from drill_store import OPTIONS
+from venues import PATIENCE, await_that
 
 STANDBY = os.path.join(ROOT, "contrib/standby")
 STEP, SERVE, SETTINGS = (os.path.join(STANDBY, it) for it in ("before-start", "serve", "volume-settings"))
@@ -79,14 +79,6 @@ def symbols_of_the_volume() -> None:
         expect(ran(SERVE, 9001, JOURNAL, folder=folder, **environment), (2, "", "usage: serve PORT JOURNAL GATEWAYS\n"))
 
 
-def await_that(what: str, holds) -> None:
-    end = time.monotonic() + PATIENCE
-    while not holds():
-        if time.monotonic() > end:
-            raise Trouble(f"{what}: not within {PATIENCE} seconds")
-        time.sleep(0.05)
-
-
 def the_watch() -> None:
     """The venue lives as long as the watch may touch its file, and is killed once that fails."""
     with tempfile.TemporaryDirectory(prefix="standby-") as folder:
@@ -123,6 +115,14 @@ def settings_of_the_volume() -> None:
         expect(ran(SETTINGS)[0], 2)
 
 
+def options_of_the_mount() -> None:
+    """The script's text, docs/FAILOVER.md, in its words and in its line of fstab, and the drill have the same ones."""
+    found = re.compile(r"\bentry-timeout=[\w=,-]+")
+    page = text_of("docs/FAILOVER.md")
+    expect(found.findall(page), 2 * found.findall(text_of("contrib/standby/volume-settings")))
+    expect(set(found.findall(page)), {OPTIONS})
+
+
 def unit_of_a_standby() -> None:
     """What the unit asks of systemd is what docs/FAILOVER.md tells of it."""
     lines = text_of("contrib/standby/venued@.conf").splitlines()
@@ -132,4 +132,4 @@ def unit_of_a_standby() -> None:
 
 
 TESTS = [step_of_a_start, step_that_is_refused, step_writes_by_its_lock, symbols_of_the_volume, the_watch,
-         settings_of_the_volume, unit_of_a_standby]
+         settings_of_the_volume, options_of_the_mount, unit_of_a_standby]

@@ -12,7 +12,7 @@ from unittest import mock
 
 import journals
 from made_journals import JOURNAL, SYMBOLS, as_nobody, cancel, contents, each_version, expect, gikvand, made, put, with_byte
-from venues import Client, Venue, free_port, order, started
+from venues import Client, Venue, await_that, free_port, order, started
 
 
 def causes(*words: object) -> tuple[int, list[str]]:
@@ -198,9 +198,9 @@ def a_venue_watched() -> None:
     deaf.log_on()
     for name in range(1, 3000):
         deaf.send("F", cancel(name, 10 ** 9, 1, 5))
-    time.sleep(0.5)
-    found = figures_of(gikvand("watch", JOURNAL, "--prometheus", "--quick")[1])
-    expect((found[f"gikvand_member_connections{other}"], found[f"gikvand_member_unsent_bytes{other}"] > 1000), (1, True))
+    quick = ["watch", JOURNAL, "--prometheus", "--quick"]
+    await_that("reports aren't taken", lambda: figures_of(gikvand(*quick)[1])[f"gikvand_member_unsent_bytes{other}"] > 1000)
+    expect(figures_of(gikvand(*quick)[1])[f"gikvand_member_connections{other}"], 1)
     deaf.close()
     venue.stop()
     found = figures_of(gikvand("watch", JOURNAL, "--prometheus")[1])

@@ -94,6 +94,7 @@ WRONG = {
     "a watch that asks": Wrong(SERVE, 'kill -KILL "$1"', 'kill "$1"', "the_watch"),
     "symbols of nobody": Wrong(SERVE, '"${symbols[@]}"', "ABC", "symbols_of_the_volume"),
     "locks that aren't strict": Wrong(SETTINGS, "    client.strict-locks on\n", "", "settings_of_the_volume"),
+    "a mount with old bytes": Wrong("docs/FAILOVER.md", "direct-io-mode=enable 0 0", "direct-io-mode=auto 0 0", "options_of_the_mount"),
     "a standby that gives up": Wrong(STANDBY, "Restart=on-failure\n", "", "unit_of_a_standby"),
     "a standby's key that there isn't": Wrong(STANDBY, "RestartSec=500ms", "RestartSeconds=1", "services"),
     "a script that isn't found": Wrong(SCRIPT, '"../share/gikvand/scripts/gikvand"', '"../share/gikvand/gikvand"', "a_venue_of"),
