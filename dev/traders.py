@@ -66,7 +66,7 @@ class Member:
         self.got, self.number = bytearray(), 1
         self.heard_at, self.longest = time.monotonic(), 0.0
         self.has_ended = self.has_ceased = False
-        self.threads = [threading.Thread(target=it) for it in (self.read, self.write)]
+        self.threads = [threading.Thread(target=it, daemon=True) for it in (self.read, self.write)]
         for thread in self.threads:
             thread.start()
 

@@ -70,7 +70,7 @@ fn first_day_until<R: Threads + Clock + Parks + AllocGlobal + Sync>(
     let mut disk = fresh(rt.alloc())?;
     disk.fail_at(call, PARTS[(call % 3) as usize]);
     let plan = Plan::of(members, 0, call == 0);
-    play(rt, SlowDisk::new(disk, call), members, plan)
+    play(rt, SlowDisk::new(rt, disk, call), members, plan)
 }
 
 /// All that the members sent on the day stands in the journal, in the order of each, and each was told all that it was
@@ -191,7 +191,7 @@ fn second_day_behind<R: Threads + Clock + Parks + AllocGlobal + Sync + Abort>(
     let before = Ledger::of(alloc, &first.disk, fill)?;
     let members = second_day(alloc)?;
     let plan = Plan::of(&members, before.commands(), true);
-    let disk = SlowDisk::new(first.disk.crash(fill)?, 0);
+    let disk = SlowDisk::new(rt, first.disk.crash(fill)?, 0);
     let day = play(rt, disk, &members, plan)?;
     let ledger = Ledger::of(alloc, &day.disk, None)?.behind(&before);
     all_is_told(rt, &ledger, &members, &day)?;

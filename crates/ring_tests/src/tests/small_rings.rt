@@ -18,10 +18,11 @@ use std::test::Fail;
 use std::thread::{Threads, join};
 use workers::{NoGate, Parks, Signals, run};
 
-/// What each gateway orders: 1,000 times, with two reports each to one of them.
+/// What each gateway orders: 200 times, with two reports each to one of them. Where other programs keep all cores busy
+/// each order waits some ten milliseconds for its turn.
 const DAY: Day = Day {
-    each: 1_000,
-    outputs: 8_000,
+    each: 200,
+    outputs: 1_600,
 };
 
 /// The rings: two input rows and two output rows, for four gateways.
@@ -130,8 +131,8 @@ fn small_rings(rt: HostRuntime) -> Result<(), Fail> {
     assert_eq!(rt;
         close_behind(&rt, rt.alloc())?,
         Some(Summary {
-            commands: 4_000,
-            outputs: 8_000
+            commands: 800,
+            outputs: 1_600
         })
     );
     Ok(())

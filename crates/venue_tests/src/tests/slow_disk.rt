@@ -1,37 +1,42 @@
 //! A disk of which one call takes long, so that who doesn't wait for it goes on meanwhile.
 
 use disks::{DiskFailed, JournalDisk};
+use std::rt::Clock;
 use std::thread;
+use std::time::Duration;
 
-/// How often that call lets others run before it does what it is asked.
-const LONG: u32 = 2_000;
+/// How long that call sleeps before it does what it is asked, in microseconds.
+const LONG: u64 = 1_000;
 
 /// A disk of which one call takes long.
 #[derive(Drop)]
-pub struct SlowDisk<D: JournalDisk> {
+pub struct SlowDisk<'a, D: JournalDisk, C: Clock> {
     pub disk: D,
+    clock: &'a C,
     /// Which call that is from now on, 1 for the next one; none where it is 0.
     until: u64,
 }
 
-impl<D: JournalDisk> SlowDisk<D> {
+impl<'a, D: JournalDisk, C: Clock> SlowDisk<'a, D, C> {
     /// The nth call of this disk from now is to take long, or none where n is 0.
-    pub fn new(disk: D, n: u64) -> SlowDisk<D> {
-        SlowDisk { disk, until: n }
+    pub fn new(clock: &'a C, disk: D, n: u64) -> SlowDisk<'a, D, C> {
+        SlowDisk {
+            disk,
+            clock,
+            until: n,
+        }
     }
 }
 
-/// Counts a call, and lets others run if it is the one that takes long.
-fn take_time(until: &mut u64) {
+/// Counts a call, and sleeps if it is the one that takes long.
+fn take_time(clock: &impl Clock, until: &mut u64) {
     if *until == 1 {
-        for _ in 0..LONG {
-            thread::yield_now();
-        }
+        thread::sleep(clock, Duration::from_micros(LONG));
     }
     *until = until.saturating_sub(1);
 }
 
-impl<D: JournalDisk> JournalDisk for SlowDisk<D> {
+impl<D: JournalDisk, C: Clock> JournalDisk for SlowDisk<'_, D, C> {
     ghost honest = { λ slow. D.honest slow.disk };
 
     ghost tells = { λ slow. D.tells slow.disk };
@@ -39,17 +44,17 @@ impl<D: JournalDisk> JournalDisk for SlowDisk<D> {
     ghost failed = { λ slow. D.failed slow.disk };
 
     fn read(&mut self, at: u64, buf: &mut [u8]) -> Result<usize, DiskFailed> {
-        take_time(&mut self.until);
+        take_time(self.clock, &mut self.until);
         self.disk.read(at, buf)
     }
 
     fn write_at(&mut self, at: u64, bytes: &[u8]) -> Result<(), DiskFailed> {
-        take_time(&mut self.until);
+        take_time(self.clock, &mut self.until);
         self.disk.write_at(at, bytes)
     }
 
     fn sync(&mut self) -> Result<(), DiskFailed> {
-        take_time(&mut self.until);
+        take_time(self.clock, &mut self.until);
         self.disk.sync()
     }
 

@@ -56,13 +56,13 @@ fn ports_of(alloc: Global, members: &[Member; 4]) -> Result<Vec<Box<MemPort>>, A
 /// Lets the venue serve these members over this disk, until all that is planned is told.
 pub fn play<R: Threads + Clock + Parks + AllocGlobal + Sync>(
     rt: &R,
-    disk: SlowDisk<MemDisk>,
+    disk: SlowDisk<MemDisk, R>,
     members: &[Member; 4],
     plan: Plan,
 ) -> Result<Day, Fail> {
     let ports = ports_of(rt.alloc(), members)?;
     let limits = limits(rt.alloc())?;
-    Ok(listen_until_over(rt, limits, ports, disk, &Usher::new(plan)))
+    Ok(listen_until_over(rt, limits, ports, disk, &Usher::new(rt, plan)))
 }
 
 /// Lets the venue serve at these ports until the usher says that the day is over.
@@ -70,8 +70,8 @@ fn listen_until_over<R: Threads + Clock + Parks + AllocGlobal + Sync>(
     rt: &R,
     limits: Limits,
     ports: Vec<Box<MemPort>>,
-    disk: SlowDisk<MemDisk>,
-    usher: &Usher,
+    disk: SlowDisk<MemDisk, R>,
+    usher: &Usher<R>,
 ) -> Day
     requires count { vec_len ports ≡ 4 }
     requires free { AreFree (in_box told_register) ports.items }

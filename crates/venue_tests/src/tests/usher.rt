@@ -2,8 +2,10 @@
 //! schedule, and sees when all is told. It lets nobody wait for ever.
 
 use super::clients::Member;
+use std::rt::Clock;
 use std::sync::atomic::{AtomicBool, AtomicU64, Ordering};
 use std::thread;
+use std::time::Duration;
 use venue::StopSign;
 use workers::{Gate, Station};
 
@@ -35,14 +37,18 @@ const WHILE_RESTING: u64 = 4;
 /// In so many looks, some milliseconds apart.
 const LOOKS: u64 = 60;
 
-/// How often a gateway that waits lets others run at most, on a day on which nothing is to fail.
-const PATIENCE: u64 = 10_000_000;
+/// How long who waits sleeps between two looks, in microseconds. Who only lets others run waits for longer where other
+/// programs keep the cores busy: each time until all of those have had their share.
+const NAP: u64 = 50;
+
+/// How often a gateway that waits looks at most, on a day on which nothing is to fail.
+const PATIENCE: u64 = 100_000;
 
 /// The same on a day on which the disk is to fail: then what it waits for may never come.
-const LITTLE_PATIENCE: u64 = 20_000;
+const LITTLE_PATIENCE: u64 = 200;
 
-/// How often the journaller lets others run behind each of its turns, also where its journal has failed.
-const LINGERING: u64 = 100;
+/// How many naps the journaller takes behind each turn in which it handed something on.
+const LINGERING: u64 = 4;
 
 /// How often the venue asks at most whether it is to stop: for some ten seconds.
 const MOST_LOOKS: u64 = 2_000;
@@ -54,7 +60,7 @@ pub struct Plan {
     early: u64,
     /// How many there are in the end.
     all: u64,
-    /// How often a gateway that waits lets others run at most.
+    /// How often a gateway that waits looks at most.
     patience: u64,
 }
 
@@ -76,13 +82,16 @@ impl Plan {
 
 /// What the usher has seen.
 #[derive(Drop)]
-pub struct Usher {
+pub struct Usher<'a, C: Clock> {
+    clock: &'a C,
     plan: Plan,
     /// Which workers have come: a bit for each, by its number.
     here: AtomicU64,
     /// How many turns the journaller began, and ended.
     begun: AtomicU64,
     ended: AtomicU64,
+    /// What it has handed on: the next sequence.
+    journalled: AtomicU64,
     /// How many commands are processed, and how many were when the marshaller's turn began.
     processed: AtomicU64,
     telling: AtomicU64,
@@ -115,14 +124,16 @@ fn counts() -> [AtomicU64; 4] {
     ]
 }
 
-impl Usher {
+impl<'a, C: Clock> Usher<'a, C> {
     /// Nobody has passed by yet.
-    pub fn new(plan: Plan) -> Usher {
+    pub fn new(clock: &'a C, plan: Plan) -> Usher<'a, C> {
         Usher {
+            clock,
             plan,
             here: AtomicU64::new(0),
             begun: AtomicU64::new(0),
             ended: AtomicU64::new(0),
+            journalled: AtomicU64::new(0),
             processed: AtomicU64::new(0),
             telling: AtomicU64::new(0),
             early_told: AtomicBool::new(false),
@@ -171,6 +182,11 @@ impl Usher {
         }
     }
 
+    /// Lets the others go on for so many naps.
+    fn nap(&self, naps: u64) {
+        thread::sleep(self.clock, Duration::from_micros(naps.saturating_mul(NAP)));
+    }
+
     /// Waits until the gateway may begin its turn of this number, or its patience is at an end.
     fn wait(&self, gateway: usize, turn: u64) {
         let begun = self.begun.load(Ordering::SeqCst);
@@ -178,16 +194,17 @@ impl Usher {
             if self.all_told.load(Ordering::SeqCst) || self.may_begin(gateway, turn, begun) {
                 return;
             }
-            thread::yield_now();
+            self.nap(1);
         }
     }
 
-    /// The journaller has had its turn. What it has handed on is told, before all are to end where its journal has
-    /// failed.
-    fn linger(&self) {
+    /// The journaller has had its turn, and this is its next sequence. What it has handed on is told, before all are to
+    /// end where its journal has failed.
+    fn linger(&self, seq: u64) {
         self.ended.fetch_add(1, Ordering::SeqCst);
-        for _ in 0..LINGERING {
-            thread::yield_now();
+        if self.journalled.load(Ordering::SeqCst) != seq {
+            self.journalled.store(seq, Ordering::SeqCst);
+            self.nap(LINGERING);
         }
     }
 
@@ -210,14 +227,15 @@ impl Usher {
 
     /// A gateway has had its turn of this number.
     fn count(&self, gateway: usize, turn: u64) {
-        self.turns[gateway % 4].store(turn, Ordering::SeqCst);
+        let (turns, settled) = (&self.turns, &self.settled);
+        turns[gateway % 4].store(turn, Ordering::SeqCst);
         if self.all_told.load(Ordering::SeqCst) {
-            self.settled[gateway % 4].fetch_add(1, Ordering::SeqCst);
+            settled[gateway % 4].fetch_add(1, Ordering::SeqCst);
         }
     }
 }
 
-impl Gate for Usher {
+impl<C: Clock> Gate for Usher<'_, C> {
     fn enter(&self, worker: Station, seq: u64) {
         let number = number_of(worker);
         self.here.fetch_or(1 << (number % 8), Ordering::SeqCst);
@@ -234,7 +252,7 @@ impl Gate for Usher {
     fn leave(&self, worker: Station, seq: u64) {
         match worker {
             Station::Gateway(_) => self.count(number_of(worker), seq),
-            Station::Journaller => self.linger(),
+            Station::Journaller => self.linger(seq),
             Station::Processor => self.processed.store(seq, Ordering::SeqCst),
             Station::Marshaller => self.end_telling(),
             Station::Unmarshaller => {}
@@ -254,16 +272,16 @@ fn have_taken_all(before: &[u64; 4], turns: &[u64; 4]) -> bool {
 
 /// The venue is to stop when the usher has seen that the day is over, or behind so many looks.
 #[derive(Drop)]
-pub struct WhenOver<'a> {
-    usher: &'a Usher,
+pub struct WhenOver<'a, C: Clock> {
+    usher: &'a Usher<'a, C>,
     looks: u64,
     /// How many turns each gateway had had since all was told, some looks ago.
     before: [u64; 4],
 }
 
-impl<'a> WhenOver<'a> {
+impl<'a, C: Clock> WhenOver<'a, C> {
     /// The venue hasn't asked yet.
-    pub fn of(usher: &'a Usher) -> WhenOver<'a> {
+    pub fn of(usher: &'a Usher<'a, C>) -> WhenOver<'a, C> {
         WhenOver {
             usher,
             looks: 0,
@@ -272,7 +290,7 @@ impl<'a> WhenOver<'a> {
     }
 }
 
-impl StopSign for WhenOver<'_> {
+impl<C: Clock> StopSign for WhenOver<'_, C> {
     fn clear(&mut self) {}
 
     fn is_up(&mut self) -> bool {
