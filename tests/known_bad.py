@@ -210,7 +210,7 @@ def refused(words: list[str], wrong: str, settings: dict[str, str]) -> tuple[str
     return name, None
 
 
-def in_some_try(refuses: Callable, words: tuple) -> tuple[str, str | None]:
+def refused_in_some_try(refuses: Callable, words: tuple) -> tuple[str, str | None]:
     """What a run comes to, which may be no refusal in all tries but the last: where a machine stands still for a moment, who is
     never let go seems to be."""
     for _ in range(LATE):
@@ -223,7 +223,7 @@ def in_some_try(refuses: Callable, words: tuple) -> tuple[str, str | None]:
 def all_refuse(runs: list[tuple], refuses: Callable = refuses) -> tuple[int, list[str]]:
     """Tries these, some side by side."""
     with concurrent.futures.ThreadPoolExecutor(TOGETHER) as pool:
-        said = list(pool.map(lambda it: in_some_try(refuses, it), runs))
+        said = list(pool.map(lambda it: refused_in_some_try(refuses, it), runs))
     return len(runs), [f"{name}: {why}" for name, why in said if why]
 
 
