@@ -88,7 +88,7 @@ def browsers() -> None:
 def slow_browsers() -> None:
     """One that takes nothing, and one that stops within its request or sends it byte by byte, is let go in time."""
     shown, count = pages.Shown(), itertools.count()
-    with mock.patch.object(pages, "PATIENCE", 0.5), mock.patch.object(pages.Handler, "timeout", 0.5), \
+    with mock.patch.object(pages, "PATIENCE", 2), mock.patch.object(pages.Handler, "timeout", 2), \
             mock.patch.object(pages, "A_SIGN", 0.1), pages.serving(0, PAGE, shown) as address:
         idle = [socket.create_connection((HOST, port_in(address)), PATIENCE) for _ in range(5)]
         idle[0].sendall(b"GET /")
