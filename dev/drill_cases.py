@@ -25,12 +25,17 @@ def killed(drill: Drill, machine: Machine) -> str:
     unit, standbys, traders = at_work(drill, machine, drill.words())
     with looked_at([drill.store.journal(it.machine) for it in standbys]):
         await_answers(traders, ENOUGH)
-        since = time.monotonic()
-        unit.end()
-        new = drill.goes_on(standbys, since)
+        return kill(drill, unit, standbys, traders, "a killed process")
+
+
+def kill(drill: Drill, unit: Unit, standbys: list[Unit], traders: list[Member], what: str) -> str:
+    """Kills the process, and lets members trade at the machine that goes on: what was seen."""
+    since = time.monotonic()
+    unit.end()
+    new = drill.goes_on(standbys, since)
     drill.check(new.machine, traders)
     drill.end(new, drill.traded_on(new))
-    return drill.took("a killed process: the next machine is ready after", new.ready(since) - since)
+    return drill.took(f"{what}: the next machine is ready after", new.ready(since) - since)
 
 
 def looked(drill: Drill, machine: Machine) -> str:
@@ -49,12 +54,7 @@ def looked(drill: Drill, machine: Machine) -> str:
         contents(drill.store.journal(it.machine))
     os.remove(HOLD)
     cease(traders)
-    since = time.monotonic()
-    unit.end()
-    new = drill.goes_on(standbys, since)
-    drill.check(new.machine, traders)
-    drill.end(new, drill.traded_on(new))
-    return drill.took("killed behind a look: the next machine is ready after", new.ready(since) - since)
+    return kill(drill, unit, standbys, traders, "killed behind a look")
 
 
 def dies(drill: Drill, machine: Machine) -> str:
