@@ -13,8 +13,9 @@ Citations stand in backquotes, in each item `- **Clauses**:` and in the section 
     (`one`, `two`)                  right behind a function or a trait: clauses of it, or conditions
     (`one`: `Record` with `two`)    behind a colon, up to a semicolon: definitions, and fields of these
 
-The wrong bodies in each item `- **Refused**:` are edits that there are. And each edit that there is stands in the list
-that `dev/edits --promises` prints, under the function that it changes.
+The wrong bodies in each item `- **Refused**:` are edits that there are. The table in the section "Tried at every check"
+has just those in must-fail, each with a function of its crate, public or not, and clauses of that. And each edit that
+there is stands in the list that `dev/edits --promises` prints, under the function that it changes.
 
 Each citation that isn't there has a line of its own; the last line is `N passed, M failed`, and the status is 1 where
 one failed. The benchmarks promise nothing and aren't looked at.
@@ -44,11 +45,13 @@ FIELD = re.compile(r"( *)pub (\w+) :")
 PROMISE = re.compile(r"## \d+\. ")
 CLAUSES = "- **Clauses**:"
 REFUSED = "- **Refused**:"
+TRIED = "## Tried at every check"
 PARTS = "## The parts, by crate"
 CRATE = re.compile(r"\*\*`(\w+)`\*\*$")
 CITATION = re.compile(r"`([^`]+)`(?:\s+\(([^()]*)\))?")
 QUOTED = re.compile(r"`([^`]+)`")
 EDIT = re.compile(r"`([a-z]\w*)`")
+ROW = re.compile(r"\| `(\w+)/(\w+)` \| .+ \| `([\w:]+)`(?: \(([^()]*)\))? \|$")
 
 
 class Function:
@@ -132,6 +135,12 @@ class Sources:
         """Whether the free function is one of the crate's, or one that it names on; any is where no crate is given."""
         return crate in (None, function.crate) or (crate, function.crate, function.name) in self.named_on
 
+    def inner(self, name, crate):
+        """The functions of a crate that a citation may mean, public or not."""
+        word, _, name = name.rpartition("::")
+        named = [it for it in self.functions if it.crate == crate and it.name == name]
+        return [it for it in named if it.stands_in(word)] if word else named
+
     def trait(self, name):
         """The clauses of a trait as a type keeps it, or None where it doesn't."""
         trait, _, owner = name.partition(" for ")
@@ -185,6 +194,15 @@ class Check:
                 self.count(line, None if has else f"`{name}`: no definition or field `{it}` behind {head.strip()}")
 
 
+    def read_row(self, line, crate, name, clauses):
+        """What the table says of a wrong body of this crate: a function, or one that it calls, and clauses of that."""
+        them = self.sources.inner(name, crate) or self.sources.function(name, None, None)
+        self.count(line, None if len(them) == 1 else f"{crate} has {len(them)} functions `{name}`")
+        for clause in QUOTED.findall(clauses or ""):
+            has = any(clause in it.clauses for it in them)
+            self.count(line, None if has else f"`{name}` of {crate} has no clause `{clause}`")
+
+
 def root_of(crate):
     """The file that a crate begins with."""
     return "lib.rt" if os.path.exists(f"{ROOT}/crates/{crate}/src/lib.rt") else "main.rt"
@@ -219,6 +237,20 @@ def refused_in(lines):
             yield from ((number, name) for name in EDIT.findall(line))
 
 
+def tried_in(lines):
+    """The rows of the table of those that are tried at every check, with the number of the line that each is on."""
+    section = ""
+    for number, line in enumerate(lines, 1):
+        section = line if line.startswith("## ") else section
+        if section == TRIED and line.startswith("| `"):
+            yield number, ROW.match(line)
+
+
+def in_must_fail():
+    """The crate and the name of each edit in must-fail."""
+    return {(it.split("/")[-3], os.path.basename(it)[:-5]) for it in glob.glob(f"{ROOT}/crates/*/must-fail/*.edit")}
+
+
 def edits():
     """The names of all edits, and those that the list of edits by function has too seldom or too often."""
     there = collections.Counter(os.path.basename(it)[:-5] for it in glob.glob(f"{ROOT}/crates/*/*/*.edit"))
@@ -243,6 +275,13 @@ def main():
     known, unlisted = edits()
     for number, name in refused_in(lines):
         check.count(number, None if name in known else f"no wrong body `{name}`")
+    left = in_must_fail()
+    for number, row in tried_in(lines):
+        check.count(number, None if row and (row[1], row[2]) in left else "no row of an edit in must-fail, or its second")
+        if row:
+            left.discard((row[1], row[2]))
+            check.read_row(number, row[1], row[3], row[4])
+    check.count(1, f"no row in '{TRIED}': {', '.join(sorted(map('/'.join, left)))}" if left else None)
     check.count(1, f"not listed by function as they are: {', '.join(unlisted)}" if unlisted else None)
     for line, fault in check.faults:
         print(f"{os.path.relpath(path)}:{line}: {fault}")

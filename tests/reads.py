@@ -27,7 +27,7 @@ LISTEN = ("listen", "--clause", "ends")
 LEAST, MOST = (250, 30), (600, 100)
 
 # The record of the headline, and the chapters that it leaves to themselves: each is a page.
-RECORDS = (("listen", "--clause", "seen"), ("serve", "--clause", "seen"))
+RECORDS = (("listen", "--clause", "seen"), ("venue::serve", "--clause", "seen"))
 CHAPTERS = ("gateway::Standing::At", "outputs_of", "state_of", "texts_to", "IsJournal", "HasCut", "HasTrueSnapshots",
             "gateway::Standing::Standing")
 A_PAGE = ("--most", "250", "20")

@@ -4,13 +4,31 @@
 //   c++ -O2 -std=c++14 -o /tmp/serve_twin dev/twins/serve.cpp
 //   /tmp/serve_twin - JOURNAL 1 SYMBOL... <in >out
 //
-// It makes the calls that venued makes: it reads up to 4,096 bytes once all that came before is answered, keeps each order as a
-// block of its own, with two syncs, and writes each report by a call of its own. There are no rings and no stages: an order is
-// framed, decoded, kept, booked and told by one thread, and its bytes are walked once. It leaves out what no session shows: the
-// lock on the journal, snapshots, and waiting for a client that takes nothing.
+// It makes the calls that venued makes: it reads up to 16,384 bytes, looks at 512 of them at most once all that came before is
+// answered, keeps each order as a block of its own, with two syncs, and writes each report by a call of its own. There are no
+// rings and no stages: an order is framed, decoded, kept, booked and told by one thread, and its bytes are walked once. It
+// leaves out what no session shows: the lock on the journal, snapshots, and waiting for a client that takes nothing.
 #include "venue.h"
 
-constexpr size_t A_READ = 4096;
+constexpr size_t A_LOOK = 512, A_READ = 16384;
+
+// Standard input, read ahead.
+struct Input {
+    std::vector<u8> bytes = std::vector<u8>(A_READ);
+    size_t from = 0, upto = 0;
+
+    // The next bytes, or none at the end.
+    size_t next(u8 *to) {
+        if (from == upto) {
+            ssize_t count = read(0, bytes.data(), A_READ);
+            from = 0, upto = count <= 0 ? 0 : count;
+        }
+        size_t count = std::min(upto - from, A_LOOK);
+        memcpy(to, bytes.data() + from, count);
+        from += count;
+        return count;
+    }
+};
 
 // The outputs that wait for a turn of the session, as bodies.
 struct Queue {
@@ -53,7 +71,8 @@ struct Serving {
     Session session;
     Queue queue;
     u64 entries;
-    std::vector<u8> in = std::vector<u8>(LONGEST + A_READ + 8);
+    Input input;
+    std::vector<u8> in = std::vector<u8>(LONGEST + A_LOOK + 8);
     size_t have = 0, at = 0;
     Frame frame;
     Header header;
@@ -80,8 +99,8 @@ struct Serving {
             if (!queue.is_empty()) return;
             memmove(in.data(), in.data() + at, have - at);
             have -= at, at = 0;
-            ssize_t count = read(0, in.data() + have, A_READ);
-            is_closed = count <= 0, have += is_closed ? 0 : count;
+            size_t count = input.next(in.data() + have);
+            is_closed = count == 0, have += count;
             read_frame(in.data(), (u32)have, frame);
             if (frame.length == 0 && !frame.fault) return;
         }

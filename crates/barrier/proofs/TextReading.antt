@@ -20,7 +20,7 @@ use Rattle.ring_words.specs.Seats.{load_of, loading, looked}
 use Rattle.ring_words.specs.At.{At, seated}
 use Rattle.ring_words.specs.Steps.{Shows}
 use Rattle.ring_words.specs.RawLaws.{word_bytes}
-use Rattle.barrier.specs.declared.taking.Head.{Head}
+use Rattle.barrier.specs.declared.taken.Head.{Head}
 use Rattle.barrier.specs.Taking.{OnlyLoads, IsTextHead, Carries}
 
 -- a load shows the same after more loads

@@ -11,9 +11,9 @@ use Rattle.ring_words.specs.Places.{marshalled}
 use Rattle.ring_words.specs.Seats.{load_of, loading}
 use Rattle.ring_words.specs.At.{At, Steps, number}
 use Rattle.ring_words.specs.Steps.{IsLegal}
-use Rattle.barrier.specs.declared.taking.Head.{Head}
-use Rattle.barrier.specs.declared.taking.Take.{Take}
-use Rattle.barrier.specs.declared.taking.Take.TheVariants.{Mine, Passed, Nothing}
+use Rattle.barrier.specs.declared.taken.Head.{Head}
+use Rattle.barrier.specs.declared.taken.Take.{Take}
+use Rattle.barrier.specs.declared.taken.Take.TheVariants.{Mine, Passed, Nothing}
 
 -- the gateway knows this history, made these loads, and took one output more or passed it over
 abbrev pub after_taking : Person → List Message → List Load → Person
@@ -33,8 +33,8 @@ pub record TakesNext (start : ℕ) (p : Person) (history : List Message) (q : Pe
 
 -- the head is the text's
 pub record IsTextHead (head : Head) (t : Text) : Type 0 where
-  pub msg_type : head.msg_type ≡ t.msg_type
-  pub sending_time : head.sending_time ≡ t.sending_time
+  pub kind : head.kind ≡ t.msg_type
+  pub time : head.time ≡ t.sending_time
   pub len : head.len ≡ length t.body
 
 -- head and body are the text

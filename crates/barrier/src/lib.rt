@@ -6,6 +6,7 @@ mod availability;
 mod commands;
 mod outputs;
 mod reading;
+mod taken;
 mod taking;
 
 pub use availability::{available, commands_available};
@@ -16,4 +17,5 @@ pub use ring_words::{
     copy_output, outputs_available, read_output, release, release_kept, release_marshalled,
     release_written,
 };
-pub use taking::{Head, Take, take_output};
+pub use taken::{Head, Take};
+pub use taking::take;

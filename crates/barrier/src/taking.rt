@@ -10,28 +10,9 @@ ghost use Rattle.ring_words.specs.At.{IsAt, SamePlace};
 ghost use Rattle.ring_words.specs.Steps.{Shows};
 ghost use Rattle.barrier.specs.Taking.{OnlyLoads, IsTextHead, Carries, TakesNext, SaysOutput};
 
+use crate::taken::{Head, Take};
 use ring_words::{GatewaySeat, Rings, TextHead};
-use venue_model::{LONGEST_MESSAGE, Logic, OutputType};
-
-/// What stands in front of an output's body: MsgType (35), SendingTime (52) as the number of its 14 digits, and how
-/// many bytes the body has, at most 320.
-#[derive(Clone, Copy, Debug, PartialEq, Eq)]
-pub struct Head {
-    pub msg_type: OutputType,
-    pub sending_time: u64,
-    pub len: usize,
-}
-
-/// What came of a look at the next output.
-#[derive(Clone, Copy, Debug, PartialEq, Eq)]
-pub enum Take {
-    /// It goes to this gateway's client; its body stands at the buffer's front.
-    Mine(Head),
-    /// It goes to another's client, and is passed over.
-    Passed,
-    /// There is none yet: the marshalled word that was loaded in this call showed none.
-    Nothing,
-}
+use venue_model::{LONGEST_MESSAGE, Logic};
 
 /// Loads the words in front of the body. A length above 320 isn't one of a text, and is cut.
 fn read_head<L: Logic, const N: usize, const M: usize, const G: usize>(
@@ -48,10 +29,10 @@ fn read_head<L: Logic, const N: usize, const M: usize, const G: usize>(
         → IsTextHead result (L.text rings.now.logic o place) }
 {
     let TextHead { msg_type, len } = TextHead::from_word(rings.load_text(seat, place, 0));
-    let sending_time = rings.load_text(seat, place, 1);
+    let time = rings.load_text(seat, place, 1);
     Head {
-        msg_type,
-        sending_time,
+        kind: msg_type,
+        time,
         len: len.min(LONGEST_MESSAGE),
     }
 }
@@ -83,7 +64,7 @@ fn read_text<L: Logic, const N: usize, const M: usize, const G: usize>(
 /// output of one history. That history is legal for this gateway, it begins with what the gateway had seen, and the
 /// gateway has seen it afterwards. Where the marshalled word shows no output, the load of that word is all that is
 /// done. Behind the body the buffer's bytes are unspecified. Takes no memory and never waits.
-pub fn take_output<L: Logic, const N: usize, const M: usize, const G: usize>(
+pub fn take<L: Logic, const N: usize, const M: usize, const G: usize>(
     rings: &Rings<L, N, M, G>,
     seat: &mut GatewaySeat<L>,
     buf: &mut [u8; LONGEST_MESSAGE],
@@ -98,11 +79,11 @@ pub fn take_output<L: Logic, const N: usize, const M: usize, const G: usize>(
     if rings.load_marshalled(seat) <= place {
         return Take::Nothing;
     }
-    let take = if rings.load_address(seat, place) == seat.number() {
+    let answer = if rings.load_address(seat, place) == seat.number() {
         Take::Mine(read_text(rings, seat, place, buf))
     } else {
         Take::Passed
     };
     rings.store_taken(seat);
-    take
+    answer
 }

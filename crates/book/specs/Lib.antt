@@ -17,3 +17,4 @@ pub mod Rows
 pub mod Snapshots
 pub mod TrueSnapshots
 pub mod Spelled
+pub mod RestoreNumber

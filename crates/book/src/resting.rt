@@ -48,7 +48,7 @@ impl RestingOrders {
         requires { length symbols.now ≤ 8 }
         ensures { IfOk result (λ made. made.0 ≡ []) }
     {
-        let (levels, counter) = Levels::make(alloc, symbols, MOST_RESTING)?;
+        let (levels, counter) = Levels::new(alloc, symbols, MOST_RESTING)?;
         let index = OrderIndex::new(alloc)?;
         let orders = RestingOrders {
             levels,

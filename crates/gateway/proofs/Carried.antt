@@ -4,7 +4,7 @@ use Rattle.fix_orders.specs.Formats.{time_text}
 use Rattle.fix_orders.specs.Text.{msg_type_code, text, text_bytes}
 use Rattle.venue_model.specs.declared.outputs.Output.{Output}
 use Rattle.book.specs.Laws.{TellsFields}
-use Rattle.barrier.specs.declared.taking.Head.{Head}
+use Rattle.barrier.specs.declared.taken.Head.{Head}
 use Rattle.barrier.specs.Taking as taking
 use Rattle.gateway.specs.Ledgers.{CarriesSaid}
 
@@ -13,8 +13,8 @@ pub carried : (head : Head) (body : List ℕ) (o : Output) (place : ℕ) → Tel
     → taking.Carries head body (text_bytes o place)
     → CarriesSaid head body (text o place)
 carried head body o place fields read = record {
-  type = ap msg_type_code (sym read.head_is.msg_type);
-  time = ap time_text (sym read.head_is.sending_time);
+  type = ap msg_type_code (sym read.head_is.kind);
+  time = ap time_text (sym read.head_is.time);
   bytes = sym read.body;
   fields = fields place;
   most = read.most;

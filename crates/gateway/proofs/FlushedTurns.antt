@@ -18,7 +18,7 @@ use Rattle.gateway.specs.Turns.{World, world, Front, Moved, nothing_moved, Takes
 use Rattle.gateway.specs.Turns.{EndedBy, Means, CountsTurns}
 use Rattle.gateway.specs.Turns.{Attends, Turn}
 use Rattle.gateway.specs.TurnParts.{Stuck, StuckSo}
-use Rattle.gateway.proofs.StepLemmas.{flush-step}
+use Rattle.gateway.proofs.StepLemmas.{flush-step, handles-none}
 
 -- no outputs are taken
 pub no_takes : (on : Bool) (old new : Front) (desk desk' : Ledger) → desk'.taken ≡ desk.taken → new.passed ≡ old.passed
@@ -86,21 +86,22 @@ unloaded desk (ls, is, rest, loads) =
 module _ (old : Front) (session : Standing) (wire wire' : Told) (desk : Ledger) (put : List ℕ)
     (split : old.session.outgoing ≡ put ++ session.outgoing)
     (session_is : session ≡ record old.session { outgoing = session.outgoing })
-    (gave : wire'.gave ≡ wire.gave) (took : wire'.took ≡ grown wire.took put) (ends : wire'.ends ≡ wire.ends) (deaf : ℕ)
-    (live : Bool) where
+    (gave : wire'.gave ≡ wire.gave) (took : wire'.took ≡ grown wire.took put) (ends : wire'.ends ≡ wire.ends)
+    (deaf idle : ℕ) (live : Bool) where
+  abbrev flushed-front : Front
+  flushed-front = record old { session = session; deaf = deaf; idle = idle; live = live }
+
   flushed-turn : (answer : Turned) → (wire'.failures ≢ wire.failures → answer ≡ Ended WireFailed) →
-      Attends (world old wire desk) (world (record old { session = session; deaf = deaf; live = live }) wire' desk)
-      (record nothing_moved { put = put }) →
-      Means (world old wire desk) (world (record old { session = session; deaf = deaf; live = live }) wire' desk)
-      (record nothing_moved { put = put }) answer →
-      CountsTurns (world old wire desk) (world (record old { session = session; deaf = deaf; live = live }) wire' desk)
-      (record nothing_moved { put = put }) answer →
-      Turn (world old wire desk) (world (record old { session = session; deaf = deaf; live = live }) wire' desk) answer
+      Attends (world old wire desk) (world flushed-front wire' desk) (record nothing_moved { put = put }) →
+      Means (world old wire desk) (world flushed-front wire' desk) (record nothing_moved { put = put }) answer →
+      CountsTurns (world old wire desk) (world flushed-front wire' desk) (record nothing_moved { put = put }) answer →
+      Turn (world old wire desk) (world flushed-front wire' desk) answer
   flushed-turn answer fails attends means counts = record {
     moved = record nothing_moved { put = put };
     step = flush-step old.session session old.waiting put wire wire' desk split session_is gave took;
-    takes = no_takes session.logged_on old (record old { session = session; deaf = deaf; live = live }) desk desk refl
-        refl;
+    few = omega arith;
+    one = handles-none old.session session (ap (λ (s : Standing). s.accepted) session_is);
+    takes = no_takes session.logged_on old flushed-front desk desk refl refl;
     means = means;
     counts = counts;
     attends = attends;
@@ -128,6 +129,7 @@ over-counts old new wire wire' desk desk' m answer over deaf idle all closes = r
   wrote = λ live. absurd (true≢false (sym live ∙ over));
   wrote_all = λ live. absurd (true≢false (sym live ∙ over));
   took = λ live. absurd (true≢false (sym live ∙ over));
+  stuck = λ left. idle;
 }
 
 -- the wire failed in the flush
@@ -138,7 +140,7 @@ pub turn-failed : (old : Front) (session : Standing) (wire wire' : Told) (desk :
 turn-failed old session wire wire' desk session_is (put, split, (rose, tells)) =
     flushed-turn old session wire wire' desk put split session_is (ap (λ (t : Told). t.gave) tells)
     (ap (λ (t : Told). t.took) tells) (ap (λ (t : Told). t.ends) tells)
-    old.deaf false (Ended WireFailed) (λ more. refl)
+    old.deaf old.idle false (Ended WireFailed) (λ more. refl)
     (over-attends old (record old { session = session; live = false }) wire wire' desk desk
     (record nothing_moved { put = put }) refl) (rose, refl)
     (over-counts old (record old { session = session; live = false }) wire wire' desk desk
@@ -175,11 +177,11 @@ stuck-means old new wire wire' desk put wrote (Ended reason) split left live wro
 
 -- what the stuck part says of the gateway before the flush, and of its end
 stuck-so : (old : Front) (session : Standing) (new : Front) (wrote : Bool) (answer : Turned)
-    → Stuck (record old { session = session }) new wrote answer →
-    StuckSo old (record old { session = session; deaf = new.deaf; live = new.live }) wrote answer
-stuck-so old session new wrote Worked stuck = stuck.so
-stuck-so old session new wrote Quiet stuck = stuck.so
-stuck-so old session new wrote (Ended reason) stuck = stuck.so
+    (idle : ℕ) → Stuck (record old { session = session; idle = idle }) new wrote answer →
+    StuckSo old (record old { session = session; deaf = new.deaf; idle = idle; live = new.live }) wrote answer
+stuck-so old session new wrote Worked idle stuck = stuck.so
+stuck-so old session new wrote Quiet idle stuck = stuck.so
+stuck-so old session new wrote (Ended reason) idle stuck = stuck.so
 
 -- the counts of a turn that couldn't write all
 stuck-counts : (old new : Front) (wire wire' : Told) (desk : Ledger) (put : List ℕ) (wrote : Bool) (answer : Turned) →
@@ -197,6 +199,7 @@ stuck-counts old new wire wire' desk put wrote Worked split left idle wrote_is r
   wrote = λ live some. so.2;
   wrote_all = λ live some all. absurd (left (no_rest put new.session.outgoing (all ∙ split)));
   took = λ live more. no_more desk _ more;
+  stuck = λ rests. idle;
 }
 stuck-counts old new wire wire' desk put wrote Quiet split left idle wrote_is rose so =
     let none = wrote_none old.session.outgoing put new.session.outgoing split (sym wrote_is ∙ so.1) in record {
@@ -207,6 +210,7 @@ stuck-counts old new wire wire' desk put wrote Quiet split left idle wrote_is ro
       wrote = λ live some. absurd (some none);
       wrote_all = λ live some all. absurd (some none);
       took = λ live more. no_more desk _ more;
+      stuck = λ rests. idle;
     }
 stuck-counts old new wire wire' desk put wrote (Ended reason) split left idle wrote_is rose so =
     let none = wrote_none old.session.outgoing put new.session.outgoing split (sym wrote_is ∙ so.3) in record {
@@ -217,6 +221,7 @@ stuck-counts old new wire wire' desk put wrote (Ended reason) split left idle wr
       wrote = λ live some. absurd (some none);
       wrote_all = λ live some all. absurd (some none);
       took = λ live more. no_more desk _ more;
+      stuck = λ rests. idle;
     }
 
 pub turn-stuck : (old : Front) (session : Standing) (new : Front) (wire wire' : Told) (desk : Ledger) (wrote : Bool)
@@ -224,15 +229,15 @@ pub turn-stuck : (old : Front) (session : Standing) (new : Front) (wire wire' : 
     session ≡ record old.session { outgoing = session.outgoing } → old.live ≡ true →
     Flushes old.session.outgoing session.outgoing wire wire' flushed.Full →
     wrote ≡ nat_lt (length session.outgoing) (length old.session.outgoing) →
-    Stuck (record old { session = session }) new wrote answer →
+    (idle : ℕ) → Stuck (record old { session = session; idle = idle }) new wrote answer → idle ≡ old.idle →
     Turn (world old wire desk) (world new wire' desk) answer
 turn-stuck old session new wire wire' desk wrote answer session_is live (put, split, (left, rose, tells)) wrote_is
-    stuck =
-    let end = record old { session = session; deaf = new.deaf; live = new.live } in
+    idle stuck stays =
+    let end = record old { session = session; deaf = new.deaf; idle = idle; live = new.live } in
     subst (λ (f : Front). Turn (world old wire desk) (world f wire' desk) answer) (sym stuck.others)
     (flushed-turn old session wire wire' desk put split session_is (ap (λ (t : Told). t.gave) tells)
     (ap (λ (t : Told). t.took) tells) (ap (λ (t : Told). t.ends) tells)
-    new.deaf new.live answer (λ more. absurd (more (ap (λ (t : Told). t.failures) tells)))
+    new.deaf idle new.live answer (λ more. absurd (more (ap (λ (t : Told). t.failures) tells)))
     (record {
       writes = λ lives. inr (rose, refl, refl);
       listens =
@@ -240,9 +245,9 @@ turn-stuck old session new wire wire' desk wrote answer session_is live (put, sp
       looks = λ lives all. absurd (left (no_rest put session.outgoing (all ∙ split)));
     })
     (stuck-means old end wire wire' desk put wrote answer split left live wrote_is rose
-    (stuck-so old session new wrote answer stuck))
-    (stuck-counts old end wire wire' desk put wrote answer split left refl wrote_is rose
-    (stuck-so old session new wrote answer stuck)))
+    (stuck-so old session new wrote answer idle stuck))
+    (stuck-counts old end wire wire' desk put wrote answer split left stays wrote_is rose
+    (stuck-so old session new wrote answer idle stuck)))
 
 -- the session was closing, and all is written
 closed-by : (old new : World) (reason : Reason) → ClosesItself reason → new.front.session.closing ≡ Some reason
@@ -264,7 +269,7 @@ pub turn-closed : (old : Front) (session : Standing) (wire wire' : Told) (desk :
 turn-closed old session wire wire' desk reason session_is (put, split, (none, tells)) own closing =
     flushed-turn old session wire wire' desk put split session_is (ap (λ (t : Told). t.gave) tells)
     (ap (λ (t : Told). t.took) tells) (ap (λ (t : Told). t.ends) tells)
-    0 false (Ended reason) (λ more. absurd (more (ap (λ (t : Told). t.failures) tells)))
+    0 old.idle false (Ended reason) (λ more. absurd (more (ap (λ (t : Told). t.failures) tells)))
     (over-attends old (record old { session = session; deaf = 0; live = false }) wire wire' desk desk
     (record nothing_moved { put = put }) refl) (
       closed-by (world old wire desk) (world (record old { session = session; deaf = 0; live = false }) wire' desk)

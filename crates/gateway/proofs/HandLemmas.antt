@@ -36,6 +36,7 @@ hands-said old new desk desk' said ls on is_open new_is others few tells = recor
       (sym (ap (λ (f : Front). f.passed) others));
   gateway = ap (λ (s : Standing). s.gateway) new_is;
   closing = ap (λ (s : Standing). s.closing) new_is;
+  accepted = ap (λ (s : Standing). s.accepted) new_is;
   held = ap (λ (s : Standing). s.held) new_is;
   takes =
       let stays : new.session.logged_on ≡ true = ap (λ (s : Standing). s.logged_on) new_is ∙ on in
@@ -76,6 +77,7 @@ module _ (old new : Front) (desk desk' : Ledger) (these : List Said) (ls : List 
       others = others ∙ ap (λ (s : Standing). record old { session = s; passed = new.passed }) (sym stays);
       gateway = ap (λ (s : Standing). s.gateway) stays;
       closing = ap (λ (s : Standing). s.closing) stays;
+      accepted = ap (λ (s : Standing). s.accepted) stays;
       held = ap (λ (s : Standing). s.held) stays;
       takes = subst (λ (s : Standing). Takes s.logged_on old new desk desk' []) (sym stays)
           (record { these = these; taken = ap (λ (l : Ledger). l.taken) tells; given = given; passed = passed });

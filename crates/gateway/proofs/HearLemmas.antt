@@ -16,11 +16,11 @@ use Rattle.gateway.specs.Ledgers.{Ledger, ledger_loading, IsClaimed, IsRefused, 
 use Rattle.gateway.specs.Verdict.{Verdict, Welcome, Beat, Hold, Pass, Leave, Refuse, verdict}
 use Rattle.gateway.specs.Standing.{Standing, At}
 use Rattle.gateway.specs.SessionCalls.{heard, exhausting, Listens, Unheard, HeardFrame, HeardFault}
-use Rattle.gateway.specs.Turns.{world, Front, nothing_moved, Moves, CountsMessages, ClosesBy, farewell}
+use Rattle.gateway.specs.Turns.{world, Front, nothing_moved, Moves, CountsMessages, ClosesBy, farewell, HandlesOne}
 use Rattle.gateway.specs.TurnParts.{Hears, HeardSo, Reads, ReadSo}
 use Rattle.gateway.proofs.Opening.{opened}
 use Rattle.gateway.proofs.Standings.{at-published, at-exhausted, at-fed, at-heard, at-faulted}
-use Rattle.gateway.proofs.StepLemmas.{at-same, moves-nothing}
+use Rattle.gateway.proofs.StepLemmas.{at-same, moves-nothing, handles-none}
 use Rattle.wires.specs.WireLaws.{grown-nil}
 
 -- nothing was loaded
@@ -114,6 +114,8 @@ module _ (old new : Front) (desk desk' : Ledger) (is_open : old.session.closing 
     loaded = tries.tells.0;
     ledger = tries.tells.2 ∙ ap (λ ps. record (ledger_loading desk tries.tells.0) { published = ps })
         (sym (ap (λ (l : Ledger). l.published) tries.tells.2));
+    few = omega arith;
+    one = handles-none old.session new.session (ap (λ (s : Standing). s.accepted) tries.settles);
     unwritten = refl;
     unhanded = refl;
     counts = λ count counts. subst (λ (s : Standing). CountsMessages s count) (sym tries.settles) counts;
@@ -141,6 +143,8 @@ module _ (old new : Front) (desk desk' : Ledger) (is_open : old.session.closing 
     loaded = tries.tells.0;
     ledger = tries.tells.2 ∙ ap (λ ps. record (ledger_loading desk tries.tells.0) { published = ps })
         (sym (ap (λ (l : Ledger). l.published) tries.tells.2));
+    few = omega arith;
+    one = handles-none old.session new.session (ap (λ (s : Standing). s.accepted) tries.settles);
     unwritten = refl;
     unhanded = refl;
     counts = λ count counts. subst (λ (s : Standing). CountsMessages s count) (sym tries.settles) counts;
@@ -183,6 +187,8 @@ module _ (old new : Front) (desk desk' : Ledger) (is_open : old.session.closing 
     loaded = tries.tells.0;
     ledger = tries.tells.2 ∙ ap (λ ps. record (ledger_loading desk tries.tells.0) { published = ps })
         (sym (ap (λ (l : Ledger). l.published) tries.tells.2));
+    few = omega arith;
+    one = handles-none old.session new.session (ap (λ (s : Standing). s.accepted) tries.settles);
     unwritten = refl;
     unhanded = refl;
     counts = λ count counts. subst (λ (s : Standing). CountsMessages s count) (sym tries.settles)
@@ -230,6 +236,13 @@ heard-counts time message Leave s is_open count counts = let none : farewell s.c
 heard-counts time message (Refuse r) s is_open count counts = let none : farewell s.closing ≡ 0 = ap farewell is_open in
     omega arith
 
+-- one message more is accepted, and the session stays as open as it was
+accepts_one : (old new : Standing) → new.accepted ≡ old.accepted + 1 → new.closing ≡ old.closing → HandlesOne old new
+accepts_one old new more same = record {
+  accepts = omega (arith, more);
+  closes = λ is_open closes. absurd (closes (same ∙ is_open));
+}
+
 heard-next : (time message : List ℕ) (v : Verdict) (s : Standing) → (heard time message v s).number ≤ s.number + 1
 heard-next time message Welcome s = omega arith
 heard-next time message (Beat echo) s = omega arith
@@ -237,6 +250,14 @@ heard-next time message Hold s = omega arith
 heard-next time message Pass s = omega arith
 heard-next time message Leave s = omega arith
 heard-next time message (Refuse r) s = omega arith
+
+heard-one : (time message : List ℕ) (v : Verdict) (s : Standing) → HandlesOne s (heard time message v s)
+heard-one time message Welcome s = accepts_one s (heard time message Welcome s) refl refl
+heard-one time message (Beat echo) s = accepts_one s (heard time message (Beat echo) s) refl refl
+heard-one time message Hold s = accepts_one s (heard time message Hold s) refl refl
+heard-one time message Pass s = accepts_one s (heard time message Pass s) refl refl
+heard-one time message Leave s = handles-none s (heard time message Leave s) refl
+heard-one time message (Refuse r) s = handles-none s (heard time message (Refuse r) s) refl
 
 heard-gateway : (time message : List ℕ) (v : Verdict) (s : Standing) → (heard time message v s).gateway ≡ s.gateway
 heard-gateway time message Welcome s = refl
@@ -262,6 +283,7 @@ record Fed (old new : Standing) (fed : List ℕ) : Type 0 where
       At old input messages outs written → At new (input ++ fed) messages outs written
   counts : (count : ℕ) → CountsMessages old count → CountsMessages new count
   next : new.number ≤ old.number + 1
+  one : HandlesOne old new
   gateway : new.gateway ≡ old.gateway
   unlost : new.closing ≢ Some reason.Exhausted
 
@@ -271,6 +293,7 @@ module _ (old new : Standing) (fed : List ℕ) (is_open : old.closing ≡ None) 
     moves = λ input messages outs written at. at-fed old input messages outs written fed is_open u.partial at;
     counts = λ count counts. counts;
     next = omega arith;
+    one = handles-none old (record old { under_way = old.under_way ++ fed }) refl;
     gateway = refl;
     unlost = λ is. cc;
   })
@@ -284,6 +307,7 @@ module _ (old new : Standing) (fed : List ℕ) (is_open : old.closing ≡ None) 
             h.frame fed h.body h.whole v refl is_open;
         counts = heard-counts _ _ v old is_open;
         next = heard-next _ _ v old;
+        one = heard-one _ _ v old;
         gateway = heard-gateway _ _ v old;
         unlost = heard-unlost _ _ v old is_open;
       })
@@ -295,6 +319,7 @@ module _ (old new : Standing) (fed : List ℕ) (is_open : old.closing ≡ None) 
         h.at h.fault h.faults;
     counts = λ count counts. let none : farewell old.closing ≡ 0 = ap farewell is_open in omega arith;
     next = omega arith;
+    one = handles-none old _ refl;
     gateway = refl;
     unlost = λ is. cc;
   })
@@ -351,6 +376,8 @@ module _ (old mid : Front) (wire wire' : Told) (desk : Ledger) (is_open : old.se
         (sym session_stays);
     loaded = [];
     ledger = unloaded desk;
+    few = reads.few;
+    one = handles-none old.session mid.session (ap (λ (s : Standing). s.accepted) session_stays);
     unwritten = refl;
     unhanded = refl;
     counts = λ count counts. subst (λ (s : Standing). CountsMessages s count) (sym session_stays) counts;
@@ -395,6 +422,8 @@ module _ (old mid : Front) (wire wire' : Told) (desk : Ledger) (is_open : old.se
             (sym (ap (λ (f : Front). f.closed) others));
         loaded = [];
         ledger = unloaded desk;
+        few = reads.few;
+        one = fed.one;
         unwritten = refl;
         unhanded = refl;
         counts = fed.counts;

@@ -1,5 +1,5 @@
 -- A turn that hears: what it read or published, and what it handed on behind that.
-use Rattle.std.proofs.Common.{◌≡◌, ◌≢◌, ◌⊎◌, inl, inr, ℕ, nat_lt, ◌+◌, ◌<◌, ◌^◌, Bool, true, false}
+use Rattle.std.proofs.Common.{◌≡◌, ◌≢◌, ◌⊎◌, inl, inr, ℕ, nat_lt, ◌+◌, ◌<◌, ◌≤◌, ◌^◌, Bool, true, false}
 use Rattle.std.proofs.Common.{if◌then◌else◌, List, [], ◌∷◌, ◌++◌, length, refl, ap, sym, subst, ◌∙◌, arith}
 use Rattle.std.proofs.Common.{append-nil, append_assoc, Some, None}
 use Rattle.fix_orders.specs.Text.{Said}
@@ -18,9 +18,9 @@ use Rattle.gateway.specs.Ledgers.{Ledger, ledger_loading}
 use Rattle.gateway.specs.Standing.{Standing}
 use Rattle.gateway.specs.Turns.{World, place, world, Front, Moved, nothing_moved, Step, Takes, WasRefused, WasExhausted}
 use Rattle.gateway.specs.Turns.{FoundNone, ClosesBy, Silence, Hearing, IsQuiet, GoesOn, EndedBy, Means, CountsTurns}
-use Rattle.gateway.specs.Turns.{Turn}
+use Rattle.gateway.specs.Turns.{Turn, HandlesOne}
 use Rattle.gateway.specs.TurnParts.{Hears, HeardSo, HandsOn, TookSo, Waits, Rests, RestsSo}
-use Rattle.gateway.proofs.StepLemmas.{both, step-then, flush-step}
+use Rattle.gateway.proofs.StepLemmas.{both, step-then, flush-step, handles-between}
 use Rattle.wires.specs.WireLaws.{grown-nil}
 use Rattle.gateway.proofs.FlushedTurns.{no_takes, no_front, wrote_some, wrote_none, over-attends, over-counts}
 
@@ -86,6 +86,13 @@ module _ (old h : Front) (session : Standing) (wire wire' wire'' : Told) (desk d
       desk'
       (record nothing_moved { put = put }) hears.moved flush_step hears.step
 
+  -- a frame was handled in the part that hears, or none
+  one_heard : (end : Standing) → end.accepted ≡ h.session.accepted → end.closing ≡ h.session.closing →
+      HandlesOne old.session end
+  one_heard end accepted closing = handles-between old.session session h.session end
+      (ap (λ (s : Standing). s.accepted) session_is) (ap (λ (s : Standing). s.closing) session_is) accepted closing
+      hears.one
+
   -- the message held was lost since no sequence was left
   lost_heard : h.session.closing ≡ Some Exhausted → (old.session.held ≢ None) × WasExhausted desk desk'
   lost_heard is = let lost = hears.lost is in
@@ -119,6 +126,8 @@ module _ (old h : Front) (session : Standing) (wire wire' wire'' : Told) (desk d
       record {
         moved = heard-moved;
         step = heard-step;
+        few = hears.few;
+        one = one_heard h.session refl refl;
         takes = subst (λ (t : List Said). Takes h.session.logged_on old (record h { live = false }) desk desk' t)
             (sym hears.unhanded)
             (no_takes h.session.logged_on old (record h { live = false }) desk desk'
@@ -322,6 +331,7 @@ module _ (old h : Front) (session : Standing) (wire wire' wire'' : Told) (desk d
       wrote = λ live some. end_deaf end end_is;
       wrote_all = λ live some all. waits;
       took = λ live more. waits;
+      stuck = λ left. absurd (left put_all);
     }
     all-counts end false true turned took_is wrote_is end_is waits = record {
       deaf = inl (end_deaf end end_is);
@@ -331,6 +341,7 @@ module _ (old h : Front) (session : Standing) (wire wire' wire'' : Told) (desk d
       wrote = λ live some. end_deaf end end_is;
       wrote_all = λ live some all. waits;
       took = λ live more. waits;
+      stuck = λ left. absurd (left put_all);
     }
     all-counts end false false turned took_is wrote_is end_is waits =
         let none = unput_all (wrote_none old.session.outgoing put session.outgoing split (sym wrote_is)) in
@@ -352,6 +363,7 @@ module _ (old h : Front) (session : Standing) (wire wire' wire'' : Told) (desk d
           wrote = λ live some. end_deaf end end_is;
           wrote_all = λ live some all. absurd (some none);
           took = λ live more. let same = nothing.2 in absurd (omega (arith, more, same, count_same));
+          stuck = λ left. absurd (left put_all);
         }
 
     -- a turn that went on behind its writes listened
@@ -431,6 +443,10 @@ module _ (old h : Front) (session : Standing) (wire wire' wire'' : Told) (desk d
               (place s end.waiting wire'' desk'') all-moved) (sym session_end)
               (subst (λ w. Step (place old.session old.waiting wire desk) (place t.session w wire'' desk'') all-moved)
               (sym (ap (λ (f : Front). f.waiting) rests.others)) all-step);
+          few = subst (λ got. length got ≤ 512) (sym (append-nil hears.moved.got)) hears.few;
+          one = one_heard end.session
+              (ap (λ (s : Standing). s.accepted) session_end ∙ hands.accepted)
+              (ap (λ (s : Standing). s.closing) session_end ∙ hands.closing);
           takes = subst (λ (s : Standing). Takes s.logged_on old end desk desk'' all-moved.handed) (sym session_end)
               (record {
                 these = all-takes.these;

@@ -13,8 +13,8 @@ use Rattle.ring_words.specs.declared.view.Person.{Person}
 use Rattle.ring_words.specs.Places.{marshalled, number_of}
 use Rattle.ring_words.specs.Seats.{looked, load_of}
 use Rattle.barrier.specs.Taking.{TakesNext, Says, SaysOutput}
-use Rattle.barrier.specs.declared.taking.Take.{Take}
-use Rattle.barrier.specs.declared.taking.Take.TheVariants.{Mine, Passed, Nothing}
+use Rattle.barrier.specs.declared.taken.Take.{Take}
+use Rattle.barrier.specs.declared.taken.Take.TheVariants.{Mine, Passed, Nothing}
 use Rattle.gateway.specs.Ledgers.{ledger_loading, TakeTells}
 use Rattle.gateway.specs.Seats.{limits_of, base_outputs, HasSeen, messages_of, taken_by, ledger_of, TakesOne, Looks}
 use Rattle.gateway.specs.Seats.{StaysSeated, MayEnter, MayLook, Uses}

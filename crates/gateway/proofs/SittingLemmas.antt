@@ -17,7 +17,7 @@ use Rattle.ring_words.specs.Seats.{load_of, looked, with_claim, marked, sent_of}
 use Rattle.ring_words.specs.declared.view.Load.{Load}
 use Rattle.ring_words.specs.declared.view.Person.{Person}
 use Rattle.ring_words.specs.declared.view.Sent.{Sent}
-use Rattle.barrier.specs.declared.taking.Take.TheVariants.{Mine, Passed, Nothing}
+use Rattle.barrier.specs.declared.taken.Take.TheVariants.{Mine, Passed, Nothing}
 use Rattle.gateway.specs.declared.seat.TryPublish.TheVariants.{Done, Refused, Exhausted}
 use Rattle.gateway.specs.Seats.{limits_of, messages_of, taken_by, from_gateway, StaysSeated, Published, TakesOne}
 use Rattle.gateway.specs.Seats.{MayEnter, MayLook}

@@ -1,10 +1,11 @@
 -- Steps of a turn, one after another.
-use Rattle.std.proofs.Common.{◌≡◌, ℕ, List, [], ◌++◌, refl, ap, sym, subst, ◌∙◌, append_assoc, append-nil}
+use Rattle.std.proofs.Common.{◌≡◌, ℕ, ◌+◌, ◌≤◌, List, [], ◌++◌, refl, ap, sym, subst, ◌∙◌, append_assoc, append-nil}
+use Rattle.std.proofs.Common.{arith}
 use Rattle.fix_orders.specs.Text.{Said}
 use Rattle.wires.specs.Wires.{Told, grown}
 use Rattle.gateway.specs.Ledgers.{Ledger}
 use Rattle.gateway.specs.Standing.{Standing, At}
-use Rattle.gateway.specs.Turns.{place, Moved, nothing_moved, Moves, Step}
+use Rattle.gateway.specs.Turns.{place, Moved, nothing_moved, Moves, Step, HandlesOne}
 use Rattle.gateway.proofs.Standings.{at-flushed}
 use Rattle.wires.specs.WireLaws.{grown-append, grown-nil}
 
@@ -59,6 +60,19 @@ pub moves-nothing : (s : Standing) → Moves s s nothing_moved
 moves-nothing s input messages outs written at =
     at-same s input (input ++ []) messages (messages ++ []) outs (outs ++ []) written (written ++ [])
     (sym (append-nil input)) (sym (append-nil messages)) (sym (append-nil outs)) (sym (append-nil written)) at
+
+-- where as many messages are accepted as before, no frame is handled
+pub handles-none : (old new : Standing) → new.accepted ≡ old.accepted → HandlesOne old new
+handles-none old new same = record { accepts = omega arith; closes = λ is_open closes. same }
+
+-- what comes before and behind handles no frame, nor closes the session
+pub handles-between : (a b c d : Standing) → b.accepted ≡ a.accepted → b.closing ≡ a.closing → d.accepted ≡ c.accepted
+    → d.closing ≡ c.closing → HandlesOne b c → HandlesOne a d
+handles-between a b c d before as_open behind as_closed one = record {
+  accepts = let most = one.accepts in omega (arith, before, behind, most);
+  closes = λ is_open closes. behind
+      ∙ one.closes (as_open ∙ is_open) (λ still_open. closes (as_closed ∙ still_open)) ∙ before;
+}
 
 -- bytes go out
 pub flush-step : (old new : Standing) (waiting put : List ℕ) (wire wire' : Told) (desk : Ledger) →

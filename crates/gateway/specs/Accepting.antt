@@ -1,10 +1,11 @@
 -- An acceptor: its gateway, and the wire of the client that is connected; and what one turn of it does.
-use Rattle.std.specs.Prelude.{◌≡◌, ◌≢◌, ◌↔◌, ◌⊎◌, ℕ, zero, suc, Bool, true, false, List, [], ◌∷◌, ◌++◌, Option, Some, None, option_to_list}
+use Rattle.std.specs.Prelude.{◌≡◌, ◌≢◌, ◌↔◌, ◌⊎◌, ℕ, zero, suc, Bool, true, false, List, [], ◌∷◌, ◌++◌, Option, Some, None, IfSome, option_to_list}
 use Rattle.gateway.specs.Gateways.{AtRings, AwaitsClient, Idles}
 use Rattle.gateway.specs.Delivers.{Proceeds}
 use Rattle.gateway.specs.Gateways.{begun}
 use Rattle.gateway.specs.Seats.{Uses, LooksOnce, ledger_of}
 use Rattle.venue_model.specs.Requests.{Limits}
+use Rattle.wires.specs.Clients.{IsFlushed}
 use Rattle.wires.specs.Wires.{Told}
 use Rattle.ring_words.specs.At.{Opened, at, number}
 use Rattle.ring_words.specs.Rule.{newcomer}
@@ -31,6 +32,10 @@ without_client rings k = record {
 abbrev pub told_by : {W : Type 0} → (W → Told) → Option W → Option Told
 told_by tells None = None
 told_by tells (Some wire) = Some (tells wire)
+
+-- the client's wire, if there is a client, was flushed once, and tells the same
+abbrev pub WasFlushed : {W : Type 0} → (W → Told) → (W → W → Type 0) → Option Told → Type 0
+WasFlushed tells flushed wire = IfSome wire (IsFlushed tells flushed)
 
 -- a session lives just where there is a client
 abbrev pub KeepsWire : {W : Type 0} → Bool → Option W → Type 0

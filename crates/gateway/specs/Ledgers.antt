@@ -8,9 +8,9 @@ use Rattle.ring_words.specs.declared.view.Load.{Load}
 use Rattle.ring_words.specs.Places.{claim, processed, marshalled}
 use Rattle.ring_words.specs.Seats.{load_of}
 use Rattle.sequencer.specs.Claims.{last_processed, SeesRoom}
-use Rattle.barrier.specs.declared.taking.Head.{Head}
-use Rattle.barrier.specs.declared.taking.Take.{Take}
-use Rattle.barrier.specs.declared.taking.Take.TheVariants.{Mine, Passed, Nothing}
+use Rattle.barrier.specs.declared.taken.Head.{Head}
+use Rattle.barrier.specs.declared.taken.Take.{Take}
+use Rattle.barrier.specs.declared.taken.Take.TheVariants.{Mine, Passed, Nothing}
 use Rattle.gateway.specs.declared.seat.TryPublish.{TryPublish}
 use Rattle.gateway.specs.declared.seat.TryPublish.TheVariants.{Done, Refused, Exhausted}
 
@@ -53,8 +53,8 @@ PublishTells old new message Exhausted = (ls : List Load) × IsExhausted ls × (
 
 -- a head and the bytes of a body say this
 pub record CarriesSaid (head : Head) (body : List ℕ) (said : Said) : Type 0 where
-  pub type : said.kind ≡ msg_type_code head.msg_type
-  pub time : said.time ≡ time_text head.sending_time
+  pub type : said.kind ≡ msg_type_code head.kind
+  pub time : said.time ≡ time_text head.time
   pub bytes : print_fields said.body ≡ take head.len body
   pub fields : AllByRecursion IsField said.body
   pub most : head.len ≤ 320

@@ -14,3 +14,4 @@ pub mod Delivers
 pub mod Accepting
 pub mod AcceptingLaws
 pub mod Visits
+pub mod EndingNumber

@@ -16,8 +16,8 @@ use Rattle.sequencer.specs.Claims as claims
 use Rattle.sequencer.specs.Claims.{Claimed}
 use Rattle.barrier.specs.Taking.{TakesNext}
 use Rattle.sequencer.specs.declared.claim.ClaimRefusal.TheVariants as refusal
-use Rattle.barrier.specs.declared.taking.Take.{Take}
-use Rattle.barrier.specs.declared.taking.Take.TheVariants.{Mine, Passed, Nothing}
+use Rattle.barrier.specs.declared.taken.Take.{Take}
+use Rattle.barrier.specs.declared.taken.Take.TheVariants.{Mine, Passed, Nothing}
 use Rattle.gateway.specs.declared.seat.TryPublish.{TryPublish}
 use Rattle.gateway.specs.declared.seat.TryPublish.TheVariants.{Done, Refused, Exhausted}
 use Rattle.gateway.specs.Ledgers.{Ledger, CarriesSaid}

@@ -12,7 +12,7 @@ use Rattle.ring_words.specs.declared.view.Load.{Load}
 use Rattle.ring_words.specs.Places.{claim, marshalled}
 use Rattle.ring_words.specs.Seats.{load_of}
 use Rattle.gateway.specs.Ledgers.{Ledger, ledger_loading}
-use Rattle.gateway.specs.Turns.{Front, World, world, turn_place, Moved, nothing_moved, Moves, Step, Takes, CountsMessages, WasExhausted, ClosesBy, Hearing, Silence}
+use Rattle.gateway.specs.Turns.{Front, World, world, turn_place, Moved, nothing_moved, Moves, Step, Takes, CountsMessages, WasExhausted, ClosesBy, Hearing, Silence, HandlesOne}
 
 -- what was heard
 abbrev pub HeardSo : World → World → Moved → Found → Type 0
@@ -27,6 +27,8 @@ pub record Hears (old new : World) (answer : Found) : Type 0 where
   pub others : new.front ≡ record old.front { session = new.front.session; waiting = new.front.waiting; closed = new.front.closed }
   pub loaded : List Load
   pub ledger : new.desk ≡ record (ledger_loading old.desk loaded) { published = new.desk.published }
+  pub few : length moved.got ≤ 512
+  pub one : HandlesOne old.front.session new.front.session
   pub unwritten : moved.put ≡ []
   pub unhanded : moved.handed ≡ []
   pub counts : (count : ℕ) → CountsMessages old.front.session count → CountsMessages new.front.session count
@@ -53,6 +55,7 @@ ReadSo old new wire wire_after got Failed = (got ≡ []) × Rose wire.failures w
 -- a read, where one was due
 pub record Reads (old new : Front) (wire wire_after : Told) (answer : Found) : Type 0 where
   pub got : List ℕ
+  pub few : length got ≤ 512
   pub others : new ≡ record old { waiting = new.waiting; closed = new.closed }
   pub waiting : new.waiting ≡ old.waiting ++ got
   pub gave : wire_after.gave ≡ grown wire.gave got
@@ -74,6 +77,7 @@ pub record HandsOn (old new : Front) (desk desk_after : Ledger) (took : Bool) : 
   pub others : new ≡ record old { session = new.session; passed = new.passed }
   pub gateway : new.session.gateway ≡ old.session.gateway
   pub closing : new.session.closing ≡ old.session.closing
+  pub accepted : new.session.accepted ≡ old.session.accepted
   pub held : new.session.held ≡ old.session.held
   pub takes : Takes new.session.logged_on old new desk desk_after handed
   pub loaded : List Load

@@ -150,7 +150,7 @@ Means old new m (Ended reason) = EndedBy old new reason × (new.front.live ≡ f
 -- How the counts of turns in a row move, but in the turn in which the wire fails. The one that ends a session with 55 rises just where bytes stood to be
 -- written and none went out, and begins again where one did. The one that ends it with 51 rises, once the client has closed its side and unless the
 -- session closes, just where nothing stood to be written and no output was there, and begins again where all that stood to be written was, or an output
--- was taken or passed over.
+-- was taken or passed over; it stays where something stood to be written and is left.
 pub record CountsTurns (old new : World) (m : Moved) (answer : Turned) : Type 0 where
   pub deaf : (new.front.deaf ≡ 0) ⊎ ((new.front.deaf ≡ old.front.deaf)
       ⊎ ((new.front.deaf ≡ old.front.deaf + 1) × (old.front.session.outgoing ≢ []) × (m.put ≡ []) × Rose old.wire.full_writes new.wire.full_writes))
@@ -162,6 +162,7 @@ pub record CountsTurns (old new : World) (m : Moved) (answer : Turned) : Type 0 
   pub wrote : new.front.live ≡ true → m.put ≢ [] → new.front.deaf ≡ 0
   pub wrote_all : new.front.live ≡ true → m.put ≢ [] → m.put ≡ old.front.session.outgoing → new.front.idle ≡ 0
   pub took : new.front.live ≡ true → old.desk.count < new.desk.count → new.front.idle ≡ 0
+  pub stuck : m.put ≢ old.front.session.outgoing → new.front.idle ≡ old.front.idle
 
 -- A turn that didn't end the session wrote all that stood to be written, or a write answered Nothing and that was all. If it wrote all, it listened; and,
 -- unless the session closes now, it looked for an output.
@@ -172,10 +173,17 @@ pub record Attends (old new : World) (m : Moved) : Type 0 where
   pub looks : new.front.live ≡ true → m.put ≡ old.front.session.outgoing → new.front.session.closing ≡ None
       → (old.desk.count < new.desk.count) ⊎ FoundNone old.desk new.desk
 
--- a whole turn
+-- at most one frame is handled: one message more is accepted, or none where the session closes now
+pub record HandlesOne (old new : Standing) : Type 0 where
+  pub accepts : new.accepted ≤ old.accepted + 1
+  pub closes : old.closing ≡ None → new.closing ≢ None → new.accepted ≡ old.accepted
+
+-- a whole turn: it reads at most 512 bytes, and handles at most one frame
 pub record Turn (old new : World) (answer : Turned) : Type 0 where
   pub moved : Moved
   pub step : Step (turn_place old) (turn_place new) moved
+  pub few : length moved.got ≤ 512
+  pub one : HandlesOne old.front.session new.front.session
   pub takes : Takes new.front.session.logged_on old.front new.front old.desk new.desk moved.handed
   pub means : Means old new moved answer
   pub counts : CountsTurns old new moved answer

@@ -121,13 +121,6 @@ impl<W: Wire + Drop> Acceptor<W> {
         self.wire.is_some() && self.gateway.is_pressed()
     }
 
-    /// How many outputs to the client were passed over, since it wasn't logged on.
-    pub fn passed(&self) -> u64
-        ensures { result ≡ self.now.gateway.front.passed }
-    {
-        self.gateway.passed()
-    }
-
     /// Gives the seat back, which has published at each place that it claimed, and the wire of a client that is still
     /// connected, as it is: no Logout is written. The caller goes on flushing the wire until all is sent, or for as
     /// long as it likes.
@@ -142,12 +135,13 @@ impl<W: Wire + Drop> Acceptor<W> {
 }
 
 impl<W: ClientWire + Drop> Acceptor<W> {
-    ghost use Rattle.gateway.specs.Accepting.{IsAwaited};
+    ghost use Rattle.gateway.specs.Accepting.{IsAwaited, WasFlushed};
 
     /// Sends what the client's wire holds, as far as that is taken now. (Behind a turn in which nothing moved it was
     /// told to rest, and sent it.)
     pub fn flush(&mut self)
-        ensures { self.new ≡ self.old }
+        ensures same { self.new ≡ self.old }
+        ensures flushed { WasFlushed W.tells W.flushed self.new.wire }
     {
         let Some(mut wire) = self.wire.take() else {
             return;

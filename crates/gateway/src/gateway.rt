@@ -289,8 +289,7 @@ impl Gateway {
         match take(rings, &mut self.seat, &mut self.body) {
             Take::Mine(head) if self.session.is_logged_on() => {
                 let body = &self.body[..head.len];
-                self.session
-                    .say(msg_type_code(head.msg_type), head.sending_time, body);
+                self.session.say(msg_type_code(head.kind), head.time, body);
                 true
             }
             Take::Mine(_) => {

@@ -19,6 +19,6 @@ pub use acceptor::Acceptor;
 pub use ending::{Reason, Turned};
 pub use gateway::Gateway;
 pub use wires::{
-    ClientWire, Counts, GatheringWire, MemPort, MemWire, Port, StdWire, StreamWire, TcpPort,
-    TcpWire, TryRead, TryWrite, Wire, tcp_wire,
+    ClientWire, GatheringWire, MemPort, MemWire, Nothings, Port, StdWire, StreamWire, TcpPort,
+    TcpWire, TryRead, TryWrite, Wire, local_port, tcp_wire,
 };

@@ -5,7 +5,7 @@ ghost use Rattle.gateway.specs.Ledgers.{PublishTells, TakeTells};
 ghost use Rattle.ring_words.specs.At.{IsAt};
 ghost use Rattle.gateway.specs.Seats.{HasSeen, StaysSeated, Enters, Looks, ledger_of};
 
-use barrier::{Take, take_output};
+use barrier::Take;
 use book::BookLogic;
 use ring_words::{GatewaySeat, Rings};
 use sequencer::{ClaimRefusal, try_claim};
@@ -60,5 +60,5 @@ pub fn take<const N: usize, const M: usize, const G: usize>(
     ensures looks { Looks seat.old seat.new body.new result }
     ensures tells { TakeTells (ledger_of N seat.old) (ledger_of N seat.new) body.new result }
 {
-    take_output(rings, seat, body)
+    barrier::take(rings, seat, body)
 }

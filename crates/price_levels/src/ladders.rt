@@ -14,7 +14,7 @@ use crate::keys::{Key, Level, comes_before_side};
 use crate::ladder::{Ladder, place_in, start_of};
 use std::alloc::{AllocError, Global};
 use std::marker::Model;
-use venue_model::{Side, Symbol};
+use venue_model::{SYMBOL_SPOTS, Side, Symbol};
 
 /// Where a ladder begins: no level of the ladders ahead of it is this symbol's and side's, or behind them.
 #[derive(Clone, Copy)]
@@ -37,9 +37,6 @@ pub(crate) struct Rung {
     pub(crate) ladder: usize,
     pub(crate) at: usize,
 }
-
-/// How many spots there are for homes: many more than symbols.
-const SPOTS: usize = 256;
 
 /// How many homes stand side by side from a spot on, where the bytes of so many symbols lead to one.
 const SIDE_BY_SIDE: usize = 8;
@@ -86,7 +83,7 @@ impl Ladders {
     pub(crate) fn ladder_of(&self, symbol: &Symbol, side: Side) -> usize
         ensures { BelongsToHome self.now.fences result symbol.now side }
     {
-        let spot = spot(symbol);
+        let spot = symbol.spot();
         match self.known_ladder(spot, symbol, side) {
             Some(ladder) => ladder,
             None => self.ladder_beside(spot, symbol, side),
@@ -112,7 +109,7 @@ impl Ladders {
     #[cold]
     #[inline(never)]
     fn ladder_beside(&self, spot: usize, symbol: &Symbol, side: Side) -> usize
-        requires { spot < SPOTS }
+        requires { spot < SYMBOL_SPOTS }
         ensures { BelongsToHome self.now.fences result symbol.now side }
     {
         for at in spot + 1..spot + SIDE_BY_SIDE {
@@ -277,18 +274,6 @@ fn fence_at(fences: &[Fence], symbol: &Symbol, side: Side) -> usize
     fences.len()
 }
 
-/// Where a symbol's home is looked for first: most symbols have a spot of their own.
-fn spot(symbol: &Symbol) -> usize
-    ensures { result < SPOTS }
-{
-    let bytes = symbol.as_bytes();
-    let (middle, last) = (
-        bytes[bytes.len() / 2] as usize,
-        bytes[bytes.len() - 1] as usize,
-    );
-    (31 * middle + 7 * last + bytes.len()) % SPOTS
-}
-
 /// Where the ladders of a symbol are.
 fn home_of(symbol: &Symbol, fences: &[Fence]) -> Home
     ensures { IsHomeOf fences.now result }
@@ -309,7 +294,7 @@ fn homes_of(alloc: Global, symbols: &[Symbol], fences: &[Fence]) -> Result<Vec<H
         return Ok(Vec::new(alloc));
     }
     let first = home_of(&symbols[0], fences);
-    let mut homes = vec![in alloc; first; SPOTS + SIDE_BY_SIDE]?;
+    let mut homes = vec![in alloc; first; SYMBOL_SPOTS + SIDE_BY_SIDE]?;
     'symbols: for symbol in symbols {
         settle(&mut homes, &first.symbol, home_of(symbol, fences));
     }
@@ -330,7 +315,7 @@ fn settle(homes: &mut Vec<Home>, first: &Symbol, home: Home)
 fn free_spot(homes: &[Home], first: &Symbol, symbol: &Symbol) -> Option<usize>
     ensures { IfSome result (λ at. at < length homes.now) }
 {
-    let spot = spot(symbol);
+    let spot = symbol.spot();
     for at in spot..spot + SIDE_BY_SIDE {
         if at < homes.len() && homes[at].symbol.is(first) {
             return Some(at);

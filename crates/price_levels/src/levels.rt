@@ -61,7 +61,7 @@ impl Levels {
     /// Room for this many orders, all places free, and the right to begin counts of what is read of them. It is all
     /// made here; no other call asks for memory. The orders of each of these symbols, and of each side, are found
     /// without regard to those of the others.
-    pub fn make(
+    pub fn new(
         alloc: Global,
         symbols: &[Symbol],
         cap: usize,
@@ -70,12 +70,12 @@ impl Levels {
         requires quantities { cap * 1000000 < 2 ^ 64 }
         ensures { IfOk result (λ made. made.0 ≡ replicate cap None) }
     {
-        let levels = Levels::new(alloc, symbols, cap)?;
+        let levels = Levels::all_free(alloc, symbols, cap)?;
         Ok((levels, ReadCounter::new()))
     }
 
     /// Room for this many orders, all places free.
-    fn new(alloc: Global, symbols: &[Symbol], cap: usize) -> Result<Levels, AllocError>
+    fn all_free(alloc: Global, symbols: &[Symbol], cap: usize) -> Result<Levels, AllocError>
         requires symbols { length symbols.now ≤ 8 }
         requires quantities { cap * 1000000 < 2 ^ 64 }
         ensures { IfOk result (λ l. l ≡ replicate cap None) }

@@ -14,3 +14,4 @@ pub mod StartsUp
 pub mod Newest
 pub mod Recovering
 pub mod Reports
+pub mod Doing

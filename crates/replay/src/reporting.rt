@@ -22,7 +22,7 @@ use venue_model::Limits;
 /// the newest snapshot on, or all outputs to a client. The status is 0 once the whole report is printed and flushed. It
 /// is 1 where the journal can't be replayed, with the fault's line on `err`, and where a write to `out` or its flush
 /// fails, without a line. A line on `err` that can't be printed is let go.
-pub fn report<D: JournalDisk, O: Write, E: Write>(
+pub(crate) fn report_subject<D: JournalDisk, O: Write, E: Write>(
     alloc: Global,
     subject: Subject,
     limits: &Limits,

@@ -1,12 +1,9 @@
-//! On one thread small rings and all stages, on threads of their own gateways and stages all at once.
+//! Small rings and all stages on one thread.
 
-mod crew;
-mod gateways_meet;
-mod member;
-mod messages;
-mod orders;
+mod ends;
+mod five_in_one_poll;
+mod one_gateway_ring;
 mod output_ring_of_two;
 mod ring_of_two;
+mod seats_alone;
 mod sessions;
-mod small_rings;
-mod venue;

@@ -16,3 +16,5 @@ pub mod Gathered
 pub mod Ending
 pub mod SeatLaws
 pub mod RawLaws
+pub mod InUse
+pub mod OpeningNumber

@@ -13,7 +13,7 @@ use Rattle.ring_words.specs.declared.view.Load.{Load}
 use Rattle.ring_words.specs.declared.view.Person.{Person}
 use Rattle.ring_words.specs.Places.{claim, processed, taken}
 use Rattle.ring_words.specs.Rule.{IsGateway}
-use Rattle.ring_words.specs.Seats.{load_of, looked, last_from, last_load, AreTaken}
+use Rattle.ring_words.specs.Seats.{load_of, looked, last_from, last_load, AreTaken, AreUpTo}
 use Rattle.ring_words.specs.At.{Opened, At, at, seated, IsAt, Steps}
 use Rattle.ring_words.specs.Steps.{ClaimsUpTo, HasRoom, HasOutputRoom, Reaches}
 
@@ -70,6 +70,13 @@ kept_now values ls i j x inside is kept = subst (λ (place : ℕ). AreTaken (set
       ∙ sym (ap (λ (j : ℕ). last_load (taken (suc j)) None (ls ++ load_of (taken (suc i)) x ∷ [])) here ∙ last_now (taken (suc i)) None x ls)))
       (λ other. get_or-set_other values i k (Some x) None other ∙ kept.1 k few ∙ sym (last_stays (taken (suc k)) (taken (suc i)) None x ls (λ (e : taken (suc i) ≡ taken (suc k)). other (omega arith)))),
 )
+
+-- a bound on the values kept is one on those where one is put that it bounds
+pub up_to_now : (most : ℕ) (values : List (Option ℕ)) (i x : ℕ) → i < length values → x ≤ most → AreUpTo most values → AreUpTo most (set values i (Some x))
+up_to_now most values i x inside small bound k value few is = dite (ℕ_discrete k i)
+    (λ here. let same : Some x ≡ Some value = sym (ap (λ (j : ℕ). get_or (set values i (Some x)) j None) here ∙ get_or-set_same values i (Some x) None inside) ∙ is in
+    let equal : x ≡ value = same_Some x value same in omega (arith, small, equal))
+    (λ other. bound k value few (sym (get_or-set_other values i k (Some x) None other) ∙ is))
 
 -- a bound on the claim values loaded is one on the claim value that was just loaded
 pub claim_just_loaded : (p : Person) (s x : ℕ) → ClaimsUpTo (looked p claim s) x → s ≤ x

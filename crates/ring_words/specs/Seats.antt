@@ -1,5 +1,5 @@
 -- The person of a seat in use, and what its own steps make of it.
-use Rattle.std.specs.Prelude.{Option, None, Some, ◌≡◌, ◌⊎◌, ℕ, suc, ◌<◌, List, [], ◌∷◌, ◌++◌, ◌==◌, cond, length, take, drop, slice_index_or}
+use Rattle.std.specs.Prelude.{Option, None, Some, ◌≡◌, ◌⊎◌, ℕ, suc, ◌<◌, ◌≤◌, List, [], ◌∷◌, ◌++◌, ◌==◌, cond, length, take, drop, slice_index_or}
 use Rattle.venue_model.specs.History.{Message}
 use Rattle.ring_words.specs.declared.view.Role.{Role}
 use Rattle.ring_words.specs.declared.view.Role.TheVariants.{Process, Unmarshal, Journal}
@@ -68,6 +68,10 @@ last_load k d (l ∷ ls) = last_load k (cond (l.place == k) (Some l.value) d) ls
 -- these are the values that the loads found last of the taken words of gateways 1 to 8
 abbrev pub AreTaken : List (Option ℕ) → List Load → Type 0
 AreTaken values ls = (length values ≡ 8) × ((k : ℕ) → k < 8 → slice_index_or values k None ≡ last_load (taken (suc k)) None ls)
+
+-- none of them is above this number
+abbrev pub AreUpTo : ℕ → List (Option ℕ) → Type 0
+AreUpTo most values = (k value : ℕ) → k < 8 → slice_index_or values k None ≡ Some value → value ≤ most
 
 -- as where none was loaded
 abbrev pub no_values : List (Option ℕ)

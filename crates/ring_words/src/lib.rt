@@ -19,7 +19,7 @@ mod view;
 
 pub use close::Summary;
 pub use heads::{Raw, TextHead, whole_word_at, word_at};
-pub use laws::no_gateway_is_ahead_of_the_journal;
+pub use laws::{a_row_has_one_sequence_in_use, no_gateway_is_ahead_of_the_journal};
 pub use open::OpenError;
 pub use report::{PlacedOutput, blank_output};
 pub use rings::{Ring, Rings};

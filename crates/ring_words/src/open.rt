@@ -4,6 +4,7 @@ ghost use Rattle.ring_words.specs.Rule.{gateways, newcomer, processor, opening_w
 ghost use Rattle.ring_words.specs.declared.view.Role.TheVariants.{Gateway, Marshal};
 ghost use Rattle.ring_words.specs.Seats.{person, others_stay, apart};
 ghost use Rattle.ring_words.specs.Sizes.{ring_size};
+ghost use Rattle.ring_words.specs.OpeningNumber.{opening_number};
 ghost use Rattle.ring_words.specs.At.{at, seat_of};
 ghost use Rattle.ring_words.specs.Crew.{AreNewGateways, AreNew};
 
@@ -29,10 +30,19 @@ use venue_model::{Entry, Logic, Past};
 pub enum OpenError {
     /// 21: the number of rows of a ring isn't a power of two from 2 to 4,096.
     #[error("not a power of two")]
-    NotPowerOfTwo,
+    NotPowerOfTwo = 21,
     /// 22: memory was refused.
     #[error("no memory")]
-    Memory,
+    Memory = 22,
+}
+
+impl OpenError {
+    /// Its number, 21 or 22.
+    pub fn number(self) -> u8
+        ensures { result ≡ opening_number self }
+    {
+        self as u8
+    }
 }
 
 /// Whether a ring may have this many rows.

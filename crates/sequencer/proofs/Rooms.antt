@@ -1,17 +1,21 @@
 -- The look for room: the taken words are loaded one after another, and the least of them is kept.
-use Rattle.std.proofs.Common.{Option, None, Some, ◌≡◌, ℕ, zero, suc, ◌+◌, ◌<◌, ◌≤◌, List, [], ◌∷◌, ◌++◌, length, min}
+use Rattle.std.proofs.Common.{Some, ◌≡◌, ◌⊎◌, inl, inr, ℕ, zero, suc, ◌+◌, ◌<◌, ◌≤◌, List, [], ◌∷◌}
+use Rattle.std.proofs.Common.{◌++◌, length, min}
 use Rattle.std.proofs.Common.{refl, ap, sym, subst, ◌∙◌, arith, append_assoc, length-append}
-use Rattle.venue_model.specs.ListLaws.{stands, at_behind}
+use Rattle.venue_model.specs.ListLaws.{stands, within, at_end, at_behind}
 use mathlib.Core.Option.{some, some-injective, some-ne-none}
 use lib.ListN.{get_elem?}
+use native.Mathlib.Decide.{dec_le}
 use Rattle.ring_words.specs.declared.view.Load.{Load}
 use Rattle.ring_words.specs.declared.view.Person.{Person}
 use Rattle.ring_words.specs.Places.{taken}
+use Rattle.ring_words.specs.Rule.{IsGateway}
 use Rattle.ring_words.specs.Seats.{load_of, looked}
 use Rattle.ring_words.specs.SeatLaws.{output_room_last_loaded}
 use Rattle.ring_words.specs.At.{At, seated}
 use Rattle.ring_words.specs.Steps.{HasOutputRoom}
-use Rattle.sequencer.specs.Rooms.{taken_loads, least_from, least, HasLooked, last_taken, LeavesRoom, KeepsRoom}
+use Rattle.sequencer.specs.Rooms.{taken_loads, least_from, least, HasLooked, last_taken}
+use Rattle.sequencer.specs.Rooms.{KeepsRoom, LeavesNoRoom, KeepsNoRoom}
 
 -- one value more is one load more, of the next gateway's word
 taken_more : (k : ℕ) (xs : List ℕ) (x : ℕ) → taken_loads k (xs ++ x ∷ [])
@@ -51,6 +55,28 @@ least_below (y ∷ ys) zero x at = let low = least_from_low y ys in
     let same : y ≡ x = some-injective y x at in
     omega arith
 least_below (y ∷ ys) (suc i) x at = least_from_below y ys i x at
+
+-- the least is the number or one of the values
+least_from_is : (a : ℕ) (xs : List ℕ) → (least_from a xs ≡ a) ⊎ ((i : ℕ) × (get_elem? xs i ≡ some (least_from a xs)))
+least_from_is a [] = inl refl
+least_from_is a (y ∷ ys) = by_rest (least_from_is (min a y) ys) where
+  by_rest : (least_from (min a y) ys ≡ min a y) ⊎ ((i : ℕ) × (get_elem? ys i ≡ some (least_from (min a y) ys)))
+      → (least_from (min a y) ys ≡ a) ⊎ ((i : ℕ) × (get_elem? (y ∷ ys) i ≡ some (least_from (min a y) ys)))
+  by_rest (inr (i, there)) = inr (suc i, there)
+  by_rest (inl is) = by_order (dec_le a y) where
+    by_order : Dec (a ≤ y) → (least_from (min a y) ys ≡ a)
+        ⊎ ((i : ℕ) × (get_elem? (y ∷ ys) i ≡ some (least_from (min a y) ys)))
+    by_order (yes le) = inl (omega arith)
+    by_order (no gt) = let other : y ≡ least_from (min a y) ys = omega arith in inr (0, ap some other)
+
+-- the least of some values is one of them
+least_is : (xs : List ℕ) → 1 ≤ length xs → (i : ℕ) × (get_elem? xs i ≡ some (least xs))
+least_is [] some_there = absurd (omega arith)
+least_is (y ∷ ys) some_there = by_case (least_from_is y ys) where
+  by_case : (least_from y ys ≡ y) ⊎ ((i : ℕ) × (get_elem? ys i ≡ some (least_from y ys)))
+      → (i : ℕ) × (get_elem? (y ∷ ys) i ≡ some (least_from y ys))
+  by_case (inl is) = (0, ap some (sym is))
+  by_case (inr (i, there)) = (suc i, there)
 
 -- each value was loaded of its gateway's word
 taken_at : (k : ℕ) (xs : List ℕ) (i x : ℕ) → get_elem? xs i ≡ some x
@@ -142,14 +168,13 @@ module _ {L : Type 0} (m : ℕ) (v : At L) where
         values = r.values;
         count = long;
         loads = at;
-        below = omega arith;
-        room = omega arith;
+        room = record { below = omega arith; is = omega arith };
       }
 
   -- so there is room for the places that the answer counts
   pub has_free : (g answer : ℕ) (q : Person) → HasLooked g m v.who answer q → (i : ℕ) → i < answer
       → HasOutputRoom g m q (v.who.row.sequence + i)
-  has_free g answer q looked i below = let count = looked.count in let room = looked.room in
+  has_free g answer q looked i below = let count = looked.count in let room = looked.room.is in
       subst (λ (p : Person). HasOutputRoom g m p (v.who.row.sequence + i)) (sym looked.loads)
       (room_for g m v.who looked.values (v.who.row.sequence + i) count (omega (arith, room, below)))
 
@@ -157,15 +182,75 @@ module _ {L : Type 0} (m : ℕ) (v : At L) where
   pub place_kept : (u : At L) (k low : ℕ) → LookedBelow m v u k low → u.who.row.sequence ≡ v.who.row.sequence
   place_kept u k low r = ap (λ (y : At L). y.who.row.sequence) r.view
 
--- where a taken value leaves room, it was loaded
-left_by : (m upto : ℕ) (last : Option ℕ) → LeavesRoom m upto last → (x : ℕ) × ((last ≡ Some x) × (upto ≤ x + m))
-left_by m upto None none = elim none [ ]
-left_by m upto (Some x) room = (x, (refl, room))
+-- the values of all gateways below k were loaded last, and `low` is the least of them
+pub record KeptBelow (p : Person) (k low : ℕ) : Type 0 where
+  pub values : List ℕ
+  pub count : 1 + length values ≡ k
+  pub some_there : 1 ≤ length values
+  pub last : (i x : ℕ) → get_elem? values i ≡ some x → last_taken (suc i) p.loads ≡ Some x
+  pub low_is : least values ≡ low
+  pub below : low ≤ p.row.sequence
 
--- by the values kept there is room for each output of those that they leave room for
-pub keeps_free : (g m : ℕ) (p : Person) (n i : ℕ) → KeepsRoom g m p n → i < n
+module _ (m : ℕ) (p : Person) where
+  -- the first gateway's value
+  pub keeps_first : (x : ℕ) → last_taken 1 p.loads ≡ Some x → x ≤ p.row.sequence → KeptBelow p 2 x
+  keeps_first x last most = record {
+    values = x ∷ [];
+    count = refl;
+    some_there = omega arith;
+    last = λ i y at. by_place i y at;
+    low_is = refl;
+    below = most;
+  } where
+    by_place : (i y : ℕ) → get_elem? (x ∷ []) i ≡ some y → last_taken (suc i) p.loads ≡ Some y
+    by_place zero y at = last ∙ ap Some (some-injective x y at)
+    by_place (suc i) y at = absurd (some-ne-none y (sym at))
+
+  -- the next one's
+  pub keeps_next : (k low x after : ℕ) → KeptBelow p k low → last_taken k p.loads ≡ Some x → x ≤ p.row.sequence
+      → after ≡ min low x → KeptBelow p (k + 1) after
+  keeps_next k low x after r last most is =
+      let more = least_more r.values x r.some_there in
+      let low_is = r.low_is in
+      let below = r.below in
+      let long = length-append r.values (x ∷ []) in let count = r.count in record {
+        values = r.values ++ x ∷ [];
+        count = omega arith;
+        some_there = omega arith;
+        last = λ i y at. by_place i y (at_end r.values x y i at);
+        low_is = more ∙ (λ i. min (low_is i) x) ∙ sym is;
+        below = omega arith;
+      } where
+        by_place : (i y : ℕ) → (get_elem? r.values i ≡ some y) ⊎ ((i ≡ length r.values) × (x ≡ y))
+            → last_taken (suc i) p.loads ≡ Some y
+        by_place i y (inl before) = r.last i y before
+        by_place i y (inr (here, same)) = let count = r.count in let place : suc i ≡ k = omega (arith, here, count) in
+            ap (λ (j : ℕ). last_taken j p.loads) place ∙ last ∙ ap Some same
+
+  -- all were, and they leave nothing
+  pub has_none : (k low g : ℕ) → KeptBelow p k low → k ≡ g + 1 → low + m ≤ p.row.sequence → KeepsNoRoom g m p
+  has_none k low g r all full =
+      let count = r.count in
+      let low_is = r.low_is in
+      let one = least_is r.values r.some_there in
+      let inside = within r.values one.0 _ one.1 in (
+        suc one.0,
+        (
+          (omega arith, omega (arith, inside, count, all)),
+          subst (LeavesNoRoom m p.row.sequence) (sym (r.last one.0 _ one.1)) (omega (arith, low_is, full)),
+        ),
+      )
+
+-- behind the values kept there is room for each output of those that they leave room for
+pub keeps_free : (g m : ℕ) (p : Person) (answer i : ℕ) → KeepsRoom g m p answer → i < answer
     → HasOutputRoom g m p (p.row.sequence + i)
-keeps_free g m p n i kept below = output_room_last_loaded g m p (p.row.sequence + i) (λ k gateway.
-    let room = left_by m (p.row.sequence + n) (last_taken k p.loads) (kept k gateway) in
-    let enough = room.1.1 in
-    (room.0, room.1.0, omega arith))
+keeps_free g m p answer i kept below = output_room_last_loaded g m p (p.row.sequence + i) by_gateway where
+  by_gateway : (k : ℕ) → IsGateway g k → (x : ℕ) × (last_taken k p.loads ≡ Some x) × (p.row.sequence + i < x + m)
+  by_gateway zero gateway = let from = gateway.0 in absurd (omega arith)
+  by_gateway (suc j) gateway =
+      let count = kept.count in
+      let to = gateway.1 in
+      let at = stands kept.values j (omega arith) in
+      let low = least_below kept.values j at.0 at.1 in
+      let is = kept.room.is in
+      (at.0, kept.last j at.0 at.1, omega (arith, low, is, below))

@@ -1,5 +1,7 @@
 -- What the processor's look for room says.
 use Rattle.std.specs.Prelude.{⊤, Option, None, Some, ◌≡◌, ◌⊎◌, ℕ, suc, ◌+◌, ◌<◌, ◌≤◌, List, [], ◌∷◌, ◌++◌, length, min}
+use mathlib.Core.Option.{some}
+use lib.ListN.{get_elem?}
 use Rattle.ring_words.specs.declared.view.Load.{Load}
 use Rattle.ring_words.specs.declared.view.Person.{Person}
 use Rattle.ring_words.specs.Places.{taken}
@@ -21,38 +23,40 @@ abbrev pub least : List ℕ → ℕ
 least [] = 0
 least (x ∷ xs) = least_from x xs
 
--- the taken word of each of g gateways was loaded once, and the answer is how many outputs more the ring of m rows has room for: m less the
--- amount by which published is above the least of them
+-- how many outputs more a ring of m rows has room for behind these taken values: m less the amount by which published is above the least of them
+pub record IsRoom (m : ℕ) (p : Person) (values : List ℕ) (room : ℕ) : Type 0 where
+  pub below : least values ≤ p.row.sequence
+  pub is : room + p.row.sequence ≡ least values + m
+
+-- the taken word of each of g gateways was loaded once, and the answer is the room behind these values
 pub record HasLooked (g m : ℕ) (p : Person) (answer : ℕ) (q : Person) : Type 0 where
   pub values : List ℕ
   pub count : length values ≡ g
   pub loads : q ≡ record p { loads = p.loads ++ taken_loads 1 values }
-  pub below : least values ≤ p.row.sequence
-  pub room : answer + p.row.sequence ≡ least values + m
+  pub room : IsRoom m p values answer
 
 -- the value of gateway k's taken word that these loads found last, if any did
 abbrev pub last_taken : ℕ → List Load → Option ℕ
 last_taken k ls = last_load (taken k) None ls
 
--- by that value a ring of m rows has room for all outputs below the place upto
-abbrev pub LeavesRoom : ℕ → ℕ → Option ℕ → Type 0
-LeavesRoom m upto None = ⊥
-LeavesRoom m upto (Some x) = upto ≤ x + m
+-- the taken word of each of g gateways was loaded before, and the answer is the room behind the values loaded last, which leave some
+pub record KeepsRoom (g m : ℕ) (p : Person) (answer : ℕ) : Type 0 where
+  pub values : List ℕ
+  pub count : length values ≡ g
+  pub last : (i x : ℕ) → get_elem? values i ≡ some x → last_taken (suc i) p.loads ≡ Some x
+  pub room : IsRoom m p values answer
+  pub some_left : 0 < answer
 
--- or it hasn't, or there is none
+-- behind this taken value a ring of m rows has no room for the output at the place q, or there is no value
 abbrev pub LeavesNoRoom : ℕ → ℕ → Option ℕ → Type 0
-LeavesNoRoom m upto None = ⊤
-LeavesNoRoom m upto (Some x) = x + m < upto
+LeavesNoRoom m q None = ⊤
+LeavesNoRoom m q (Some x) = x + m ≤ q
 
--- by the values that were loaded last there is room for n outputs more, behind each of g gateways
-abbrev pub KeepsRoom : ℕ → ℕ → Person → ℕ → Type 0
-KeepsRoom g m p n = (k : ℕ) → IsGateway g k → LeavesRoom m (p.row.sequence + n) (last_taken k p.loads)
+-- behind one of g gateways the value loaded last leaves no room for the next output, or none was loaded
+abbrev pub KeepsNoRoom : ℕ → ℕ → Person → Type 0
+KeepsNoRoom g m p = (k : ℕ) × (IsGateway g k × LeavesNoRoom m p.row.sequence (last_taken k p.loads))
 
--- or behind one of them there isn't
-abbrev pub KeepsNoRoom : ℕ → ℕ → Person → ℕ → Type 0
-KeepsNoRoom g m p n = (k : ℕ) × (IsGateway g k × LeavesNoRoom m (p.row.sequence + n) (last_taken k p.loads))
-
--- The answer says how many outputs more there is room for, where n are wanted. By the taken values that were loaded last there is room for all of these, and
--- then no word is loaded; or there isn't, and then each word was loaded once
-abbrev pub SeesRoomFor : ℕ → ℕ → Person → ℕ → ℕ → Person → Type 0
-SeesRoomFor g m p n answer q = (KeepsRoom g m p n × ((answer ≡ n) × (q ≡ p))) ⊎ (KeepsNoRoom g m p n × HasLooked g m p answer q)
+-- The answer says how many outputs more there is room for. The taken values that were loaded last leave that, which is above 0, and no word is loaded; or
+-- they leave nothing, or one is missing, and each word was loaded once
+abbrev pub SaysRoom : ℕ → ℕ → Person → ℕ → Person → Type 0
+SaysRoom g m p answer q = (KeepsRoom g m p answer × (q ≡ p)) ⊎ (KeepsNoRoom g m p × HasLooked g m p answer q)

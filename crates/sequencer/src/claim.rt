@@ -6,6 +6,7 @@ ghost use Rattle.ring_words.specs.Places.{processed};
 ghost use Rattle.ring_words.specs.Seats.{looked, loading};
 ghost use Rattle.ring_words.specs.At.{IsAt, Steps};
 ghost use Rattle.ring_words.specs.Steps.{ClaimsUpTo, HasRoom};
+ghost use Rattle.sequencer.specs.ClaimNumber.{claim_number};
 ghost use Rattle.sequencer.specs.Claims.{last_processed, ShowsFull, SeesRoom, Claimed, Refused};
 
 use ring_words::{GatewaySeat, Rings};
@@ -21,13 +22,22 @@ const SEQUENCES: u64 = 1 << 48;
 pub enum ClaimRefusal {
     /// 31: in this call the claim word, less the processed word, was the number of rows.
     #[error("ring full")]
-    Full,
+    Full = 31,
     /// 32: the claim word had moved past the value that was loaded.
     #[error("claim contended")]
-    Contended,
+    Contended = 32,
     /// 33: the claim word was 2^48. This is tested first.
     #[error("sequences exhausted")]
-    Exhausted,
+    Exhausted = 33,
+}
+
+impl ClaimRefusal {
+    /// Its number, 31 to 33.
+    pub fn number(self) -> u8
+        ensures { result ≡ claim_number self }
+    {
+        self as u8
+    }
 }
 
 /// A claimed sequence, below 2^48. It must be spent, by `publish`: the stages wait for its message, and only its
@@ -41,16 +51,6 @@ impl Model for Claim {
     ghost Value = { ℕ };
 
     ghost view = { λ c. c.sequence };
-}
-
-impl Claim {
-    /// The sequence: the message's place in the history, from 0.
-    pub fn sequence(&self) -> u64
-        ensures value { result ≡ self.now }
-        ensures small { result < 2 ^ 48 }
-    {
-        self.sequence
-    }
 }
 
 /// Whether the sequence `at` has a free row in a ring of so many, by this processed value. It may have been loaded

@@ -7,7 +7,7 @@ mod claim;
 mod publish;
 mod put;
 
-pub use barrier::{Head, Take, take_output};
+pub use barrier::{Head, Take, take};
 pub use claim::{Claim, ClaimRefusal, try_claim};
 pub use put::room;
 pub use ring_words::put_output;

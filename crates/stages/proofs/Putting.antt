@@ -3,12 +3,10 @@
 use Rattle.std.proofs.Common.{◌≡◌, ◌⊎◌, inl, inr, ℕ, zero, suc, ◌+◌, ◌<◌, ◌≤◌, Bool, true, false, cond, List, [], ◌∷◌}
 use Rattle.std.proofs.Common.{◌++◌, length, get_or, take, drop, min, Some, ap, refl, sym, subst, ◌∙◌, append_assoc}
 use Rattle.std.proofs.Common.{length-drop, arith, add-one, eqb}
-use Rattle.std.proofs.lemmas.List.{append-nil, drop-drop, drop_all, length-take-le}
-use Rattle.std.specs.Prelude.{MatchBool, ◌-◌, ◌↔◌, if◌then◌else◌, nat_le, nat_eq}
-use Rattle.std.proofs.lemmas.Bool.{eqb-true, eq-eqb, leb-true}
+use Rattle.std.proofs.lemmas.List.{append-nil, drop-drop, length-take-le}
+use Rattle.std.specs.Prelude.{MatchBool, ◌-◌, if◌then◌else◌, nat_le, nat_lt}
+use Rattle.std.proofs.lemmas.Bool.{eqb-true, leb-true, leb-false}
 use mathlib.Core.Option.{some, some-ne-none}
-use mathlib.Core.Logic.{dite}
-use native.Mathlib.Decide.{dec_lt}
 use lib.ListN.{get_elem?}
 use Rattle.venue_model.specs.History.{Message}
 use Rattle.venue_model.specs.Requests.{Limits}
@@ -26,13 +24,13 @@ use Rattle.ring_words.specs.Steps.{HasOutputRoom, Shows, lesser_of}
 use Rattle.ring_words.specs.SeatLaws.{last_kept, last_loaded}
 use Rattle.barrier.specs.Availability.{BehindBoth}
 use Rattle.barrier.specs.Commands.{command_loads}
-use Rattle.sequencer.specs.Rooms.{taken_loads, SeesRoomFor}
+use Rattle.sequencer.specs.Rooms.{taken_loads, SaysRoom}
 use Rattle.book.specs.Books.{Book}
 use Rattle.book.specs.Histories.{reads_at, state_of, outputs_of}
 use Rattle.stages.specs.Turns.{after_reading}
-use Rattle.stages.specs.Processes.{to_put, TakesUp, put_ahead, PutsOutputs, PutsAll}
+use Rattle.stages.specs.Processes.{to_put, TakesUp, put_ahead, PutsRound, PutsRounds, PutsOutputs, PutsUntilFull}
 use Rattle.stages.specs.Stations.{AtBook}
-use Rattle.stages.specs.Insides.{FollowsRings, IsWorking}
+use Rattle.stages.specs.Insides.{FollowsRings, IsWorking, upto}
 use Rattle.stages.proofs.Processing.{MayTake, Took, at_rest, follows_on, left_to_put}
 
 -- THE VALUE LOADED LAST
@@ -185,33 +183,56 @@ pub record OnlyLooked (p q : Person) : Type 0 where
   pub values : List ℕ
   pub loads : q ≡ record p { loads = p.loads ++ taken_loads 1 values }
 
-pub only_looked : (g m : ℕ) (p : Person) (n answer : ℕ) (q : Person) → SeesRoomFor g m p n answer q → OnlyLooked p q
-only_looked g m p n answer q (inl kept) = record {
+pub only_looked : (g m : ℕ) (p : Person) (answer : ℕ) (q : Person) → SaysRoom g m p answer q → OnlyLooked p q
+only_looked g m p answer q (inl kept) = record {
   values = [];
-  loads = kept.1.1 ∙ (λ i. record p { loads = sym (append-nil p.loads) i });
+  loads = kept.1 ∙ (λ i. record p { loads = sym (append-nil p.loads) i });
 }
-only_looked g m p n answer q (inr (none, looked)) = record { values = looked.values; loads = looked.loads }
+only_looked g m p answer q (inr (none, looked)) = record { values = looked.values; loads = looked.loads }
 
--- all outputs were put where the values kept leave room for them; else one look was made
+-- as many outputs were put as there was room for, or there was none
 pub were_put : (g m : ℕ) (p : Person) (left : List Output) (answer most : ℕ) (q w : Person)
-    → SeesRoomFor g m p (length left) answer q → 0 < length left
+    → SaysRoom g m p answer q → 0 < length left
     → most ≡ min answer (length left) → w ≡ put_ahead q most
-    → PutsAll m g p left w × (most < length left → PutsOutputs m g p left w)
-were_put g m p left answer most q w (inl kept) some_left is w_is = let enough = kept.1.0 in
-    let all : most ≡ length left = omega (arith, is, enough) in
-    (inl (some_left, (kept.0, w_is ∙ (λ i. put_ahead (kept.1.1 i) (all i)))), λ few. absurd (omega (arith, few, all)))
-were_put g m p left answer most q w (inr (none, looked)) some_left is w_is =
-    let puts : PutsOutputs m g p left w = inr (some_left, (answer, (q, looked, w_is ∙ ap (put_ahead q) is))) in
-    (inr (inr none, puts), λ few. puts)
+    → (0 < most → PutsRound m g (p.row.sequence + length left) p w) × (most ≡ 0 → SaysRoom g m p 0 w)
+were_put g m p left answer most q w says some_left is w_is =
+    let all : p.row.sequence + length left - p.row.sequence ≡ length left = omega arith in (
+      λ some_room. (
+        omega arith,
+        (
+          answer,
+          (
+            q,
+            says,
+            omega (arith, is, some_room),
+            w_is ∙ ap (put_ahead q) (is ∙ ap (min answer) (sym all)),
+          ),
+        ),
+      ),
+      λ none. let no_room : answer ≡ 0 = omega (arith, is, none, some_left) in
+          subst (SaysRoom g m p 0) (sym (w_is ∙ ap (put_ahead q) none))
+          (subst (λ (k : ℕ). SaysRoom g m p k q) no_room says),
+    )
 
 -- so it is by what is answered
-pub put_or_left : (A B : Type 0) (most n : ℕ) → most ≤ n → A × (most < n → B) → MatchBool (nat_eq most n) A B
-put_or_left A B most n few were = by_answer (nat_eq most n) refl where
-  by_answer : (b : Bool) → nat_eq most n ≡ b → MatchBool b A B
-  by_answer true is = were.0
-  by_answer false is = were.1 (dite (dec_lt most n) (λ less. less)
-      (λ (more : ¬ (most < n)). absurd (let all = eq-eqb most n (omega arith) in
-      let t : true ≡ false = sym all ∙ is in cc)))
+pub put_or_full : (A B : Type 0) (most : ℕ) → (0 < most → A) × (most ≡ 0 → B) → MatchBool (nat_lt 0 most) A B
+put_or_full A B most were = by_answer (nat_lt 0 most) refl where
+  by_answer : (b : Bool) → nat_lt 0 most ≡ b → MatchBool b A B
+  by_answer true is = were.0 (leb-true 1 most is)
+  by_answer false is = let none = leb-false 1 most is in were.1 (omega (arith, none))
+
+-- a round gets ahead
+pub round_ahead : (m g upto : ℕ) (v w : Person) → PutsRound m g upto v w → v.row.sequence < w.row.sequence
+round_ahead m g upto v w puts =
+    let room = puts.1.0 in
+    let q = puts.1.1.0 in
+    let looked = only_looked g m v room q puts.1.1.1 in
+    let place : q.row.sequence ≡ v.row.sequence = ap (λ (p : Person). p.row.sequence) looked.loads in
+    let ahead = ap (λ (p : Person). p.row.sequence) puts.1.1.3
+    ∙ ahead_place q (min room (upto - v.row.sequence)) in
+    let below = puts.0 in
+    let some_room = puts.1.1.2 in
+    omega (arith, place, ahead, some_room, below)
 
 module _ (g m : ℕ) (v u : At Limits) (room : ℕ) (looked : OnlyLooked v.who u.who) (u_is : u ≡ seated v u.who) where
   looked_place : u.who.row.sequence ≡ v.who.row.sequence
@@ -317,18 +338,19 @@ pub record AreGone (m g : ℕ) (p : AtBook) (w : At Limits) (most : ℕ) : Type 
   pub sequence : w.who.sequence ≡ p.seat.who.sequence
   pub seen : length w.who.seen ≡ length p.seat.who.seen
   pub last : last_from journalled 0 w.who.loads ≡ last_from journalled 0 p.seat.who.loads
-  pub puts : PutsAll m g p.seat.who p.left w.who × (most < length p.left → PutsOutputs m g p.seat.who p.left w.who)
+  pub place : w.who.row.sequence ≡ p.seat.who.row.sequence + most
+  pub puts : (0 < most → PutsRound m g (upto p) p.seat.who w.who) × (most ≡ 0 → SaysRoom g m p.seat.who 0 w.who)
 
 -- those left are the outputs from one place on, of which as many as there is room for are lent and put
-pub are_gone : (m g : ℕ) (p : AtBook) (u w : At Limits) (wanted room most put : ℕ) (items now : List Output)
+pub are_gone : (m g : ℕ) (p : AtBook) (u w : At Limits) (room most put : ℕ) (items now : List Output)
     → IsWorking p → p.left ≡ drop put items
-    → p.seat.who.sequence < p.applied → SeesRoomFor g m p.seat.who wanted room u.who → wanted ≡ length p.left
+    → p.seat.who.sequence < p.applied → SaysRoom g m p.seat.who room u.who
     → u ≡ seated p.seat u.who → now ≡ items
     → 0 < length p.left → most ≡ min room (length p.left)
     → w ≡ seated u (put_ahead u.who (length (take (put + most - put) (drop put now)))) → AreGone m g p w most
-are_gone m g p u w wanted room most put items now working left_is under_way sees wanted_is u_is is some_there least
+are_gone m g p u w room most put items now working left_is under_way says u_is is some_there least
     was_put =
-    let v = p.seat in let looked = only_looked g m v.who wanted room u.who sees in let counts = working.counts in
+    let v = p.seat in let looked = only_looked g m v.who room u.who says in let counts = working.counts in
     let one : p.applied ≡ suc v.who.sequence = omega (arith, counts, under_way) in
     let within : most ≤ length p.left = omega (arith, least) in
     let long = ap length left_is in
@@ -341,9 +363,8 @@ are_gone m g p u w wanted room most put items now working left_is under_way sees
       sequence = kept.0;
       seen = kept.1;
       last = kept.2;
-      puts = were_put g m v.who p.left room most u.who w.who
-          (subst (λ (n : ℕ). SeesRoomFor g m v.who n room u.who) wanted_is sees) some_there least
-          (ap (λ (s : At _). s.who) w_is);
+      place = place_after g m v u room looked u_is p.book p.applied p.left working.follows one most within w w_is;
+      puts = were_put g m v.who p.left room most u.who w.who says some_there least (ap (λ (s : At _). s.who) w_is);
     }
 
 -- the processor with the others left
@@ -364,14 +385,10 @@ works_behind m g p w most rest working under_way is gone =
       synced = λ _. omega (arith, above, last, own);
     }
 
--- none is left where as many were put as were left, and only there
-pub none_left : (put most len : ℕ) (items : List Output) → len ≡ length items → put ≤ len → most ≤ len - put
-    → (nat_eq most (len - put) ≡ true) ↔ (drop (put + most) items ≡ [])
-none_left put most len items long within few = let rest = length-drop (put + most) items in (
-  (λ all. let same = eqb-true most (len - put) all in drop_all (put + most) items (omega (arith, same, long, within))),
-  (λ none. let nil : length (drop (put + most) items) ≡ 0 = ap length none in
-      eq-eqb most (len - put) (omega (arith, rest, nil, long, within, few))),
-)
+-- a round more
+pub one_round_more : (m g upto : ℕ) (u v w : Person) → (k : ℕ) × PutsRounds m g upto k u v → PutsRound m g upto v w
+    → (k : ℕ) × PutsRounds m g upto k u w
+one_round_more m g upto u v w so_far more = (suc so_far.0, (v, so_far.1, more))
 
 -- A POLL
 
@@ -433,17 +450,15 @@ module _ (n m g : ℕ) (limits : Limits) (p b : AtBook) (is : p.book.limits ≡ 
       ∙ left_to_put b.seat b.book b.applied b.left begun.working.follows begun.one
 
   -- and they were put, or some of them
-  pub put_all : (w : Person) (t : Bool) → MatchBool t (PutsAll m g b.seat.who b.left w)
-      (PutsOutputs m g b.seat.who b.left w) → t ≡ true → PutsAll m g b.seat.who (to_put limits b.seat.who) w
-  put_all w t puts is = subst (λ (l : List Output). PutsAll m g b.seat.who l w) (sym are_left)
-      (subst (λ (t : Bool). MatchBool t (PutsAll m g b.seat.who b.left w) (PutsOutputs m g b.seat.who b.left w)) is
-      puts)
+  pub put_all : (w : Person) (t : Bool) → MatchBool t (PutsOutputs m g b.seat.who b.left w)
+      (PutsUntilFull m g b.seat.who b.left w) → t ≡ true → PutsOutputs m g b.seat.who (to_put limits b.seat.who) w
+  put_all w t puts is = subst (λ (l : List Output). PutsOutputs m g b.seat.who l w) (sym are_left)
+      (subst (λ t. MatchBool t (PutsOutputs m g b.seat.who b.left w) (PutsUntilFull m g b.seat.who b.left w)) is puts)
 
-  pub put_some : (w : Person) (t : Bool) → MatchBool t (PutsAll m g b.seat.who b.left w)
-      (PutsOutputs m g b.seat.who b.left w) → t ≡ false → PutsOutputs m g b.seat.who (to_put limits b.seat.who) w
-  put_some w t puts is = subst (λ (l : List Output). PutsOutputs m g b.seat.who l w) (sym are_left)
-      (subst (λ (t : Bool). MatchBool t (PutsAll m g b.seat.who b.left w) (PutsOutputs m g b.seat.who b.left w)) is
-      puts)
+  pub put_some : (w : Person) (t : Bool) → MatchBool t (PutsOutputs m g b.seat.who b.left w)
+      (PutsUntilFull m g b.seat.who b.left w) → t ≡ false → PutsUntilFull m g b.seat.who (to_put limits b.seat.who) w
+  put_some w t puts is = subst (λ (l : List Output). PutsUntilFull m g b.seat.who l w) (sym are_left)
+      (subst (λ t. MatchBool t (PutsOutputs m g b.seat.who b.left w) (PutsUntilFull m g b.seat.who b.left w)) is puts)
 
   module _ (q : AtBook) (kept : (q.applied ≡ b.applied) × (q.book ≡ b.book)) (own : q.seat.who.sequence ≡ b.seat.who.sequence)
       (working : IsWorking q) where

@@ -35,6 +35,10 @@ pub record IsWorking (p : AtBook) : Type 0 where
   pub whole : p.applied ≡ p.seat.who.sequence → p.left ≡ []
   pub synced : p.seat.who.sequence < p.applied → p.seat.who.sequence < last_from journalled 0 p.seat.who.loads
 
+-- the place behind the last of the outputs left
+abbrev pub upto : AtBook → ℕ
+upto p = p.seat.who.row.sequence + length p.left
+
 -- the entries below upto, which stand from the own word on, were read
 pub record HasRead {L : Type 0} (n : ℕ) (v : At L) (upto : ℕ) (block : History) (w : At L) : Type 0 where
   pub read : w ≡ seated v (after_messages n v.who block)

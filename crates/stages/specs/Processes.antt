@@ -1,5 +1,5 @@
 -- What one poll of the processor does, by what it answers: of its person, and of how many entries its book has, before and after it.
-use Rattle.std.specs.Prelude.{◌≡◌, ◌≢◌, ◌⊎◌, ℕ, zero, suc, min, ◌<◌, List, [], length, take, drop}
+use Rattle.std.specs.Prelude.{◌≡◌, ◌≢◌, ◌⊎◌, ℕ, zero, suc, ◌+◌, ◌-◌, min, ◌<◌, List, [], length, take, drop}
 use mathlib.Core.Option.{some}
 use lib.ListN.{get_elem?}
 use Rattle.venue_model.specs.History.{Message}
@@ -11,7 +11,7 @@ use Rattle.ring_words.specs.Rule.{at_place}
 use Rattle.ring_words.specs.Seats.{looked}
 use Rattle.ring_words.specs.Steps.{lesser_of}
 use Rattle.barrier.specs.Availability.{BehindBoth}
-use Rattle.sequencer.specs.Rooms.{HasLooked, KeepsRoom, KeepsNoRoom}
+use Rattle.sequencer.specs.Rooms.{SaysRoom}
 use Rattle.book.specs.Histories.{outputs_of}
 use Rattle.stages.specs.Turns.{one_done, after_reading}
 use Rattle.stages.specs.declared.turn.Turn.{Turn}
@@ -38,18 +38,24 @@ abbrev pub put_ahead : Person → ℕ → Person
 put_ahead p zero = p
 put_ahead p (suc k) = at_place (put_ahead p k) (suc (put_ahead p k).row.sequence)
 
--- of these outputs as many were put as one look for room left room for; where there are none, nobody looks
-abbrev pub PutsOutputs : ℕ → ℕ → Person → List Output → Person → Type 0
-PutsOutputs m g u outputs w =
-    ((outputs ≡ []) × (w ≡ u))
-    ⊎ ((0 < length outputs) × ((room : ℕ) × ((q : Person) × HasLooked g m u room q × (w ≡ put_ahead q (min room (length outputs))))))
+-- One round of putting: some outputs below the place upto aren't published, the ring was asked for room and had some, and as many were put as it had
+-- room for and are left
+abbrev pub PutsRound : ℕ → ℕ → ℕ → Person → Person → Type 0
+PutsRound m g upto v w = (v.row.sequence < upto) × ((room : ℕ) × ((q : Person) × SaysRoom g m v room q × (0 < room)
+    × (w ≡ put_ahead q (min room (upto - v.row.sequence)))))
 
--- All of these outputs were put: by the taken values that were loaded last there was room for all, and nobody looked; or there wasn't, and one look for
--- room was made; or there are none
-abbrev pub PutsAll : ℕ → ℕ → Person → List Output → Person → Type 0
-PutsAll m g u outputs w =
-    ((0 < length outputs) × (KeepsRoom g m u (length outputs) × (w ≡ put_ahead u (length outputs))))
-    ⊎ (((outputs ≡ []) ⊎ KeepsNoRoom g m u (length outputs)) × PutsOutputs m g u outputs w)
+-- so many rounds, one after another
+abbrev pub PutsRounds : ℕ → ℕ → ℕ → ℕ → Person → Person → Type 0
+PutsRounds m g upto zero u w = w ≡ u
+PutsRounds m g upto (suc k) u w = (v : Person) × PutsRounds m g upto k u v × PutsRound m g upto v w
+
+-- these outputs were put in some rounds; where there are none, nobody asks for room
+abbrev pub PutsOutputs : ℕ → ℕ → Person → List Output → Person → Type 0
+PutsOutputs m g u outputs w = (rounds : ℕ) × PutsRounds m g (u.row.sequence + length outputs) rounds u w
+
+-- some of them were put, or none, and then the ring was asked for room and had none
+abbrev pub PutsUntilFull : ℕ → ℕ → Person → List Output → Person → Type 0
+PutsUntilFull m g u outputs w = (v : Person) × PutsOutputs m g u outputs v × SaysRoom g m v 0 w
 
 -- how many rows the two rings have, and how many gateways there are
 pub record Sizes : Type 0 where
@@ -72,10 +78,10 @@ working who applied = record { who = who; applied = applied }
 -- the look for one showed.
 abbrev pub Processes : Sizes → Limits → Turn → Working → Working → Type 0
 Processes s limits (Did k) v w =
-    (k ≡ 1) × ((u q : Person) × TakesUp s.rows limits v.applied v.who u × PutsAll s.output_rows s.gateways u (to_put limits u) q × (to_put limits q ≡ [])
+    (k ≡ 1) × ((u q : Person) × TakesUp s.rows limits v.applied v.who u × PutsOutputs s.output_rows s.gateways u (to_put limits u) q × (to_put limits q ≡ [])
     × (w.who ≡ one_done q) × (w.applied ≡ w.who.sequence))
 Processes s limits Idle v w = (v.applied ≡ v.who.sequence) × NothingHandedOn v.who w.who × (w.applied ≡ v.applied)
 Processes s limits OutFull v w =
-    (u : Person) × TakesUp s.rows limits v.applied v.who u × PutsOutputs s.output_rows s.gateways u (to_put limits u) w.who × (to_put limits w.who ≢ [])
+    (u : Person) × TakesUp s.rows limits v.applied v.who u × PutsUntilFull s.output_rows s.gateways u (to_put limits u) w.who × (to_put limits w.who ≢ [])
     × (w.applied ≡ suc w.who.sequence)
 Processes s limits JournalFailed v w = ⊥

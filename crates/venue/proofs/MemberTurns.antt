@@ -10,9 +10,10 @@ use Rattle.gateway.specs.declared.ending.Turned.{Turned}
 use Rattle.gateway.specs.declared.ending.Turned.TheVariants.{Worked, Quiet, Ended}
 use Rattle.venue.specs.Leaving.{LeavesOn, LeaveOn, IsSeenOff, told_leaving}
 use Rattle.venue.specs.declared.leaving.Leaving.{Leaving}
-use Rattle.venue.specs.Trading.{AtPort, HasClient, TradesOn}
+use Rattle.venue.specs.Trading.{AtPort, HasClient, TookTurn, TradesOn}
 use Rattle.venue.specs.TradingLaws.{all_stay, more-nil}
-use Rattle.venue.specs.Turning.{IsAtRest, outcome_at}
+use Rattle.venue.specs.Turning.{IsAtRest, SendsOn, SentOn, outcome_at}
+use Rattle.venue.specs.declared.member.Desk.{Desk}
 use Rattle.wires.specs.Ports.{Register, with_more}
 use Rattle.wires.specs.Wires.{Told}
 
@@ -92,6 +93,7 @@ module _ (rings : Opened Limits) (old new : Accepting) (turned : Turned) (leavin
     gone = [];
     attends = one_step 1024 old new [] [] (inl (turned, None, takes, refl, refl));
     number = refl;
+    is_open = refl;
     handed_out = sym (more-nil register.came);
     given_back = sym (more-nil register.gone);
     leave = subst (λ (l : List Told). LeaveOn l (option_to_list leaving)) (sym (append-nil (option_to_list leaving)))
@@ -109,6 +111,7 @@ module _ (rings : Opened Limits) (old new : Accepting) (turned : Turned) (leavin
     gone = [];
     attends = one_step 1024 old new [] (told ∷ []) (inl (turned, Some told, takes, refl, refl));
     number = refl;
+    is_open = refl;
     handed_out = sym (more-nil register.came);
     given_back = sym (more-nil register.gone);
     leave = subst (λ (l : Option Told). LeaveOn (option_to_list l ++ told ∷ []) (told ∷ []))
@@ -152,6 +155,7 @@ waited_for rings a before behind register leaves = record {
   gone = [];
   attends = still 1024 a;
   number = refl;
+  is_open = refl;
   handed_out = sym (more-nil register.came);
   given_back = sym (more-nil register.gone);
   leave = (leaves, tt);
@@ -170,6 +174,7 @@ has_left rings a before behind register after leaves is = record {
   gone = behind ∷ [];
   attends = still 1024 a;
   number = ap (λ (r : Register). r.number) is;
+  is_open = ap (λ (r : Register). r.is_open) is;
   handed_out = ap (λ (r : Register). r.came) is ∙ sym (more-nil register.came);
   given_back = ap (λ (r : Register). r.gone) is;
   leave = (leaves, tt);
@@ -188,6 +193,7 @@ has_come rings old new told register after admits is = record {
   gone = [];
   attends = one_step 1024 old new (told ∷ []) [] (inr (told, admits, refl, refl));
   number = ap (λ (r : Register). r.number) is;
+  is_open = ap (λ (r : Register). r.is_open) is;
   handed_out = ap (λ (r : Register). r.came) is;
   given_back = ap (λ (r : Register). r.gone) is ∙ sym (more-nil register.gone);
   leave = tt;
@@ -232,11 +238,12 @@ of_none tells None P none = tt
 of_none tells (Some leaving) P none = absurd (cc none)
 
 -- Who left before a turn is the one who is seen off in it.
-pub seen_off : {W : Type 0} (tells : W → Told) (old mid now new : Option (Leaving W))
-    → IfSome old (λ client. mid ≡ Some client) → now ≡ mid → IsSeenOff tells now new → IfSome old (λ client. IsSeenOff tells (Some client) new)
-seen_off tells None mid now new is same off = tt
-seen_off tells (Some client) mid now new is same off =
-    subst (λ (l : Option (Leaving _)). IsSeenOff tells l new) (same ∙ is) off
+pub seen_off : {W : Type 0} (tells : W → Told) (flushed shuts : W → W → Type 0) (old mid now new : Option (Leaving W))
+    → IfSome old (λ client. mid ≡ Some client) → now ≡ mid → IsSeenOff tells flushed shuts now new
+    → IfSome old (λ client. IsSeenOff tells flushed shuts (Some client) new)
+seen_off tells flushed shuts None mid now new is same off = tt
+seen_off tells flushed shuts (Some client) mid now new is same off =
+    subst (λ (l : Option (Leaving _)). IsSeenOff tells flushed shuts l new) (same ∙ is) off
 
 -- A member came to what is the same in all that it tells.
 pub same_door : (rings : Opened Limits) (x : AtPort) (a b : Accepting) (l k : Option Told) (r s : Register)
@@ -245,6 +252,20 @@ same_door rings x a b l k r s same_a same_l same_r trades =
     subst (λ (c : Accepting). TradesOn rings x rings (at_door c k s)) (sym same_a)
     (subst (λ (m : Option Told). TradesOn rings x rings (at_door a m s)) (sym same_l)
     (subst (λ (t : Register). TradesOn rings x rings (at_door a l t)) (sym same_r) trades))
+
+-- What was sent on at a desk, of which nobody else has counted a turn, and whose gateway took its turn before.
+pub sent_on : {W : Type 0} (tells : W → Told) (flushed : W → W → Type 0) (old new : Desk W) (behind now : Accepting)
+    (moved : Bool) (before after : ℕ)
+    → TookTurn old.acceptor behind moved → SendsOn tells flushed before after now.wire → before ≡ old.turns
+    → new.turns ≡ after → now ≡ behind → SentOn tells flushed old new
+sent_on tells flushed old new behind now moved before after took sends was is same = record {
+  behind = behind;
+  moved = moved;
+  took = took;
+  sends = subst (λ (n : ℕ). SendsOn tells flushed n new.turns behind.wire) was
+      (subst (λ (n : ℕ). SendsOn tells flushed before n behind.wire) (sym is)
+      (subst (λ (a : Accepting). SendsOn tells flushed before after a.wire) same sends));
+}
 
 -- Where its thread rests behind a turn, nothing moved in it.
 pub rest_is_quiet : (held moved pressed wanted : Bool) → IsAtRest (outcome_at held moved pressed wanted) → moved ≡ false

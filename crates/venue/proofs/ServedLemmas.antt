@@ -59,6 +59,7 @@ module _ (rings : Opened Limits) (seats : Seats Limits) (back : List (At Limits)
           served = served.1;
           came = record {
             number = it.number;
+            is_open = it.is_open;
             came = it.handed_out ∙ ap (with_more old.came) (sym served.2);
             back = it.gone;
             gone = it.given_back;

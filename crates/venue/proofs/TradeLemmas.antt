@@ -1,5 +1,5 @@
 -- A member that traded from its start on, and whose port was given back the wire that was left, has come back.
-use Rattle.std.proofs.Common.{◌≡◌, ℕ, List, [], ◌++◌, Option, None, ap, sym, subst, ◌∙◌}
+use Rattle.std.proofs.Common.{◌≡◌, ℕ, true, List, [], ◌++◌, Option, None, ap, sym, subst, ◌∙◌}
 use Rattle.std.proofs.Common.{append_assoc}
 use Rattle.std.specs.Prelude.{option_to_list}
 use Rattle.venue_model.specs.Requests.{Limits}
@@ -18,8 +18,8 @@ module _ (rings rings_after : Opened Limits) (k : ℕ) (start end : Accepting) (
       → TradesOn rings (at_door start none old) rings_after (at_door end leaving between)
       → (seat : At Limits) → seat ≡ end.gateway.seat → IsAt rings_after end.gateway.seat → wire ≡ end.wire
       → seat.who.claims ≡ []
-      → GivesBack between after leaving wire → IsBack rings k seat old after
-  comes_back begun nobody goes seat seat_is fits wire_is spent gives =
+      → GivesBack between after leaving wire → old.is_open ≡ true → IsBack rings k seat old after
+  comes_back begun nobody goes seat seat_is fits wire_is spent gives opened =
       let left : List Told = option_to_list leaving ++ option_to_list wire in
       let first : LeaveOn (option_to_list none ++ goes.ended) (goes.gone ++ option_to_list leaving) = goes.leave in
       let ended : LeaveOn goes.ended (goes.gone ++ option_to_list leaving) =
@@ -36,6 +36,7 @@ module _ (rings rings_after : Opened Limits) (k : ℕ) (start end : Accepting) (
         gone = goes.gone ++ left;
         attends = subst (λ (a : Accepting). AttendsClients 1024 a end goes.came goes.ended) begun goes.attends;
         number = ap (λ (r : Register). r.number) gives ∙ goes.number;
+        is_open = ap (λ (r : Register). r.is_open) gives ∙ goes.is_open ∙ opened;
         handed_out = ap (λ (r : Register). r.came) gives ∙ goes.handed_out;
         given_back = ap (λ (r : Register). r.gone) gives ∙ ap (λ known. with_more known left) goes.given_back
             ∙ more-append old.gone goes.gone left;

@@ -1,5 +1,5 @@
 -- The headline, as it can be seen from outside (docs/HEADLINE.md): one history; for each member what its clients sent and were sent; and what the journal keeps.
-use Rattle.std.specs.Prelude.{◌≡◌, ◌⊎◌, ℕ, ◌+◌, ◌≤◌, false, List, [], ◌∷◌, length, map, Box}
+use Rattle.std.specs.Prelude.{◌≡◌, ◌⊎◌, ℕ, ◌+◌, ◌≤◌, true, false, List, [], ◌∷◌, length, map, Box}
 use Rattle.std.specs.Global.{Global}
 use Rattle.std.specs.List.{flat_map}
 use mathlib.Core.Option.{some}
@@ -14,7 +14,7 @@ use Rattle.replay.specs.Starts.{HasTrueSnapshots}
 use Rattle.ring_words.specs.Ending.{IsBeginning}
 use Rattle.stages.specs.Devices.{Device}
 use Rattle.venue.specs.Leaving.{LeaveOn}
-use Rattle.wires.specs.Ports.{Register, with_more}
+use Rattle.wires.specs.Ports.{Register, unopened, with_more}
 use Rattle.wires.specs.Wires as wires
 
 -- The file is the journal of this history, which is read by this cut, and its snapshots are true: each is that of the entries before it.
@@ -64,10 +64,11 @@ pub record KeepsSame (limits : Limits) (honest : Type 0) (old new : Told) : Type
   pub file : honest → (new.file ≡ old.file) ⊎ OfOneHistory limits old.file new.file
   pub meanwhile : honest → (file : List ℕ) → new.left_since old.moment file → old.may_leave file ⊎ OfOneHistory limits old.file file
 
--- The clients of a day are those that came in at the port, in their order. The port has their wires back: nothing more was written over them, and what still
+-- The clients of a day are those that came in at the port, which was opened, in their order. The port has their wires back: nothing more was written over them, and what still
 -- came over them was read over.
 pub record CameIn (old new : Register) (day : List DayPart) : Type 0 where
   pub number : new.number ≡ old.number
+  pub is_open : new.is_open ≡ true
   pub came : new.came ≡ with_more old.came (came_in day)
   pub back : List wires.Told
   pub gone : new.gone ≡ with_more old.gone back
@@ -77,6 +78,10 @@ pub record CameIn (old new : Register) (day : List DayPart) : Type 0 where
 -- what a port in a box tells
 abbrev pub in_box : {X : Type 0} → (X → Register) → Box X Global → Register
 in_box tells boxed = tells boxed.value
+
+-- ports tell what they told, but for whether they are open
+abbrev pub SamePorts : {X : Type 0} → (X → Register) → List X → List X → Type 0
+SamePorts tells old new = map (λ x. unopened (tells x)) new ≡ map (λ x. unopened (tells x)) old
 
 -- What can be seen of a run that listens: its disk, and its members' ports.
 pub record Boundary (D X : Type 0) : Type 0 where
@@ -97,10 +102,10 @@ module _ {D X : Type 0} where
     pub clients : (i : ℕ) (x y : X) (day : List DayPart) → get_elem? old.ports i ≡ some x → get_elem? new.ports i ≡ some y → get_elem? days i ≡ some day
         → CameIn (tells x) (tells y) day
 
-  -- nobody was served: the ports tell what they told, the disk keeps its history, and the status is 1; or members were
+  -- nobody was served: no client came in, the disk keeps its history, and the status is 1; or members were
   abbrev pub SeenListening : Limits → Device D → (X → Register) → Boundary D X → Boundary D X → ℕ → Type 0
   SeenListening limits device tells old new status =
-      ((status ≡ 1) × (map tells new.ports ≡ map tells old.ports) × KeepsSame limits (device.honest old.disk) (device.tells old.disk) (device.tells new.disk))
+      ((status ≡ 1) × SamePorts tells old.ports new.ports × KeepsSame limits (device.honest old.disk) (device.tells old.disk) (device.tells new.disk))
       ⊎ ServesMembers limits device tells old new status
 
 -- What can be seen of a run for one client: its disk, and its wire.

@@ -1,6 +1,7 @@
 -- A client that leaves: what is done with its wire until that is given back.
 use Rattle.std.specs.Prelude.{◌≡◌, ◌⊎◌, ⊤, ℕ, ◌-◌, ◌<◌, Bool, true, false, List, [], ◌∷◌, Option, Some, None}
 use Rattle.venue_model.specs.Counts.{Rose}
+use Rattle.wires.specs.Clients.{IsFlushed}
 use Rattle.wires.specs.Wires.{Told, grown}
 use Rattle.venue.specs.declared.leaving.Leaving.{Leaving}
 
@@ -32,17 +33,26 @@ told_leaving tells (Some leaving) = Some (tells leaving.wire)
 abbrev pub BeginsLeaving : {W : Type 0} → W → Leaving W → Type 0
 BeginsLeaving wire leaving = leaving ≡ record { wire = wire; turns_left = 50000; is_shut = false }
 
--- One turn of it. It has left where it was waited for so long, or where it was told that nothing more comes, and then closed its side, or the wire failed;
--- and then it isn't waited for any more.
-pub record GoesOnLeaving {W : Type 0} (tells : W → Told) (old new : Leaving W) (left : Bool) : Type 0 where
+-- it was told now that nothing more comes, by this one call of its wire, or it was before, or it wasn't yet
+abbrev pub SaysEnd : {W : Type 0} → (W → Told) → (W → W → Type 0) → Leaving W → Leaving W → Type 0
+SaysEnd tells shuts old new =
+    (new.is_shut ≡ old.is_shut)
+    ⊎ ((old.is_shut ≡ false) × (new.is_shut ≡ true)
+    × ((before after : _) × (tells before ≡ tells old.wire) × (tells after ≡ tells old.wire) × shuts before after))
+
+-- One turn of it. What its wire holds is sent on, and it is told once that nothing more comes. It has left where it was waited for so long, or where it was told
+-- so, and then closed its side, or the wire failed; and then it isn't waited for any more.
+pub record GoesOnLeaving {W : Type 0} (tells : W → Told) (flushed shuts : W → W → Type 0) (old new : Leaving W) (left : Bool) : Type 0 where
   pub leaves : LeavesOn (tells old.wire) (tells new.wire)
+  pub sends : 0 < old.turns_left → IsFlushed tells flushed (tells old.wire)
+  pub says : SaysEnd tells shuts old new
   pub waits : left ≡ false → (0 < old.turns_left) × (new.turns_left ≡ old.turns_left - 1)
   pub ends : left ≡ true → (old.turns_left ≡ 0)
       ⊎ ((new.is_shut ≡ true) × (Rose (tells old.wire).ends (tells new.wire).ends ⊎ Rose (tells old.wire).failures (tells new.wire).failures))
   pub stands : left ≡ false → ((tells new.wire).ends ≡ (tells old.wire).ends) × ((tells new.wire).failures ≡ (tells old.wire).failures)
 
 -- one turn of the one that leaves, if one does: it is still waited for, or has left
-abbrev pub IsSeenOff : {W : Type 0} → (W → Told) → Option (Leaving W) → Option (Leaving W) → Type 0
-IsSeenOff tells None new = new ≡ None
-IsSeenOff tells (Some old) None = (gone : Leaving _) × GoesOnLeaving tells old gone true
-IsSeenOff tells (Some old) (Some new) = GoesOnLeaving tells old new false
+abbrev pub IsSeenOff : {W : Type 0} → (W → Told) → (W → W → Type 0) → (W → W → Type 0) → Option (Leaving W) → Option (Leaving W) → Type 0
+IsSeenOff tells flushed shuts None new = new ≡ None
+IsSeenOff tells flushed shuts (Some old) None = (gone : Leaving _) × GoesOnLeaving tells flushed shuts old gone true
+IsSeenOff tells flushed shuts (Some old) (Some new) = GoesOnLeaving tells flushed shuts old new false

@@ -16,5 +16,6 @@ pub mod Trading
 pub mod Turning
 pub mod TradingLaws
 pub mod Members
+pub mod CutOff
 pub mod Headline
 pub mod Listening

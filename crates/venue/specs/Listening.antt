@@ -8,8 +8,8 @@ use Rattle.stages.specs.Stations.{OneCrew, disk_of}
 use Rattle.stages.specs.Finishing.{Finished}
 use Rattle.stages.specs.Journalling.{JournalsOn}
 use Rattle.venue.specs.Faults.{status_of_end}
-use Rattle.venue.specs.Headline.{Boundary}
-use Rattle.venue.specs.Members.{AreBack, SamePorts}
+use Rattle.venue.specs.Headline.{Boundary, SamePorts}
+use Rattle.venue.specs.Members.{AreBack}
 use Rattle.wires.specs.Ports.{Register}
 use Rattle.venue.specs.Opened.{AreBehind, IsNewCrew, ReadsByCut}
 use Rattle.stages.specs.Devices.{Device}
@@ -44,7 +44,7 @@ module _ {D X : Type 0} where
     pub disk_is : new.disk ≡ disk_of ended
     pub status_is : status ≡ status_of_end (end_of ended.journaller.journal.failed ready)
 
-  -- Nobody was served: the ports tell what they told, and the disk was only read, or a snapshot that was due was added to the journal of the same history,
+  -- Nobody was served: no client came in at the ports, and the disk was only read, or a snapshot that was due was added to the journal of the same history,
   -- or not.
   pub record ServesNobody (limits : Limits) (device : Device D) (tells : X → Register) (old new : Boundary D X) : Type 0 where
     pub disk : KeepsHistory (device.honest old.disk) (device.honest new.disk) (device.tells old.disk) (device.tells new.disk) limits

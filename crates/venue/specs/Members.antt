@@ -1,5 +1,5 @@
 -- The members of the listening venue: their posts and ports, and the seats and ports that come back from them.
-use Rattle.std.specs.Prelude.{◌≡◌, ◌≤◌, ℕ, ◌+◌, false, List, [], ◌∷◌, ◌++◌, map, vec_len, None, Box}
+use Rattle.std.specs.Prelude.{◌≡◌, ◌≤◌, ◌<◌, ℕ, ◌+◌, true, false, List, [], ◌∷◌, ◌++◌, vec_len, None, Box}
 use Rattle.std.specs.Global.{Global}
 use Rattle.std.specs.Vec.{vec_capacity}
 use mathlib.Core.Option.{some}
@@ -29,19 +29,23 @@ ArePosts rings tells posts = (i : ℕ) (p : Post _) → get_elem? posts i ≡ so
 abbrev pub AreFree : {X : Type 0} → (X → Register) → List X → Type 0
 AreFree tells ports = (i : ℕ) (x : _) → get_elem? ports i ≡ some x → (tells x).out ≡ false
 
--- they tell what they told
-abbrev pub SamePorts : {X : Type 0} → (X → Register) → List X → List X → Type 0
-SamePorts tells old new = map tells new ≡ map tells old
+-- clients may come in at all of these ports, or at so many of them
+abbrev pub AreOpen : {X : Type 0} → (X → Register) → List X → Type 0
+AreOpen tells ports = (i : ℕ) (x : _) → get_elem? ports i ≡ some x → (tells x).is_open ≡ true
+
+abbrev pub AreOpenUpTo : {X : Type 0} → ℕ → (X → Register) → List X → Type 0
+AreOpenUpTo n tells ports = (i : ℕ) (x : _) → i < n → get_elem? ports i ≡ some x → (tells x).is_open ≡ true
 
 -- seats that came back, in the order of their gateways' numbers, and the ports of their clients, before and after
 abbrev pub AreBack : {X : Type 0} → Opened Limits → (X → Register) → List X → List (At Limits) → List X → Type 0
 AreBack rings tells old seats new = (i : ℕ) (s : At Limits) (x y : _) → get_elem? seats i ≡ some s → get_elem? old i ≡ some x
     → get_elem? new i ≡ some y → IsBack rings (i + 1) s (tells x) (tells y)
 
--- Members as they are before anybody is served: at these rings, each with its port, and with lists in which there is room for all seats and ports.
+-- Members as they are before anybody is served: at these rings, each with its port, which is open, and with lists in which there is room for all seats and ports.
 pub record AreReady {W X : Type 0} (rings : Opened Limits) (wires : W → Told) (tells : X → Register) (m : Members W X) : Type 0 where
   pub posts : ArePosts rings wires m.posts.items
   pub ports : vec_len m.ports ≡ vec_len m.posts
+  pub opened : AreOpen (in_box tells) m.ports.items
   pub free : AreFree (in_box tells) m.ports.items
   pub empty : (m.home.seats.items ≡ []) × (m.home.ports.items ≡ [])
   pub room : (vec_len m.posts ≤ vec_capacity m.home.seats) × (vec_len m.posts ≤ vec_capacity m.home.ports)

@@ -9,6 +9,10 @@ abbrev pub LooksForStop : {S : Type 0} → (Look → S → S → Type 0) → Boo
 LooksForStop looked true old new = looked There old new
 LooksForStop looked false old new = looked Missing old new ⊎ looked Failed old new
 
+-- what was left of the sign was taken away first
+abbrev pub WasCleared : {S : Type 0} → (S → S → Type 0) → S → Type 0
+WasCleared cleared old = (now : _) × cleared old now
+
 -- the file of the sign's name was removed, and no other
 abbrev pub removed_file : {N : Type 0} → (List ℕ → N → N → Type 0) → StopFile N → StopFile N → Type 0
 removed_file removed old new = removed (string_bytes old.path) old.names new.names × (new.path ≡ old.path)

@@ -1,5 +1,5 @@
 -- What a member's worker comes to: its gateway goes on at its place, with one client behind the other, who come in at its port and leave there.
-use Rattle.std.specs.Prelude.{◌≡◌, ◌↔◌, ℕ, ◌+◌, Bool, false, if◌then◌else◌, List, [], ◌++◌, Option, Some, None, option_to_list}
+use Rattle.std.specs.Prelude.{◌≡◌, ◌↔◌, ℕ, ◌+◌, Bool, true, false, if◌then◌else◌, List, [], ◌++◌, Option, Some, None, option_to_list}
 use Rattle.venue_model.specs.Requests.{Limits}
 use Rattle.gateway.specs.Accepting.{Accepting, AttendsClients, TakesTurn, without_client}
 use Rattle.gateway.specs.declared.ending.Turned.{Turned}
@@ -53,12 +53,13 @@ pub record TradesOn (rings : Opened Limits) (old : AtPort) (rings_after : Opened
   pub gone : List Told
   pub attends : AttendsClients 1024 old.acceptor new.acceptor came ended
   pub number : new.register.number ≡ old.register.number
+  pub is_open : new.register.is_open ≡ old.register.is_open
   pub handed_out : new.register.came ≡ with_more old.register.came came
   pub given_back : new.register.gone ≡ with_more old.register.gone gone
   pub leave : LeaveOn (option_to_list old.leaving ++ ended) (gone ++ option_to_list new.leaving)
 
 -- Clients of gateway k were served from then on, and this is its seat now: at these rings, with its number, and without claims. They are those that came in
--- at its port, in their order, and the port has all their wires back: nothing more was written to one whose session had ended, or that was still there at the end.
+-- at its port, which was opened, in their order, and the port has all their wires back: nothing more was written to one whose session had ended, or that was still there at the end.
 pub record IsBack (rings : Opened Limits) (k : ℕ) (seat : At Limits) (old new : Register) : Type 0 where
   pub end : Accepting
   pub came : List Told
@@ -66,6 +67,7 @@ pub record IsBack (rings : Opened Limits) (k : ℕ) (seat : At Limits) (old new 
   pub gone : List Told
   pub attends : AttendsClients 1024 (without_client rings k) end came ended
   pub number : new.number ≡ old.number
+  pub is_open : new.is_open ≡ true
   pub handed_out : new.came ≡ with_more old.came came
   pub given_back : new.gone ≡ with_more old.gone gone
   pub leave : LeaveOn (ended ++ option_to_list end.wire) gone

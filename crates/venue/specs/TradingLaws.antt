@@ -60,6 +60,7 @@ no_turn rings a = record {
   gone = [];
   attends = still 1024 a.acceptor;
   number = refl;
+  is_open = refl;
   handed_out = sym (more-nil a.register.came);
   given_back = sym (more-nil a.register.gone);
   leave = subst (λ (l : List Told). LeaveOn l (option_to_list a.leaving)) (sym (append-nil (option_to_list a.leaving)))
@@ -82,6 +83,7 @@ more_turns r s t a b c first second =
       gone = first.gone ++ second.gone;
       attends = further 1024 a.acceptor b.acceptor c.acceptor first.came first.ended second.came second.ended first.attends second.attends;
       number = second.number ∙ first.number;
+      is_open = second.is_open ∙ first.is_open;
       handed_out = second.handed_out ∙ ap (λ k. with_more k second.came) first.handed_out
           ∙ more-append a.register.came first.came second.came;
       given_back = second.given_back ∙ ap (λ k. with_more k second.gone) first.given_back

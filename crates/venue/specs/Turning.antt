@@ -1,9 +1,24 @@
 -- What a member's turn comes to for its thread.
-use Rattle.std.specs.Prelude.{⊤, Bool, ◌&&◌, ◌||◌, is_some, if◌then◌else◌}
+use Rattle.std.specs.Prelude.{◌≡◌, ⊤, ℕ, ◌+◌, ◌%◌, Bool, ◌&&◌, ◌||◌, Option, is_some, if◌then◌else◌}
+use Rattle.gateway.specs.Accepting.{Accepting, WasFlushed}
 use Rattle.gateway.specs.Gateways.{is_pressed}
+use Rattle.venue.specs.Trading.{TookTurn}
 use Rattle.venue.specs.declared.member.Desk.{Desk}
 use Rattle.workers.specs.declared.worker.Outcome.{Outcome}
 use Rattle.workers.specs.declared.worker.Outcome.TheVariants.{Worked, Moved, Pressed, Idle, Over}
+use Rattle.wires.specs.Wires.{Told}
+
+-- it counted a turn, modulo 65,536, and behind each 1,024th what waited in the client's wire was sent on, if a client is connected
+pub record SendsOn {W : Type 0} (tells : W → Told) (flushed : W → W → Type 0) (old new : ℕ) (wire : Option Told) : Type 0 where
+  pub counts : new ≡ (old + 1) % 65536
+  pub sends : new % 1024 ≡ 0 → WasFlushed tells flushed wire
+
+-- the gateway took one turn at a desk, and behind it a turn was counted there, and sent on if it was time to
+pub record SentOn {W : Type 0} (tells : W → Told) (flushed : W → W → Type 0) (old new : Desk W) : Type 0 where
+  pub behind : Accepting
+  pub moved : Bool
+  pub took : TookTurn old.acceptor behind moved
+  pub sends : SendsOn tells flushed old.turns new.turns behind.wire
 
 -- the gateway has to go on by itself with the client that leaves, or with the one that is connected
 abbrev pub is_pressed_at : {W : Type 0} → Desk W → Bool

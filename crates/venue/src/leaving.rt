@@ -1,8 +1,9 @@
 //! A client whose session has ended. What it was told last still goes out, and its connection is closed in such an
 //! order that nothing of that is lost: a connection that is closed while bytes of the client lie unread is reset, and
 //! then the client may lose what it hasn't read yet.
-ghost use Rattle.std.specs.Prelude.{◌≡◌, true};
-ghost use Rattle.venue.specs.Leaving.{BeginsLeaving, GoesOnLeaving, ReadsOver};
+ghost use Rattle.std.specs.Prelude.{◌≡◌, ◌⊎◌, true, []};
+ghost use Rattle.venue.specs.Leaving.{BeginsLeaving, GoesOnLeaving, ReadsOver, SaysEnd};
+ghost use Rattle.wires.specs.Clients.{ShutsLast};
 
 use gateway::{ClientWire, TryRead};
 
@@ -33,7 +34,7 @@ impl<W: ClientWire + Drop> Leaving<W> {
     /// Sends what is left, says that this was all, and reads over what the client still sends. Says whether the client
     /// has closed its side too, its wire failed, or it was waited for long enough.
     pub fn has_left(&mut self) -> bool
-        ensures { GoesOnLeaving W.tells self.old self.new result }
+        ensures { GoesOnLeaving W.tells W.flushed (ShutsLast W.holds W.failed W.was_shut) self.old self.new result }
     {
         if self.turns_left == 0 {
             return true;
@@ -56,8 +57,10 @@ impl<W: ClientWire + Drop> Leaving<W> {
 
     /// Says once that nothing more is sent.
     fn shut(&mut self)
+        requires all { (W.holds self.old.wire ≡ []) ⊎ W.failed self.old.wire }
         ensures told { W.tells self.new.wire ≡ W.tells self.old.wire }
         ensures turns { self.new.turns_left ≡ self.old.turns_left }
+        ensures says { SaysEnd W.tells (ShutsLast W.holds W.failed W.was_shut) self.old self.new }
         ensures shut { self.new.is_shut ≡ true }
     {
         if !self.is_shut {

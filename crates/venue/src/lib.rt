@@ -3,6 +3,7 @@
 //! is told to stop.
 #![tactic(auto)]
 
+mod cut_off;
 mod fault;
 mod leaving;
 mod listening;
@@ -16,6 +17,7 @@ mod silence;
 mod stop;
 mod watch;
 
+pub use cut_off::listen_cut_off;
 pub use fault::ServeFault;
 pub use listening::listen;
 pub use opening::{Parts, open};

@@ -8,12 +8,13 @@ ghost use Rattle.stages.specs.Stations.{disk_of};
 ghost use Rattle.stages.specs.Crews.{AreAt};
 ghost use Rattle.stages.specs.Journalling.{WorksOn};
 ghost use Rattle.ring_words.specs.Crew.{AreNewGateways};
-ghost use Rattle.venue.specs.Members.{AreFree, SamePorts, AreReady, AreHome, AreReturned};
+ghost use Rattle.venue.specs.Members.{AreFree, AreReady, AreHome, AreReturned};
 ghost use Rattle.venue.specs.Opened.{AreBehind};
 ghost use Rattle.venue.specs.Serving.{LeavesFrom};
 ghost use Rattle.stages.specs.Finishing.{Finished};
 ghost use Rattle.venue.specs.Faults.{had_served, status_of_end};
-ghost use Rattle.venue.specs.Headline.{SeenListening, boundary, in_box};
+ghost use Rattle.venue.specs.Headline.{SamePorts, SeenListening, boundary, in_box};
+ghost use Rattle.venue.specs.Stopping.{WasCleared};
 ghost use Rattle.venue.specs.Listening.{EndsListening, end_of};
 ghost use Rattle.stages.specs.Devices.{device};
 
@@ -180,7 +181,7 @@ fn close<D: JournalDisk, const G: usize>(
     crew.close(rings, seats)
 }
 
-/// The members of these seats, at these ports, which are open then; or the fault and the ports, which told nothing: 44,
+/// The members of these seats, at these ports, which are open then; or the fault and the ports, at which no client came in: 44,
 /// or a port that can't be had.
 fn open_members<W: ClientWire + Drop, X: Port<Wire = W> + Drop, const G: usize>(
     alloc: Global,
@@ -242,6 +243,7 @@ pub fn listen<
         (boundary result.1 result.2.items) result.0 }
     ensures seen { SeenListening limits (device D.honest D.tells D.failed) (in_box X.tells) (boundary disk ports.items)
         (boundary result.1 result.2.items) result.0 }
+    ensures cleared { WasCleared S.cleared sign.old }
     ensures honest { Both (D.honest disk) (D.honest result.1) }
     ensures any_moment { D.honest disk → LeavesFrom (D.tells disk) (D.tells result.1) }
 {

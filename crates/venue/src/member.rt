@@ -2,12 +2,13 @@
 //! come in.
 ghost use Rattle.std.specs.Prelude.{◌≡◌, ◌↔◌, true, false, Some, None, IfSome};
 ghost use Rattle.ring_words.specs.At.{IsAt};
-ghost use Rattle.gateway.specs.Accepting.{told_by, without_client};
+ghost use Rattle.gateway.specs.Accepting.{told_by, without_client, WasFlushed};
 ghost use Rattle.venue.specs.Leaving.{told_leaving, IsSeenOff};
 ghost use Rattle.venue.specs.Trading.{HasClient, TookTurn, LookedLast, TradesOn, IsBack, at_port, GivesBack};
 ghost use Rattle.venue.specs.TradingLaws.{no_turn, more_turns};
 ghost use Rattle.venue.specs.Headline.{in_box};
-ghost use Rattle.venue.specs.Turning.{IsAtRest, is_pressed_at, outcome_at};
+ghost use Rattle.venue.specs.Turning.{IsAtRest, SendsOn, SentOn, is_pressed_at, outcome_at};
+ghost use Rattle.wires.specs.Clients.{ShutsLast};
 
 use crate::leaving::Leaving;
 use crate::rings::VenueRings;
@@ -62,6 +63,7 @@ fn take_turn<W: ClientWire + Drop, X: Port<Wire = W>, const G: usize>(
     ensures one { HasClient desk.new.acceptor.wire (told_leaving W.tells desk.new.leaving) (X.tells port.now).out }
     ensures took { TookTurn desk.old.acceptor desk.new.acceptor result }
     ensures leaving { IfSome desk.old.leaving (λ client. desk.new.leaving ≡ Some client) }
+    ensures turns { desk.new.turns ≡ desk.old.turns }
 {
     let _port = port;
     let (turned, gone) = desk.acceptor.turn(rings);
@@ -85,8 +87,9 @@ fn see_off<W: ClientWire + Drop, X: Port<Wire = W>, const G: usize>(
         rings.now (at_port W.tells X.tells desk.new.acceptor desk.new.leaving port.new) }
     ensures at { IsAt rings.now desk.new.acceptor.gateway.seat }
     ensures one { HasClient desk.new.acceptor.wire (told_leaving W.tells desk.new.leaving) (X.tells port.new).out }
-    ensures off { IsSeenOff W.tells desk.old.leaving desk.new.leaving }
-    ensures acceptor { desk.new.acceptor ≡ desk.old.acceptor }
+    ensures off { IsSeenOff W.tells W.flushed (ShutsLast W.holds W.failed W.was_shut)
+        desk.old.leaving desk.new.leaving }
+    ensures others { (desk.new.acceptor ≡ desk.old.acceptor) × (desk.new.turns ≡ desk.old.turns) }
 {
     let _rings = rings;
     let Some(mut client) = desk.leaving.take() else {
@@ -120,7 +123,7 @@ fn admit<W: ClientWire + Drop, X: Port<Wire = W>, const G: usize>(
         rings.now (at_port W.tells X.tells desk.new.acceptor desk.new.leaving port.new) }
     ensures at { IsAt rings.now desk.new.acceptor.gateway.seat }
     ensures one { HasClient desk.new.acceptor.wire (told_leaving W.tells desk.new.leaving) (X.tells port.new).out }
-    ensures leaving { desk.new.leaving ≡ desk.old.leaving }
+    ensures others { (desk.new.leaving ≡ desk.old.leaving) × (desk.new.turns ≡ desk.old.turns) }
     ensures none { result ≡ false → desk.new.acceptor ≡ desk.old.acceptor }
     ensures looked { desk.new.acceptor.wire ≡ None → told_leaving W.tells desk.new.leaving ≡ None → X.looked port.old port.new }
 {
@@ -142,7 +145,7 @@ fn let_go_of_silent<C: Clock, W: ClientWire + Drop, X: Port<Wire = W>>(
     port: &mut X,
 )
     ensures acceptor { desk.new.acceptor ≡ desk.old.acceptor }
-    ensures leaving { desk.new.leaving ≡ desk.old.leaving }
+    ensures others { (desk.new.leaving ≡ desk.old.leaving) × (desk.new.turns ≡ desk.old.turns) }
     ensures port { X.tells port.new ≡ X.tells port.old }
 {
     if !desk.acceptor.awaits_client() {
@@ -161,6 +164,7 @@ fn let_go_of_silent<C: Clock, W: ClientWire + Drop, X: Port<Wire = W>>(
 fn send_on<W: ClientWire + Drop>(desk: &mut Desk<W>)
     ensures acceptor { desk.new.acceptor ≡ desk.old.acceptor }
     ensures leaving { desk.new.leaving ≡ desk.old.leaving }
+    ensures sends { SendsOn W.tells W.flushed desk.old.turns desk.new.turns desk.new.acceptor.wire }
 {
     desk.turns = desk.turns.wrapping_add(1);
     if desk.turns % SENDS == 0 {
@@ -184,6 +188,7 @@ fn tend<C: Clock, W: ClientWire + Drop, X: Port<Wire = W>>(
 )
     ensures acceptor { desk.new.acceptor ≡ desk.old.acceptor }
     ensures leaving { desk.new.leaving ≡ desk.old.leaving }
+    ensures sends { SendsOn W.tells W.flushed desk.old.turns desk.new.turns desk.new.acceptor.wire }
     ensures port { X.tells port.new ≡ X.tells port.old }
 {
     send_on(desk);
@@ -207,8 +212,10 @@ fn attend<C: Clock, W: ClientWire + Drop, X: Port<Wire = W>, const G: usize>(
         rings.now (at_port W.tells X.tells desk.new.acceptor desk.new.leaving port.new) }
     ensures at { IsAt rings.now desk.new.acceptor.gateway.seat }
     ensures one { HasClient desk.new.acceptor.wire (told_leaving W.tells desk.new.leaving) (X.tells port.new).out }
-    ensures idle { result ≡ false → TookTurn desk.old.acceptor desk.new.acceptor false }
-    ensures off { IfSome desk.old.leaving (λ client. IsSeenOff W.tells (Some client) desk.new.leaving) }
+    ensures turn { (result ≡ false → TookTurn desk.old.acceptor desk.new.acceptor false)
+        × SentOn W.tells W.flushed desk.old desk.new }
+    ensures off { IfSome desk.old.leaving (λ client. IsSeenOff W.tells W.flushed
+        (ShutsLast W.holds W.failed W.was_shut) (Some client) desk.new.leaving) }
     ensures looked { may_come ≡ true → desk.new.acceptor.wire ≡ None → told_leaving W.tells desk.new.leaving ≡ None →
         LookedLast X.looked port.new }
 {
@@ -277,7 +284,9 @@ impl<C: Clock, W: ClientWire + Drop, X: Port<Wire = W> + Drop, const G: usize> W
         (at_port W.tells X.tells z.desk.value.acceptor z.desk.value.leaving z.port.value) };
 
     ghost took = { λ outcome x y. (IsAtRest outcome → TookTurn x.desk.value.acceptor y.desk.value.acceptor false)
-        × IfSome x.desk.value.leaving (λ client. IsSeenOff W.tells (Some client) y.desk.value.leaving) };
+        × IfSome x.desk.value.leaving (λ client. IsSeenOff W.tells W.flushed
+        (ShutsLast W.holds W.failed W.was_shut) (Some client) y.desk.value.leaving)
+        × SentOn W.tells W.flushed x.desk.value y.desk.value };
 
     /// A turn at the desk. Clients may come once all workers have begun.
     fn turn(&mut self) -> Outcome {
@@ -295,21 +304,34 @@ impl<C: Clock, W: ClientWire + Drop, X: Port<Wire = W> + Drop, const G: usize> W
     }
 }
 
-/// Gives the port back the wire of the client that leaves, or of the one that is connected, if there is one.
+/// The wire, which has sent what it held, as far as that is taken now.
+fn flushed<W: ClientWire + Drop>(mut wire: W) -> W
+    ensures told { W.tells result ≡ W.tells wire }
+    ensures flushed { W.flushed wire result }
+{
+    wire.flush();
+    wire
+}
+
+/// Gives the port back the wire of the client that leaves, or of the one that is connected, if there is one: what waits
+/// in it is sent first, as far as that is taken now.
 fn dismiss<W: ClientWire + Drop, X: Port<Wire = W>>(
     port: &mut X,
     leaving: Option<Leaving<W>>,
     wire: Option<W>,
 )
     requires one { HasClient (told_by W.tells wire) (told_leaving W.tells leaving) (X.tells port.old).out }
-    ensures { GivesBack (X.tells port.old) (X.tells port.new) (told_leaving W.tells leaving) (told_by W.tells wire) }
+    ensures back { GivesBack (X.tells port.old) (X.tells port.new) (told_leaving W.tells leaving)
+        (told_by W.tells wire) }
+    ensures flushed { WasFlushed W.tells W.flushed (told_leaving W.tells leaving)
+        × WasFlushed W.tells W.flushed (told_by W.tells wire) }
 {
     if let Some(client) = leaving {
-        port.take_back(client.end());
+        port.take_back(flushed(client.end()));
         return;
     }
     if let Some(wire) = wire {
-        port.take_back(wire);
+        port.take_back(flushed(wire));
     }
 }
 
@@ -322,8 +344,8 @@ fn park_at<R: Parks, X: Port>(rt: &R, port: &mut Box<X>) -> Option<(Parking, Wak
     Some((parking, waker))
 }
 
-/// Lets the member's clients trade, one after another, until the signals say stop, and gives its seat back, and its
-/// port, which has all their wires.
+/// Lets the member's clients trade, one after another, at its port, which is open, until the signals say stop. Gives
+/// its seat back, and its port, which has all their wires.
 pub fn trade<
     R: Clock + Parks,
     Q: Gate,
@@ -340,6 +362,7 @@ pub fn trade<
     signals: &Signals,
 ) -> (GatewaySeat<BookLogic>, Box<X>)
     requires begun { (post.desk.value.acceptor ≡ without_client rings.now post.number) × (told_leaving W.tells post.desk.value.leaving ≡ None) }
+    requires opened { (X.tells port.value).is_open ≡ true }
     requires free { (X.tells port.value).out ≡ false }
     ensures back { IsBack rings.now post.number result.0 (X.tells port.value) (X.tells result.1.value) }
 {

@@ -1,19 +1,20 @@
 //! All members of the listening venue: their gateways are made and their ports opened before anybody is served, each
 //! trades on a thread of its own, and all seats and ports come back.
-ghost use Rattle.std.specs.Prelude.{◌≡◌, ◌+◌, ◌≤◌, ◌<◌, ◌^◌, [], ◌∷◌, ◌++◌, length, vec_len, false, IfOk, IfErr, IfSome, IfNone, MatchOption, OnOk};
+ghost use Rattle.std.specs.Prelude.{◌≡◌, ◌+◌, ◌≤◌, ◌<◌, ◌^◌, [], ◌∷◌, ◌++◌, length, vec_len, true, false, IfOk, IfErr, IfSome, IfNone, MatchOption, OnOk};
 ghost use Rattle.std.specs.Vec.{vec_capacity};
 ghost use Rattle.std.specs.Thread.{IsSync};
 ghost use denote.Param.Send.{IsSend};
 ghost use Rattle.ring_words.specs.At.{IsAt};
 ghost use Rattle.ring_words.specs.Crew.{AreNewGateways};
 ghost use Rattle.ring_words.specs.declared.view.Role.TheVariants.{Gateway};
-ghost use Rattle.venue.specs.Members.{IsPost, ArePosts, IsLast, AreReady, AreHome, SamePorts};
-ghost use Rattle.venue.specs.Headline.{in_box};
+ghost use Rattle.venue.specs.Members.{IsPost, ArePosts, IsLast, AreOpen, AreReady, AreHome};
+ghost use Rattle.venue.specs.Headline.{in_box, SamePorts};
 ghost use Rattle.gateway.specs.Accepting.{without_client};
 ghost use Rattle.venue.specs.Trading.{IsBack};
 ghost use Rattle.venue.specs.Faults.{had_served};
 ghost use Rattle.venue.specs.Opened.{AreBehind};
 ghost use Rattle.venue.specs.VenueRings.{IsNew};
+ghost use Rattle.wires.specs.Ports.{unopened};
 
 use crate::fault::ServeFault;
 use crate::member::{Desk, Post, trade};
@@ -65,7 +66,8 @@ fn last_seat<const G: usize>(
 
 /// Opens this port. The fault says that the venue can't listen there.
 fn open_port<X: Port>(port: &mut Box<X>) -> Result<(), ServeFault>
-    ensures tells { in_box X.tells port.new ≡ in_box X.tells port.old }
+    ensures tells { unopened (in_box X.tells port.new) ≡ unopened (in_box X.tells port.old) }
+    ensures opened { OnOk result ((in_box X.tells port.new).is_open ≡ true) }
     ensures fault { IfErr result (λ fault. had_served fault ≡ false) }
 {
     if port.open() {
@@ -77,6 +79,7 @@ fn open_port<X: Port>(port: &mut Box<X>) -> Result<(), ServeFault>
 /// Opens all ports. The fault is one at which the venue can't listen: then some are open.
 pub fn open_ports<X: Port>(ports: &mut Vec<Box<X>>) -> Result<(), ServeFault>
     ensures ports { SamePorts (in_box X.tells) ports.old.items ports.new.items }
+    ensures opened { OnOk result (AreOpen (in_box X.tells) ports.new.items) }
     ensures count { vec_len ports.new ≡ vec_len ports.old }
     ensures fault { IfErr result (λ fault. had_served fault ≡ false) }
 {
@@ -198,7 +201,8 @@ fn split_last<W: ClientWire + Drop, X: Port<Wire = W> + Drop, const G: usize>(
 ) -> Result<Split<W, X>, Home<X>>
     requires { AreReady rings.now W.tells X.tells members }
     ensures others { IfOk result (λ s. AreReady rings.now W.tells X.tells s.others) }
-    ensures post { IfOk result (λ s. IsPost rings.now W.tells (vec_len members.posts) s.post × ((X.tells s.port.value).out ≡ false)) }
+    ensures post { IfOk result (λ s. IsPost rings.now W.tells (vec_len members.posts) s.post) }
+    ensures port { IfOk result (λ s. ((X.tells s.port.value).is_open ≡ true) × ((X.tells s.port.value).out ≡ false)) }
     ensures whole { IfOk result (λ s. IsLast members s.others s.port) }
     ensures none { IfErr result (λ home. AreHome rings.now X.tells members home) }
 {
@@ -248,7 +252,7 @@ pub fn trade_all<
         { trade_all(rt, gate, rings, alloc, others, signals) },
         move || -> (GatewaySeat<BookLogic>, Box<X>)
             requires { IsSync R.row × IsSync Q.row × IsSend W.row × IsSend X.row × IsPost rings.now W.tells post.number post
-                × ((X.tells port.value).out ≡ false) }
+                × ((X.tells port.value).is_open ≡ true) × ((X.tells port.value).out ≡ false) }
             ensures { IsBack rings.entry.now post.number result.0 (X.tells port.value) (X.tells result.1.value) }
         { trade(rt, gate, rings, alloc, post, port, signals) },
     );

@@ -11,3 +11,4 @@ pub mod ListLaws
 pub mod ReplacedLaws
 pub mod HistoryLaws
 pub mod GrowthLaws
+pub mod LimitsNumber

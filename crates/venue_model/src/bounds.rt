@@ -12,6 +12,9 @@ pub const MOST_SYMBOLS: usize = 8;
 /// How many bytes spell a symbol at most.
 pub const LONGEST_SYMBOL: usize = 8;
 
+/// How many spots a symbol's bytes lead to (`Symbol::spot`): many more than there are symbols.
+pub const SYMBOL_SPOTS: usize = 256;
+
 /// The highest price, in ticks; the lowest is 1.
 pub const HIGHEST_PRICE: u64 = 1_000_000;
 

@@ -14,7 +14,7 @@ mod symbols;
 
 pub use bounds::{
     HIGHEST_PRICE, LONGEST_MESSAGE, LONGEST_SYMBOL, MOST_GATEWAYS, MOST_IN_BLOCK, MOST_OUTPUTS,
-    MOST_RESTING, MOST_SYMBOLS,
+    MOST_RESTING, MOST_SYMBOLS, SYMBOL_SPOTS,
 };
 pub use commands::{
     Command, Malformed, NewOrderSingle, OrdType, OrderCancelReplaceRequest, OrderCancelRequest,

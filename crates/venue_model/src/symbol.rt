@@ -1,10 +1,10 @@
 //! The name of what is traded, as orders carry it.
-ghost use Rattle.std.specs.Prelude.{◌≡◌, ◌↔◌, IsTrue, MatchOption};
+ghost use Rattle.std.specs.Prelude.{◌≡◌, ◌<◌, ◌↔◌, IsTrue, MatchOption};
 ghost use Rattle.std.specs.List.{list_all};
 ghost use Rattle.std.specs.Str.{bytes_eq};
 ghost use Rattle.venue_model.specs.Spelling.{IsSpelling, is_symbol_byte};
 
-use crate::LONGEST_SYMBOL;
+use crate::{LONGEST_SYMBOL, SYMBOL_SPOTS};
 use std::marker::Model;
 
 /// Symbol (55): 1 to 8 bytes of `A` to `Z` and `0` to `9`, kept in place. Contracts see the bytes.
@@ -70,6 +70,20 @@ impl Symbol {
         ensures { result ≡ bytes_eq self.now other.now }
     {
         self.bytes == other.bytes
+    }
+
+    /// Where a table of spots is looked at first for it, 0 to 255: most symbols of a venue have a spot of their own.
+    /// Where two have one, whoever keeps such a table looks on. Which spot it is is for speed, and no clause says it.
+    #[inline(always)]
+    pub fn spot(&self) -> usize
+        ensures { result < SYMBOL_SPOTS }
+    {
+        let bytes = self.as_bytes();
+        let (middle, last) = (
+            bytes[bytes.len() / 2] as usize,
+            bytes[bytes.len() - 1] as usize,
+        );
+        (8 * middle + last + bytes.len()) % SYMBOL_SPOTS
     }
 
     /// The bytes that spell it.

@@ -3,6 +3,7 @@
 ghost use Rattle.std.specs.Prelude.{◌≡◌, ◌≤◌, ◌^◌, [], ◌∷◌, ◌++◌, map, string_bytes, IfOk, OnOk, IsErrOf};
 ghost use Rattle.std.specs.List.{list_any};
 ghost use Rattle.std.specs.Str.{bytes_eq};
+ghost use Rattle.venue_model.specs.LimitsNumber.{limits_number};
 ghost use Rattle.venue_model.specs.Spelling.{AreSymbols, CanJoin};
 
 use crate::{MOST_SYMBOLS, Symbol};
@@ -16,10 +17,19 @@ use thiserror::Error;
 pub enum LimitsFault {
     /// 11: there is none, there are more than 8, one is no symbol, or one stands twice.
     #[error("bad symbol")]
-    BadSymbol,
+    BadSymbol = 11,
     /// 12: memory was refused.
     #[error("no memory")]
-    Memory,
+    Memory = 12,
+}
+
+impl LimitsFault {
+    /// Its number, 11 or 12.
+    pub fn number(self) -> u8
+        ensures { result ≡ limits_number self }
+    {
+        self as u8
+    }
 }
 
 /// The symbols (1 to 8) in the order of the command line, numbered by place, and the cut: the first sequence at which

@@ -2,10 +2,12 @@
 //! the day behind one of those.
 
 mod clients;
+mod cut_off;
 mod failing_sync;
 mod judging;
 mod meeting;
 mod messages;
+mod over_tcp;
 mod slow_disk;
 mod trading_days;
 mod usher;

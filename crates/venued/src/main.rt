@@ -2,19 +2,13 @@
 #![tactic(auto)]
 
 ghost use Rattle.std.specs.Prelude.{◌≡◌, ◌↔◌, IfOk};
-ghost use Rattle.venued.specs.Words.{IsInRange};
+ghost use Rattle.running.specs.Words.{IsInRange};
 ghost use Rattle.std.specs.IoError.{error_kind};
 
-mod ports;
-mod running;
-mod words;
-
-use crate::ports::local_ports;
-use crate::running::{run, run_for};
-use crate::words::{Mode, Words, WordsFault, refuse};
 use disks::{StandardStreams, SystemFolder};
 use gateway::{StdWire, Wire};
 use journal::JournalFault;
+use running::{Mode, Words, WordsFault, local_ports, refuse, run, run_for};
 use std::fs::{File, Files};
 use std::io::{ErrorKind, Write};
 use std::net::{Net, TcpListener, TcpStream};
@@ -54,35 +48,34 @@ fn start<
     W: Wire,
     O: Write,
     E: Write,
->(rt: &R, words: Words, wire: &mut W, out: &mut O, err: &mut E) -> u8
-    requires { IsInRange words.mode }
+>(rt: &R, words: &Words, wire: &mut W, out: &mut O, err: &mut E) -> u8
+    requires { IsInRange words.now.mode }
 {
     let _streams = match StandardStreams::hold(rt) {
         Ok(streams) => streams,
         Err(fault) => return ServeFault::from(JournalFault::from(fault)).say(err),
     };
-    let Words {
-        mode,
-        journal,
-        limits,
-    } = words;
-    let journal = journal.as_str();
+    let journal = words.journal.as_str();
     let Ok(mut folder) = SystemFolder::new(rt, journal) else {
         return ServeFault::Memory.say(err);
     };
     let Ok(mut sign) = StopFile::beside(rt, journal) else {
         return ServeFault::Memory.say(err);
     };
-    match mode {
+    match words.mode {
         Mode::Standard => {
-            let (status, _) = run(rt.alloc(), limits, &mut folder, wire, err);
+            let (status, _) = run(rt.alloc(), words, &mut folder, wire, err);
             status
         }
         Mode::Listening { port, gateways } => {
+            let Ok(limits) = words.symbols.limits(rt.alloc()) else {
+                return ServeFault::Memory.say(err);
+            };
             let Ok(ports) = local_ports(rt, rt.alloc(), port, gateways) else {
                 return ServeFault::Memory.say(err);
             };
-            run_for(rt, limits, ports, &mut folder, &mut sign, out, err)
+            let (status, _, _) = run_for(rt, limits, ports, &mut folder, &mut sign, out, err);
+            status
         }
     }
 }
@@ -90,9 +83,11 @@ fn start<
 fn main(rt: HostRuntime) -> ExitCode {
     let mut err = rt.stderr();
     let mut out = rt.stdout();
-    let mut wire = StdWire::new(rt.stdin(), rt.stdout());
+    let Ok(mut wire) = StdWire::new(rt.alloc(), rt.stdin(), rt.stdout()) else {
+        return ExitCode::from(ServeFault::Memory.say(&mut err));
+    };
     let status = match read_words(&rt) {
-        Ok(words) => start(&rt, words, &mut wire, &mut out, &mut err),
+        Ok(words) => start(&rt, &words, &mut wire, &mut out, &mut err),
         Err(fault) => refuse(fault, &mut err),
     };
     ExitCode::from(status)

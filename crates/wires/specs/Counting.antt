@@ -2,10 +2,15 @@
 use Rattle.std.specs.Prelude.{◌≡◌}
 use Rattle.venue_model.specs.Counts.{Rose}
 use Rattle.wires.specs.declared.counts.Counts.{Counts}
+use Rattle.wires.specs.declared.counts.Nothings.{Nothings}
 use Rattle.wires.specs.declared.wire.TryRead.{TryRead}
 use Rattle.wires.specs.declared.wire.TryRead.TheVariants as read
 use Rattle.wires.specs.declared.wire.TryWrite.{TryWrite}
 use Rattle.wires.specs.declared.wire.TryWrite.TheVariants as write
+
+-- the reads and the writes that answered Nothing
+abbrev pub nothings_in : Counts → Nothings
+nothings_in c = record { reads = c.empty_reads; writes = c.full_writes }
 
 -- a read that answered so is counted
 abbrev pub CountsRead : Counts → Counts → TryRead → Type 0

@@ -1,5 +1,5 @@
 -- A wire that gathers in front of another one: what it is, what it tells and holds, and what its calls do.
-use Rattle.std.specs.Prelude.{◌≡◌, ◌↔◌, ℕ, ◌+◌, ◌<◌, ◌≤◌, Bool, true, false, List, [], length}
+use Rattle.std.specs.Prelude.{◌≡◌, ◌↔◌, ℕ, ◌+◌, ◌<◌, ◌≤◌, Bool, true, false, List, [], length, Option}
 use Rattle.wires.specs.declared.buffers.TheConstants.{BACKLOG, CAUGHT_UP, MOST_LATE}
 use Rattle.wires.specs.declared.counts.Counts.{Counts}
 use Rattle.wires.specs.declared.flushed.Flushed.{Flushed}
@@ -37,6 +37,10 @@ ahead_of g = g.ahead
 
 abbrev pub waiting_of : {W : Type 0} → Gathering W → List ℕ
 waiting_of g = g.waiting
+
+-- what the wire below took has gone out
+abbrev pub sent_below : {W : Type 0} → (W → Told) → Gathering W → Option (List ℕ)
+sent_below tells g = (tells g.below).took
 
 abbrev pub late_of : {W : Type 0} → Gathering W → ℕ
 late_of g = g.late
@@ -110,3 +114,12 @@ Sends old new =
     (answer : Flushed) × Flushes old.waiting new.waiting old.below new.below answer
     × ((new.broken ≡ true) ↔ (answer ≡ Failed))
     × (new ≡ record old { below = new.below; waiting = new.waiting; broken = new.broken })
+
+-- what one flush does: it sends all that waits, as far as the wire below takes it, but where this one is broken
+abbrev pub FlushesGathering : {W : Type 0} → (W → Told) → Gathering W → Gathering W → Type 0
+FlushesGathering tells old new =
+    (old.broken ≡ false → Sends (holding tells old) (holding tells new)) × (old.broken ≡ true → new ≡ old)
+
+-- the wire below was shut, and nothing else
+abbrev pub ShutsBelow : {W : Type 0} → (W → W → Type 0) → Gathering W → Gathering W → Type 0
+ShutsBelow was_shut old new = was_shut old.below new.below × (new ≡ record old { below = new.below })

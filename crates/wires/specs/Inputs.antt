@@ -5,11 +5,11 @@ use Rattle.wires.specs.declared.wire.TryRead.TheVariants.{Got, Nothing, End, Fai
 use Rattle.venue_model.specs.Counts.{Rose}
 use Rattle.wires.specs.Wires.{Told, grown}
 
--- the bytes between two places of 4,096 are left
+-- the bytes between two places of 512 are left
 pub record KeepsInput (bytes : List ℕ) (start upto : ℕ) : Type 0 where
-  pub long : length bytes ≡ 4096
+  pub long : length bytes ≡ 512
   pub order : start ≤ upto
-  pub within : upto ≤ 4096
+  pub within : upto ≤ 512
 
 -- what a read with this answer tells, and what it leaves
 abbrev pub Fills : List ℕ → Told → Told → TryRead → Type 0

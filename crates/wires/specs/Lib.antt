@@ -1,5 +1,6 @@
 pub mod Wires
 pub mod WireLaws
+pub mod Clients
 pub mod Counting
 pub mod Flushing
 pub mod Inputs
@@ -9,6 +10,9 @@ pub mod Streams
 pub mod MemStreams
 pub mod MemWires
 pub mod Ports
+pub mod Listeners
+pub mod SocketPorts
+pub mod MemListeners
 pub mod TcpPorts
 pub mod StdWires
 pub mod StreamWires

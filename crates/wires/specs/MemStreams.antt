@@ -57,3 +57,7 @@ TakesBytes old new bytes (Ok n) =
 TakesBytes old new bytes (Err error) =
     (IsPassing (error_kind error) → (old.room ≤ length old.taken) × (old.breaks ≡ false))
     × (¬ IsPassing (error_kind error) → old.breaks ≡ false → length old.taken < old.room) × (new ≡ old)
+
+-- it was said that nothing more is written
+abbrev pub IsShut : MemoryStream → MemoryStream → Type 0
+IsShut old new = new ≡ record old { shut = true }

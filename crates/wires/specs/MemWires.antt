@@ -6,7 +6,7 @@ use Rattle.wires.specs.declared.counts.Counts.{Counts}
 use Rattle.wires.specs.declared.wire.TryRead.{TryRead}
 use Rattle.wires.specs.declared.wire.TryWrite.{TryWrite}
 use Rattle.wires.specs.Counting.{CountsRead, CountsWrite}
-use Rattle.wires.specs.MemStreams.{MemoryStream, new_stream, gave_of, took_of, GivesBytes, TakesBytes}
+use Rattle.wires.specs.MemStreams.{MemoryStream, new_stream, gave_of, took_of, GivesBytes, TakesBytes, IsShut}
 use Rattle.wires.specs.StreamWires.{MeansRead, MeansWrite}
 use Rattle.wires.specs.Wires.{Told, telling}
 
@@ -39,3 +39,7 @@ abbrev pub WritesMemory : Memory → Memory → List ℕ → TryWrite → Type 0
 WritesMemory old new bytes answer =
     (written : Result ℕ Error) × TakesBytes old.stream new.stream bytes written × MeansWrite written answer
     × CountsWrite old.counts new.counts answer × (new.quiet ≡ old.quiet)
+
+-- its stream was shut, and nothing else
+abbrev pub ShutsMemory : Memory → Memory → Type 0
+ShutsMemory old new = IsShut old.stream new.stream × (new ≡ record old { stream = new.stream })

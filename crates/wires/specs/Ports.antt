@@ -3,13 +3,18 @@ use Rattle.std.specs.Prelude.{◌≡◌, ◌⊎◌, ℕ, ◌+◌, Bool, true, fa
 use Rattle.wires.specs.MemWires.{Memory, told_memory}
 use Rattle.wires.specs.Wires.{Told}
 
--- What a port tells: its number, as TCP has it; what the wires of its clients tell, each None where the port tells none, as they came and as they were given
+-- What a port tells: its number, as TCP has it; whether it is open; what the wires of its clients tell, each None where the port tells none, as they came and as they were given
 -- back; and whether a client's wire is out, which came and wasn't given back yet.
 pub record Register : Type 0 where
   pub number : ℕ
+  pub is_open : Bool
   pub came : Option (List Told)
   pub gone : Option (List Told)
   pub out : Bool
+
+-- the same, but for whether it is open
+abbrev pub unopened : Register → Register
+unopened r = record r { is_open = false }
 
 -- what is told of some wires, and then of more
 abbrev pub with_more : Option (List Told) → List Told → Option (List Told)
@@ -44,7 +49,7 @@ pub record MemoryPort : Type 0 where
 
 -- it tells all of them
 abbrev pub told_register : MemoryPort → Register
-told_register p = record { number = p.number; came = Some (replicate p.came unmoved); gone = Some (map told_memory p.gone); out = p.out }
+told_register p = record { number = p.number; is_open = p.is_open; came = Some (replicate p.came unmoved); gone = Some (map told_memory p.gone); out = p.out }
 
 -- a client in memory came in, or none did
 abbrev pub LetsMemoryIn : MemoryPort → MemoryPort → Option Memory → Type 0

@@ -1,5 +1,5 @@
--- A wire over a reader and a writer: what it tells, and what its calls do to the two.
-use Rattle.std.specs.Prelude.{◌≡◌, ℕ, ◌≤◌, ◌⊎◌, Bool, true, false, List, length, take, Option, None}
+-- A wire over a reader and a writer: what it tells and holds, and what its calls do to the two.
+use Rattle.std.specs.Prelude.{◌≡◌, ℕ, ◌<◌, ◌≤◌, ◌⊎◌, Bool, true, false, List, [], ◌++◌, length, take, Option, None}
 use Rattle.std.specs.Io.KnownBytes.{Keeps, Appends, Consumes, IsAtEnd}
 use Rattle.std.specs.declared.io.ErrorKind.{ErrorKind}
 use Rattle.std.specs.declared.io.ErrorKind.TheVariants.{Interrupted, WouldBlock}
@@ -20,7 +20,12 @@ reader_of w = w.reader
 abbrev pub writer_of : {R W : Type 0} → StdWire R W → W
 writer_of w = w.writer
 
--- it was made, or told to rest, since bytes were last read or written: the next read asks the reader
+-- the bytes that the reader gave, and that were not handed out yet
+abbrev pub read_ahead_of : {R W : Type 0} → StdWire R W → List ℕ
+read_ahead_of w = w.ahead
+
+-- it was made, or told to rest, since bytes were last read or written: the next read hands out what is held, or asks the
+-- reader
 abbrev pub rested_of : {R W : Type 0} → StdWire R W → Bool
 rested_of w = w.rested
 
@@ -28,12 +33,22 @@ rested_of w = w.rested
 abbrev pub IsPassing : ErrorKind → Type 0
 IsPassing kind = (kind ≡ Interrupted) ⊎ (kind ≡ WouldBlock)
 
--- what a read with this answer does to the bytes that the reader has left, where those are known
-abbrev pub TakesIn : Option (List ℕ) → Option (List ℕ) → List ℕ → TryRead → Type 0
-TakesIn old new buf (read.Got n) = Consumes old new (take n buf)
-TakesIn old new buf read.End = IsAtEnd new
-TakesIn old new buf read.Nothing = Keeps old new
-TakesIn old new buf read.Failed = Keeps old new
+-- what asking a reader once with this answer does to the bytes that it has left, where those are known; those that it
+-- gave are held then
+abbrev pub AsksReader : Option (List ℕ) → Option (List ℕ) → List ℕ → TryRead → Type 0
+AsksReader old new held (read.Got n) = (0 < length held) × Consumes old new held
+AsksReader old new held read.End = (held ≡ []) × IsAtEnd old × IsAtEnd new
+AsksReader old new held read.Nothing = (held ≡ []) × Keeps old new
+AsksReader old new held read.Failed = (held ≡ []) × Keeps old new
+
+-- what a read into the buffer with this answer does to the bytes held, now those left, and to those that the reader has
+-- left, where they are known: it hands out the first bytes of those held and, where none was, of what the reader gives
+abbrev pub TakesIn : Option (List ℕ) → Option (List ℕ) → List ℕ → List ℕ → List ℕ → TryRead → Type 0
+TakesIn old new held left buf (read.Got n) =
+    (more : List ℕ) × (0 < length held → more ≡ []) × (held ++ more ≡ take n buf ++ left) × Consumes old new more
+TakesIn old new held left buf read.End = (held ≡ []) × (left ≡ []) × IsAtEnd old × IsAtEnd new
+TakesIn old new held left buf read.Nothing = (left ≡ held) × Keeps old new
+TakesIn old new held left buf read.Failed = (held ≡ []) × (left ≡ []) × Keeps old new
 
 -- what a write of these bytes with this answer does to the bytes that the writer holds, where those are known; one
 -- that failed may have sent a front of them

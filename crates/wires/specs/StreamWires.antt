@@ -29,3 +29,7 @@ abbrev pub MeansWrite : Result ℕ Error → TryWrite → Type 0
 MeansWrite (Ok n) answer = (n ≡ 0 → answer ≡ write.Failed) × (0 < n → answer ≡ write.Put n)
 MeansWrite (Err error) answer =
     (IsPassing (error_kind error) → answer ≡ write.Nothing) × (¬ IsPassing (error_kind error) → answer ≡ write.Failed)
+
+-- its stream was shut, and nothing else
+abbrev pub ShutsStream : {S : Type 0} → (S → S → Type 0) → StreamWire S → StreamWire S → Type 0
+ShutsStream was_shut old new = was_shut old.stream new.stream × (new ≡ record old { stream = new.stream })

@@ -2,6 +2,7 @@
 use Rattle.std.specs.Prelude.{◌≡◌, ℕ, Bool, true, ◌-◌, ◌≤◌, List, ◌++◌, length, take, Option, Some, None}
 use Rattle.venue_model.specs.Counts.{Rose}
 use Rattle.wires.specs.declared.counts.Counts.{Counts}
+use Rattle.wires.specs.declared.counts.Nothings.{Nothings}
 use Rattle.wires.specs.declared.wire.TryRead.{TryRead}
 use Rattle.wires.specs.declared.wire.TryRead.TheVariants as read
 use Rattle.wires.specs.declared.wire.TryWrite.{TryWrite}
@@ -35,9 +36,9 @@ abbrev pub uncounted : Option (List ℕ) → Option (List ℕ) → Told
 uncounted gave took =
     telling gave took (record { failures = 0; empty_reads = 0; full_writes = 0; ends = 0 }) true
 
--- what it counts
-abbrev pub counts_of : Told → Counts
-counts_of t = record { failures = t.failures; empty_reads = t.empty_reads; full_writes = t.full_writes; ends = t.ends }
+-- the reads and the writes that answered Nothing
+abbrev pub nothings_of : Told → Nothings
+nothings_of t = record { reads = t.empty_reads; writes = t.full_writes }
 
 -- what is told of some bytes, and then of more
 abbrev pub grown : Option (List ℕ) → List ℕ → Option (List ℕ)

@@ -1,12 +1,15 @@
-//! The two buffers of a wire that gathers: bytes read ahead of the session, and bytes that wait to be sent. Each takes
-//! all its memory as it is made.
+//! Bytes read ahead of the session, and bytes that wait to be sent. Each of the two buffers takes all its memory as it is
+//! made.
 ghost use Rattle.std.specs.Prelude.{◌≡◌, ◌≤◌, ◌-◌, ◌<◌, ◌↔◌, [], ◌++◌, length, take, drop, min, IfOk, IsTrue};
 ghost use Rattle.wires.specs.Flushing.{Flushes};
 ghost use Rattle.wires.specs.Gatherings.{ReadsAhead, HandsOut, SendsSome, Gathers, IfGot};
+ghost use Rattle.wires.specs.StdWires.{AsksReader, TakesIn};
 
 use crate::flushed::Flushed;
+use crate::stream_wire::read_answer;
 use crate::wire::{TryRead, TryWrite, Wire};
 use std::alloc::{AllocError, Global};
+use std::io::Read;
 use std::marker::Model;
 
 /// At most so many bytes are read ahead.
@@ -87,6 +90,35 @@ impl ReadAhead {
             }
         }
         TryRead::Got(self.give(buf))
+    }
+
+    /// Asks the reader once.
+    pub fn fill_from<R: Read>(&mut self, reader: &mut R) -> TryRead
+        requires { self.old ≡ [] }
+        ensures { AsksReader (R.remaining reader.old) (R.remaining reader.new) self.new result }
+    {
+        let read = reader.read(&mut self.bytes);
+        if let Ok(count) = read {
+            (self.from, self.upto) = (0, count);
+        }
+        read_answer(read)
+    }
+
+    /// Reads into a buffer that isn't empty: it is handed the first bytes held, and the reader is asked where none is.
+    pub fn read_from<R: Read>(&mut self, reader: &mut R, buf: &mut [u8]) -> TryRead
+        requires { 0 < length buf.old }
+        ensures takes_in { TakesIn (R.remaining reader.old) (R.remaining reader.new) self.old self.new buf.new result }
+        ensures count { IfGot result (λ n. (1 ≤ n) × (n ≤ length buf.new)) }
+        ensures gives { 0 < length self.old → result ≡ TryRead.Got (min (length self.old) (length buf.new)) }
+        ensures held { 0 < length self.old → reader.new ≡ reader.old }
+    {
+        if !self.is_empty() {
+            return TryRead::Got(self.give(buf));
+        }
+        match self.fill_from(reader) {
+            TryRead::Got(_) => TryRead::Got(self.give(buf)),
+            other => other,
+        }
     }
 
     /// Hands out the first bytes, as many as there are or fit, and says how many.

@@ -1,7 +1,7 @@
 //! What every wire counts of its own calls.
 ghost use Rattle.std.specs.Prelude.{◌≡◌};
 ghost use Rattle.venue_model.specs.Counts.{Rose};
-ghost use Rattle.wires.specs.Counting.{CountsRead, CountsWrite};
+ghost use Rattle.wires.specs.Counting.{CountsRead, CountsWrite, nothings_in};
 
 use super::{TryRead, TryWrite};
 
@@ -13,6 +13,13 @@ pub struct Counts {
     pub empty_reads: u64,
     pub full_writes: u64,
     pub ends: u64,
+}
+
+/// How many reads and how many writes answered `Nothing`.
+#[derive(Clone, Copy, Debug, PartialEq, Eq)]
+pub struct Nothings {
+    pub reads: u64,
+    pub writes: u64,
 }
 
 impl Counts {
@@ -58,6 +65,16 @@ impl Counts {
         ensures others { self.new ≡ record self.old { ends = self.new.ends } }
     {
         self.ends = self.ends.saturating_add(1);
+    }
+
+    /// The calls that answered `Nothing`.
+    pub fn nothings(&self) -> Nothings
+        ensures { result ≡ nothings_in self.now }
+    {
+        Nothings {
+            reads: self.empty_reads,
+            writes: self.full_writes,
+        }
     }
 
     /// Counts a read that answered so.

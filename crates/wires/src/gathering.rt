@@ -1,14 +1,14 @@
 //! A wire that gathers: it reads ahead of the session, and what is written waits until it is sent together, or until a
 //! slow client takes it. It stands in front of a wire that never waits, as that of a client that came over TCP.
-ghost use Rattle.std.specs.Prelude.{◌≡◌, ◌<◌, ◌↔◌, ◌⊎◌, [], true, false, length, IfOk, IfErr, IsTrue};
-ghost use Rattle.wires.specs.Wires.{ReadTells, WriteTells, counts_of};
+ghost use Rattle.std.specs.Prelude.{◌≡◌, refl, ◌<◌, ◌↔◌, ◌⊎◌, [], true, false, length, IfOk, IfErr, IsTrue};
+ghost use Rattle.wires.specs.Wires.{ReadTells, WriteTells, nothings_of};
 ghost use Rattle.wires.specs.GatheringWires.{told_gathering, below_of, ahead_of, waiting_of, late_of, broken_of, IsFresh, HoldsSame};
 ghost use Rattle.wires.specs.GatheringWires.{holding, rested, ReadsGathering, CountsLate, Writes, Sends};
 ghost use Rattle.wires.specs.declared.buffers.TheConstants.{GATHERED, BACKLOG, MOST_LATE};
 
 use crate::buffers::{BACKLOG, CAUGHT_UP, MOST_LATE, ReadAhead, Waiting};
-use crate::client::ClientWire;
-use crate::counts::Counts;
+use crate::client::{ClientWire, DirectWire};
+use crate::counts::{Counts, Nothings};
 use crate::flushed::Flushed;
 use crate::wire::{TryRead, TryWrite, Wire};
 use std::alloc::{AllocFailed, Global};
@@ -165,33 +165,53 @@ impl<W: Wire + Drop> Wire for GatheringWire<W> {
         }
     }
 
-    fn counts(&self) -> Counts
-        ensures { result ≡ counts_of (told_gathering W.tells self.now) }
+    fn failures(&self) -> u64
+        ensures { result ≡ (told_gathering W.tells self.now).failures }
     {
-        self.counts
+        self.counts.failures
+    }
+
+    fn nothings(&self) -> Nothings
+        ensures { result ≡ nothings_of (told_gathering W.tells self.now) }
+    {
+        self.counts.nothings()
     }
 }
 
-impl<W: ClientWire + Drop> ClientWire for GatheringWire<W> {
+impl<W: DirectWire + Drop> ClientWire for GatheringWire<W> {
+    ghost use Rattle.wires.specs.GatheringWires.{sent_below, FlushesGathering, ShutsBelow};
+
+    ghost sent = { sent_below W.tells };
+
+    ghost holds = { waiting_of };
+
+    ghost failed = { λ g. broken_of g ≡ true };
+
+    ghost flushed = { FlushesGathering W.tells };
+
+    ghost was_shut = { ShutsBelow W.was_shut };
+
+    ghost parts = { λ g. refl };
+
     fn flush(&mut self) -> bool
         ensures told { told_gathering W.tells self.new ≡ told_gathering W.tells self.old }
-        ensures sends { broken_of self.old ≡ false → Sends (holding W.tells self.old) (holding W.tells self.new) }
+        ensures flushed { FlushesGathering W.tells self.old self.new }
         ensures all { IsTrue result ↔ (waiting_of self.new ≡ []) ⊎ (broken_of self.new ≡ true) }
-        ensures broken { broken_of self.old ≡ true → self.new ≡ self.old }
     {
         self.send_waiting()
     }
 
     fn shut(&mut self)
+        requires all { (waiting_of self.old ≡ []) ⊎ (broken_of self.old ≡ true) }
         ensures told { told_gathering W.tells self.new ≡ told_gathering W.tells self.old }
         ensures holds { holding W.tells self.new ≡ holding W.tells self.old }
+        ensures shut { ShutsBelow W.was_shut self.old self.new }
     {
         self.below.shut();
     }
 
     fn give_up(&mut self)
-        ensures told { told_gathering W.tells self.new ≡ told_gathering W.tells self.old }
-        ensures broken { broken_of self.new ≡ true }
+        ensures { self.new ≡ record self.old { broken = true } }
     {
         self.broken = true;
     }

@@ -5,14 +5,13 @@ ghost use Rattle.wires.specs.Inputs.{Fills};
 use crate::wire::{TryRead, Wire};
 use std::marker::Model;
 
-/// How many bytes one read takes at most: some thirty messages, since a wire that may wait is read only once nothing
-/// else is left to do.
-const SIZE: usize = 4096;
+/// How many bytes one read takes at most.
+const SIZE: usize = 512;
 
 /// The bytes of the last read that are left. They lie in place, and contracts see them as a list.
 #[derive(Drop)]
 pub struct Input {
-    bytes: [u8; 4096],
+    bytes: [u8; 512],
     from: usize,
     upto: usize,
 }
@@ -65,7 +64,8 @@ impl Input {
     /// Reads once, where none is left.
     pub fn fill<W: Wire>(&mut self, wire: &mut W) -> TryRead
         requires { self.old ≡ [] }
-        ensures { Fills self.new (W.tells wire.old) (W.tells wire.new) result }
+        ensures fills { Fills self.new (W.tells wire.old) (W.tells wire.new) result }
+        ensures most { length self.new ≤ 512 }
     {
         self.from = 0;
         self.upto = 0;

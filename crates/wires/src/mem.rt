@@ -1,11 +1,14 @@
 //! A wire in memory, for tests: a stream in memory, of whose answers it counts those that moved nothing. It tells all
 //! bytes.
 ghost use Rattle.std.specs.Prelude.{◌≡◌, ◌<◌, ◌≤◌, [], length, take, true, false, IfOk};
-ghost use Rattle.wires.specs.Wires.{ReadTells, WriteTells, counts_of};
-ghost use Rattle.wires.specs.MemWires.{new_memory, told_memory, ReadsMemory, WritesMemory};
+ghost use Rattle.std.proofs.Common.{sym};
+ghost use Rattle.wires.specs.MemStreams.{took_of};
+ghost use Rattle.wires.specs.WireLaws.{grown-nil};
+ghost use Rattle.wires.specs.Wires.{ReadTells, WriteTells, nothings_of};
+ghost use Rattle.wires.specs.MemWires.{new_memory, told_memory, ReadsMemory, WritesMemory, ShutsMemory};
 
 use crate::client::ClientWire;
-use crate::counts::Counts;
+use crate::counts::{Counts, Nothings};
 use crate::mem_stream::MemStream;
 use crate::stream::Stream;
 use crate::stream_wire::{read_answer, write_answer};
@@ -144,14 +147,32 @@ impl Wire for MemWire {
         self.quiet = quiet;
     }
 
-    fn counts(&self) -> Counts
-        ensures { result ≡ counts_of (told_memory self.now) }
+    fn failures(&self) -> u64
+        ensures { result ≡ (told_memory self.now).failures }
     {
-        self.counts
+        self.counts.failures
+    }
+
+    fn nothings(&self) -> Nothings
+        ensures { result ≡ nothings_of (told_memory self.now) }
+    {
+        self.counts.nothings()
     }
 }
 
 impl ClientWire for MemWire {
+    ghost sent = { λ m. took_of m.stream };
+
+    ghost holds = { λ _. [] };
+
+    ghost failed = { λ _. ⊥ };
+
+    ghost flushed = { λ old new. new ≡ old };
+
+    ghost was_shut = { ShutsMemory };
+
+    ghost parts = { λ m. sym (grown-nil (took_of m.stream)) };
+
     fn flush(&mut self) -> bool
         ensures all { result ≡ true }
         ensures same { self.new ≡ self.old }
@@ -160,7 +181,7 @@ impl ClientWire for MemWire {
     }
 
     fn shut(&mut self)
-        ensures { self.new ≡ record self.old { stream = record self.old.stream { shut = true } } }
+        ensures { ShutsMemory self.old self.new }
     {
         self.stream.shut();
     }

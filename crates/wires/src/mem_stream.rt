@@ -1,6 +1,6 @@
 //! A stream in memory, for tests: it gives the bytes that it was made with, keeps those that it takes, and tells both.
 ghost use Rattle.std.specs.Prelude.{◌≡◌, ◌<◌, ◌≤◌, length, take, true, false, IfOk};
-ghost use Rattle.wires.specs.MemStreams.{new_stream, gave_of, took_of, GivesBytes, TakesBytes};
+ghost use Rattle.wires.specs.MemStreams.{new_stream, gave_of, took_of, GivesBytes, TakesBytes, IsShut};
 ghost use Rattle.wires.specs.Streams.{MovesBytes};
 
 use crate::stream::Stream;
@@ -123,6 +123,8 @@ impl Stream for MemStream {
 
     ghost took = { took_of };
 
+    ghost was_shut = { IsShut };
+
     fn read(&mut self, buf: &mut [u8]) -> io::Result<usize>
         requires { 0 < length buf.old }
         ensures gives { MovesBytes (gave_of self.old) (gave_of self.new) buf.new result }
@@ -159,7 +161,7 @@ impl Stream for MemStream {
     }
 
     fn shut(&mut self)
-        ensures { self.new ≡ record self.old { shut = true } }
+        ensures { IsShut self.old self.new }
     {
         self.shut = true;
     }

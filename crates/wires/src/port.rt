@@ -1,5 +1,5 @@
 //! A member's port: where its clients come in, each with its wire, and where the wires go that aren't used any more. A
-//! venue knows no more of a network than this trait: `MemPort` is for tests, `TcpPort` is the machine's.
+//! venue knows no more of a network than this trait: `MemPort` is for tests; a `SocketPort` is over a listener, as `TcpPort` over the machine's.
 ghost use Rattle.std.specs.Prelude.{◌≡◌, true, false, IfNone};
 ghost use Rattle.wires.specs.Ports.{Register, LetsIn, SeesLeave};
 
@@ -25,7 +25,7 @@ pub trait Port {
 
     /// Lets clients come, and says whether they may now. Before, none comes in.
     fn open(&mut self) -> bool
-        ensures { tells self.new ≡ tells self.old };
+        ensures { tells self.new ≡ record (tells self.old) { is_open = result } };
 
     /// Has this thread's rest end where a client comes in, or has sent or taken something, if the port can have that:
     /// its sockets are registered there from now on.

@@ -1,6 +1,6 @@
-//! The end of a TCP connection, as the machine has it. It tells no bytes: the standard library says nothing of those of
-//! a socket.
-ghost use Rattle.std.specs.Prelude.{None};
+//! The end of a TCP connection, as the machine has it. It tells no bytes, nor whether it
+//! was shut: the standard library says nothing of that.
+ghost use Rattle.std.specs.Prelude.{⊤, None};
 
 use crate::stream::Stream;
 use std::io;
@@ -12,6 +12,8 @@ impl Stream for TcpStream {
     ghost gave = { λ _. None };
 
     ghost took = { λ _. None };
+
+    ghost was_shut = { λ _ _. ⊤ };
 
     fn read(&mut self, buf: &mut [u8]) -> io::Result<usize> {
         Read::read(self, buf)

@@ -14,6 +14,9 @@ pub trait Stream {
     /// The bytes that writes have taken so far, `None` where it tells none.
     ghost took: { Self → Option (List ℕ) };
 
+    /// That it was shut once, and nothing else. Code over any stream knows this of its calls alone.
+    ghost was_shut: { Self → Self → Type 0 };
+
     /// Reads into the buffer's front, and says how many bytes: none where the other end has said that it writes no
     /// more. What stands behind them in the buffer is unspecified.
     fn read(&mut self, buf: &mut [u8]) -> io::Result<usize>
@@ -30,6 +33,7 @@ pub trait Stream {
     /// Says that nothing more is written: the other end then reads the end behind what was taken, and may still write.
     /// An error is let go.
     fn shut(&mut self)
+        ensures shut { was_shut self.old self.new }
         ensures gives_none { gave self.new ≡ gave self.old }
         ensures takes_none { took self.new ≡ took self.old };
 }

@@ -1,10 +1,10 @@
 //! A wire over a stream that never waits for the client, as a socket that was set so. It has no buffer.
 ghost use Rattle.std.specs.Prelude.{◌≡◌, true};
 ghost use Rattle.wires.specs.Wires.{uncounted};
-ghost use Rattle.wires.specs.StreamWires.{told_stream, stream_of, MeansRead, MeansWrite};
+ghost use Rattle.wires.specs.StreamWires.{told_stream, stream_of, MeansRead, MeansWrite, ShutsStream};
 
-use crate::client::ClientWire;
-use crate::counts::Counts;
+use crate::client::DirectWire;
+use crate::counts::{Counts, Nothings};
 use crate::standard::is_passing;
 use crate::stream::Stream;
 use crate::wire::{TryRead, TryWrite, Wire};
@@ -86,25 +86,19 @@ impl<S: Stream + Drop> Wire for StreamWire<S> {
         self.quiet = quiet;
     }
 
-    fn counts(&self) -> Counts {
-        self.counts
+    fn failures(&self) -> u64 {
+        self.counts.failures
+    }
+
+    fn nothings(&self) -> Nothings {
+        self.counts.nothings()
     }
 }
 
-impl<S: Stream + Drop> ClientWire for StreamWire<S> {
-    fn flush(&mut self) -> bool
-        ensures all { result ≡ true }
-        ensures same { self.new ≡ self.old }
-    {
-        true
-    }
+impl<S: Stream + Drop> DirectWire for StreamWire<S> {
+    ghost was_shut = { ShutsStream S.was_shut };
 
     fn shut(&mut self) {
         self.stream.shut();
     }
-
-    /// It stays as it is: who gathers in front of it lets go.
-    fn give_up(&mut self)
-        ensures { self.new ≡ self.old }
-    {}
 }

@@ -1,8 +1,10 @@
 //! A port of this machine, for clients that come over TCP from the machine itself.
-ghost use Rattle.std.specs.Prelude.{◌≡◌, false, None};
-ghost use Rattle.wires.specs.TcpPorts.{told_port};
+ghost use Rattle.std.specs.Prelude.{◌≡◌, true, false, None};
+ghost use Rattle.wires.specs.TcpPorts.{told_local};
 
+use crate::listener::Listener;
 use crate::port::Port;
+use crate::socket_port::SocketPort;
 use crate::tcp::{TcpWire, tcp_wire};
 use mio::unix::SourceFd;
 use mio::{Interest, Registry, Token};
@@ -14,43 +16,42 @@ use std::os::fd::AsRawFd;
 const SOCKET: Token = Token(1);
 
 /// A port of the local host. It tells none of the wires.
+pub type TcpPort<'a, R> = SocketPort<LocalListener<'a, R>, TcpStream>;
+
+/// The port of this number of the local host, at which nobody listens yet.
+pub fn local_port<'a, R: Net<Listener = TcpListener, Stream = TcpStream>>(
+    net: &'a R,
+    number: u16,
+) -> TcpPort<'a, R>
+    ensures { ⟦<TcpPort<'a, R> as Port>⟧.tells result ≡
+        record { number = number; is_open = false; came = None; gone = None; out = false } }
+{
+    SocketPort::over(LocalListener {
+        net,
+        number,
+        listener: None,
+        registry: None,
+        out: false,
+    })
+}
+
+/// A listener of the local host. It tells nobody.
 #[derive(Drop)]
-pub struct TcpPort<'a, R: Net<Listener = TcpListener, Stream = TcpStream>> {
+pub struct LocalListener<'a, R: Net<Listener = TcpListener, Stream = TcpStream>> {
     net: &'a R,
     number: u16,
     listener: Option<TcpListener>,
-    next: Option<TcpStream>,
-    out: bool,
     registry: Option<Registry>,
+    out: bool,
 }
 
-impl<'a, R: Net<Listener = TcpListener, Stream = TcpStream>> TcpPort<'a, R> {
-    /// The port of this number, at which nobody listens yet.
-    pub fn new(net: &'a R, number: u16) -> TcpPort<'a, R>
-        ensures { told_port result ≡ record { number = number; came = None; gone = None; out = false } }
-    {
-        TcpPort {
-            net,
-            number,
-            listener: None,
-            next: None,
-            out: false,
-            registry: None,
-        }
-    }
-
+impl<R: Net<Listener = TcpListener, Stream = TcpStream>> LocalListener<'_, R> {
     /// A listener there, whose calls don't wait.
     fn listen(&self) -> Option<TcpListener> {
         let at = SocketAddr::V4(SocketAddrV4::new(Ipv4Addr::LOCALHOST, self.number));
         let listener = self.net.bind(at).ok()?;
         listener.set_nonblocking(true).ok()?;
         Some(listener)
-    }
-
-    /// The connection that waits, if one does.
-    fn taken(&self) -> Option<TcpStream> {
-        let (stream, _) = self.listener.as_ref()?.accept().ok()?;
-        Some(stream)
     }
 
     /// Has the rest of the thread that serves this port end where this socket is ready, if there is one. Where that
@@ -66,10 +67,12 @@ impl<'a, R: Net<Listener = TcpListener, Stream = TcpStream>> TcpPort<'a, R> {
     }
 }
 
-impl<R: Net<Listener = TcpListener, Stream = TcpStream>> Port for TcpPort<'_, R> {
+impl<R: Net<Listener = TcpListener, Stream = TcpStream>> Listener for LocalListener<'_, R> {
+    type Stream = TcpStream;
+
     type Wire = TcpWire;
 
-    ghost tells = { told_port };
+    ghost tells = { told_local };
 
     ghost looked = { λ x y. Unit {0} };
 
@@ -89,26 +92,22 @@ impl<R: Net<Listener = TcpListener, Stream = TcpStream>> Port for TcpPort<'_, R>
         }
     }
 
-    fn accept(&mut self, alloc: Global) -> Option<TcpWire> {
-        if !self.is_wanted() {
-            return None;
-        }
-        let stream = self.next.take()?;
+    fn accept(&mut self) -> Option<TcpStream> {
+        let (stream, _) = self.listener.as_ref()?.accept().ok()?;
+        Some(stream)
+    }
+
+    fn wire(&mut self, alloc: Global, stream: TcpStream) -> Option<TcpWire> {
         self.watch_over(&stream);
         let wire = tcp_wire(alloc, stream).ok()?;
         self.out = true;
         Some(wire)
     }
 
-    /// The client that waits is taken out of the system's queue, so that it is known to be there, and is the next.
-    fn is_wanted(&mut self) -> bool {
-        if self.next.is_none() {
-            self.next = self.taken();
-        }
-        self.next.is_some()
-    }
-
-    fn take_back(&mut self, _wire: TcpWire) {
+    fn take_back(&mut self, _wire: TcpWire)
+        requires out { (told_local self.old).out ≡ true }
+        ensures { told_local self.new ≡ record (told_local self.old) { out = false } }
+    {
         self.out = false;
     }
 }

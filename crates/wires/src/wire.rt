@@ -1,8 +1,8 @@
 //! The wire, one session of a client at a time: who reads and writes knows no more of it than this trait.
 ghost use Rattle.std.specs.Prelude.{◌≡◌, ◌<◌, length};
-ghost use Rattle.wires.specs.Wires.{Told, ReadTells, WriteTells, counts_of};
+ghost use Rattle.wires.specs.Wires.{Told, ReadTells, WriteTells, nothings_of};
 
-use crate::counts::Counts;
+use crate::counts::Nothings;
 
 /// What a read found. `Failed` is an error of the wire, `End` the end of what the client sends.
 #[derive(Clone, Copy, Debug, PartialEq, Eq)]
@@ -25,7 +25,8 @@ pub enum TryWrite {
     Failed,
 }
 
-/// A client's bytes in both directions. A call may move fewer bytes than there is room for, or none.
+/// A client's bytes in both directions. A call may move fewer bytes than there is room for, or none. A count that is
+/// full stays.
 pub trait Wire {
     /// The bytes that it gave and took, as far as it tells them, and its counts.
     ghost tells: { Self → Told };
@@ -45,7 +46,11 @@ pub trait Wire {
     fn rest(&mut self, quiet: bool)
         ensures { tells self.new ≡ record (tells self.old) { quiet = quiet } };
 
-    /// What it counts of its calls.
-    fn counts(&self) -> Counts
-        ensures { result ≡ counts_of (tells self.now) };
+    /// How many of its calls failed.
+    fn failures(&self) -> u64
+        ensures { result ≡ (tells self.now).failures };
+
+    /// How many of its reads, and how many of its writes, answered `Nothing`.
+    fn nothings(&self) -> Nothings
+        ensures { result ≡ nothings_of (tells self.now) };
 }

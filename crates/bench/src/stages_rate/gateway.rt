@@ -7,7 +7,7 @@ use crate::stages_rate::VenueRings;
 use crate::stages_rate::messages::messages_of;
 use book::BookLogic;
 use ring_words::GatewaySeat;
-use sequencer::{Take, take_output, try_claim};
+use sequencer::{Take, take, try_claim};
 use std::alloc::Global;
 use venue_model::{Entry, LONGEST_MESSAGE};
 use workers::{Outcome, Worker};
@@ -102,7 +102,7 @@ impl<const G: usize> Gateway<'_, G> {
 
     /// Takes the next output or passes it over, if there is one.
     fn take(&mut self) -> bool {
-        match take_output(self.rings, &mut self.seat, &mut self.body) {
+        match take(self.rings, &mut self.seat, &mut self.body) {
             Take::Mine(head) => self.count(head.len),
             Take::Passed => {}
             Take::Nothing => return false,

@@ -1,15 +1,16 @@
 //! What a session meets at standard input and output, and at a stream: readers and writers that do less than they are
 //! asked for, or fail.
-ghost use Rattle.std.specs.Prelude.{◌<◌, ◌≤◌, None, length, IfOk};
+ghost use Rattle.std.specs.Prelude.{◌<◌, ◌≤◌, ⊤, None, length, IfOk};
 
 use std::alloc::{AllocError, Global};
+use std::cell::Cell;
 use std::io;
 use std::io::{ErrorKind, Read, Write};
 use std::process::Abort;
 use std::test::Fail;
 use wires::{
-    ClientWire, Counts, GatheringWire, MemStream, StdWire, Stream, TryRead, TryWrite, Wire,
-    wire_over,
+    ClientWire, DirectWire, GatheringWire, Input, MemStream, MemWire, Nothings, StdWire, Stream,
+    TcpWire, TryRead, TryWrite, Wire, wire_over,
 };
 
 /// A reader and a writer that go through a script: each read, write and flush takes the next step.
@@ -59,6 +60,13 @@ fn expect_read<A: Abort, W: Wire>(rt: &A, wire: &mut W, answer: TryRead) {
     assert_eq!(rt; wire.try_read(&mut [0; 8]), answer);
 }
 
+/// So many calls failed, and so many reads and writes answered Nothing.
+fn expect_counts<A: Abort, W: Wire>(rt: &A, wire: &W, failures: u64, nothings: (u64, u64)) {
+    let (reads, writes) = nothings;
+    assert_eq!(rt; wire.failures(), failures);
+    assert_eq!(rt; wire.nothings(), Nothings { reads, writes });
+}
+
 /// Rests before each such read.
 fn expect_reads_at_rest<A: Abort, W: Wire>(rt: &A, wire: &mut W, answers: &[TryRead]) {
     for answer in answers {
@@ -77,11 +85,11 @@ fn expect_writes<A: Abort, W: Wire>(rt: &A, wire: &mut W, bytes: &[u8], answers:
 }
 
 #[test]
-fn reads_on_after_a_failure(rt: HostRuntime) {
+fn reads_on_after_a_failure(rt: HostRuntime) -> Result<(), Fail> {
     let steps = [
         Step::Moves(3),
         Step::Fails(ErrorKind::Interrupted),
-        Step::Moves(1000),
+        Step::Moves(8),
         Step::Fails(ErrorKind::WouldBlock),
         Step::Fails(ErrorKind::ConnectionReset),
         Step::Moves(1),
@@ -96,22 +104,17 @@ fn reads_on_after_a_failure(rt: HostRuntime) {
         TryRead::Got(1),
         TryRead::End,
     ];
-    let mut wire = StdWire::new(Script(&steps), Script(&[]));
+    let mut wire = StdWire::new(rt.alloc(), Script(&steps), Script(&[]))?;
     expect_reads_at_rest(&rt, &mut wire, &answers);
-    let counts = Counts {
-        failures: 1,
-        empty_reads: 2,
-        full_writes: 0,
-        ends: 1,
-    };
-    assert_eq!(rt; wire.counts(), counts);
+    expect_counts(&rt, &wire, 1, (2, 0));
+    Ok(())
 }
 
 #[test]
-fn a_reader_is_asked_only_at_rest(rt: HostRuntime) {
+fn a_reader_is_asked_only_at_rest(rt: HostRuntime) -> Result<(), Fail> {
     let reads = [Step::Moves(3), Step::Moves(2), Step::Moves(0)];
     let writes = [Step::Moves(8), Step::Moves(0)];
-    let mut wire = StdWire::new(Script(&reads), Script(&writes));
+    let mut wire = StdWire::new(rt.alloc(), Script(&reads), Script(&writes))?;
     expect_read(&rt, &mut wire, TryRead::Got(3));
     expect_read(&rt, &mut wire, TryRead::Nothing);
     expect_read(&rt, &mut wire, TryRead::Nothing);
@@ -124,11 +127,103 @@ fn a_reader_is_asked_only_at_rest(rt: HostRuntime) {
     expect_reads_at_rest(&rt, &mut wire, &[TryRead::Got(2)]);
     expect_read(&rt, &mut wire, TryRead::Nothing);
     expect_reads_at_rest(&rt, &mut wire, &[TryRead::End]);
-    assert_eq!(rt; wire.counts().empty_reads, 5);
+    expect_counts(&rt, &wire, 0, (5, 0));
+    Ok(())
+}
+
+/// A reader that gives its bytes, as many as there is room for, and counts how often it was asked.
+#[derive(Drop)]
+struct Asked<'a> {
+    bytes: &'a [u8],
+    calls: &'a Cell<u32>,
+}
+
+impl Read for Asked<'_> {
+    fn read(&mut self, buf: &mut [u8]) -> io::Result<usize> {
+        self.calls.set(self.calls.get().saturating_add(1));
+        let count = self.bytes.len().min(buf.len());
+        let (given, left) = self.bytes.split_at(count);
+        buf[..count].copy_from_slice(given);
+        self.bytes = left;
+        Ok(count)
+    }
+}
+
+/// At rest such a read gives the next so many of these bytes, or all there are. Behind it the wire gives none until it
+/// rests again.
+fn expect_piece<A: Abort, W: Wire>(rt: &A, wire: &mut W, bytes: &[u8], from: usize) {
+    let mut buf = [0; 512];
+    let piece = bytes.get(from..).unwrap_or(&[]);
+    let count = piece.len().min(512);
+    wire.rest(true);
+    assert_eq!(rt; wire.try_read(&mut buf), TryRead::Got(count));
+    assert_eq!(rt; &buf[..count], &piece[..count]);
+    expect_read(rt, wire, TryRead::Nothing);
+    wire.rest(false);
+    expect_read(rt, wire, TryRead::Nothing);
 }
 
 #[test]
-fn a_write_is_flushed_or_failed(rt: HostRuntime) {
+fn standard_input_is_read_ahead_and_handed_out_at_rest(rt: HostRuntime) -> Result<(), Fail> {
+    let mut bytes = Vec::new(rt.alloc());
+    for row in 0..250 {
+        bytes.extend_from_slice(&[row; 16])?;
+    }
+    let calls = Cell::new(0);
+    let reader = Asked {
+        bytes: &bytes,
+        calls: &calls,
+    };
+    let mut wire = StdWire::new(rt.alloc(), reader, Script(&[]))?;
+    for from in [0, 512, 1024, 1536, 2048, 2560, 3072, 3584] {
+        expect_piece(&rt, &mut wire, &bytes, from);
+        assert_eq!(rt; calls.get(), 1);
+    }
+    expect_counts(&rt, &wire, 0, (16, 0));
+    expect_reads_at_rest(&rt, &mut wire, &[TryRead::End]);
+    assert_eq!(rt; calls.get(), 2);
+    Ok(())
+}
+
+#[test]
+fn a_session_reads_at_most_512_bytes(rt: HostRuntime) -> Result<(), Fail> {
+    let mut wire = MemWire::new(rt.alloc(), &[b'0'; 1300])?;
+    for count in [512, 512, 276] {
+        let mut input = Input::new();
+        assert_eq!(rt; input.fill(&mut wire), TryRead::Got(count));
+        assert_eq!(rt; input.as_slice().len(), count);
+    }
+    Ok(())
+}
+
+#[test]
+fn a_wire_counts_what_moved_nothing(rt: HostRuntime) -> Result<(), Fail> {
+    let open = MemWire::new(rt.alloc(), b"8=FIX")?.staying_open();
+    let mut full = open.full_after(7);
+    expect_read(&rt, &mut full, TryRead::Got(5));
+    expect_read(&rt, &mut full, TryRead::Nothing);
+    expect_read(&rt, &mut full, TryRead::Nothing);
+    expect_writes(
+        &rt,
+        &mut full,
+        b"8=FIX.4",
+        &[TryWrite::Put(7), TryWrite::Nothing],
+    );
+    expect_counts(&rt, &full, 0, (2, 1));
+    let mut breaks = MemWire::new(rt.alloc(), b"")?.breaking_after(7);
+    expect_read(&rt, &mut breaks, TryRead::End);
+    expect_writes(
+        &rt,
+        &mut breaks,
+        b"8=FIX.4",
+        &[TryWrite::Put(7), TryWrite::Failed],
+    );
+    expect_counts(&rt, &breaks, 1, (0, 0));
+    Ok(())
+}
+
+#[test]
+fn a_write_is_flushed_or_failed(rt: HostRuntime) -> Result<(), Fail> {
     let kept = Step::Moves(0);
     let steps = [
         Step::Moves(3),
@@ -152,15 +247,10 @@ fn a_write_is_flushed_or_failed(rt: HostRuntime) {
         TryWrite::Failed,
         TryWrite::Put(1),
     ];
-    let mut wire = StdWire::new(Script(&[]), Script(&steps));
+    let mut wire = StdWire::new(rt.alloc(), Script(&[]), Script(&steps))?;
     expect_writes(&rt, &mut wire, b"8=FIX.4.", &answers);
-    let counts = Counts {
-        failures: 3,
-        empty_reads: 0,
-        full_writes: 1,
-        ends: 0,
-    };
-    assert_eq!(rt; wire.counts(), counts);
+    expect_counts(&rt, &wire, 3, (0, 1));
+    Ok(())
 }
 
 /// A stream that has bytes to give, and keeps those that it takes. Its reads and its writes go through a script each.
@@ -187,6 +277,8 @@ impl Stream for Line<'_> {
     ghost gave = { λ _. None };
 
     ghost took = { λ _. None };
+
+    ghost was_shut = { λ _ _. ⊤ };
 
     fn read(&mut self, buf: &mut [u8]) -> io::Result<usize> {
         let count = self.reads.step(buf.len().min(self.input.len()))?;
@@ -248,18 +340,13 @@ fn what_is_read_ahead_is_handed_out_in_order(rt: HostRuntime) -> Result<(), Fail
     let mut bytes = Vec::new(rt.alloc());
     expect_reads_by_two(&rt, &mut wire, &answers, &mut bytes)?;
     assert_eq!(rt; bytes.as_slice(), b"8=FIX.4.4".as_slice());
-    let counts = Counts {
-        failures: 1,
-        empty_reads: 2,
-        full_writes: 0,
-        ends: 1,
-    };
-    assert_eq!(rt; wire.counts(), counts);
+    expect_counts(&rt, &wire, 1, (2, 0));
+    expect_counts(&rt, wire.below(), 1, (2, 0));
     Ok(())
 }
 
 /// Writes each row, works, and flushes: says whether all was sent.
-fn expect_flushes<A: Abort, W: ClientWire + Drop>(
+fn expect_flushes<A: Abort, W: DirectWire + Drop>(
     rt: &A,
     wire: &mut GatheringWire<W>,
     rows: &[(&[u8; 5], bool)],
@@ -323,22 +410,17 @@ fn a_slow_client_gets_all_in_order(rt: HostRuntime) -> Result<(), Fail> {
         let from = usize::from(row) * 1024;
         assert!(rt; sent.get(from..from + 1024) == Some([row; 1024].as_slice()));
     }
-    assert_eq!(rt; wire.counts(), Counts::new());
+    expect_counts(&rt, &wire, 0, (0, 0));
+    expect_counts(&rt, wire.below(), 0, (0, 2));
     Ok(())
 }
 
 /// Behind its first failure it holds nothing back, neither reads nor writes any more, and counts each try.
-fn is_given_up<A: Abort, W: ClientWire + Drop>(rt: &A, wire: &mut GatheringWire<W>) {
+fn is_given_up<A: Abort, W: DirectWire + Drop>(rt: &A, wire: &mut GatheringWire<W>) {
     assert!(rt; wire.flush());
     expect_read(rt, wire, TryRead::Failed);
     expect_writes(rt, wire, b"8=FIX.4.4", &[TryWrite::Failed; 2]);
-    let counts = Counts {
-        failures: 4,
-        empty_reads: 0,
-        full_writes: 0,
-        ends: 0,
-    };
-    assert_eq!(rt; wire.counts(), counts);
+    expect_counts(rt, wire, 4, (0, 0));
 }
 
 #[test]
@@ -362,6 +444,8 @@ impl Stream for Sips {
     ghost gave = { λ _. None };
 
     ghost took = { λ _. None };
+
+    ghost was_shut = { λ _ _. ⊤ };
 
     fn read(&mut self, _buf: &mut [u8]) -> io::Result<usize> {
         Ok(0)
@@ -390,11 +474,11 @@ fn a_client_that_never_catches_up_is_given_up(rt: HostRuntime) -> Result<(), Fai
 }
 
 /// It holds nothing back, reads no more, and counts each try.
-fn is_broken<A: Abort, W: ClientWire + Drop>(rt: &A, wire: &mut GatheringWire<W>) {
+fn is_broken<A: Abort, W: DirectWire + Drop>(rt: &A, wire: &mut GatheringWire<W>) {
     for failures in 1..3 {
         assert!(rt; wire.flush());
         expect_read(rt, wire, TryRead::Failed);
-        assert_eq!(rt; wire.counts().failures, failures);
+        expect_counts(rt, wire, failures, (0, 0));
     }
 }
 
@@ -412,14 +496,13 @@ fn a_wire_whose_write_failed_is_broken(rt: HostRuntime) -> Result<(), Fail> {
     Ok(())
 }
 
-#[test]
-fn a_client_that_leaves_is_sent_all_and_then_the_end(rt: HostRuntime) -> Result<(), Fail> {
-    let stream = MemStream::new(rt.alloc(), b"8=FIX.4.4")?
-        .in_pieces(4)
-        .staying_open()
-        .full_after(12);
-    let mut wire = wire_over(rt.alloc(), stream)?;
-    let mut bytes = Vec::new(rt.alloc());
+/// Reads all that the client has sent, two bytes at a time.
+fn expect_all_read<A: Abort>(
+    rt: &A,
+    alloc: Global,
+    wire: &mut TcpWire<MemStream>,
+) -> Result<(), AllocError> {
+    let mut bytes = Vec::new(alloc);
     let answers = [
         TryRead::Got(2),
         TryRead::Got(2),
@@ -427,13 +510,37 @@ fn a_client_that_leaves_is_sent_all_and_then_the_end(rt: HostRuntime) -> Result<
         TryRead::Got(2),
         TryRead::Got(1),
     ];
-    expect_reads_by_two(&rt, &mut wire, &answers, &mut bytes)?;
-    expect_read(&rt, &mut wire, TryRead::Nothing);
+    expect_reads_by_two(rt, wire, &answers, &mut bytes)?;
+    expect_read(rt, wire, TryRead::Nothing);
     assert_eq!(rt; bytes.as_slice(), wire.below().stream().given());
+    Ok(())
+}
+
+#[test]
+fn a_client_that_leaves_is_sent_all_and_then_the_end(rt: HostRuntime) -> Result<(), Fail> {
+    let stream = MemStream::new(rt.alloc(), b"8=FIX.4.4")?
+        .in_pieces(4)
+        .staying_open();
+    let mut wire = wire_over(rt.alloc(), stream)?;
+    expect_all_read(&rt, rt.alloc(), &mut wire)?;
+    expect_writes(&rt, &mut wire, b"8=FIX.4", &[TryWrite::Put(7); 2]);
+    assert!(rt; wire.flush());
+    assert_eq!(rt; wire.below().stream().taken(), b"8=FIX.48=FIX.4".as_slice());
+    assert!(rt; !wire.below().stream().is_shut());
+    wire.shut();
+    assert!(rt; wire.below().stream().is_shut());
+    Ok(())
+}
+
+#[test]
+fn what_a_client_does_not_take_is_held(rt: HostRuntime) -> Result<(), Fail> {
+    let stream = MemStream::new(rt.alloc(), b"")?.full_after(12);
+    let mut wire = wire_over(rt.alloc(), stream)?;
     expect_writes(&rt, &mut wire, b"8=FIX.4", &[TryWrite::Put(7); 2]);
     assert!(rt; !wire.flush());
     assert_eq!(rt; wire.below().stream().taken(), b"8=FIX.48=FIX".as_slice());
-    wire.shut();
-    assert!(rt; wire.below().stream().is_shut());
+    wire.give_up();
+    assert!(rt; wire.flush());
+    assert_eq!(rt; wire.below().stream().taken(), b"8=FIX.48=FIX".as_slice());
     Ok(())
 }

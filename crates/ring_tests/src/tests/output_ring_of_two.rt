@@ -3,11 +3,12 @@
 ghost use Rattle.std.specs.Prelude.{◌≤◌};
 ghost use Rattle.stages.specs.Crews.{AreAt};
 
-use super::crew::{Stages, open_venue, poll, processed};
-use super::member::{Member, next_two};
-use super::messages::{BUY_THREE, SELL_ONE, SELL_THREE, SELL_TWO, message};
-use super::venue::TestRings;
+use journal::NullDisk;
 use sequencer::Take;
+use small_venue::crew::{Stages, open_venue, poll, processed};
+use small_venue::member::{Member, next_two};
+use small_venue::messages::{BUY_THREE, SELL_ONE, SELL_THREE, SELL_TWO, message};
+use small_venue::venue::TestRings;
 use stages::Turn;
 use stages::Turn::{Did, OutFull};
 use std::alloc::Global;
@@ -43,7 +44,7 @@ fn take<A: Abort, const N: usize, const M: usize, const G: usize>(
 /// Lets the stages poll twice, so that two outputs are marshalled, and answers what the processor did first.
 fn process<const N: usize, const M: usize, const G: usize>(
     rings: &TestRings<N, M, G>,
-    stages: &mut Stages,
+    stages: &mut Stages<NullDisk>,
 ) -> Turn
     requires stages { AreAt rings.now stages.old.value }
     ensures stages { AreAt rings.now stages.new.value }
@@ -60,7 +61,7 @@ fn sell<A: Abort, const N: usize, const M: usize, const G: usize>(
     rings: &TestRings<N, M, G>,
     one: &mut Member<'_, N, M, G>,
     other: &mut Member<'_, N, M, G>,
-    stages: &mut Stages,
+    stages: &mut Stages<NullDisk>,
     order: &str,
 ) -> Result<(), Fail>
     requires stages { AreAt rings.now stages.old.value }
@@ -79,7 +80,7 @@ fn put_two<A: Abort, const N: usize, const M: usize, const G: usize>(
     rings: &TestRings<N, M, G>,
     one: &mut Member<'_, N, M, G>,
     other: &mut Member<'_, N, M, G>,
-    stages: &mut Stages,
+    stages: &mut Stages<NullDisk>,
 )
     requires stages { AreAt rings.now stages.old.value }
     ensures stages { AreAt rings.now stages.new.value }
@@ -96,7 +97,7 @@ fn sell_three<A: Abort, const N: usize, const M: usize, const G: usize>(
     rings: &TestRings<N, M, G>,
     one: &mut Member<'_, N, M, G>,
     other: &mut Member<'_, N, M, G>,
-    stages: &mut Stages,
+    stages: &mut Stages<NullDisk>,
 ) -> Result<(), Fail>
     requires stages { AreAt rings.now stages.old.value }
     ensures stages { AreAt rings.now stages.new.value }
@@ -113,7 +114,7 @@ fn buy_three<A: Abort, const N: usize, const M: usize, const G: usize>(
     rings: &TestRings<N, M, G>,
     one: &mut Member<'_, N, M, G>,
     other: &mut Member<'_, N, M, G>,
-    stages: &mut Stages,
+    stages: &mut Stages<NullDisk>,
 ) -> Result<(), Fail>
     requires stages { AreAt rings.now stages.old.value }
     ensures stages { AreAt rings.now stages.new.value }
@@ -133,7 +134,7 @@ fn trade<A: Abort, const N: usize, const M: usize, const G: usize>(
     rings: &TestRings<N, M, G>,
     one: &mut Member<'_, N, M, G>,
     other: &mut Member<'_, N, M, G>,
-    stages: &mut Stages,
+    stages: &mut Stages<NullDisk>,
 ) -> Result<(), Fail>
     requires stages { AreAt rings.now stages.old.value }
 {

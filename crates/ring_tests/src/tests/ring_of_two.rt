@@ -2,11 +2,12 @@
 ghost use Rattle.std.specs.Prelude.{◌≤◌, length};
 ghost use Rattle.stages.specs.Crews.{AreAt};
 
-use super::crew::{Stages, open_venue, poll, turns_of};
-use super::member::{Member, next_two};
-use super::messages::{FIRST_BUY, THIRD_ACKNOWLEDGED, bytes_of, message};
-use super::venue::TestRings;
+use journal::NullDisk;
 use sequencer::{ClaimRefusal, Take, try_claim};
+use small_venue::crew::{Stages, open_venue, poll, turns_of};
+use small_venue::member::{Member, next_two};
+use small_venue::messages::{FIRST_BUY, THIRD_ACKNOWLEDGED, bytes_of, message};
+use small_venue::venue::TestRings;
 use stages::Turn;
 use stages::Turn::{Did, Idle};
 use std::alloc::Global;
@@ -20,7 +21,7 @@ fn publish_both<const N: usize, const M: usize, const G: usize>(
     rings: &TestRings<N, M, G>,
     one: &mut Member<'_, N, M, G>,
     other: &mut Member<'_, N, M, G>,
-    stages: &mut Stages,
+    stages: &mut Stages<NullDisk>,
 ) -> Result<Option<(u64, u64)>, ClaimRefusal>
     requires stages { AreAt rings.now stages.old.value }
     ensures stages { AreAt rings.now stages.new.value }
@@ -46,7 +47,7 @@ fn publish_both<const N: usize, const M: usize, const G: usize>(
 fn polls<A: Abort, const N: usize, const M: usize, const G: usize>(
     rt: &A,
     rings: &TestRings<N, M, G>,
-    stages: &mut Stages,
+    stages: &mut Stages<NullDisk>,
     turns: [Turn; 4],
 )
     requires { AreAt rings.now stages.old.value }
@@ -60,7 +61,7 @@ fn publish_again<A: Abort, const N: usize, const M: usize, const G: usize>(
     rt: &A,
     rings: &TestRings<N, M, G>,
     one: &mut Member<'_, N, M, G>,
-    stages: &mut Stages,
+    stages: &mut Stages<NullDisk>,
     order: &[u8],
 )
     requires stages { AreAt rings.now stages.old.value }
@@ -95,7 +96,7 @@ fn fill<A: Abort, const N: usize, const M: usize, const G: usize>(
     rings: &TestRings<N, M, G>,
     one: &mut Member<'_, N, M, G>,
     other: &mut Member<'_, N, M, G>,
-    stages: &mut Stages,
+    stages: &mut Stages<NullDisk>,
 ) -> Result<(), Fail>
     requires stages { AreAt rings.now stages.old.value }
 {

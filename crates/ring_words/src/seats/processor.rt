@@ -1,8 +1,8 @@
 //! The processor's seat, behind those of unmarshaller and journaller.
-ghost use Rattle.std.specs.Prelude.{None, ◌≡◌, ◌≤◌, ◌^◌, [], length};
+ghost use Rattle.std.specs.Prelude.{None, ◌≡◌, ◌≤◌, ◌^◌, [], length, IfSome};
 ghost use Rattle.ring_words.specs.declared.view.Role.TheVariants.{Process};
 ghost use Rattle.ring_words.specs.Places.{unmarshalled, taken as taken_word};
-ghost use Rattle.ring_words.specs.Seats.{person, IsAlone, last_from, last_load, AreTaken, no_values};
+ghost use Rattle.ring_words.specs.Seats.{person, IsAlone, last_from, last_load, AreTaken, AreUpTo, no_values};
 
 use crate::report::Slot;
 use crate::view::View;
@@ -31,6 +31,7 @@ pub struct ProcessSeat<L> {
     ghost put: { published ≡ (person seat.me.0).row.sequence },
     ghost kept: { AreTaken taken (person seat.me.0).loads },
     ghost home: { (person seat.me.0).out ≡ None },
+    ghost below: { AreUpTo published taken },
 }
 
 /// No taken word was loaded yet.
@@ -73,10 +74,11 @@ impl<L> ProcessSeat<L> {
     }
 
     /// The value of this gateway's taken word that the processor loaded last: so many outputs were taken by then, and
-    /// by now maybe more. None where none was loaded.
+    /// by now maybe more. No more were taken than are published. None where none was loaded.
     pub fn taken(&self, gateway: u64) -> Option<u64>
         requires gateway { (1 ≤ gateway) × (gateway ≤ 8) }
         ensures value { result ≡ last_load (taken_word gateway) None self.now.who.loads }
+        ensures most { IfSome result (λ taken. taken ≤ self.now.who.row.sequence) }
     {
         self.taken[gateway as usize - 1]
     }

@@ -4,19 +4,19 @@ use Rattle.gateway.proofs.seat.take.Goals as goal
 
 pub returns-clause-looks : goal.returns-clause-looks
 returns-clause-looks g c =
-    looks_so c.args.rings.now c.args.seat.now c.take_output.new.seat c.requires.at c.take_output.ensures.step _ _
-    c.take_output.ensures.nothing c.take_output.ensures.taken
+    looks_so c.args.rings.now c.args.seat.now c.take.new.seat c.requires.at c.take.ensures.step _ _
+    c.take.ensures.nothing c.take.ensures.taken
 
 pub returns-clause-stays : goal.returns-clause-stays
-returns-clause-stays g c = looks_stays c.args.seat.now c.take_output.new.seat c.take_output.result c.take_output.new.buf
+returns-clause-stays g c = looks_stays c.args.seat.now c.take.new.seat c.take.result c.take.new.buf
     (returns-clause-looks g c)
 
 pub returns-clause-seen : goal.returns-clause-seen
 returns-clause-seen g c =
-    looks_keeps g.row.N c.args.seat.now c.take_output.new.seat c.requires.seen c.take_output.result
-    c.take_output.new.buf (returns-clause-looks g c)
+    looks_keeps g.row.N c.args.seat.now c.take.new.seat c.requires.seen c.take.result
+    c.take.new.buf (returns-clause-looks g c)
 
 pub returns-clause-tells : goal.returns-clause-tells
 returns-clause-tells g c =
-    looks_tells g.row.N c.args.seat.now c.take_output.new.seat c.requires.seen c.take_output.result
-    c.take_output.new.buf (returns-clause-looks g c)
+    looks_tells g.row.N c.args.seat.now c.take.new.seat c.requires.seen c.take.result
+    c.take.new.buf (returns-clause-looks g c)

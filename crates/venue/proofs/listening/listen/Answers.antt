@@ -140,3 +140,12 @@ returns-in-Err-open_members-clause-any_moment g c = λ honest.
     let tells = g.D.JournalDisk.tells in
     subst (λ (d : g.row.D.Denot). LeavesFrom (tells c.args.disk) (tells d)) (sym c.unserved.ensures)
     (kept_leaves _ _ _ _ c.args.limits c.in-Ok.ensures.disk.keeps honest)
+
+pub returns-clause-cleared : goal.returns-clause-cleared
+returns-clause-cleared g c = (_, c.clear.ensures)
+
+pub returns-in-Err-clause-cleared : goal.returns-in-Err-clause-cleared
+returns-in-Err-clause-cleared g c = (_, c.clear.ensures)
+
+pub returns-in-Err-open_members-clause-cleared : goal.returns-in-Err-open_members-clause-cleared
+returns-in-Err-open_members-clause-cleared g c = (_, c.clear.ensures)

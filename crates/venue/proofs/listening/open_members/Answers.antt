@@ -11,6 +11,7 @@ returns-clause-ready g c =
     let room = c.in-Ok.ensures in record {
       posts = posts.posts;
       ports = omega (arith, all, made, kept);
+      opened = c.in_default-open_ports.ensures.opened;
       free = free_again (in_box g.X.Port.tells) c.args.ports.items c.open_ports.new.ports.items opened.ports
           c.requires.ports.1;
       empty = (home.0, room.items);

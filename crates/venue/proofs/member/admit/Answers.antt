@@ -15,7 +15,7 @@ returns-then-not-is_free g c = record {
   goes = no_turn _ _;
   at = c.requires.at;
   one = c.requires.one;
-  leaving = refl;
+  others = (refl, refl);
   none = λ _. refl;
   looked = λ wire leaving.
       let free = c.is_free.ensures.free.1 (wire, leaving) in absurd (cc (free, c.if-not-is_free.true));
@@ -32,7 +32,7 @@ returns-in_default g c =
       at = c.requires.at;
       one = subst (λ (r : Register). HasClient desk.acceptor.wire leaving r.out)
           (sym c.in_default.ensures.tells) c.requires.one;
-      leaving = refl;
+      others = (refl, refl);
       none = λ _. refl;
       looked = λ _ _. c.in_default.ensures.looked;
     }
@@ -51,7 +51,7 @@ returns g c =
       at = subst (λ (a : Accepting). IsAt rings a.gateway.seat) (sym c.admit.ensures.1) c.requires.at;
       one = subst (λ (o : Bool). HasClient now.wire leaving o) (sym out)
           (comes_in now.wire leaving told (ap (λ (a : Accepting). a.wire) c.admit.ensures.1) none);
-      leaving = refl;
+      others = (refl, refl);
       none = λ no. absurd (cc no);
       looked = λ gone _. let there = ap (λ (a : Accepting). a.wire) c.admit.ensures.1 in absurd (cc (gone, there));
     }

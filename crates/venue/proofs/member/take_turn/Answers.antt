@@ -1,5 +1,5 @@
 -- It took one turn, and the client whose session ended leaves from now on.
-use Rattle.std.proofs.Common.{◌∙◌, ap, sym, subst, rules, Option, Some, None}
+use Rattle.std.proofs.Common.{◌∙◌, refl, ap, sym, subst, rules, Option, Some, None}
 use Rattle.gateway.specs.Accepting.{TakesTurn, told_by}
 use Rattle.ring_words.specs.At.{At}
 use Rattle.venue.specs.Leaving.{told_leaving}
@@ -24,6 +24,7 @@ returns-in_default g c =
       one = still_one desk.acceptor now c.turn-turned.result.0 _ _ takes c.requires.one;
       took = (c.turn-turned.result.0, None, takes, search rules);
       leaving = same_if_some desk.leaving;
+      turns = refl;
     }
 
 pub returns : goal.returns
@@ -53,4 +54,5 @@ returns g c =
       );
       leaving = of_none tells desk.leaving _ (none_left 1024 desk.acceptor now c.turn-turned.result.0
           (tells c.in-Some.wire) (told_leaving tells desk.leaving) register.out takes c.requires.one).0;
+      turns = refl;
     }

@@ -29,5 +29,6 @@ returns g c =
           (subst (λ (d : Desk _). GivesBack (g.X.Port.tells worker.port.value) after (told d.leaving) wire) whole
           (subst (λ x. GivesBack (g.X.Port.tells x) after
           (told c.into_inner-acceptor.result.leaving) wire) c.deref_mut.ensures.value
-          c.dismiss.ensures));
+          c.dismiss.ensures.back))
+          c.requires.opened;
     }

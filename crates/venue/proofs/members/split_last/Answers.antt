@@ -1,5 +1,5 @@
 -- The others are as they were, and the last one is the last of all.
-use Rattle.std.proofs.Common.{◌≡◌, ℕ, false, length, refl, arith}
+use Rattle.std.proofs.Common.{◌≡◌, ℕ, true, false, length, refl, arith}
 use Rattle.venue_model.specs.ListLaws.{at_longer}
 use Rattle.venue.specs.Headline.{in_box}
 use Rattle.venue.proofs.MemberLemmas.{of_last}
@@ -11,15 +11,19 @@ returns-clause-others g c =
     let room = c.requires.room in let seats = room.0 in let ports = room.1 in record {
       posts = c.last_post.ensures.left;
       ports = omega (arith, all, fewer, popped);
+      opened = λ i x there. c.requires.opened i x (rw c.in-Some-pop.ensures.items
+          (at_longer c.pop.new.self.items _ i x there));
       free = λ i x there. c.requires.free i x (rw c.in-Some-pop.ensures.items
           (at_longer c.pop.new.self.items _ i x there));
       empty = c.requires.empty;
       room = (omega (arith, seats, fewer), omega (arith, ports, fewer));
     }
 
-pub returns-clause-post : goal.returns-clause-post
-returns-clause-post g c = (
-  c.in-Some.ensures.last,
+pub returns-clause-port : goal.returns-clause-port
+returns-clause-port g c = (
+  of_last (λ (n : ℕ) x. (in_box g.X.Port.tells x).is_open ≡ true) c.args.members.ports.items c.pop.new.self.items
+      c.in-Some-pop.port
+      c.in-Some-pop.ensures.items (λ i x there. c.requires.opened i x there) (length c.args.members.ports.items) refl,
   of_last (λ (n : ℕ) x. (in_box g.X.Port.tells x).out ≡ false) c.args.members.ports.items c.pop.new.self.items
       c.in-Some-pop.port
       c.in-Some-pop.ensures.items (λ i x there. c.requires.free i x there) (length c.args.members.ports.items) refl,

@@ -43,7 +43,8 @@ returns-in-Full-clause-turn g c =
     (subst (λ (s : At Limits). Turn (around n old before) (world c.stuck.new.self.front behind (ledger_of n s))
     c.stuck.result) (sym c.stuck.ensures.seat)
     (turn-stuck old.front c.flush-flushed.new.session c.stuck.new.self.front before behind (ledger_of n old.seat)
-    _ c.stuck.result c.flush-flushed.ensures.others live c.in-Full.ensures.bytes (search rules) c.stuck.ensures.stuck)))
+    _ c.stuck.result c.flush-flushed.ensures.others live c.in-Full.ensures.bytes (search rules) old.front.idle
+    c.stuck.ensures.stuck refl)))
 
 pub returns-in-Some-clause-turn : goal.returns-in-Some-clause-turn
 returns-in-Some-clause-turn g c =

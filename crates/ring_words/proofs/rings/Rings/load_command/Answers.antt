@@ -35,7 +35,7 @@ invariant_of-seat-inside g c = let seat = c.seat.inside in
                 (kept_else seat.taken (person seat.seat.me.0).loads c.row_word-place.result c.load.result
                 (λ k few e. no_control g.row.N c.args.sequence (c.args.word + 48) (32 + 8 * suc k) (omega arith)
                 (sym place ∙ e)) seat.kept),
-            (still_home seat.seat.me _ _ is seat.home, tt),
+            (still_home seat.seat.me _ _ is seat.home, (seat.below, tt)),
           ),
         ),
       ),

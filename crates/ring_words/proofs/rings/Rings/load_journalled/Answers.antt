@@ -52,7 +52,7 @@ invariant_of-seat-inside g c = let seat = c.seat.inside in
           (
             still_taken seat.seat.me _ _ is seat.taken
                 (kept_else seat.taken p.loads 24 r (λ k few. (λ (e : 24 ≡ 32 + 8 * suc k). omega arith)) seat.kept),
-            (still_home seat.seat.me _ _ is seat.home, tt),
+            (still_home seat.seat.me _ _ is seat.home, (seat.below, tt)),
           ),
         ),
       ),
@@ -82,7 +82,7 @@ invariant_of-seat-inside-else-seat-reach g c = let seat = c.seat.inside in
           (
             still_taken seat.seat.me _ _ is seat.taken
                 (kept_else seat.taken p.loads 24 r (λ k few. (λ (e : 24 ≡ 32 + 8 * suc k). omega arith)) seat.kept),
-            (still_home seat.seat.me _ _ is seat.home, tt),
+            (still_home seat.seat.me _ _ is seat.home, (seat.below, tt)),
           ),
         ),
       ),

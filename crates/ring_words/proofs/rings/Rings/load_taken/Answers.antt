@@ -1,9 +1,9 @@
-use Rattle.std.proofs.Common.{rules, ◌≡◌, ◌-◌, ◌*◌, ◌+◌, ◌∙◌, ℕ, ap, sym, arith}
+use Rattle.std.proofs.Common.{rules, ◌≡◌, ◌-◌, ◌*◌, ◌+◌, ◌≤◌, ◌∙◌, ℕ, ap, sym, arith}
 use Rattle.ring_words.specs.Slots.{Boxed}
 use Rattle.ring_words.specs.Terms.{terms_of}
 use Rattle.ring_words.specs.Seats.{person, last_from}
 use Rattle.ring_words.specs.Steps.{Seated}
-use Rattle.ring_words.specs.SeatLaws.{kept_now, last_kept}
+use Rattle.ring_words.specs.SeatLaws.{kept_now, last_kept, up_to_now}
 use Rattle.ring_words.proofs.Becomes.{still_sits, still_taken, still_home}
 use Rattle.ring_words.proofs.Putting.{loads_taken_in}
 use Rattle.ring_words.proofs.rings.Rings.load_taken.Goals as goal
@@ -21,6 +21,10 @@ pub invariant_of-seat-inside : goal.invariant_of-seat-inside
 invariant_of-seat-inside g c = let seat = c.seat.inside in
     let is = c.load-found.ensures.2.0 in
     let k : ℕ = c.args.gateway in
+    let most : c.load-found.result ≤ seat.published = search rules in
+    let long = seat.kept.0 in
+    let below = up_to_now seat.published seat.taken (k - 1) c.load-found.result
+    (let gateway = c.requires.gateway in let few = c.self.inside.rows in omega arith) most seat.below in
     let place : c.taken_word-place.result ≡ 32 + 8 * k = c.taken_word-place.ensures.place in
     still_sits seat.seat.me _ _ is seat.bare _ seat.role (
       search rules,
@@ -34,7 +38,7 @@ invariant_of-seat-inside g c = let seat = c.seat.inside in
             still_taken seat.seat.me _ _ is _
                 (kept_now seat.taken (person seat.seat.me.0).loads (k - 1) c.taken_word-place.result c.load-found.result
                 (search rules) (let low = c.requires.gateway.0 in omega arith) seat.kept),
-            (still_home seat.seat.me _ _ is seat.home, tt),
+            (still_home seat.seat.me _ _ is seat.home, (below, tt)),
           ),
         ),
       ),

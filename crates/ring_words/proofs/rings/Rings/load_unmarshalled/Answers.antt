@@ -30,7 +30,7 @@ invariant_of-seat-inside g c = let seat = c.seat.inside in let is = c.load-found
             still_taken seat.seat.me _ _ is seat.taken
                 (kept_else seat.taken (person seat.seat.me.0).loads 16 c.load-found.result
                 (λ k few. (λ (e : 16 ≡ 32 + 8 * suc k). omega arith)) seat.kept),
-            (still_home seat.seat.me _ _ is seat.home, tt),
+            (still_home seat.seat.me _ _ is seat.home, (seat.below, tt)),
           ),
         ),
       ),

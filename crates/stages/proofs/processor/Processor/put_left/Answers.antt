@@ -1,116 +1,29 @@
--- One look for room: as many outputs as it shows room for are put, and the book follows with the others.
-use Rattle.std.proofs.Common.{rules, ◌≡◌, ◌+◌, ◌-◌, ◌<◌, suc, List, take, ap, refl, sym, subst, ◌∙◌, arith, length-drop}
-use Rattle.std.proofs.lemmas.List.{drop-drop}
-use mathlib.Core.Option.{some}
-use lib.ListN.{get_elem?}
-use Rattle.venue_model.specs.Requests.{Limits}
-use Rattle.venue_model.specs.declared.outputs.Output.{Output}
-use Rattle.ring_words.specs.At.{IsAt}
-use Rattle.book.specs.Histories.{outputs_of}
-use Rattle.stages.specs.Stations.{AtBook}
-use Rattle.stages.proofs.Putting.{only_looked, put_or_left, room_for_all, still_synced, are_next, same_logic, lent}
-use Rattle.stages.proofs.Putting.{are_gone, works_behind, none_left}
+-- Rounds are made until nothing is left, or the ring has no room.
+use Rattle.std.proofs.Common.{rules, refl, arith}
+use Rattle.stages.specs.Insides.{upto}
+use Rattle.stages.proofs.Putting.{one_round_more, round_ahead}
 use Rattle.stages.proofs.processor.Processor.put_left.Goals as goal
 
-pub put_all-requires : goal.put_all-requires
-put_all-requires g c = let p = c.self.inside in
-    let v = p.seat in
-    let u = c.room.new.seat in
-    let working = c.self.invariant.0 in
-    let counts = working.counts in
-    let under_way = subst (λ (w : AtBook). w.seat.who.sequence < w.applied) (sym c.self.view_is) c.requires.under_way in
-    let at = subst (λ (w : AtBook). IsAt c.args.rings.now w.seat) (sym c.self.view_is) c.requires.at in
-    let one : p.applied ≡ suc v.who.sequence = omega (arith, counts, under_way) in
-    let looked = only_looked g.row.G g.row.M v.who _ _ u.who c.room.ensures.looked in
-    let view = c.room.ensures.step in
-    let most = c.min-most.ensures in
-    let same : p.book.limits ≡ c.args.rings.now.logic = same_logic c.args.rings.now v p.book.limits at
-    working.follows.logic in (
-      omega arith,
-      (
-        search rules,
-        (
-          room_for_all g.row.G g.row.M v u c.room.result looked view c.room.ensures.free _ (omega (arith, most)),
-          (
-            still_synced g.row.G g.row.M v u c.room.result looked view (working.synced under_way),
-            λ i o at. subst (λ (logic : Limits). get_elem? (outputs_of logic (take (suc u.who.sequence) u.who.seen))
-                (u.who.row.sequence + i) ≡ some o) same
-                (are_next g.row.G g.row.M v u c.room.result looked view p.book p.applied _ working.follows one
-                c.min-most.result i o
-                (sym (ap (λ (l : List Output). get_elem? l i)
-                (lent p.put c.min-most.result p.pending.items _ c.deref.ensures.value)) ∙ at)),
-          ),
-        ),
-      ),
+pub rounds-init : goal.rounds-init
+rounds-init g c = (c.requires.at, search rules, refl, refl, refl, refl, (0, refl))
+
+pub rounds-smaller : goal.rounds-smaller
+rounds-smaller g c = let v = c.rounds.self in
+    let w = c.put_round.new.self in
+    let ahead = round_ahead g.row.M g.row.G (upto v) v.seat.who w.seat.who c.if-not-put_round.ensures.puts in
+    let same = c.put_round.ensures.upto in
+    omega (arith, ahead, same)
+
+pub rounds-preserved : goal.rounds-preserved
+rounds-preserved g c = let u = c.args.self.now in
+    let v = c.rounds.self in
+    let w = c.put_round.new.self in
+    let so_far = c.rounds.invariant in (
+      search rules,
+      search rules,
+      search rules,
+      search rules,
+      search rules,
+      search rules,
+      one_round_more g.row.M g.row.G (upto u) u.seat.who v.seat.who w.seat.who so_far.6 (search rules),
     )
-
-pub invariant_of-self : goal.invariant_of-self
-invariant_of-self g c = let p = c.self.inside in
-    let under_way = subst (λ (w : AtBook). w.seat.who.sequence < w.applied) (sym c.self.view_is) c.requires.under_way in
-    let least = c.min-most.ensures in let len = c.len.ensures in
-    let long = length-drop p.put p.pending.items in
-    let ok = p.pending.ok.0 in
-    let put = c.self.invariant.1 in
-    let some_left = c.if-left-eq0.false in
-    let gone = are_gone g.row.M g.row.G _ c.room.new.seat c.put_all.new.seat _ _ c.min-most.result p.put p.pending.items
-    _ c.self.invariant.0 refl under_way
-    c.room.ensures.looked (omega (arith, long, ok, put, len)) c.room.ensures.step c.deref.ensures.value
-    (omega (arith, some_left, long, ok, put, len)) (omega (arith, least, long, ok, put, len))
-    c.put_all.ensures.step in
-    let working = works_behind g.row.M g.row.G _ c.put_all.new.seat c.min-most.result _ c.self.invariant.0 under_way
-    (drop-drop c.min-most.result p.put p.pending.items) gone in
-    (working, omega (arith, least, len, put), c.self.invariant.2)
-
-pub returns-clause-working : goal.returns-clause-working
-returns-clause-working g c = let p = c.self.inside in
-    let under_way = subst (λ (w : AtBook). w.seat.who.sequence < w.applied) (sym c.self.view_is) c.requires.under_way in
-    let least = c.min-most.ensures in let len = c.len.ensures in
-    let long = length-drop p.put p.pending.items in
-    let ok = p.pending.ok.0 in
-    let put = c.self.invariant.1 in
-    let some_left = c.if-left-eq0.false in
-    let gone = are_gone g.row.M g.row.G _ c.room.new.seat c.put_all.new.seat _ _ c.min-most.result p.put p.pending.items
-    _ c.self.invariant.0 refl under_way
-    c.room.ensures.looked (omega (arith, long, ok, put, len)) c.room.ensures.step c.deref.ensures.value
-    (omega (arith, some_left, long, ok, put, len)) (omega (arith, least, long, ok, put, len))
-    c.put_all.ensures.step in
-    let working = works_behind g.row.M g.row.G _ c.put_all.new.seat c.min-most.result _ c.self.invariant.0 under_way
-    (drop-drop c.min-most.result p.put p.pending.items) gone in
-    working
-
-pub returns-clause-all : goal.returns-clause-all
-returns-clause-all g c = let p = c.self.inside in
-    let least = c.min-most.ensures in let len = c.len.ensures in let ok = p.pending.ok.0 in
-    none_left p.put c.min-most.result c.len.result p.pending.items (omega (arith, len, ok))
-    (let put = c.self.invariant.1 in omega (arith, put, len)) (omega (arith, least))
-
-pub returns-clause-own : goal.returns-clause-own
-returns-clause-own g c = let p = c.self.inside in
-    let under_way = subst (λ (w : AtBook). w.seat.who.sequence < w.applied) (sym c.self.view_is) c.requires.under_way in
-    let least = c.min-most.ensures in let len = c.len.ensures in
-    let long = length-drop p.put p.pending.items in
-    let ok = p.pending.ok.0 in
-    let put = c.self.invariant.1 in
-    let some_left = c.if-left-eq0.false in
-    let gone = are_gone g.row.M g.row.G _ c.room.new.seat c.put_all.new.seat _ _ c.min-most.result p.put p.pending.items
-    _ c.self.invariant.0 refl under_way
-    c.room.ensures.looked (omega (arith, long, ok, put, len)) c.room.ensures.step c.deref.ensures.value
-    (omega (arith, some_left, long, ok, put, len)) (omega (arith, least, long, ok, put, len))
-    c.put_all.ensures.step in
-    rw (← c.self.view_is) gone.sequence
-
-pub returns-clause-puts : goal.returns-clause-puts
-returns-clause-puts g c = let p = c.self.inside in
-    let under_way = subst (λ (w : AtBook). w.seat.who.sequence < w.applied) (sym c.self.view_is) c.requires.under_way in
-    let least = c.min-most.ensures in let len = c.len.ensures in
-    let long = length-drop p.put p.pending.items in
-    let ok = p.pending.ok.0 in
-    let put = c.self.invariant.1 in
-    let some_left = c.if-left-eq0.false in
-    let gone = are_gone g.row.M g.row.G _ c.room.new.seat c.put_all.new.seat _ _ c.min-most.result p.put p.pending.items
-    _ c.self.invariant.0 refl under_way
-    c.room.ensures.looked (omega (arith, long, ok, put, len)) c.room.ensures.step c.deref.ensures.value
-    (omega (arith, some_left, long, ok, put, len)) (omega (arith, least, long, ok, put, len))
-    c.put_all.ensures.step in
-    rw (← c.self.view_is) (put_or_left _ _ c.min-most.result (c.len.result - p.put) (omega (arith, least))
-    (gone.puts.0, λ few. gone.puts.1 (omega (arith, few, long, ok, put, len))))

@@ -1,0 +1,107 @@
+//! Limits, and the book that has just been made: what each call answers.
+
+use crate::tests::asking::{abc, abc_book, limits};
+use book::RestoreFault;
+use std::alloc::Global;
+use std::test::Fail;
+use venue_model::{Limits, LimitsFault, Order, Side, Symbol};
+
+/// Why these are no symbols of a venue, if they are none.
+fn fault_of(alloc: Global, symbols: &[&str]) -> Result<Option<LimitsFault>, Fail> {
+    let mut names = Vec::new(alloc);
+    for symbol in symbols {
+        names.push(String::from_str(alloc, symbol)?)?;
+    }
+    match Limits::new(alloc, &names) {
+        Ok(_) => Ok(None),
+        Err(fault) => Ok(Some(fault)),
+    }
+}
+
+#[test]
+fn symbols_refused(rt: HostRuntime) -> Result<(), Fail> {
+    let refused: [&[&str]; 6] = [
+        &[],
+        &["A", "B", "C", "D", "E", "F", "G", "H", "I"],
+        &["ABC", "X", "ABC"],
+        &["abc"],
+        &["ABCDEFGHI"],
+        &[""],
+    ];
+    for symbols in refused {
+        assert!(rt; fault_of(rt.alloc(), symbols)? == Some(LimitsFault::BadSymbol));
+    }
+    assert!(rt; fault_of(rt.alloc(), &["A", "B", "C", "D", "E", "F", "G", "ABCDEFGH"])?.is_none());
+    Ok(())
+}
+
+#[test]
+fn symbols_in_order(rt: HostRuntime) -> Result<(), Fail> {
+    let limits = limits(rt.alloc(), &["X1", "ABC", "ABD"])?;
+    let names: [&[u8]; 3] = [b"X1", b"ABC", b"ABD"];
+    assert_eq!(rt; limits.symbols().len(), 3);
+    assert_eq!(rt; limits.cut(), 0);
+    for (symbol, name) in limits.symbols().iter().zip(names) {
+        assert!(rt; symbol.as_bytes() == name);
+    }
+    Ok(())
+}
+
+#[test]
+fn symbols_known(rt: HostRuntime) -> Result<(), Fail> {
+    let limits = limits(rt.alloc(), &["X1", "ABC"])?;
+    let symbol = abc()?;
+    let other = Symbol::new(b"AB").ok_or("no symbol")?;
+    assert!(rt; limits.has(&symbol));
+    assert!(rt; !limits.has(&other));
+    Ok(())
+}
+
+#[test]
+fn empty_book(rt: HostRuntime) -> Result<(), Fail> {
+    let book = abc_book(rt.alloc())?;
+    assert_eq!(rt; book.resting(), 0);
+    assert_eq!(rt; book.reads(), 0);
+    assert!(rt; book.after(None).is_none());
+    Ok(())
+}
+
+#[test]
+fn numbers_of_refusals(rt: HostRuntime) {
+    assert_eq!(rt; LimitsFault::BadSymbol.number(), 11);
+    assert_eq!(rt; LimitsFault::Memory.number(), 12);
+    assert_eq!(rt; RestoreFault::BadSnapshot.number(), 61);
+    assert_eq!(rt; RestoreFault::Memory.number(), 62);
+}
+
+/// An order of 10 at this price.
+fn order(side: Side, price: u64, symbol: Symbol) -> Order {
+    Order {
+        id: 1,
+        client: 1,
+        cl_ord_id: 1,
+        symbol,
+        side,
+        is_market: false,
+        price,
+        total: 10,
+        cum: 0,
+        notional: 0,
+        stamp: 0,
+    }
+}
+
+#[test]
+fn orders_that_cross(rt: HostRuntime) -> Result<(), Fail> {
+    let other = Symbol::new(b"X1").ok_or("no symbol")?;
+    let bid = order(Side::Buy, 50, abc()?);
+    for (side, price, symbol, crosses) in [
+        (Side::Sell, 50, abc()?, true),
+        (Side::Sell, 51, abc()?, false),
+        (Side::Buy, 50, abc()?, false),
+        (Side::Sell, 50, other, false),
+    ] {
+        assert_eq!(rt; bid.crosses(&order(side, price, symbol)), crosses);
+    }
+    Ok(())
+}

@@ -1,0 +1,8 @@
+//! Gateways and stages at small rings, each on a thread of its own.
+
+mod four_gateways;
+mod gateways_meet;
+mod side_by_side;
+mod staff;
+mod trading;
+mod waiting;

@@ -1,0 +1,222 @@
+//! Two gateways and the stages as workers at rings of two rows: each of the six has a thread of its own, so that all of
+//! them are at their first turns together.
+ghost use Rattle.std.specs.Prelude.{◌≡◌};
+ghost use Rattle.ring_words.specs.At.{IsAt};
+ghost use Rattle.stages.specs.Crews.{AreAt};
+ghost use Rattle.std.specs.Thread.{IsSync};
+
+use super::staff::Staff;
+use super::trading::Seat;
+use super::waiting::nap;
+use small_venue::crew::open_venue;
+use small_venue::member::{Member, next_two};
+use small_venue::venue::TestRings;
+use std::alloc::Global;
+use std::rt::Clock;
+use std::sync::atomic::{AtomicBool, Ordering};
+use std::test::Fail;
+use std::thread::{Threads, join};
+use venue_model::LONGEST_MESSAGE;
+use workers::{Ended, Gate, Outcome, Parks, Signals, Station, Worker, run, work};
+
+/// How often a worker looks for the others before it gives up: for ten seconds and more.
+const MOST_LOOKS: u64 = 150_000;
+
+/// Where the six workers meet: a flag for each, and whether one of them waited in vain.
+#[derive(Drop)]
+struct Meeting {
+    here: [AtomicBool; 6],
+    in_vain: AtomicBool,
+}
+
+impl Meeting {
+    fn new() -> Meeting {
+        Meeting {
+            here: [
+                AtomicBool::new(false),
+                AtomicBool::new(false),
+                AtomicBool::new(false),
+                AtomicBool::new(false),
+                AtomicBool::new(false),
+                AtomicBool::new(false),
+            ],
+            in_vain: AtomicBool::new(false),
+        }
+    }
+
+    /// Sets the worker's flag.
+    fn come(&self, worker: Station) {
+        let place = match worker {
+            Station::Unmarshaller => 0,
+            Station::Journaller => 1,
+            Station::Processor => 2,
+            Station::Marshaller => 3,
+            Station::Gateway(1) => 4,
+            Station::Gateway(_) => 5,
+        };
+        self.here[place].store(true, Ordering::SeqCst);
+    }
+
+    /// Whether all are here.
+    fn is_full(&self) -> bool {
+        let mut all = true;
+        for flag in &self.here {
+            all = all && flag.load(Ordering::SeqCst);
+        }
+        all
+    }
+
+    /// Whether all are here, or one waited in vain.
+    fn is_over(&self) -> bool {
+        self.is_full() || self.in_vain.load(Ordering::SeqCst)
+    }
+
+    /// Whether all came while the others waited. Who waited in vain lets the others come behind it.
+    fn was_held(&self) -> bool {
+        self.is_full() && !self.in_vain.load(Ordering::SeqCst)
+    }
+
+    /// Comes, and waits for the others.
+    fn wait<C: Clock>(&self, clock: &C, worker: Station) {
+        self.come(worker);
+        for _ in 0..MOST_LOOKS {
+            if self.is_over() {
+                return;
+            }
+            nap(clock);
+        }
+        self.in_vain.store(true, Ordering::SeqCst);
+    }
+}
+
+/// The gate before a worker's first turn, where it waits for the others.
+#[derive(Drop)]
+struct Entrance<'a, C: Clock> {
+    clock: &'a C,
+    meeting: &'a Meeting,
+}
+
+impl<C: Clock> Gate for Entrance<'_, C> {
+    fn enter(&self, worker: Station, seq: u64) {
+        if seq == 0 {
+            self.meeting.wait(self.clock, worker);
+        }
+    }
+
+    fn leave(&self, _worker: Station, _seq: u64) {}
+}
+
+/// A gateway that looks for an output once.
+#[derive(Drop)]
+struct Looker<'a, const N: usize, const M: usize, const G: usize> {
+    gateway: Member<'a, N, M, G>,
+}
+
+impl<const N: usize, const M: usize, const G: usize> Worker for Looker<'_, N, M, G> {
+    ghost goes = { λ x y. Unit {0} };
+
+    ghost stays = { λ x. tt };
+
+    ghost further = { λ x y z first second. tt };
+
+    fn turn(&mut self) -> Outcome {
+        self.gateway.take(&mut [0; LONGEST_MESSAGE]);
+        Outcome::Over
+    }
+}
+
+/// Lets the gateway of this seat work at the gate, and says why it took no more turns.
+fn look<R: Clock + Parks, Q: Gate, const N: usize, const M: usize, const G: usize>(
+    rt: &R,
+    gate: &Q,
+    rings: &TestRings<N, M, G>,
+    station: Station,
+    seat: Seat,
+    signals: &Signals,
+) -> Ended
+    requires { IsAt rings.now seat }
+{
+    let mut looker = Looker {
+        gateway: Member { rings, seat },
+    };
+    work(rt, gate, station, &mut looker, rt.parking(), signals)
+}
+
+/// Lets both gateways work, each on a thread of its own.
+fn look_both<
+    R: Threads + Clock + Parks + Sync,
+    Q: Gate + Sync,
+    const N: usize,
+    const M: usize,
+    const G: usize,
+>(
+    rt: &R,
+    gate: &Q,
+    rings: &TestRings<N, M, G>,
+    seats: (Seat, Seat),
+    signals: &Signals,
+) -> (Ended, Ended)
+    requires { (IsAt rings.now seats.0) × (IsAt rings.now seats.1) }
+{
+    let (one, other) = seats;
+    join(
+        rt,
+        move || -> Ended
+            requires { IsAt rings.now one }
+        { look(rt, gate, rings, Station::Gateway(1), one, signals) },
+        move || -> Ended
+            requires { IsAt rings.now other }
+        { look(rt, gate, rings, Station::Gateway(2), other, signals) },
+    )
+}
+
+/// Lets all six work at the gate, each on a thread of its own. Says why the gateways took no more turns.
+fn run_six<
+    R: Threads + Clock + Parks + Sync,
+    Q: Gate + Sync,
+    const N: usize,
+    const M: usize,
+    const G: usize,
+>(rt: &R, gate: &Q, rings: &TestRings<N, M, G>, staff: Staff, seats: (Seat, Seat)) -> (Ended, Ended)
+    requires staff { AreAt rings.now staff }
+    requires seats { (IsAt rings.now seats.0) × (IsAt rings.now seats.1) }
+{
+    let all = Signals::new(6);
+    let signals = &all;
+    let (_, ended) = run(
+        rt,
+        gate,
+        rings,
+        staff,
+        move || -> (Ended, Ended)
+            requires { IsSync R.row × IsSync Q.row × (IsAt rings.now seats.0) × (IsAt rings.now seats.1) }
+        { look_both(rt, gate, rings, seats, signals) },
+        signals,
+    );
+    ended
+}
+
+/// The same at new rings of two rows each.
+fn meet<R: Threads + Clock + Parks + Sync, Q: Gate + Sync>(
+    rt: &R,
+    gate: &Q,
+    alloc: Global,
+) -> Result<(Ended, Ended), Fail> {
+    let (rings, stages, mut gateways) = open_venue::<2, 2, 2>(alloc)?;
+    let (one, other) = next_two(&rings, &mut gateways).ok_or("no gateways")?;
+    let seats = (one.seat, other.seat);
+    Ok(run_six(rt, gate, &rings, Box::into_inner(stages), seats))
+}
+
+#[test]
+fn side_by_side(rt: HostRuntime) -> Result<(), Fail> {
+    let meeting = Meeting::new();
+    let entrance = Entrance {
+        clock: &rt,
+        meeting: &meeting,
+    };
+    let ended = meet(&rt, &entrance, rt.alloc())?;
+    assert_eq!(rt; ended, (Ended::Over, Ended::Over));
+    assert!(rt; meeting.was_held());
+    Ok(())
+}
