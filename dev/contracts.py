@@ -8,6 +8,7 @@ import antt
 TEST = re.compile(r"\s*#\[cfg\(test\)\]")
 TRAIT = re.compile(r"(?:pub(?:\([a-z ]+\))? )?trait (\w+)")
 IMPL = re.compile(r"impl\b(?:<[^{]*?>)? (?:(?:\w+::)*(?P<trait>\w+)(?:<[^{]*>)? for )?(?:\w+::)*(?P<type>\w+)")
+BLOCK = re.compile(r"impl\b|(?:pub(?:\([a-z ]+\))? )?trait ")
 FUNCTION = re.compile(r"\s*(?P<before>(?:pub(?:\([a-z ]+\))? )?)(?:const )?(?:unsafe )?fn (?P<name>\w+)")
 CLAUSE = re.compile(r"\s*(requires|ensures)\*? (?:(\w+) )?\{")
 ITEM = re.compile(r"(?:pub(?:\([a-z ]+\))? )?(?P<kind>struct|enum|trait|type|const|static) (?P<name>\w+)")
@@ -66,9 +67,11 @@ def blocks(lines: list[str]) -> list[Block]:
     """The traits and impls of a file."""
     found = []
     for at, line in enumerate(lines):
-        if begins := TRAIT.match(line) or IMPL.match(line):
-            last = at if line.endswith("}") else lines.index("}", at)
-            head = " ".join(it.strip() for it in lines[at:last + 1]).partition("{")[0]
+        if not BLOCK.match(line):
+            continue
+        last = at if line.endswith("}") else lines.index("}", at)
+        head = " ".join(it.strip() for it in lines[at:last + 1]).partition("{")[0]
+        if begins := TRAIT.match(head) or IMPL.match(head):
             names = begins.groupdict() or {"trait": begins[1], "type": ""}
             found.append(Block(names["trait"] or "", names["type"], at, last, head))
     return found
@@ -101,8 +104,8 @@ def head_of(lines: list[str], at: int) -> str:
     for line in lines[at:]:
         if CLAUSE.match(line) or line.strip() == "{" or line.strip().startswith("ghost "):
             break
-        text += line.strip().removesuffix("{").removesuffix(";") + " "
-        if line.endswith(("{", ";")):
+        text += line.strip().removesuffix("{}").removesuffix("{").removesuffix(";") + " "
+        if line.endswith(("{", ";", "{}")):
             break
     return text.strip()
 
@@ -179,12 +182,19 @@ def bounds(head: str) -> dict[str, list[str]]:
     return found
 
 
+def signature(head: str) -> tuple[str, str, str]:
+    """What stands in the angled and in the round brackets of a signature, and its answer; `→` stands for `->`."""
+    text = re.sub(r"^.*?\bfn \w+", "", head.replace("->", "→"), count=1)
+    generic = between(text, "<", ">") if text.startswith("<") else ""
+    if generic:
+        text = text[len(generic) + 2:]
+    inside = between(text, "(", ")")
+    return generic, inside, text[len(inside) + 2:].strip().removeprefix("→").strip()
+
+
 def parameters(head: str) -> dict[str, str]:
     """The values of a signature, each with its type: those that are passed, and the result."""
-    text = re.sub(r"^.*?\bfn \w+", "", head.replace("->", "→"), count=1)
-    if text.startswith("<"):
-        text = text[len(between(text, "<", ">")) + 2:]
-    inside = between(text, "(", ")")
+    _, inside, answer = signature(head)
     found = {}
     for part in listed(inside):
         name, colon, of_type = part.partition(":")
@@ -192,5 +202,5 @@ def parameters(head: str) -> dict[str, str]:
             found["self"] = "Self"
         elif colon:
             found[name.removeprefix("mut ").strip()] = of_type
-    found["result"] = text.partition("→")[2] if "→" in text[len(inside) + 2:] else ""
+    found["result"] = answer
     return found
