@@ -216,9 +216,12 @@ def started(journal, gateways, symbols=("ABC",), program=None):
 class Client:
     """A connection of a member, and the FIX session over it."""
 
-    def __init__(self, port, member):
-        self.socket = socket.create_connection((HOST, port + member - 1), PATIENCE)
-        self.socket.setsockopt(socket.IPPROTO_TCP, socket.TCP_NODELAY, 1)
+    def __init__(self, port, member, options=()):
+        self.socket = socket.socket()
+        self.socket.settimeout(PATIENCE)
+        for option in (*options, (socket.IPPROTO_TCP, socket.TCP_NODELAY, 1)):
+            self.socket.setsockopt(*option)
+        self.socket.connect((HOST, port + member - 1))
         self.member, self.number = member, 0
         self.rest, self.came, self.is_over = b"", [], False
 

@@ -1,6 +1,6 @@
 #!/usr/bin/env python3
-"""Counts the instructions of three fixed runs of the built programs: what makes one of them dearer is seen, whatever the
-machine does besides.
+"""Counts the instructions of seven fixed runs of the built programs: what makes one of them dearer is seen, whatever
+the machine does besides.
 
     tests/instructions.py [--show]
 
@@ -8,7 +8,11 @@ The runs, each of one thread, are
 
 - `session`: `venued -` reads 2,000 messages of a client, orders that trade by turns among them, and answers them;
 - `one_symbol`: `venue-replay` with `book` works off a day of 6,000 messages, of whose orders 2,000 rest, at one symbol;
-- `eight_symbols`: the same of 5,600 messages, of whose orders 4,000 rest, at 250 prices on each side of eight symbols.
+- `eight_symbols`: the same of 5,600 messages, of whose orders 4,000 rest, at 250 prices on each side of eight symbols;
+- `deep_sells` and `deep_buys`: the same of 4,000 messages, of whose orders 3,000 rest at 2,000 prices of one side, a
+  tick apart, and the best price goes and comes; the two are the same but for the side, and as dear but for 1 in 100;
+- `one_spot`: the same of 4,000 messages at eight symbols whose bytes lead to one place of any table of them;
+- `last_of_eight`: the same of 4,000 messages at the last of eight symbols.
 
 A count may be at most 2 in 100 above the one that stands here, and 4 below; where the code has become dearer or cheaper by
 more, whoever changed it puts the new one here (--show prints them) and says why. It counts for one build: the compilers of
@@ -17,6 +21,7 @@ isn't installed nothing is tried, and a line says so. The last line is `N passed
 failed. Build both programs first, by scripts/build.
 """
 import argparse
+import functools
 import os
 import shutil
 import subprocess
@@ -38,7 +43,17 @@ ABOVE, BELOW = 0.02, 0.04
 SYMBOLS = ["A", "BB", "CCC", "DDDD", "EEEEE", "F6", "G77", "H888"]
 
 # How many instructions each run has.
-COUNTS = {"session": 22_598_000, "one_symbol": 25_448_000, "eight_symbols": 27_536_000}
+COUNTS = {
+    "session": 23_208_000,
+    "one_symbol": 25_408_000,
+    "eight_symbols": 27_488_000,
+    "deep_sells": 20_349_000,
+    "deep_buys": 20_347_000,
+    "one_spot": 17_539_000,
+    "last_of_eight": 17_089_000,
+}
+MIRRORED = 0.01  # How far those of the two sides may be apart.
+COLLIDING = [f"{it}OLD" for it in "ABCDEFGH"]
 
 
 class Run(NamedTuple):
@@ -70,14 +85,49 @@ def eight_symbols(folder: str, more: float) -> Run:
             for at in range(250) for side in (1, 2) for symbol in SYMBOLS]
     trade = [(symbol, side, 1, 200_000 if side == 1 else 1) for _ in range(int(100 * (1 + 3.5 * (more - 1))))
              for side in (1, 2) for symbol in SYMBOLS]
-    entries = []
-    for at, (symbol, side, quantity, price) in enumerate(rest + trade):
-        terms = "59=3|" if at >= len(rest) else ""
-        entries.append(Entry(1, message(1, at + 2, "D", order(at + 1, side, quantity, price, symbol, terms))))
-    path = os.path.join(folder, "deep.journal")
+    return replayed(folder, [(*it, "") for it in rest] + [(*it, "59=3|") for it in trade], SYMBOLS)
+
+
+def replayed(folder: str, orders: list[tuple], symbols: list[str]) -> Run:
+    """A day of these orders: symbol, side, quantity, price and terms of each."""
+    entries = [Entry(1, message(1, at + 2, "D", order(at + 1, side, quantity, price, symbol, terms)))
+               for at, (symbol, side, quantity, price, terms) in enumerate(orders)]
+    path = os.path.join(folder, "day.journal")
     with open(path, "wb") as file:
         file.write(journals.header(1) + journals.in_blocks(1, entries, 64) + journals.CLOSED)
-    return Run([REPLAY, path, "book", *SYMBOLS])
+    return Run([REPLAY, path, "book", *symbols])
+
+
+def deep_sells(folder: str, more: float) -> Run:
+    """Sells above 500,000."""
+    return deep(folder, more, 2)
+
+
+def deep_buys(folder: str, more: float) -> Run:
+    """Buys below 500,000."""
+    return deep(folder, more, 1)
+
+
+def deep(folder: str, more: float, side: int) -> Run:
+    """Orders at each tick, more of them behind the best price, and the best one by turns taken and put back."""
+    away, ticks = (1 if side == 2 else -1), int(2_000 * more)
+    orders = [("ABC", side, 10, 500_000 + away * (1 + at), "") for at in range(ticks)]
+    orders += [("ABC", side, 10, 500_000 + away * (20 + 7 * at % (ticks - 20)), "") for at in range(int(1_000 * more))]
+    for _ in range(int(500 * more)):
+        orders += [("ABC", 3 - side, 10, 500_000 + away, "59=3|"), ("ABC", side, 10, 500_000 + away, "")]
+    return replayed(folder, orders, ["ABC"])
+
+
+def one_spot(folder: str, more: float) -> Run:
+    """At each symbol by turns a buy and a sell that trade."""
+    orders = [(symbol, side, 10, 50, "") for _ in range(int(250 * more)) for side in (1, 2) for symbol in COLLIDING]
+    return replayed(folder, orders, COLLIDING)
+
+
+def last_of_eight(folder: str, more: float) -> Run:
+    """By turns a buy and a sell that trade."""
+    orders = [(SYMBOLS[-1], side, 10, 50, "") for _ in range(int(2_000 * more)) for side in (1, 2)]
+    return replayed(folder, orders, SYMBOLS)
 
 
 def fits(name: str, count: int) -> bool:
@@ -85,18 +135,30 @@ def fits(name: str, count: int) -> bool:
     return COUNTS[name] * (1 - BELOW) <= count <= COUNTS[name] * (1 + ABOVE)
 
 
+def counted(make, more: float = 1) -> int:
+    with tempfile.TemporaryDirectory(prefix="instructions-") as folder:
+        return instructions(*make(folder, more))
+
+
 def tried(make) -> str:
     """Counts a run as it is, and with more input."""
-    name = make.__name__
-    with tempfile.TemporaryDirectory(prefix="instructions-") as folder:
-        count = instructions(*make(folder, 1))
+    name, count = make.__name__, counted(make)
+    if name not in COUNTS:
+        raise Trouble(f"expected a count of it in tests/instructions.py came {count:,}")
     if not fits(name, count):
         raise Trouble(f"expected {COUNTS[name]:,} instructions came {count:,}")
-    with tempfile.TemporaryDirectory(prefix="instructions-") as folder:
-        dearer = instructions(*make(folder, 1.05))
+    dearer = counted(make, 1.05)
     if fits(name, dearer):
         raise Trouble(f"with a twentieth more input expected above {COUNTS[name] * (1 + ABOVE):,.0f} came {dearer:,}")
     return f"{count:,} instructions, and {dearer:,} with more input are refused"
+
+
+def mirrored() -> str:
+    """Whether a deep side is as dear as the other."""
+    sells, buys = counted(deep_sells), counted(deep_buys)
+    if abs(sells - buys) > MIRRORED * buys:
+        raise Trouble(f"expected sells as dear as buys came {sells:,} and {buys:,}")
+    return f"{sells:,} instructions with sells, {buys:,} with buys"
 
 
 def main() -> int:
@@ -110,18 +172,15 @@ def main() -> int:
         need_programs()
     except Trouble as why:
         sys.exit(f"instructions: {why}")
-    runs, failed = (session, one_symbol, eight_symbols), 0
-    for make in runs:
+    runs, failed = (session, one_symbol, eight_symbols, deep_sells, deep_buys, one_spot, last_of_eight), 0
+    tests = {it.__name__: functools.partial(counted if asked.show else tried, it) for it in runs}
+    for name, test in {**tests, "mirrored": mirrored}.items():
         try:
-            if asked.show:
-                with tempfile.TemporaryDirectory(prefix="instructions-") as folder:
-                    print(f"{make.__name__}: {instructions(*make(folder, 1))}", flush=True)
-            else:
-                print(f"{make.__name__}: {tried(make)}", flush=True)
+            print(f"{name}: {test()}", flush=True)
         except (Trouble, OSError, subprocess.TimeoutExpired) as why:
-            print(f"{make.__name__}: {why}", flush=True)
+            print(f"{name}: {why}", flush=True)
             failed += 1
-    print(f"{len(runs) - failed} passed, {failed} failed")
+    print(f"{len(tests) + 1 - failed} passed, {failed} failed")
     return 1 if failed else 0
 
 

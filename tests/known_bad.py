@@ -7,8 +7,9 @@ to refuse every one.
 `wrong_rules`: each rule of tests/rules.py and tests/book_rules.py, turned off or turned round (tests/wrong_rules.py), differs
 from the right ones at a session of tests/corners.py. `wrong_answers`: the bytes that are due in a session, with one byte, one
 message, their order, a number or a price changed. `wrong_lines`: the same of what venue-replay prints. `wrong_venues` and
-`wrong_replays`: tests/members.py, tests/hostile_bytes.py, tests/worked_journals.py and tests/journals_by_chance.py, with
-programs in the place of the built ones that do as these do, but for one thing (tests/wrong_program.py). `wrong_tools`:
+`wrong_replays`: tests/members.py, tests/hostile_bytes.py, tests/refused_memory.py, tests/worked_journals.py and
+tests/journals_by_chance.py, with programs in the place of the built ones that do as these do, but for one thing
+(tests/wrong_program.py). `wrong_tools`:
 tests/tools.py, tests/board.py and tests/follow_load.py, with commands of gikvand that are wrong in one thing
 (tests/wrong_tools.py). `wrong_packages`: tests/package.py, with pages, words for bash, services and packages that are
 (tests/wrong_package.py).
@@ -19,6 +20,7 @@ programs first, by scripts/build; others are taken by the environment's VENUED a
 import concurrent.futures
 import os
 import re
+import shutil
 import subprocess
 import sys
 import tempfile
@@ -32,6 +34,8 @@ sys.path.insert(0, os.path.join(ROOT, "dev"))
 import with_scripts  # (in front of what stands there, and of what an older Python can't read)
 import corners
 import hostile_bytes
+import refusals
+import refused_memory
 import wrong_program
 from book_rules import Book
 from corners import LOGON, SYMBOLS, Corner, all_corners, buy, cut, market, sell, spelled
@@ -236,7 +240,9 @@ def wrong_venues() -> tuple[int, list[str]]:
     sessions = ["hostile_bytes.py", "mutated", "--messages", "1", "--seed", "1", "--together", "1"]
     runs += [(sessions, venued, wrong) for wrong in ("", "another status")]
     count, faults = all_refuse(runs)
-    return count + len(wrong_program.OVER_STREAMS), faults + taken_sessions(wrong_program.OVER_STREAMS)
+    faults += taken_sessions(wrong_program.OVER_STREAMS)
+    faults += taken_first_sessions(wrong_program.OF_MEMORY) if shutil.which("cc") else []
+    return count + len(wrong_program.OVER_STREAMS) + len(wrong_program.OF_MEMORY), faults
 
 
 def taken_sessions(wrongs: list[str]) -> list[str]:
@@ -250,6 +256,31 @@ def taken_sessions(wrongs: list[str]) -> list[str]:
             if bool(why) != bool(wrong):
                 faults.append(f"hostile_bytes.py with {wrong or 'nothing wrong'}: {why or 'taken'}")
     return faults
+
+
+def taken_first_sessions(wrongs: list[str]) -> list[str]:
+    """Those of these wrongs that tests/refused_memory.py takes in the first session, at a few of its requests."""
+    faults = []
+    with tempfile.TemporaryDirectory(prefix="known-bad-") as folder:
+        sweeps = refusals.Sweeps(folder)
+        for wrong in ["", *wrongs]:
+            stands = put_in_place(folder, wrong, os.path.abspath(VENUED))
+            with mock.patch.object(refusals, "VENUED", stands):
+                why = fault_of_first_session(sweeps)
+            if bool(why) != bool(wrong):
+                faults.append(f"refused_memory.py with {wrong or 'nothing wrong'}: {why or 'taken'}")
+    return faults
+
+
+def fault_of_first_session(sweeps: refusals.Sweeps) -> str | None:
+    """Why the first session is wrong where one of these requests is refused, the last of which isn't made."""
+    ends = []
+    try:
+        for at in (1, 2, 100, refusals.MOST_CALLS):
+            sweeps.refused(lambda it: ends.append(refused_memory.check_first_session(it)), "memory", at, "once")
+    except Trouble as why:
+        return str(why)
+    return None if ends[-1] == "went on" else "with ample memory it doesn't go on"
 
 
 def put_in_place(folder: str, wrong: str, program: str) -> str:

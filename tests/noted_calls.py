@@ -1,19 +1,22 @@
 #!/usr/bin/env python3
 """Looks at the calls that the built venue makes at its members' connections, and at the stop file.
 
-    tests/noted_calls.py
+    tests/noted_calls.py [NAME...]      the tests whose names have one of these words in them; without one all
 
-Each connection is set not to wait and to send at once, before a byte is read of it; bytes are read and written many in a
-call; a client whose session has ended is told so by a half close, behind the last byte that it is told and however late it
-takes that one, and its connection is closed once it has closed its side.
-A look for the stop file that fails stops nothing, and the next one is made. A worker that finds nothing parks, each time no
-longer than it is to, and is woken for an order that comes; the watch sleeps between its looks. One that can't have what it
-parks with sleeps for short in its place, and the venue serves. The calls are noted, and some refused, by tests/refusals.c,
-which cc compiles into a folder of its own; without cc nothing is tried, and a line says so. The last line is
-`N passed, M failed`, and the status is 1 where one failed. Build both programs first, by scripts/build; others are taken by
-the environment's VENUED and VENUE_REPLAY.
+Each connection is set not to wait, to send at once and to be ended where its client has vanished, before a byte is read
+of it; one that can't be set so is let go. Bytes are read and written many in a call; a client whose session has ended
+is told so by a half close, behind the last byte that it is told and however late it takes that one, and its connection
+is closed once it has closed its side. A look for the stop file that fails stops nothing, and the next one is made. A
+worker that finds nothing parks, each time no longer than it is to, and is woken for an order that comes, for a client
+that comes, and for one that takes what it is told late; the watch sleeps between its looks. One that can't have what it
+parks with sleeps for short in its place, and the venue serves. The calls are noted, and some refused, by
+tests/refusals.c, which cc compiles into a folder of its own; without cc nothing is tried, and a line says so. The last
+line is `N passed, M failed`, and the status is 1 where one failed. Build both programs first, by scripts/build; others
+are taken by the environment's VENUED and VENUE_REPLAY.
 """
+import collections
 import os
+import socket
 import sys
 import tempfile
 import time
@@ -24,6 +27,7 @@ from venues import COUNTS, PATIENCE, Client, Trouble, Venue, free_port, message,
 
 MANY = 300            # Orders that are sent in one go,
 MOST_READS = 60       # and in how many reads they come at most: one would do, and the system may cut them.
+MOST_WRITES = 30      # In so many writes the answers go out, a tenth of them: mostly it's two or three.
 SHUT_WRITE = 1
 PARKS = 100           # How long a worker parks at most, in milliseconds,
 MOST_PARKS = 10       # and how often in each second in which nothing happens.
@@ -34,7 +38,15 @@ WORKERS = 6           # Four stages, and two gateways.
 ORDERS = 20           # So many orders are sent, each behind a silence of so many seconds;
 A_SILENCE = 0.2
 SOON = 0.02           # and most of them are answered as soon: far sooner than a worker that isn't woken looks again.
+# What is set at a connection: all is sent at once; a silent client is asked behind half a minute and then each ten
+# seconds, and is gone behind a minute (docs/OPERATING.md).
+SET = {("nodelay", 1), ("is_asked", 1), ("first_asked", 30), ("asked_again", 10), ("unheard", 60_000)}
 LOOKS = 3             # A look somewhere behind the first.
+TRIES = 12            # So often a client comes while all rest, or takes what waits: mostly this ends a rest.
+A_BATCH = 100         # TestRequests that are sent in one go,
+MOST_BATCHES = 50     # and in how many of these a connection for which little is held fills.
+A_TEST = 32 * "x"     # What each of them has to have back.
+HELD = 8_192          # How many bytes the system holds for it, at each end.
 
 Call = tuple[str, int, int]  # The name of a call, its descriptor, and how many bytes it moved or what it set.
 
@@ -75,8 +87,8 @@ def check_set(calls: list[Call]) -> None:
     """A connection is set before a byte of it is read or written."""
     moved = next(at for at, name in enumerate(names(calls)) if name in ("read", "write"))
     before = {(name, what) for name, _, what in calls[:moved]}
-    if ("nodelay", 1) not in before:
-        raise Trouble(f"expected TCP_NODELAY set at first came {calls[:moved + 1]}")
+    if not before >= SET:
+        raise Trouble(f"expected {SET} set at first came {calls[:moved + 1]}")
     if ("nonblocking", 1) not in before and ("accept", 1) not in before:
         raise Trouble(f"expected a connection that doesn't wait came {calls[:moved + 1]}")
 
@@ -134,6 +146,35 @@ def clients_who_leave(sweeps: Sweeps, **more: str) -> str:
     return f"{sum(map(len, found))} calls at {len(found)} connections"
 
 
+def is_let_go(port: int) -> bool:
+    """Whether a client comes to its end without an answer to its Logon."""
+    client = Client(port, 1)
+    try:
+        client.send("A", "98=0|108=0|141=Y|")
+        return client.next() is None
+    except OSError:
+        return True
+    finally:
+        client.close()
+
+
+def options_refused(sweeps: Sweeps) -> str:
+    """A client whose connection can't be set as it is to be is let go, and the next one is served."""
+    refused = []
+    for at in range(1, len(SET) + 1):
+        with tempfile.TemporaryDirectory(dir=sweeps.folder) as folder:
+            refusal = Refusal(sweeps.library, folder, "options", at, "once")
+            venue = venue_of(folder, 1, refusal.set)
+            if not is_let_go(venue.port):
+                raise Trouble(f"expected a client let go where {refusal.came()} is refused came an answer")
+            refused.append(refusal.came())
+            Client(venue.port, 1).log_on()
+            venue.stop()
+    if {*refused} != {name for name, _ in SET}:
+        raise Trouble(f"expected each option of {SET} refused came {refused}")
+    return ", ".join(refused)
+
+
 def many_bytes_in_a_call(sweeps: Sweeps) -> str:
     """Orders that are sent in one go are read in a few calls, and no report is written in pieces."""
 
@@ -149,8 +190,8 @@ def many_bytes_in_a_call(sweeps: Sweeps) -> str:
     writes = [what for name, _, what in calls if name == "write"]
     if len(reads) > MOST_READS:
         raise Trouble(f"expected at most {MOST_READS} reads of {sum(reads)} bytes came {len(reads)}")
-    if len(writes) > 1 + MANY:
-        raise Trouble(f"expected at most a write for each of {1 + MANY} messages came {len(writes)}")
+    if len(writes) > MOST_WRITES:
+        raise Trouble(f"expected at most {MOST_WRITES} writes of {1 + MANY} messages came {len(writes)}")
     return f"{sum(reads)} bytes in {len(reads)} reads, {sum(writes)} in {len(writes)} writes"
 
 
@@ -242,6 +283,97 @@ def workers_are_woken(sweeps: Sweeps) -> str:
     return f"{ORDERS} orders, half of them within {1000 * median:.1f} ms"
 
 
+def done(path: str) -> dict[int, list[tuple[str, int]]]:
+    """What each thread did, in order: `park`, as it began to, `rest` with how many events ended that, `accept`, and
+    `write` with how many bytes went, or -1."""
+    found = collections.defaultdict(list)
+    if os.path.exists(path):
+        with open(path, encoding="ascii") as file:
+            for line in file.read().rpartition("\n")[0].splitlines():
+                thread, name, what = line.split()
+                found[int(thread)].append((name, int(what)))
+    return found
+
+
+def waits_for(holds: Callable[[], bool], what: str) -> None:
+    end = time.monotonic() + 2 * PATIENCE
+    while not holds():
+        if time.monotonic() > end:
+            raise Trouble(f"expected {what}")
+        time.sleep(0.01)
+
+
+def are_resting(path: str) -> bool:
+    """Whether all workers of a venue of one gateway rest, and nothing has ended the last two rests of any of them."""
+    them = [[it for it in own if it[0] != "park"] for own in done(path).values() if ("park", PARKS) in own]
+    return len(them) == WORKERS - 1 and all(own[-2:] == 2 * [("rest", 0)] for own in them)
+
+
+def is_ended_before(calls: list[tuple[str, int]], name: str) -> bool:
+    """Whether the last rest before the first such call that moved something was ended by an event."""
+    at = next((at for at, it in enumerate(calls) if it[0] == name and it[1] >= 0), 0)
+    return next((what for kind, what in reversed(calls[:at]) if kind == "rest"), 0) > 0
+
+
+def check_most(count: int, what: str) -> str:
+    if 2 * count <= TRIES:
+        raise Trouble(f"expected most of {TRIES} rests ended by {what} came {count}")
+    return f"{count} of {TRIES} rests ended by {what}"
+
+
+def clients_end_rests(sweeps: Sweeps) -> str:
+    """A client that comes while all workers rest is let in behind a rest that it has ended: it doesn't wait for the next
+    look. (One that comes just as a worker looks has ended none.)"""
+    count = 0
+    with tempfile.TemporaryDirectory(dir=sweeps.folder) as folder:
+        path = os.path.join(folder, "done")
+        venue = venue_of(folder, 1, {"LD_PRELOAD": sweeps.library, "SLEPT": path, "ENDED": path})
+        for _ in range(TRIES):
+            waits_for(lambda: are_resting(path), "workers that rest")
+            before = {thread: len(them) for thread, them in done(path).items()}
+            Client(venue.port, 1).log_on().close()
+            behind = [them[before.get(thread, 0):] for thread, them in done(path).items()]
+            count += any(is_ended_before(them, "accept") for them in behind if "accept" in dict(them))
+        venue.stop()
+    return check_most(count, "clients")
+
+
+def fill(client: Client, path: str) -> int:
+    """Has the client told more and more, of which it takes nothing, until its connection takes no more: the gateway's
+    thread. It parks each time, and so what waits stays less than the gateway can hold."""
+    thread, own = next((thread, own) for thread, own in done(path).items() if "accept" in dict(own))
+    first = len(own)
+    for _ in range(MOST_BATCHES):
+        size = len(own)
+        numbers = range(client.number + 1, client.number + A_BATCH + 1)
+        client.send_bytes(b"".join(message(1, it, "1", f"112={A_TEST}|") for it in numbers))
+        client.number += A_BATCH
+        waits_for(lambda: len(done(path)[thread]) > size + 2 and done(path)[thread][-1] == ("park", PARKS), "a rest")
+        own = done(path)[thread]
+        if [it for it in own[first:] if it[0] == "write"][-1:] == [("write", -1)]:
+            return thread
+    raise Trouble(f"expected a connection that is full came none within {MOST_BATCHES} batches")
+
+
+def readers_end_rests(sweeps: Sweeps) -> str:
+    """What a client is told and doesn't take waits; as it takes some, the rest ends, and more goes out at once."""
+    count = 0
+    with tempfile.TemporaryDirectory(dir=sweeps.folder) as folder:
+        path = os.path.join(folder, "done")
+        venue = venue_of(folder, 1, {"LD_PRELOAD": sweeps.library, "SLEPT": path, "ENDED": path, "SMALL": str(HELD)})
+        client, taken = Client(venue.port, 1, [(socket.SOL_SOCKET, socket.SO_RCVBUF, HELD)]).log_on(), 1
+        for _ in range(TRIES):
+            thread = fill(client, path)
+            size = len(done(path)[thread])
+            while taken < client.number:
+                if value(client.next() or "nothing", "112") != A_TEST:
+                    raise Trouble("expected an answer to each TestRequest")
+                taken += 1
+            count += is_ended_before(done(path)[thread][size:], "write")
+        venue.stop()
+    return check_most(count, "readers")
+
+
 def rests_refused(sweeps: Sweeps) -> str:
     """Where the system gives no descriptors to rest with, to one of them or to all, those threads sleep for short in its place, and
     the venue serves as ever."""
@@ -271,5 +403,7 @@ def rests_refused(sweeps: Sweeps) -> str:
 if __name__ == "__main__":
     if set(sys.argv[1:]) & {"-h", "--help"}:
         sys.exit(print(__doc__.strip()))
-    run_tests("noted_calls", [connections_of_clients, last_words_that_wait, many_bytes_in_a_call, looks_that_fail,
-                              rests_of_an_idle_venue, workers_are_woken, rests_refused])
+    tests = [connections_of_clients, last_words_that_wait, many_bytes_in_a_call, looks_that_fail, options_refused,
+             rests_of_an_idle_venue, workers_are_woken, clients_end_rests, readers_end_rests, rests_refused]
+    chosen = [it for it in tests if not sys.argv[1:] or any(word in it.__name__ for word in sys.argv[1:])]
+    run_tests("noted_calls", chosen)

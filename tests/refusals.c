@@ -1,6 +1,7 @@
 // Refuses calls of the system to a program that it is loaded into by LD_PRELOAD. tests/refusals.py builds and sets it:
 //
-//   REFUSE       which calls are counted: memory, threads, device, rests, or look, for the stop file
+//   REFUSE       which calls are counted: memory, threads, device, rests, options, which set how a connection is kept, or
+//                look, for the stop file
 //   REFUSE_AT    the number of the call that is refused, from 1
 //   REFUSE_HOW   once: that call fails; on: and so do all behind it; short: it moves half of its bytes;
 //                before: the program is killed in its place; after: the program is killed behind it;
@@ -9,8 +10,10 @@
 //   REFUSE_TOLD  a file that is made where the call came, with its name; or those that are written down, one a line: its
 //                name, the file's, and the flags, the operation, the bytes that moved or the other name
 //
-// Requests for memory are answered with none; a thread by EAGAIN; what a thread rests with by EMFILE; the calls of the
-// journal's device and a look by EIO.
+// A shell or Python, which runs a script in the program's place, is refused nothing, and the program behind it is.
+//
+// Requests for memory are answered with none; a thread by EAGAIN; what a thread rests with by EMFILE; an option by
+// EINVAL; the calls of the journal's device and a look by EIO.
 //
 // It also notes what a program does at the connections that it has accepted:
 //
@@ -19,8 +22,12 @@
 //   SLEPT        a file that gets a line for each rest of a thread: the thread, and `nap` with how many microseconds it asked
 //                for, or `park` with how many milliseconds; before it `yield` with how often it let others run since its last
 //                rest, if it did
+//   ENDED        a file that gets a line for each park of a thread that has ended, each connection that it has accepted
+//                and each write at one, in their order: the thread, and `rest` with how many events ended it, `accept` with
+//                the descriptor, or `write` with how many bytes went (-1 for all in a row that moved none)
 //
-// And where LATE is set, at these connections two of three writes move nothing, as to a client that is slow to read.
+// And where LATE is set, at these connections two of three writes move nothing, as to a client that is slow to read;
+// where SMALL is set, the system holds about so many bytes, or twice that, for a client that hasn't taken them.
 #define _GNU_SOURCE
 #include <dlfcn.h>
 #include <errno.h>
@@ -52,11 +59,13 @@ enum how { ONCE, ON, SHORT, BEFORE, AFTER, SWAP, NOTE, PASSES };
 
 enum { MOST_FILES = 4096 };
 
-static const char *group, *told, *noted, *slept, *late;
+static const char *group, *told, *noted, *slept, *ended, *late, *small;
 static long refused_at;
 static atomic_char accepted[MOST_FILES];  // Whether a descriptor is that of a connection that was accepted.
 static enum how how = PASSES;
 static atomic_long calls;
+
+static int is_interpreter(const char *name) { return !strcmp(name, "sh") || !strncmp(name, "python", 6); }
 
 __attribute__((constructor)) static void begin(void) {
     static const char *const names[] = {"once", "on", "short", "before", "after", "swap", "note"};
@@ -65,8 +74,10 @@ __attribute__((constructor)) static void begin(void) {
     told = getenv("REFUSE_TOLD");
     noted = getenv("NOTED");
     slept = getenv("SLEPT");
+    ended = getenv("ENDED");
     late = getenv("LATE");
-    if (!group || !at || !word || !told)
+    small = getenv("SMALL");
+    if (!group || !at || !word || !told || is_interpreter(program_invocation_short_name))
         return;
     refused_at = atol(at);
     for (int i = 0; i < PASSES; i++)
@@ -126,6 +137,17 @@ static void note_moved(const char *name, int file, long what) {
     char line[96];
     snprintf(line, sizeof line, "%s %d %ld\n", name, file, what);
     add(noted, line);
+    errno = before;
+}
+
+// Notes what this thread has done, which it may have been woken for.
+static void note_ended(const char *name, long what) {
+    int before = errno;
+    char line[64];
+    if (!ended)
+        return;
+    snprintf(line, sizeof line, "%ld %s %ld\n", syscall(SYS_gettid), name, what);
+    add(ended, line);
     errno = before;
 }
 
@@ -271,14 +293,30 @@ int accept4(int listener, struct sockaddr *from, socklen_t *size, int flags) {
     if (file >= 0 && file < MOST_FILES) {
         atomic_store(&accepted[file], 1);
         note_moved("accept", file, flags & SOCK_NONBLOCK ? 1 : 0);
+        note_ended("accept", file);
+        int held = small ? atoi(small) : 0;
+        if (held)
+            setsockopt(file, SOL_SOCKET, SO_SNDBUF, &held, sizeof held);
     }
     return file;
 }
 
 int setsockopt(int file, int level, int option, const void *value, socklen_t size) {
     REAL(int, setsockopt, int, int, int, const void *, socklen_t);
-    if (level == IPPROTO_TCP && option == TCP_NODELAY && size == sizeof(int))
-        note_moved("nodelay", file, *(const int *)value);
+    static const struct {
+        int level, option;
+        const char *name;
+    } options[] = {{IPPROTO_TCP, TCP_NODELAY, "nodelay"},
+                   {IPPROTO_TCP, TCP_KEEPIDLE, "first_asked"},
+                   {IPPROTO_TCP, TCP_KEEPINTVL, "asked_again"},
+                   {SOL_SOCKET, SO_KEEPALIVE, "is_asked"},
+                   {IPPROTO_TCP, TCP_USER_TIMEOUT, "unheard"}};
+    for (size_t i = 0; i < sizeof options / sizeof *options; i++)
+        if (level == options[i].level && option == options[i].option && size == sizeof(int)) {
+            if (fails(decided("options", options[i].name)))
+                return errno = EINVAL, -1;
+            note_moved(options[i].name, file, *(const int *)value);
+        }
     return real(file, level, option, value, size);
 }
 
@@ -333,7 +371,9 @@ int nanosleep(const struct timespec *asked, struct timespec *left) {
 int epoll_wait(int file, struct epoll_event *events, int most, int longest) {
     REAL(int, epoll_wait, int, struct epoll_event *, int, int);
     note_rest("park", longest);
-    return real(file, events, most, longest);
+    int came = real(file, events, most, longest);
+    note_ended("rest", came);
+    return came;
 }
 
 int epoll_create1(int flags) {
@@ -361,6 +401,17 @@ static int is_late(int file) {
     return 1;
 }
 
+// Notes a write at a connection, and how many bytes it moved; of those in a row that move none the first.
+static ssize_t wrote(int file, ssize_t moved) {
+    static _Thread_local int was_full;
+    if (file >= 0 && file < MOST_FILES && atomic_load(&accepted[file])) {
+        if (moved >= 0 || !was_full)
+            note_ended("write", moved);
+        was_full = moved < 0;
+    }
+    return moved;
+}
+
 // Those that move nothing, as where nothing is there yet, aren't noted.
 #define MOVES(name, what, kind, ...) \
     REAL(ssize_t, name, __VA_ARGS__); \
@@ -380,14 +431,14 @@ ssize_t recvfrom(int file, void *data, size_t size, int flags, struct sockaddr *
 ssize_t send(int file, const void *data, size_t size, int flags) {
     if (is_late(file))
         return -1;
-    MOVES(send, real(file, data, size, flags), "write", int, const void *, size_t, int);
+    MOVES(send, wrote(file, real(file, data, size, flags)), "write", int, const void *, size_t, int);
 }
 
 ssize_t sendto(int file, const void *data, size_t size, int flags, const struct sockaddr *to, socklen_t length) {
     if (is_late(file))
         return -1;
-    MOVES(sendto, real(file, data, size, flags, to, length), "write", int, const void *, size_t, int, const struct sockaddr *,
-          socklen_t);
+    MOVES(sendto, wrote(file, real(file, data, size, flags, to, length)), "write", int, const void *, size_t, int,
+          const struct sockaddr *, socklen_t);
 }
 
 ssize_t read(int file, void *data, size_t size) { MOVES(read, real(file, data, size), "read", int, void *, size_t); }
@@ -395,5 +446,5 @@ ssize_t read(int file, void *data, size_t size) { MOVES(read, real(file, data, s
 ssize_t write(int file, const void *data, size_t size) {
     if (is_late(file))
         return -1;
-    MOVES(write, real(file, data, size), "write", int, const void *, size_t);
+    MOVES(write, wrote(file, real(file, data, size)), "write", int, const void *, size_t);
 }

@@ -128,9 +128,10 @@ class Sweeps:
                 raise Trouble(f"{group} {how}, call {at} ({refusal.came() or 'not made'}): {why}") from why
             return refusal.came()
 
-    def sweep(self, check, group, how, together=4):
-        """Refuses the first call, the second, and so on until none is left; so many programs run side by side."""
-        if self.is_sample and group == "memory":
+    def sweep(self, check, group, how, together=4, each=False):
+        """Refuses the first call, the second, and so on until none is left; so many programs run side by side. Where all
+        are a sample, each call is refused only if that is asked for."""
+        if self.is_sample and group == "memory" and not each:
             chosen = sample(greatest(lambda at: self.refused(check, group, at, how)))
         else:
             chosen = range(1, MOST_CALLS)

@@ -1,13 +1,17 @@
 #!/usr/bin/env python3
 """Refuses memory, or a thread, to the built programs: the first request, the second, and so on until none is left.
 
-    tests/refused_memory.py             each request is refused: a minute or more
-    tests/refused_memory.py --sample    the first requests for memory, the last ones, and some of those between them
+    tests/refused_memory.py [NAME...]   the tests whose names have one of these words in them; without one all, each
+                                        request refused: a minute or more
+    tests/refused_memory.py --sample    the first requests for memory, the last ones, and some of those between them;
+                                        but each of the first session
 
 Each program either does what it does with ample memory, or says that it has none: `venued: no memory` on standard
 error, nothing on standard output, status 1, and the journal as it was. Each request is refused alone, and then with all
-that come behind it. A venue that listens prints no `ready` line where it has no memory, and lets nobody in before all its
-threads have begun; one that is ready lets a client go that it has no room for, serves the next, and stops in order.
+that come behind it. The first session is a Logon and an order, in the bytes of examples/first_order.fix; its answers
+are those of tests/first_acknowledgement.play. A venue that listens prints no `ready` line where it has no memory, and
+lets nobody in before all its threads have begun; one that is ready lets a client go that it has no room for, serves the
+next, and stops in order.
 
 Requests are refused by tests/refusals.c, which cc compiles into a folder of its own; without cc nothing is tried, and a
 line says so. The last line is `N passed, M failed`, and the status is 1 where one failed. Build both programs first, by
@@ -16,12 +20,13 @@ scripts/build; others are taken by the environment's VENUED and VENUE_REPLAY.
 import argparse
 import collections
 import concurrent.futures
+import os
 import time
 
-from refusals import FRESH, LOGON, LONG, answers, by_rules, check_history, contents, journal_of, listens, orders, put
-from refusals import run_tests
+from refusals import FRESH, LOGON, LONG, MOST_CALLS, ROOT, answers, by_rules, check_history, contents, journal_of
+from refusals import listens, orders, put, run_tests
 import journals
-from venues import COUNTS, REPLAY, Client, Trouble, Venue, free_port, message, order, printed
+from venues import COUNTS, REPLAY, Client, Trouble, Venue, free_port, message, order, printed, replay
 
 ORDERS = 3
 MANY = 48  # Venues side by side that wait for threads that can't be started, which takes them ten seconds each.
@@ -42,6 +47,39 @@ def said(sweeps, ends):
     if not ends["no memory"] or not ends["went on"]:
         raise Trouble(f"expected ends of both kinds came {dict(ends)}")
     return f"{sweeps.said()}, {ends['no memory']} times 'no memory'"
+
+
+def played(name):
+    """The bytes that go to a program in a played file, and those that have to come."""
+    lines = contents(os.path.join(ROOT, "tests", f"{name}.play")).decode().splitlines()
+    return tuple("".join(it[2:] for it in lines if it.startswith(sign)).replace("|", "\x01").encode() for sign in "><")
+
+
+def check_first_session(refusal):
+    """The first session writes its answers with status 0, and the order is kept; or nothing, with status 1 and a
+    line."""
+    data, told = played("first_acknowledgement")
+    put(refusal.journal, None)
+    came = refusal.serve(data)
+    if came[0]:
+        check_no_memory("venued", came, refusal.journal, None)
+        return "no memory"
+    if came != (0, told, "") or replay(refusal.journal, "C1")[1] != (1, 1):
+        raise Trouble(f"expected {printed(told)} and an order kept came {printed(came[1])} {came[2]!r}")
+    return "went on"
+
+
+def first_session(sweeps):
+    """`venued -` with the first session, and each of its requests refused; with ample memory it goes on."""
+    if played("first_acknowledgement")[0] != contents(os.path.join(ROOT, "examples", "first_order.fix")):
+        raise Trouble("expected the bytes of examples/first_order.fix played came others")
+    ends = collections.Counter()
+    sweeps.refused(lambda it: ends.update([check_first_session(it)]), "memory", MOST_CALLS, "once")
+    if not ends["went on"]:
+        raise Trouble("expected a session with ample memory that goes on came none")
+    for how in ("once", "on"):
+        sweeps.sweep(lambda it: ends.update([check_first_session(it)]), "memory", how, os.cpu_count() or 1, each=True)
+    return said(sweeps, ends)
 
 
 def standard_session(sweeps):
@@ -188,5 +226,9 @@ def replays(sweeps):
 
 if __name__ == "__main__":
     parser = argparse.ArgumentParser(description=__doc__, formatter_class=argparse.RawDescriptionHelpFormatter)
+    parser.add_argument("names", nargs="*", metavar="NAME", help="a word in a test's name")
     parser.add_argument("--sample", action="store_true", help="refuse a sample of the requests for memory")
-    run_tests("refused_memory", [standard_session, listening, early_clients, replays], parser.parse_args().sample)
+    asked = parser.parse_args()
+    tests = [first_session, standard_session, listening, early_clients, replays]
+    chosen = [it for it in tests if not asked.names or any(word in it.__name__ for word in asked.names)]
+    run_tests("refused_memory", chosen, asked.sample)

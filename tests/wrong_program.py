@@ -158,6 +158,25 @@ def listen(wrong: str, program: str, port: str, journal: str, gateways: str, *sy
     return 3 if wrong == "another status" else status
 
 
+def short_of_memory(wrong: str, words: list[str]) -> int:
+    """A venue over standard input and output that may be refused memory."""
+    it = subprocess.run(words, capture_output=True)
+    out, err, status = it.stdout, it.stderr, it.returncode
+    if wrong == "never any memory":
+        out, err, status = b"", b"venued: no memory\n", 1
+    elif status == 1 and wrong == "no line of no memory":
+        err = b""
+    elif status == 1 and wrong == "no memory with status 0":
+        status = 0
+    elif status == 1 and wrong == "bytes in front of no memory":
+        out = b"8=FIX.4.4\x01"
+    elif status == 1 and wrong == "no memory passed over":
+        err, status = b"", 0
+    put(1, out)
+    put(2, err)
+    return status
+
+
 def stream(wrong: str, words: list[str]) -> int:
     """A venue over standard input and output."""
     answers = Answers(wrong)
@@ -220,6 +239,8 @@ OVER_TCP = [("the_worked_example", it)
 OVER_TCP += [("each_count_of_gateways", it) for it in ("", "a port too few", "a port too many")]
 OVER_TCP += [("the_local_host_alone", "all addresses"), ("an_idle_venue", "a busy core")]
 OVER_STREAMS = [*OF_REPORTS, "no Logout", "a byte too many", "another status", "a line of fault"]
+OF_MEMORY = ["another price", "another status", "never any memory", "no line of no memory", "no memory with status 0",
+             "bytes in front of no memory", "no memory passed over"]
 REPLAYS = ["", "a line missing", "a line twice", "lines swapped", "another digit", "no line of fault", "another offset",
            "always status 0", "another status", "a changed journal", "a further file"]
 
@@ -230,6 +251,8 @@ def main() -> None:
         status = replay(wrong, [program, *words])
     elif len(words) > 3 and words[0] != "-":
         status = listen(wrong, program, *words)
+    elif wrong in OF_MEMORY and wrong not in OVER_STREAMS:
+        status = short_of_memory(wrong, [program, *words])
     else:
         status = stream(wrong, [program, *words])
     sys.stdout.flush()
