@@ -9,7 +9,6 @@ Each fault has a line of its own; the last line is `N passed, M failed`, and the
 import os
 import re
 import shutil
-import subprocess
 import sys
 import tempfile
 
@@ -18,6 +17,7 @@ sys.path.insert(0, os.path.join(ROOT, "dev"))
 
 import with_scripts  # (in front of what stands there, and of what an older Python can't read)
 from below import Entry, Project
+from checks import Check, printed
 
 SCRIPTS = [*(f"dev/{it}" for it in ("reads", "below.py", "antt.py", "contracts.py", "with_scripts.py")),
            *(f"scripts/{it}" for it in ("crates.py", "needs_python.py", "with_tools.py"))]
@@ -211,25 +211,9 @@ TOLD = {
 }
 
 
-class Check:
-    """Runs the script, and counts."""
-
-    def __init__(self) -> None:
-        self.passed, self.failed = 0, 0
-
-    def count(self, is_right: bool, fault: str) -> None:
-        if is_right:
-            self.passed += 1
-        else:
-            self.failed += 1
-            print(fault)
-
-
 def run(root: str, words: tuple[str, ...]) -> tuple[str, int]:
     """What the script there prints, with the last of its standard error, and its status."""
-    command = [sys.executable, f"{root}/dev/reads", *words]
-    done = subprocess.run(command, stdout=subprocess.PIPE, stderr=subprocess.STDOUT, text=True)
-    return done.stdout, done.returncode
+    return printed(f"{root}/dev/reads", *words)
 
 
 def made_up(check: Check) -> None:
@@ -291,8 +275,7 @@ def main() -> None:
     check = Check()
     made_up(check)
     of_project(check)
-    print(f"{check.passed} passed, {check.failed} failed")
-    sys.exit(1 if check.failed else 0)
+    check.end()
 
 
 if __name__ == "__main__":

@@ -9,11 +9,15 @@ Each fault has a line of its own; the last line is `N passed, M failed`, and the
 import os
 import re
 import shutil
-import subprocess
 import sys
 import tempfile
 
 ROOT = os.path.dirname(os.path.dirname(os.path.abspath(__file__)))
+sys.path.insert(0, os.path.join(ROOT, "dev"))
+
+import with_scripts  # (in front of what stands there, and of what an older Python can't read)
+from checks import Check, printed
+
 SCRIPTS = [*(f"dev/{it}" for it in ("surface", "exports.py", "callers.py", "below.py", "antt.py", "contracts.py",
                                     "with_scripts.py")),
            *(f"scripts/{it}" for it in ("crates.py", "needs_python.py", "with_tools.py"))]
@@ -267,25 +271,9 @@ CHANGES = {
 }
 
 
-class Check:
-    """Counts."""
-
-    def __init__(self) -> None:
-        self.passed, self.failed = 0, 0
-
-    def count(self, is_right: bool, fault: str) -> None:
-        if is_right:
-            self.passed += 1
-        else:
-            self.failed += 1
-            print(fault)
-
-
 def run(root: str, *words: str) -> tuple[str, int]:
     """What the script there prints, with its standard error, and its status."""
-    command = [sys.executable, f"{root}/dev/surface", *words]
-    done = subprocess.run(command, stdout=subprocess.PIPE, stderr=subprocess.STDOUT, text=True)
-    return done.stdout, done.returncode
+    return printed(f"{root}/dev/surface", *words)
 
 
 def made(root: str) -> None:
@@ -344,8 +332,7 @@ def main() -> None:
             check.count(right and status == 1, f"{what}: status {status}\n{said}")
             check.count(("writes the page anew" in said) == bool(parts), f"{what}\n{said}")
             changed(root, name, new, old)
-    print(f"{check.passed} passed, {check.failed} failed")
-    sys.exit(1 if check.failed else 0)
+    check.end()
 
 
 if __name__ == "__main__":
