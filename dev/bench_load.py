@@ -6,6 +6,8 @@ import tempfile
 
 from venues import ROOT, Trouble, replay, started
 
+TICKS = os.sysconf("SC_CLK_TCK")
+
 SOURCE = os.path.join(ROOT, "dev/bench_venue.c")
 PIN = os.path.join(ROOT, "scripts/pin")
 
@@ -21,13 +23,21 @@ def built(folder):
     return program
 
 
-def load(program, *words):
+def load(program, *words, heartbeat=0):
     """Lets the load client trade: orders, seconds, p50 and p99 in microseconds, and reports."""
-    ran = subprocess.run([program, "load", *map(str, words)], capture_output=True, text=True)
+    ran = subprocess.run([program, "load", *map(str, words)], capture_output=True, text=True,
+                         env={**os.environ, "BENCH_HEARTBEAT": str(heartbeat)})
     if ran.returncode:
         raise Trouble(ran.stderr.strip() or f"the load client ended with status {ran.returncode}")
     orders, micros, p50, p99, reports = map(int, ran.stdout.split())
     return orders, micros / 1e6, p50 / 1e3, p99 / 1e3, reports
+
+
+def used(pid):
+    """The seconds of a processor that this process has taken."""
+    with open(f"/proc/{pid}/stat", encoding="utf-8") as file:
+        fields = file.read().rpartition(")")[2].split()
+    return (int(fields[11]) + int(fields[12])) / TICKS
 
 
 def put_on_cores(venue):
@@ -39,16 +49,23 @@ def put_on_cores(venue):
 
 def traded(program, folder, members, window, seconds, rate=0, venued=None, is_pinned=False):
     """The load against a venue whose journal lies in a folder of its own below this one; venued, or another program."""
+    return traded_by(program, folder, members, window, seconds, rate, venued, is_pinned)[0]
+
+
+def traded_by(program, folder, members, window, seconds, rate=0, venued=None, is_pinned=False):
+    """The same, and the seconds of a processor that the venue took for it."""
     with tempfile.TemporaryDirectory(dir=folder, prefix="bench-venue-") as place:
         journal = os.path.join(place, "venue.journal")
         venue = started(journal, members, program=venued)
         if is_pinned:
             put_on_cores(venue)
+        before = used(venue.process.pid)
         told = load(program, venue.port, members, window, seconds, rate)
+        took = used(venue.process.pid) - before
         orders, *_, reports = told
         counts = [venue.stop()]
         if rate:
             counts.append(replay(journal, "book")[1])
     if set(counts) != {(orders, reports)}:
         raise Trouble(f"{orders} orders and {reports} reports, where venued and venue-replay count {counts}")
-    return told
+    return told, took

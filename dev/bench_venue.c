@@ -160,7 +160,10 @@ static void keep_rate(const Member *it) {
 static void *trade(void *given) {
     Member *it = given;
     char out[MESSAGE];
-    send_all(it, out, message(out, it->member, 1, "A", "98=0|108=0|141=Y|"));
+    const char *beat = getenv("BENCH_HEARTBEAT");  // Of who stands in front of a venue, which has none.
+    char logon[64];
+    snprintf(logon, sizeof logon, "98=0|108=%s|141=Y|", beat ? beat : "0");
+    send_all(it, out, message(out, it->member, 1, "A", logon));
     while (it->got == 0) listen_once(it);
     pthread_barrier_wait(&start);
     it->first = now();

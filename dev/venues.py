@@ -16,7 +16,7 @@ import with_scripts  # (in front of what stands there, and of what an older Pyth
 from gikvand import programs
 from gikvand.fix import HEAD, framed, parted, printed, value  # (some of them for those that import this module)
 from gikvand.ports import HOST, free_port
-from gikvand.programs import REPLAY, ROOT, VENUED, Trouble
+from gikvand.programs import EVENTS, REPLAY, ROOT, VENUED, Trouble
 
 TIME = "20250102-09:30:00"
 PATIENCE = int(os.environ.get("VENUE_PATIENCE", "30"))  # Seconds to wait for what has to come.
@@ -29,6 +29,12 @@ running = []
 
 class Late(Trouble):
     """What came too late: by the venue, or since the machine itself stood still for a moment."""
+
+
+def expect(came, wanted):
+    """Fails the test where something else came."""
+    if came != wanted:
+        raise Trouble(f"expected {wanted!r} came {came!r}")
 
 
 def in_some_try(run, what):

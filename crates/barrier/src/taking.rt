@@ -79,11 +79,11 @@ pub fn take<L: Logic, const N: usize, const M: usize, const G: usize>(
     if rings.load_marshalled(seat) <= place {
         return Take::Nothing;
     }
-    let answer = if rings.load_address(seat, place) == seat.number() {
-        Take::Mine(read_text(rings, seat, place, buf))
-    } else {
-        Take::Passed
-    };
+    if rings.load_address(seat, place) != seat.number() {
+        rings.store_taken(seat);
+        return Take::Passed;
+    }
+    let head = read_text(rings, seat, place, buf);
     rings.store_taken(seat);
-    answer
+    Take::Mine(head)
 }

@@ -1,5 +1,5 @@
 -- Steps of a turn, one after another.
-use Rattle.std.proofs.Common.{◌≡◌, ℕ, ◌+◌, ◌≤◌, List, [], ◌++◌, refl, ap, sym, subst, ◌∙◌, append_assoc, append-nil}
+use Rattle.std.proofs.Common.{◌≡◌, ℕ, ◌+◌, List, [], ◌++◌, refl, ap, sym, subst, ◌∙◌, append_assoc, append-nil}
 use Rattle.std.proofs.Common.{arith}
 use Rattle.fix_orders.specs.Text.{Said}
 use Rattle.wires.specs.Wires.{Told, grown}

@@ -95,15 +95,14 @@ impl<W: Wire + Drop> Acceptor<W> {
         ensures turn { TakesTurn N self.old self.new result.0 (told_by W.tells result.1) }
         ensures stays { StaysSeated self.old.gateway.seat self.new.gateway.seat }
     {
-        let Some(mut wire) = self.wire.take() else {
+        let Some(wire) = &mut self.wire else {
             return (self.gateway.idle(rings), None);
         };
-        let turned = self.gateway.turn(rings, &mut wire);
+        let turned = self.gateway.turn(rings, wire);
         wire.rest(turned != Turned::Worked);
         if matches!(turned, Turned::Ended(_)) {
-            return (turned, Some(wire));
+            return (turned, self.wire.take());
         }
-        self.wire = Some(wire);
         (turned, None)
     }
 
@@ -143,11 +142,9 @@ impl<W: ClientWire + Drop> Acceptor<W> {
         ensures same { self.new ≡ self.old }
         ensures flushed { WasFlushed W.tells W.flushed self.new.wire }
     {
-        let Some(mut wire) = self.wire.take() else {
-            return;
-        };
-        wire.flush();
-        self.wire = Some(wire);
+        if let Some(wire) = &mut self.wire {
+            wire.flush();
+        }
     }
 
     /// Lets go of a client that is awaited: as soon as its session looks for what it sends, the wire has failed.
@@ -155,10 +152,8 @@ impl<W: ClientWire + Drop> Acceptor<W> {
         requires { IsAwaited self.old true }
         ensures { self.new ≡ self.old }
     {
-        let Some(mut wire) = self.wire.take() else {
-            return;
-        };
-        wire.give_up();
-        self.wire = Some(wire);
+        if let Some(wire) = &mut self.wire {
+            wire.give_up();
+        }
     }
 }

@@ -94,6 +94,7 @@ fn judge(header: &Header, gateway: u8, accepted: u32) -> Judged
 }
 
 /// Whether the message comes from the gateway's client, to the venue.
+#[inline(always)]
 fn is_party(header: &Header, gateway: u8) -> bool
     ensures { result ≡ is_party gateway (as_header header.now) }
 {
@@ -101,6 +102,7 @@ fn is_party(header: &Header, gateway: u8) -> bool
 }
 
 /// Whether this is the name of the gateway's client.
+#[inline(always)]
 fn is_client(name: &[u8], gateway: u8) -> bool
     ensures { result ≡ bytes_eq name.now (client_name gateway) }
 {
@@ -128,7 +130,7 @@ fn is_type(header: &Header, msg_type: &[u8]) -> bool
 fn is_order(header: &Header) -> bool
     ensures { result ≡ is_order (as_header header.now) }
 {
-    is_type(header, b"D") || is_type(header, b"F") || is_type(header, b"G")
+    matches!(header.msg_type, b"D" | b"F" | b"G")
 }
 
 /// Judges the first message, which has to be the Logon.

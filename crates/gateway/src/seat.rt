@@ -48,6 +48,7 @@ pub fn try_publish<const N: usize, const M: usize, const G: usize>(
 }
 
 /// Takes the next output, or passes it over where it goes to another's client.
+#[inline(always)]
 pub fn take<const N: usize, const M: usize, const G: usize>(
     rings: &Rings<BookLogic, N, M, G>,
     seat: &mut GatewaySeat<BookLogic>,

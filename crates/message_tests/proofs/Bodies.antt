@@ -1,7 +1,6 @@
 -- A body that is written out: that each of its fields is right is computed.
 use Rattle.std.proofs.Common.{◌≡◌, ℕ, zero, suc, ◌≤◌, Bool, true, false, ◌&&◌, List, [], ◌∷◌, arith}
-use Rattle.std.specs.List.{AllByRecursion}
-use Rattle.fix_frame.specs.Grammar.{Field, IsField, LacksSoh}
+use Rattle.fix_frame.specs.Grammar.{IsField, LacksSoh}
 
 -- the byte stands behind SOH
 abbrev pub is_above : ℕ → Bool

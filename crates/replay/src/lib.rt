@@ -30,6 +30,7 @@ pub use doing::report;
 pub use fault::{ReplayFault, refuse};
 pub use job::{Job, Subject, Task};
 pub use laws::{true_snapshots_recover_the_whole, true_snapshots_stay_true};
+pub use lines::write_output_line;
 pub use recovered::{Recovered, replay};
 pub use replayed::{Replayed, replay_whole};
 pub use running::report_file;

@@ -5,7 +5,7 @@ ghost use Rattle.std.specs.Io.KnownBytes.{Appends};
 ghost use Rattle.fix_frame.specs.Grammar.{print_fields};
 ghost use Rattle.fix_orders.specs.Text.{side_code, text};
 ghost use Rattle.book.specs.Listing.{listing};
-ghost use Rattle.replay.specs.Lines.{order_line, order_terms, order_names, bar, said_fields, line_to, client_lines, counts_line};
+ghost use Rattle.replay.specs.Lines.{order_line, order_terms, order_names, bar, said_fields, output_line, line_to, client_lines, counts_line};
 
 use book::{Book, MOST_RESTING};
 use fix_orders::{body_of, msg_type_code, put_bytes, put_field, time_text};
@@ -70,6 +70,15 @@ fn write_output<W: Write>(out: &mut W, client: u8, place: u64, output: &Output) 
     if output.to != client {
         return Ok(());
     }
+    write_output_line(out, place, output)
+}
+
+/// Writes the line of the output at a place of the list of all outputs: MsgType (35), SendingTime (52) and the body of
+/// its report, each field behind a bar in the place of SOH but the first.
+pub fn write_output_line<W: Write>(out: &mut W, place: u64, output: &Output) -> io::Result<()>
+    requires { place + 1 < 2 ^ 64 }
+    ensures { OnOk result (Appends (W.contents out.old) (W.contents out.new) (output_line output.now place)) }
+{
     let mut line = [0; 512];
     let end = put_output(&mut line, output, place);
     put_bars(&mut line[..end]);

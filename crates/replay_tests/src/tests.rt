@@ -1,12 +1,11 @@
 //! A snapshot that is added to a journal: what a replay finds where the program stops behind one of the calls of the
 //! disk, and how much of the journal a replay does again.
 
-use book::{BookLogic, RestoreFault, Restored};
-use disks::{Call, JournalDisk, MemDisk, MemFile, MemFolder, Script};
+use book::{Book, BookLogic, RestoreFault, Restored};
+use disks::{Call, DiskFailed, JournalDisk, MemDisk, MemFile, MemFolder, Script};
 use journal::snapshots;
-use replay::{Answer, replay, snapshot_file};
+use replay::{Answer, Recovered, replay, snapshot_file};
 use std::alloc::Global;
-use std::process::Abort;
 use std::test::Fail;
 use venue_model::{Limits, Order};
 
@@ -61,9 +60,10 @@ fn abc(alloc: Global) -> Result<Limits, Fail> {
 
 /// The file of the journal with one order, behind the snapshot that was added to it by such calls.
 fn added(alloc: Global, script: Script) -> Result<MemFile, Fail> {
+    let limits = abc(alloc)?;
     let journal = Vec::from_slice(alloc, ONE_ORDER)?;
     let mut folder = MemFolder::new(alloc, Some(journal), script, false);
-    let (answer, disk) = snapshot_file(alloc, &abc(alloc)?, &mut folder);
+    let (answer, disk) = snapshot_file(alloc, &limits, &mut folder);
     if answer != Ok(Answer::SnapshotAt(GATE)) {
         return Err(Fail::from("no snapshot"));
     }
@@ -77,13 +77,18 @@ fn added(alloc: Global, script: Script) -> Result<MemFile, Fail> {
 fn behind(alloc: Global, calls: &[Call]) -> Result<MemDisk, Fail> {
     let mut disk = MemDisk::new(alloc, ONE_ORDER)?;
     for call in calls {
-        match call {
-            Call::Read { .. } => {}
-            Call::Write { at, bytes, .. } => disk.write_at(*at, bytes)?,
-            Call::Sync { .. } => disk.sync()?,
-        }
+        make(&mut disk, call)?;
     }
     Ok(disk)
+}
+
+/// Makes a call of the disk again, other than a read.
+fn make(disk: &mut MemDisk, call: &Call) -> Result<(), DiskFailed> {
+    match call {
+        Call::Read { .. } => Ok(()),
+        Call::Write { at, bytes, .. } => disk.write_at(*at, bytes),
+        Call::Sync { .. } => disk.sync(),
+    }
 }
 
 /// Whether it is the one order.
@@ -99,24 +104,41 @@ fn is_first(order: &Order) -> bool {
 
 /// Replays what is left of the journal with one order, and says whether that began behind the snapshot.
 fn begins_at_snapshot(alloc: Global, disk: &mut MemDisk) -> Result<bool, Fail> {
-    let found = replay(alloc, disk, &abc(alloc)?)?;
-    let outputs = found.told.wrapping_add(found.outputs.len() as u64);
-    let Some(order) = found.book.after(None) else {
-        return Err(Fail::from("no order"));
-    };
-    if found.commands != 1 || outputs != 1 || found.book.resting() != 1 || !is_first(&order) {
+    let limits = abc(alloc)?;
+    let found = replay(alloc, disk, &limits)?;
+    if !is_of_one_order(&found) || !rests_alone(&found.book) {
         return Err(Fail::from("another book"));
     }
     Ok(found.told == 1)
 }
 
-/// What a crash now leaves begins at the snapshot so, by what stands there then.
-fn leaves<A: Abort>(rt: &A, alloc: Global, disk: &MemDisk, begins: [bool; 4]) -> Result<(), Fail> {
+/// Whether it is behind one command and one output.
+fn is_of_one_order(found: &Recovered) -> bool {
+    let outputs = found.told.wrapping_add(found.outputs.len() as u64);
+    found.commands == 1 && outputs == 1
+}
+
+/// Whether the one order rests in a book, and no other.
+fn rests_alone(book: &Book) -> bool {
+    let Some(order) = book.after(None) else {
+        return false;
+    };
+    book.resting() == 1 && is_first(&order)
+}
+
+/// Whether what a crash now leaves begins at the snapshot so, by what stands there then.
+fn leaves(alloc: Global, disk: &MemDisk, begins: &[bool; 4]) -> Result<bool, Fail> {
     for k in 0..4 {
-        let mut left = disk.crash(FILLS[k])?;
-        assert_eq!(rt; begins_at_snapshot(alloc, &mut left)?, begins[k]);
+        if leaves_at_snapshot(alloc, disk, FILLS[k])? != begins[k] {
+            return Ok(false);
+        }
     }
-    Ok(())
+    Ok(true)
+}
+
+fn leaves_at_snapshot(alloc: Global, disk: &MemDisk, fill: Option<u8>) -> Result<bool, Fail> {
+    let mut left = disk.crash(fill)?;
+    begins_at_snapshot(alloc, &mut left)
 }
 
 #[test]
@@ -124,12 +146,17 @@ fn stops_in_a_snapshot(rt: HostRuntime) -> Result<(), Fail> {
     let file = added(rt.alloc(), GOOD)?;
     let calls = file.disk().calls();
     let opening = calls.len().wrapping_sub(4);
-    for (call, begins) in STOPS {
-        let first = calls.get(..opening.wrapping_add(call)).ok_or("calls")?;
-        let disk = behind(rt.alloc(), first)?;
-        leaves(&rt, rt.alloc(), &disk, begins)?;
+    for (call, begins) in &STOPS {
+        let first = calls.get(..opening.wrapping_add(*call)).ok_or("calls")?;
+        assert!(rt; leaves_behind(rt.alloc(), first, begins)?);
     }
     Ok(())
+}
+
+/// Whether a crash behind these calls leaves what begins at the snapshot so.
+fn leaves_behind(alloc: Global, calls: &[Call], begins: &[bool; 4]) -> Result<bool, Fail> {
+    let disk = behind(alloc, calls)?;
+    leaves(alloc, &disk, begins)
 }
 
 #[test]
@@ -165,24 +192,45 @@ fn with_another(alloc: Global) -> Result<Vec<u8>, Fail> {
 #[test]
 fn one_order_is_done_again(rt: HostRuntime) -> Result<(), Fail> {
     let bytes = with_another(rt.alloc())?;
-    let mut disk = MemDisk::new(rt.alloc(), &bytes)?;
-    let found = replay(rt.alloc(), &mut disk, &abc(rt.alloc())?)?;
-    assert_eq!(rt;
-        (found.commands, found.told, found.outputs.len()),
-        (2, 1, 3)
-    );
-    let mut looked_at = MemDisk::new(rt.alloc(), &bytes)?;
-    assert_eq!(rt; snapshots(rt.alloc(), &mut looked_at)?.len(), 1);
-    let once = reads_before(&looked_at, NEXT_GATE);
-    assert_eq!(rt; reads_before(&disk, NEXT_GATE), once);
+    let done = reads_of_replay(rt.alloc(), &bytes)?;
+    let once = reads_of_look(rt.alloc(), &bytes)?;
+    assert_eq!(rt; done, once);
     Ok(())
+}
+
+/// How many reads a replay makes before the snapshot's end: it does one of two commands again, which has three outputs.
+fn reads_of_replay(alloc: Global, bytes: &[u8]) -> Result<usize, Fail> {
+    let limits = abc(alloc)?;
+    let mut disk = MemDisk::new(alloc, bytes)?;
+    let found = replay(alloc, &mut disk, &limits)?;
+    if found.commands != 2 || found.told != 1 || found.outputs.len() != 3 {
+        return Err(Fail::from("another replay"));
+    }
+    Ok(reads_before(&disk, NEXT_GATE))
+}
+
+/// How many reads before the snapshot's end a look for snapshots makes, which finds one.
+fn reads_of_look(alloc: Global, bytes: &[u8]) -> Result<usize, Fail> {
+    let mut disk = MemDisk::new(alloc, bytes)?;
+    let found = snapshots(alloc, &mut disk)?;
+    if found.len() != 1 {
+        return Err(Fail::from("not one snapshot"));
+    }
+    Ok(reads_before(&disk, NEXT_GATE))
+}
+
+/// The logic of the venue that trades ABC alone.
+fn abc_logic(alloc: Global) -> Result<BookLogic, Fail> {
+    let limits = abc(alloc)?;
+    Ok(BookLogic::of(&limits))
 }
 
 /// Whether there is a snapshot without orders behind so many commands.
 fn is_snapshot(alloc: Global, commands: u64) -> Result<bool, Fail> {
-    let mut bytes = vec![in alloc; 0_u8; 82]?;
+    let logic = abc_logic(alloc)?;
+    let mut bytes = [0_u8; 82];
     bytes[..8].copy_from_slice(&commands.to_be_bytes());
-    match Restored::of(alloc, &bytes, BookLogic::of(&abc(alloc)?)) {
+    match Restored::of(alloc, &bytes, logic) {
         Ok(_) => Ok(true),
         Err(RestoreFault::BadSnapshot) => Ok(false),
         Err(RestoreFault::Memory) => Err(Fail::from("no memory")),

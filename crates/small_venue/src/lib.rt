@@ -3,6 +3,7 @@
 #![tactic(auto)]
 
 pub mod crew;
+pub mod meeting;
 pub mod member;
 pub mod messages;
 pub mod orders;

@@ -2,6 +2,7 @@
 
 mod four_gateways;
 mod gateways_meet;
+mod resting;
 mod side_by_side;
 mod staff;
 mod trading;

@@ -1,6 +1,7 @@
 -- What one turn of a member does: its gateway's turn, a client that leaves or has left, and one that comes in.
 use Rattle.std.proofs.Common.{◌≡◌, ℕ, Bool, true, false, List, [], ◌∷◌, ◌++◌, Option, Some, None, inl, inr}
 use Rattle.std.proofs.Common.{refl, ap, sym, subst, ◌∙◌, append-nil, arith}
+use Rattle.std.specs.Option.{is_some}
 use Rattle.std.specs.Prelude.{IfSome, option_to_list}
 use Rattle.venue_model.specs.Requests.{Limits}
 use Rattle.ring_words.specs.At.{Opened}
@@ -16,6 +17,11 @@ use Rattle.venue.specs.Turning.{IsAtRest, SendsOn, SentOn, outcome_at}
 use Rattle.venue.specs.declared.member.Desk.{Desk}
 use Rattle.wires.specs.Ports.{Register, with_more}
 use Rattle.wires.specs.Wires.{Told}
+
+-- what a test for none tells
+pub none_is : {A : Type 0} (o : Option A) → is_some o ≡ false → o ≡ None
+none_is None is = refl
+none_is (Some x) is = let no : true ≡ false = is in cc
 
 -- a member like this one but for its acceptor and the client that leaves
 abbrev pub at_door : Accepting → Option Told → Register → AtPort

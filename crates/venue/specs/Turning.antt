@@ -1,5 +1,5 @@
 -- What a member's turn comes to for its thread.
-use Rattle.std.specs.Prelude.{◌≡◌, ⊤, ℕ, ◌+◌, ◌%◌, Bool, ◌&&◌, ◌||◌, Option, is_some, if◌then◌else◌}
+use Rattle.std.specs.Prelude.{◌≡◌, ⊤, ℕ, ◌+◌, ◌%◌, Bool, true, false, not, ◌&&◌, ◌||◌, Option, is_some, if◌then◌else◌}
 use Rattle.gateway.specs.Accepting.{Accepting, WasFlushed}
 use Rattle.gateway.specs.Gateways.{is_pressed}
 use Rattle.venue.specs.Trading.{TookTurn}
@@ -23,6 +23,18 @@ pub record SentOn {W : Type 0} (tells : W → Told) (flushed : W → W → Type 
 -- the gateway has to go on by itself with the client that leaves, or with the one that is connected
 abbrev pub is_pressed_at : {W : Type 0} → Desk W → Bool
 is_pressed_at desk = is_some desk.leaving || (is_some desk.acceptor.wire && is_pressed desk.acceptor.gateway.front)
+
+-- Of a client that is connected, and none leaves, the gateway has to go on by itself, and not with a message that waits
+-- for room: so its session is on its way to its end.
+abbrev pub is_ending_at : {W : Type 0} → Desk W → Bool
+is_ending_at desk =
+    not (is_some desk.leaving) &&
+    ((is_some desk.acceptor.wire && is_pressed desk.acceptor.gateway.front) &&
+    not (is_some desk.acceptor.gateway.front.session.held))
+
+-- another client may be wanted only where nothing moved in the turn, and the session of the one that is connected is ending
+abbrev pub IsWantedWhere : {W : Type 0} → Bool → Desk W → Type 0
+IsWantedWhere has_moved desk = desk.is_wanted ≡ true → (has_moved ≡ false) × (is_ending_at desk ≡ true)
 
 -- Where something moved, stages may have work only if it began with a message held, which it may have published. Where nothing moved it is to look again soon
 -- if it has to go on by itself, and at once if another client waits for that; else it may rest, since it is woken.

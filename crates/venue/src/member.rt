@@ -7,7 +7,7 @@ ghost use Rattle.venue.specs.Leaving.{told_leaving, IsSeenOff};
 ghost use Rattle.venue.specs.Trading.{HasClient, TookTurn, LookedLast, TradesOn, IsBack, at_port, GivesBack};
 ghost use Rattle.venue.specs.TradingLaws.{no_turn, more_turns};
 ghost use Rattle.venue.specs.Headline.{in_box};
-ghost use Rattle.venue.specs.Turning.{IsAtRest, SendsOn, SentOn, is_pressed_at, outcome_at};
+ghost use Rattle.venue.specs.Turning.{IsAtRest, IsWantedWhere, SendsOn, SentOn, is_ending_at, is_pressed_at, outcome_at};
 ghost use Rattle.wires.specs.Clients.{ShutsLast};
 
 use crate::leaving::Leaving;
@@ -92,6 +92,9 @@ fn see_off<W: ClientWire + Drop, X: Port<Wire = W>, const G: usize>(
     ensures others { (desk.new.acceptor ≡ desk.old.acceptor) × (desk.new.turns ≡ desk.old.turns) }
 {
     let _rings = rings;
+    if desk.leaving.is_none() {
+        return false;
+    }
     let Some(mut client) = desk.leaving.take() else {
         return false;
     };
@@ -174,7 +177,9 @@ fn send_on<W: ClientWire + Drop>(desk: &mut Desk<W>)
 
 /// Whether, behind a turn in which nothing moved, the session of the client that is connected is on its way to its end:
 /// the client has closed its side, or doesn't take what it is told.
-fn is_ending<W: ClientWire + Drop>(desk: &Desk<W>) -> bool {
+fn is_ending<W: ClientWire + Drop>(desk: &Desk<W>) -> bool
+    ensures { result ≡ is_ending_at desk.now }
+{
     desk.leaving.is_none() && desk.acceptor.is_pressed() && !desk.acceptor.is_holding()
 }
 
@@ -190,6 +195,7 @@ fn tend<C: Clock, W: ClientWire + Drop, X: Port<Wire = W>>(
     ensures leaving { desk.new.leaving ≡ desk.old.leaving }
     ensures sends { SendsOn W.tells W.flushed desk.old.turns desk.new.turns desk.new.acceptor.wire }
     ensures port { X.tells port.new ≡ X.tells port.old }
+    ensures wanted { IsWantedWhere has_moved desk.new }
 {
     send_on(desk);
     let_go_of_silent(clock, desk, port);

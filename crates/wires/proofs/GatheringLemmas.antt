@@ -1,10 +1,12 @@
 -- What a wire that gathers tells of a read: what it hands out of the bytes held ahead.
-use Rattle.std.proofs.Common.{◌≡◌, ℕ, ◌≤◌, Bool, true, List, [], ◌++◌, length, take, Option, refl, sym, ap, ◌∙◌}
+use Rattle.std.proofs.Common.{◌≡◌, inl, inr, ℕ, ◌≤◌, Bool, true, List, [], ◌++◌, length, take, Option}
+use Rattle.std.proofs.Common.{refl, sym, ap, ◌∙◌}
 use Rattle.wires.specs.declared.counts.Counts.{Counts}
 use Rattle.wires.specs.declared.wire.TryRead.{TryRead}
 use Rattle.wires.specs.declared.wire.TryRead.TheVariants as read
 use Rattle.wires.specs.Counting.{CountsRead}
 use Rattle.wires.specs.Gatherings.{HandsOut, IfGot}
+use Rattle.wires.specs.GatheringWires.{Gathering, Holding, HoldsElse, ReadsGathering, holding, told_gathering}
 use Rattle.wires.specs.WireLaws.{grown-append, grown-nil, before_last-grown}
 use Rattle.wires.specs.Wires.{Told, telling, uncounted, grown, before_last, AreLast, ReadTells}
 
@@ -49,6 +51,23 @@ read_told old new held left waiting buf was is quiet read.End hands some last co
     (counted.0, rw (hands.0, hands.1, hands.2.1, counted.1) refl)
 read_told old new held left waiting buf was is quiet read.Failed hands some last counted =
     (counted.0, rw (hands.0, hands.1, hands.2.1, counted.1) refl)
+
+-- what a read tells, which hands out what is held ahead, asks the wire below, or asks nobody
+pub reading_told : {W : Type 0} (tells : W → Told) (old new : Gathering W) (is : Counts) (buf : List ℕ)
+    (answer : TryRead) → ReadsGathering old.quiet (holding tells old) (holding tells new) buf answer
+    → IfGot answer (λ n. (1 ≤ n) × (n ≤ length buf)) → HoldsElse old new → AreLast (tells old.below).gave old.ahead
+    → CountsRead new.counts is answer
+    → ReadTells (told_gathering tells old) (told_gathering tells (record new { counts = is })) buf answer
+reading_told tells old new is buf answer (inl (may, none, same)) some others last counted =
+    let below : tells new.below ≡ tells old.below = ap (λ (h : Holding). h.below) same in
+    let ahead : new.ahead ≡ old.ahead = ap (λ (h : Holding). h.ahead) same in
+    let once : CountsRead old.counts is read.Nothing = rw (none, others.counts) at counted in
+    rw (none, below, ahead, others.waiting, others.quiet) (once.0, rw once.1 refl)
+reading_told tells old new is buf answer (inr (must, asks)) some others last counted =
+    let once : CountsRead old.counts is answer = rw others.counts at counted in
+    rw (others.waiting, others.quiet)
+    (read_told (tells old.below) (tells new.below) old.ahead new.ahead old.waiting buf old.counts is old.quiet answer
+    asks.0 some last once)
 
 -- where nothing is held yet it tells what the wire below tells, and counted nothing
 pub fresh_told : (gave took : Option (List ℕ)) (ahead waiting : List ℕ) (counts : Counts) → ahead ≡ [] → waiting ≡ []

@@ -1,10 +1,11 @@
 -- A wire that gathers in front of another one: what it is, what it tells and holds, and what its calls do.
-use Rattle.std.specs.Prelude.{◌≡◌, ◌↔◌, ℕ, ◌+◌, ◌<◌, ◌≤◌, Bool, true, false, List, [], length, Option}
-use Rattle.wires.specs.declared.buffers.TheConstants.{BACKLOG, CAUGHT_UP, MOST_LATE}
+use Rattle.std.specs.Prelude.{◌≡◌, ◌↔◌, ◌⊎◌, ℕ, ◌+◌, ◌<◌, ◌≤◌, Bool, true, false, List, [], length, Option}
+use Rattle.wires.specs.declared.buffers.TheConstants.{BACKLOG, CAUGHT_UP, MOST_LATE, MOST_SKIPPED}
 use Rattle.wires.specs.declared.counts.Counts.{Counts}
 use Rattle.wires.specs.declared.flushed.Flushed.{Flushed}
 use Rattle.wires.specs.declared.flushed.Flushed.TheVariants.{Failed}
 use Rattle.wires.specs.declared.wire.TryRead.{TryRead}
+use Rattle.wires.specs.declared.wire.TryRead.TheVariants as read
 use Rattle.wires.specs.declared.wire.TryWrite.{TryWrite}
 use Rattle.wires.specs.declared.wire.TryWrite.TheVariants as write
 use Rattle.wires.specs.Wires.{Told, telling, uncounted, grown, before_last}
@@ -12,14 +13,16 @@ use Rattle.wires.specs.Flushing.{Flushes}
 use Rattle.wires.specs.Gatherings.{HandsOut, Gathers}
 
 -- the wire below; the bytes that it gave, and that were not handed out yet; those that were taken, and that it did not
--- take yet; the counts; whether it was last told to rest; how many writes in a row came too late; and whether it is
--- broken: from then on each read and write fails, and the wire below moves no bytes
+-- take yet; the counts; whether it was last told to rest; how many reads in a row have asked nobody; how many writes in
+-- a row came too late; and whether it is broken: from then on each read and write fails, and the wire below moves no
+-- bytes
 pub record Gathering (W : Type 0) : Type 0 where
   pub below : W
   pub ahead : List ℕ
   pub waiting : List ℕ
   pub counts : Counts
   pub quiet : Bool
+  pub skipped : ℕ
   pub late : ℕ
   pub broken : Bool
 
@@ -42,6 +45,12 @@ waiting_of g = g.waiting
 abbrev pub sent_below : {W : Type 0} → (W → Told) → Gathering W → Option (List ℕ)
 sent_below tells g = (tells g.below).took
 
+abbrev pub quiet_of : {W : Type 0} → Gathering W → Bool
+quiet_of g = g.quiet
+
+abbrev pub skipped_of : {W : Type 0} → Gathering W → ℕ
+skipped_of g = g.skipped
+
 abbrev pub late_of : {W : Type 0} → Gathering W → ℕ
 late_of g = g.late
 
@@ -53,18 +62,27 @@ pub record Holding : Type 0 where
   pub below : Told
   pub ahead : List ℕ
   pub waiting : List ℕ
+  pub skipped : ℕ
   pub late : ℕ
   pub broken : Bool
 
 -- where the wire below tells so
 abbrev pub holding : {W : Type 0} → (W → Told) → Gathering W → Holding
 holding tells g =
-    record { below = tells g.below; ahead = g.ahead; waiting = g.waiting; late = g.late; broken = g.broken }
+    record {
+      below = tells g.below;
+      ahead = g.ahead;
+      waiting = g.waiting;
+      skipped = g.skipped;
+      late = g.late;
+      broken = g.broken;
+    }
 
 -- as it is made: it holds nothing, tells of bytes what the wire below tells, and counted nothing
 pub record IsFresh {W : Type 0} (tells : W → Told) (g : Gathering W) : Type 0 where
   pub ahead : ahead_of g ≡ []
   pub waiting : waiting_of g ≡ []
+  pub skipped : skipped_of g ≡ 0
   pub late : late_of g ≡ 0
   pub broken : broken_of g ≡ false
   pub told : told_gathering tells g ≡ uncounted (tells g.below).gave (tells g.below).took
@@ -74,18 +92,42 @@ pub record HoldsSame {W : Type 0} (old new : Gathering W) : Type 0 where
   pub below : below_of new ≡ below_of old
   pub ahead : ahead_of new ≡ ahead_of old
   pub waiting : waiting_of new ≡ waiting_of old
+  pub skipped : skipped_of new ≡ skipped_of old
   pub late : late_of new ≡ late_of old
   pub broken : broken_of new ≡ broken_of old
+
+-- what a read leaves as it was
+pub record HoldsElse {W : Type 0} (old new : Gathering W) : Type 0 where
+  pub waiting : new.waiting ≡ old.waiting
+  pub counts : new.counts ≡ old.counts
+  pub quiet : new.quiet ≡ old.quiet
+  pub late : new.late ≡ old.late
+  pub broken : new.broken ≡ old.broken
 
 -- the wire below was told whether to rest
 abbrev pub rested : Holding → Bool → Holding
 rested h quiet = record h { below = record h.below { quiet = quiet } }
 
--- what a read into the buffer with this answer does, where the wire isn't broken
-abbrev pub ReadsGathering : Holding → Holding → List ℕ → TryRead → Type 0
-ReadsGathering old new buf answer =
+-- whether a read may ask nobody: the wire wasn't last told to rest, nothing is held ahead, and fewer than 32 in a row
+-- have asked nobody
+abbrev pub MaySkip : Bool → List ℕ → ℕ → Type 0
+MaySkip quiet ahead skipped = (quiet ≡ false) × (skipped < MOST_SKIPPED) × (ahead ≡ [])
+
+-- a read that asks nobody finds nothing, and is counted
+abbrev pub Skips : Bool → Holding → Holding → TryRead → Type 0
+Skips quiet old new answer =
+    MaySkip quiet old.ahead old.skipped × (answer ≡ read.Nothing) × (new ≡ record old { skipped = old.skipped + 1 })
+
+-- a read that hands out what is held ahead, or asks the wire below
+abbrev pub Asks : Holding → Holding → List ℕ → TryRead → Type 0
+Asks old new buf answer =
     HandsOut old.below new.below old.ahead new.ahead buf answer
-    × (new ≡ record old { below = new.below; ahead = new.ahead })
+    × (new ≡ record old { below = new.below; ahead = new.ahead; skipped = 0 })
+
+-- what a read into the buffer with this answer does, where the wire isn't broken: it asks nobody just where it may
+abbrev pub ReadsGathering : Bool → Holding → Holding → List ℕ → TryRead → Type 0
+ReadsGathering quiet old new buf answer =
+    Skips quiet old new answer ⊎ ((MaySkip quiet old.ahead old.skipped → ⊥) × Asks old new buf answer)
 
 -- how many writes came too late before and with a write that finds so many bytes waiting: they count from one on that
 -- finds the backlog full, until one finds that the client has caught up

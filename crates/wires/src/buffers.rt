@@ -27,6 +27,9 @@ pub const CAUGHT_UP: usize = 8_388_608;
 /// Within so many writes it has to.
 pub const MOST_LATE: u32 = 100_000;
 
+/// At most so many reads in a row ask nobody: those behind turns in which something moved.
+pub const MOST_SKIPPED: u32 = 32;
+
 /// Bytes that were read, and are not yet handed out. Contracts see them in order.
 #[derive(Drop)]
 pub struct ReadAhead {

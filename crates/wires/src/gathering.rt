@@ -1,12 +1,14 @@
-//! A wire that gathers: it reads ahead of the session, and what is written waits until it is sent together, or until a
-//! slow client takes it. It stands in front of a wire that never waits, as that of a client that came over TCP.
-ghost use Rattle.std.specs.Prelude.{◌≡◌, refl, ◌<◌, ◌↔◌, ◌⊎◌, [], true, false, length, IfOk, IfErr, IsTrue};
+//! A wire that gathers: it reads ahead of the session, asks for more less often than the session does, and what is
+//! written waits until it is sent together, or until a slow client takes it. It stands in front of a wire that never
+//! waits, as that of a client that came over TCP.
+ghost use Rattle.std.specs.Prelude.{◌≡◌, refl, ◌<◌, ◌≤◌, ◌↔◌, ◌⊎◌, [], true, false, length, IfOk, IfErr, IsTrue};
 ghost use Rattle.wires.specs.Wires.{ReadTells, WriteTells, nothings_of};
-ghost use Rattle.wires.specs.GatheringWires.{told_gathering, below_of, ahead_of, waiting_of, late_of, broken_of, IsFresh, HoldsSame};
-ghost use Rattle.wires.specs.GatheringWires.{holding, rested, ReadsGathering, CountsLate, Writes, Sends};
+ghost use Rattle.wires.specs.Gatherings.{IfGot};
+ghost use Rattle.wires.specs.GatheringWires.{told_gathering, below_of, ahead_of, waiting_of, quiet_of, late_of, broken_of, IsFresh, HoldsSame, HoldsElse};
+ghost use Rattle.wires.specs.GatheringWires.{holding, rested, skipped_of, MaySkip, ReadsGathering, CountsLate, Writes, Sends};
 ghost use Rattle.wires.specs.declared.buffers.TheConstants.{GATHERED, BACKLOG, MOST_LATE};
 
-use crate::buffers::{BACKLOG, CAUGHT_UP, MOST_LATE, ReadAhead, Waiting};
+use crate::buffers::{BACKLOG, CAUGHT_UP, MOST_LATE, MOST_SKIPPED, ReadAhead, Waiting};
 use crate::client::{ClientWire, DirectWire};
 use crate::counts::{Counts, Nothings};
 use crate::flushed::Flushed;
@@ -15,13 +17,17 @@ use std::alloc::{AllocFailed, Global};
 use std::marker::Model;
 
 /// A wire in front of another one. A read hands out what was read ahead, and the wire below is read only where that is
-/// nothing. What is written waits: it is sent by `flush`, by `rest` where it is told to rest, and, as far as one write
-/// of the wire below takes it, by a write that finds many bytes waiting. So a write never answers `Nothing`. Once a
-/// write of the wire below has failed, this one is broken: each later read and write fails. So it is once a write finds
-/// all room taken of which the wire below takes none, and where, once that was so full, too many writes in a row find
-/// that its client hasn't caught up, or once its client is given up. Bytes that wait as it is dropped are lost. It
-/// tells the bytes that the wire below tells: those that it handed out of what that gave, and those that went out or
-/// wait. Contracts see a `Gathering`.
+/// nothing. Behind a turn in which something moved the wire below isn't asked either, 32 times in a row at most: the
+/// read finds nothing then. While others' outputs come by, most turns move something, and each would ask for nothing.
+/// Behind a turn in which nothing moved the wire below is always asked, so nobody rests while bytes have come.
+///
+/// What is written waits. It is sent by `flush`, by `rest` where that is told to rest, and by a write that finds many
+/// bytes waiting, as far as one write of the wire below takes them. So a write never answers `Nothing`. Once a write of
+/// the wire below has failed, this wire is broken: each later read and write fails. The wire is broken, too, once a write
+/// finds all room taken of which the wire below takes none. And so it is where, once that was so full, too many writes in
+/// a row find that its client hasn't caught up, or once its client is given up. Bytes that wait as the wire is dropped are
+/// lost. The wire tells the bytes that the wire below tells: those that it handed out of what that gave, and those that
+/// went out or wait. Contracts see a `Gathering`.
 #[derive(Drop)]
 pub struct GatheringWire<W: Wire + Drop> {
     below: W,
@@ -29,6 +35,7 @@ pub struct GatheringWire<W: Wire + Drop> {
     waiting: Waiting,
     counts: Counts,
     quiet: bool,
+    skipped: u32,
     late: u32,
     broken: bool,
 }
@@ -45,6 +52,7 @@ impl<W: Wire + Drop> Model for GatheringWire<W> {
       waiting = g.waiting;
       counts = g.counts;
       quiet = g.quiet;
+      skipped = g.skipped;
       late = g.late;
       broken = g.broken;
     } };
@@ -68,6 +76,7 @@ impl<W: Wire + Drop> GatheringWire<W> {
             waiting,
             counts: Counts::new(),
             quiet: true,
+            skipped: 0,
             late: 0,
             broken: false,
         })
@@ -98,6 +107,30 @@ impl<W: Wire + Drop> GatheringWire<W> {
         self.broken
     }
 
+    /// Whether the next read asks nobody: nothing is held ahead, the last turn moved something, and not too many reads
+    /// in a row have asked nobody.
+    fn is_skipping(&self) -> bool
+        ensures { IsTrue result ↔ MaySkip (quiet_of self.now) (ahead_of self.now) (skipped_of self.now) }
+    {
+        !self.quiet && self.skipped < MOST_SKIPPED && self.ahead.is_empty()
+    }
+
+    /// Reads where it isn't broken.
+    fn read(&mut self, buf: &mut [u8]) -> TryRead
+        requires { 0 < length buf.old }
+        ensures reads { ReadsGathering (quiet_of self.old) (holding W.tells self.old) (holding W.tells self.new) buf.new result }
+        ensures count { IfGot result (λ n. (1 ≤ n) × (n ≤ length buf.new)) }
+        ensures held { 0 < length (ahead_of self.old) → below_of self.new ≡ below_of self.old }
+        ensures others { HoldsElse self.old self.new }
+    {
+        if self.is_skipping() {
+            self.skipped += 1;
+            return TryRead::Nothing;
+        }
+        self.skipped = 0;
+        self.ahead.read(&mut self.below, buf)
+    }
+
     /// Sends what waits, as far as the wire below takes it, and says whether it sends nothing more: nothing waits, or
     /// it is broken.
     fn send_waiting(&mut self) -> bool
@@ -120,14 +153,14 @@ impl<W: Wire + Drop> Wire for GatheringWire<W> {
         requires { 0 < length buf.old }
         ensures tells { ReadTells (told_gathering W.tells self.old) (told_gathering W.tells self.new) buf.new result }
         ensures reads { broken_of self.old ≡ false →
-            ReadsGathering (holding W.tells self.old) (holding W.tells self.new) buf.new result }
+            ReadsGathering (quiet_of self.old) (holding W.tells self.old) (holding W.tells self.new) buf.new result }
         ensures held { 0 < length (ahead_of self.old) → below_of self.new ≡ below_of self.old }
         ensures fails { broken_of self.old ≡ true → (result ≡ TryRead.Failed) × HoldsSame self.old self.new }
     {
         let answer = if self.broken {
             TryRead::Failed
         } else {
-            self.ahead.read(&mut self.below, buf)
+            self.read(buf)
         };
         self.counts.count_read(answer);
         answer

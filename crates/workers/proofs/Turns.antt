@@ -3,8 +3,7 @@ use Rattle.std.proofs.Common.{◌≡◌, ◌∙◌, ◌⊎◌, inl, inr, ℕ, ze
 use Rattle.std.proofs.Common.{arith, ap, sym, subst, refl, add-one}
 use Rattle.workers.specs.declared.worker.Outcome.{Outcome}
 use Rattle.workers.specs.declared.worker.Outcome.TheVariants.{Worked, Moved, Idle, Pressed, Over}
-use Rattle.workers.specs.declared.rest.Pause.{Pause}
-use Rattle.workers.specs.Resting.{has_more}
+use Rattle.workers.specs.Resting.{Moments, has_more}
 use Rattle.workers.specs.declared.worker.Ended.{Ended}
 use Rattle.workers.specs.declared.worker.Ended.TheVariants as ended
 use Rattle.workers.specs.Working.{Thread, TurnAndRest, TakesTurns, Ends}
@@ -28,15 +27,14 @@ module _ {W : Type 0} (took : Outcome → W → W → Type 0) where
       subst (λ (o : Outcome). took o mid new) (is_over outcome (sym is ∙ ends)) turn
 
 -- the turns without the rests
-module _ {W P : Type 0} (took : Outcome → W → W → Type 0) (paused : Pause → P → P → Type 0)
-    (parked : ℕ → Bool → P → P → Type 0) (told : Type 0) where
-  turns_alone : (k : ℕ) (old new : Thread W P) → TakesTurns (TurnAndRest took paused parked) k old new
+module _ {W P : Type 0} (took : Outcome → W → W → Type 0) (m : Moments P) (told : Type 0) where
+  turns_alone : (k : ℕ) (old new : Thread W P) → TakesTurns (TurnAndRest took m) k old new
       → TakesTurns took k old.worker new.worker
   turns_alone zero old new same = ap (λ (t : Thread W P). t.worker) same
   turns_alone (suc k) old new (mid, before, (outcome, goes, turn)) =
       (mid.worker, turns_alone k old mid before, (outcome, goes, turn.takes))
 
-  pub ends_alone : (why : Ended) (old new : Thread W P) → Ends (TurnAndRest took paused parked) told why old new
+  pub ends_alone : (why : Ended) (old new : Thread W P) → Ends (TurnAndRest took m) told why old new
       → Ends took told why old.worker new.worker
   ends_alone ended.Over old new (k, mid, before, turn) = (k, mid.worker, turns_alone k old mid before, turn.takes)
   ends_alone ended.Told old new (has, (k, turns)) = (has, (k, turns_alone k old new turns))

@@ -1,12 +1,11 @@
 -- The turns of a worker, with the rests of its thread between them, and why they ended.
-use Rattle.std.specs.Prelude.{◌≡◌, ℕ, zero, suc, ◌-◌, ◌^◌, Bool, true}
+use Rattle.std.specs.Prelude.{◌≡◌, ℕ, zero, suc, ◌-◌, ◌^◌, true}
 use Rattle.workers.specs.declared.worker.Outcome.{Outcome}
 use Rattle.workers.specs.declared.worker.Outcome.TheVariants.{Over}
 use Rattle.workers.specs.declared.worker.Ended.{Ended}
 use Rattle.workers.specs.declared.worker.Ended.TheVariants as ended
-use Rattle.workers.specs.declared.rest.Pause.{Pause}
 use Rattle.workers.specs.declared.rest.Rest.{Rest}
-use Rattle.workers.specs.Resting.{has_more, ThreadRests}
+use Rattle.workers.specs.Resting.{Moments, has_more, ThreadRests}
 
 -- turns, each of which came to an outcome
 module _ {W : Type 0} (took : Outcome → W → W → Type 0) where
@@ -31,7 +30,7 @@ abbrev pub thread : {W P : Type 0} → W → Rest P → Thread W P
 thread worker rest = record { worker = worker; rest = rest }
 
 -- a turn, and the rest that it asks for
-pub record TurnAndRest {W P : Type 0} (took : Outcome → W → W → Type 0) (paused : Pause → P → P → Type 0)
-    (parked : ℕ → Bool → P → P → Type 0) (outcome : Outcome) (old new : Thread W P) : Type 0 where
+pub record TurnAndRest {W P : Type 0} (took : Outcome → W → W → Type 0) (m : Moments P) (outcome : Outcome)
+    (old new : Thread W P) : Type 0 where
   pub takes : took outcome old.worker new.worker
-  pub rests : ThreadRests paused parked outcome old.rest new.rest
+  pub rests : ThreadRests m outcome old.rest new.rest

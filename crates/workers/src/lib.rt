@@ -17,7 +17,7 @@ mod worker;
 pub use counted::CountedPauses;
 pub use gate::{Gate, NoGate, Station};
 pub use parking::{Parking, Parks};
-pub use rest::{Machine, Pause, Pauses, Rest};
+pub use rest::{Answer, Machine, Pause, Pauses, Rest};
 pub use signals::{Signalling, Signals};
 pub use threads::run;
 pub use worker::{Ended, Outcome, Worker, work};

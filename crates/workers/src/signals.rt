@@ -1,5 +1,5 @@
 //! What the threads of a venue tell each other beside the rings: that all of them have begun, that one rests and is to
-//! be woken, and that all are to end.
+//! be woken, that another program has a core, and that all are to end.
 ghost use Rattle.std.specs.Prelude.{◌≡◌, ◌<◌, true, false};
 ghost use Rattle.workers.specs.declared.waking.TheConstants.{PLACES};
 
@@ -38,6 +38,12 @@ pub trait Signalling {
     /// This worker did something, and rests no more: those that rest and may have work by that are woken.
     fn rouse(&self, worker: Station);
 
+    /// Until when threads are shy, as one of them told, in nanoseconds of a clock that all of them read; 0 before that.
+    fn shy_until(&self) -> u64;
+
+    /// All threads are shy until then, by that clock.
+    fn turn_shy(&self, until: u64);
+
     /// Tells all workers to end behind their turns. Those that rest are woken.
     fn stop(&self)
         ensures { stopped self.now };
@@ -58,6 +64,10 @@ pub struct Signals {
     stop: AtomicBool,
     /// A bit for each worker that rests.
     asleep: AtomicU64,
+    /// Until when threads are shy. It costs time alone where a thread reads this late, or what was told is lost: that
+    /// thread lets others run once more, or parks sooner than it has to, and is woken as ever. No worker's work and no
+    /// wake-up hangs on it.
+    shy_until: AtomicU64,
     wakers: [OnceLock<Waker>; PLACES],
 }
 
@@ -69,6 +79,7 @@ impl Signals {
             begun: AtomicU64::new(0),
             stop: AtomicBool::new(false),
             asleep: AtomicU64::new(0),
+            shy_until: AtomicU64::new(0),
             wakers: [
                 OnceLock::new(),
                 OnceLock::new(),
@@ -119,6 +130,17 @@ impl Signals {
         if resting & wakes(worker) != 0 {
             self.wake(wakes(worker));
         }
+    }
+
+    /// Until when threads are shy, as one of them told, in nanoseconds of a clock that all of them read; 0 before that.
+    pub fn shy_until(&self) -> u64 {
+        self.shy_until.load(Ordering::SeqCst)
+    }
+
+    /// All threads are shy until then, by that clock. The latest end that was told stays: of two threads that tell at
+    /// the same time, the one that was away for longer.
+    pub fn turn_shy(&self, until: u64) {
+        self.shy_until.fetch_max(until, Ordering::SeqCst);
     }
 
     /// Wakes those of these that rest, each of them once: who clears its bit wakes it.
@@ -175,6 +197,14 @@ impl Signalling for Signals {
 
     fn rouse(&self, worker: Station) {
         self.rouse(worker);
+    }
+
+    fn shy_until(&self) -> u64 {
+        self.shy_until()
+    }
+
+    fn turn_shy(&self, until: u64) {
+        self.turn_shy(until);
     }
 
     fn stop(&self) {

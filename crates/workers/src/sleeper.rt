@@ -61,6 +61,14 @@ impl<C: Clock, S: Signalling> Pauses for Sleeper<'_, C, S> {
 
     ghost parked = { λ millis woken x y. Unit {0} };
 
+    ghost snoozed = { λ time x y. Unit {0} };
+
+    ghost timed = { λ time x y. Unit {0} };
+
+    ghost asked_until = { λ until x y. Unit {0} };
+
+    ghost turned_shy = { λ until x y. Unit {0} };
+
     fn wake(&mut self) {
         self.machine.wake();
     }
@@ -70,8 +78,24 @@ impl<C: Clock, S: Signalling> Pauses for Sleeper<'_, C, S> {
         self.machine.wake();
     }
 
-    fn snooze(&mut self) {
-        self.machine.snooze();
+    fn time(&mut self) -> u64 {
+        self.machine.time()
+    }
+
+    fn shy_until(&mut self) -> u64 {
+        self.signals.shy_until()
+    }
+
+    fn turn_shy(&mut self, until: u64) {
+        self.signals.turn_shy(until);
+    }
+
+    fn spin(&mut self) {
+        self.machine.spin();
+    }
+
+    fn snooze(&mut self) -> u64 {
+        self.machine.snooze()
     }
 
     fn nap(&mut self, micros: u64) {

@@ -1,5 +1,6 @@
 //! A stage, whichever of the four it is, at its station: the thread that calls polls it until it is told to stop.
 ghost use Rattle.std.specs.Prelude.{◌≡◌};
+ghost use Rattle.workers.specs.Resting.{moments};
 ghost use Rattle.workers.specs.Working.{Ends, TurnAndRest, thread};
 ghost use Rattle.workers.specs.Polling.{outcome_of, PollsAs};
 
@@ -57,7 +58,8 @@ fn poll_on<P: Pauses, Q: Gate, R, S: Stage<R>, G: Signalling>(
     requires { S.sits rings.now stage.old }
     ensures sits { S.sits rings.now stage.new }
     ensures goes { S.goes rings.now stage.old stage.new }
-    ensures ends { Ends (TurnAndRest (PollsAs (S.polled rings.now)) P.paused P.parked) (G.told signals.now) result
+    ensures ends { let m = moments P.paused P.parked P.snoozed P.timed P.asked_until P.turned_shy in
+        Ends (TurnAndRest (PollsAs (S.polled rings.now)) m) (G.told signals.now) result
         (thread stage.old rest.old) (thread stage.new rest.new) }
 {
     for polls in 0..u64::MAX {

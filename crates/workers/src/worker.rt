@@ -1,6 +1,7 @@
 //! A worker, a gateway at the rings, and the loop in which it takes its turns (Disruptor: an event processor). A stage
 //! has a loop of its own, in station.rt.
 ghost use Rattle.std.specs.Prelude.{◌≡◌};
+ghost use Rattle.workers.specs.Resting.{moments};
 ghost use Rattle.workers.specs.Working.{Ends, TurnAndRest, thread};
 
 use crate::gate::{Gate, Station};
@@ -80,8 +81,8 @@ fn work_on<P: Pauses, Q: Gate, W: Worker, S: Signalling>(
     signals: &S,
 ) -> Ended
     ensures goes { W.goes worker.old worker.new }
-    ensures ends { Ends (TurnAndRest W.took P.paused P.parked) (S.told signals.now) result
-        (thread worker.old rest.old) (thread worker.new rest.new) }
+    ensures ends { Ends (TurnAndRest W.took (moments P.paused P.parked P.snoozed P.timed P.asked_until P.turned_shy))
+        (S.told signals.now) result (thread worker.old rest.old) (thread worker.new rest.new) }
 {
     for turns in 0..u64::MAX {
         if signals.say_stop() {

@@ -5,7 +5,7 @@ ghost use Rattle.book.specs.Standing.{Below};
 
 use book::{Book, MOST_OUTPUTS};
 use fix_orders::body_of;
-use std::alloc::Global;
+use std::alloc::{AllocError, Global};
 use std::test::Fail;
 use venue_model::{
     Command, LONGEST_MESSAGE, Limits, MOST_GATEWAYS, NewOrderSingle, OrdType,
@@ -90,11 +90,17 @@ pub fn abc() -> Result<Symbol, Fail> {
 
 /// The limits of a venue with these symbols.
 pub fn limits(alloc: Global, symbols: &[&str]) -> Result<Limits, Fail> {
+    let names = names_of(alloc, symbols)?;
+    Ok(Limits::new(alloc, &names)?)
+}
+
+/// The names of these symbols, or of what is to be refused as one.
+pub fn names_of(alloc: Global, symbols: &[&str]) -> Result<Vec<String>, AllocError> {
     let mut names = Vec::with_capacity(alloc, symbols.len())?;
     for symbol in symbols {
         names.push(String::from_str(alloc, symbol)?)?;
     }
-    Ok(Limits::new(alloc, &names)?)
+    Ok(names)
 }
 
 /// The empty book of a venue that trades ABC alone.
@@ -143,11 +149,28 @@ pub fn told(alloc: Global, book: &mut Book, asks: &[Ask]) -> Result<Vec<Output>,
     let mut out = room_for_told(alloc)?;
     let mut all = Vec::new(alloc);
     for place in 0..asks.len() {
-        let command = command_of(symbol, &asks[place]);
-        ask(book, place as u64, asks[place].0, &command, &mut out)?;
-        all.extend_from_slice(&out)?;
+        let sequence = place as u64;
+        add_told(book, sequence, symbol, &asks[place], &mut out, &mut all)?;
     }
     Ok(all)
+}
+
+/// Puts what the book tells of a request at this sequence behind all that it has told.
+fn add_told(
+    book: &mut Book,
+    sequence: u64,
+    symbol: Symbol,
+    request: &Ask,
+    out: &mut Vec<Output>,
+    all: &mut Vec<Output>,
+) -> Result<(), Fail>
+    requires { Below sequence book.old.state.orders }
+    ensures { OnOk result (Below (sequence + 1) book.new.state.orders) }
+{
+    let command = command_of(symbol, request);
+    ask(book, sequence, request.0, &command, out)?;
+    all.extend_from_slice(out)?;
+    Ok(())
 }
 
 /// Whether the outputs are these reports. The first one's place in the list of all outputs is `first`, from 0.

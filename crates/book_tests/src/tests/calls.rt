@@ -1,21 +1,15 @@
 //! Limits, and the book that has just been made: what each call answers.
 
-use crate::tests::asking::{abc, abc_book, limits};
-use book::RestoreFault;
+use crate::tests::asking::{abc, abc_book, limits, names_of};
+use book::{Book, RestoreFault};
 use std::alloc::Global;
 use std::test::Fail;
 use venue_model::{Limits, LimitsFault, Order, Side, Symbol};
 
 /// Why these are no symbols of a venue, if they are none.
 fn fault_of(alloc: Global, symbols: &[&str]) -> Result<Option<LimitsFault>, Fail> {
-    let mut names = Vec::new(alloc);
-    for symbol in symbols {
-        names.push(String::from_str(alloc, symbol)?)?;
-    }
-    match Limits::new(alloc, &names) {
-        Ok(_) => Ok(None),
-        Err(fault) => Ok(Some(fault)),
-    }
+    let names = names_of(alloc, symbols)?;
+    Ok(Limits::new(alloc, &names).err())
 }
 
 #[test]
@@ -35,23 +29,29 @@ fn symbols_refused(rt: HostRuntime) -> Result<(), Fail> {
     Ok(())
 }
 
+/// Whether the symbols have these names, one for each.
+fn are_named(symbols: &[Symbol], names: &[&[u8]]) -> bool {
+    symbols.len() == names.len()
+        && symbols
+            .iter()
+            .zip(names)
+            .all(|(symbol, name)| symbol.as_bytes() == *name)
+}
+
 #[test]
 fn symbols_in_order(rt: HostRuntime) -> Result<(), Fail> {
     let limits = limits(rt.alloc(), &["X1", "ABC", "ABD"])?;
     let names: [&[u8]; 3] = [b"X1", b"ABC", b"ABD"];
-    assert_eq!(rt; limits.symbols().len(), 3);
+    assert!(rt; are_named(limits.symbols(), &names));
     assert_eq!(rt; limits.cut(), 0);
-    for (symbol, name) in limits.symbols().iter().zip(names) {
-        assert!(rt; symbol.as_bytes() == name);
-    }
     Ok(())
 }
 
 #[test]
 fn symbols_known(rt: HostRuntime) -> Result<(), Fail> {
-    let limits = limits(rt.alloc(), &["X1", "ABC"])?;
     let symbol = abc()?;
     let other = Symbol::new(b"AB").ok_or("no symbol")?;
+    let limits = limits(rt.alloc(), &["X1", "ABC"])?;
     assert!(rt; limits.has(&symbol));
     assert!(rt; !limits.has(&other));
     Ok(())
@@ -60,10 +60,12 @@ fn symbols_known(rt: HostRuntime) -> Result<(), Fail> {
 #[test]
 fn empty_book(rt: HostRuntime) -> Result<(), Fail> {
     let book = abc_book(rt.alloc())?;
-    assert_eq!(rt; book.resting(), 0);
-    assert_eq!(rt; book.reads(), 0);
-    assert!(rt; book.after(None).is_none());
+    assert!(rt; is_empty(&book));
     Ok(())
+}
+
+fn is_empty(book: &Book) -> bool {
+    book.resting() == 0 && book.reads() == 0 && book.after(None).is_none()
 }
 
 #[test]
@@ -94,14 +96,11 @@ fn order(side: Side, price: u64, symbol: Symbol) -> Order {
 #[test]
 fn orders_that_cross(rt: HostRuntime) -> Result<(), Fail> {
     let other = Symbol::new(b"X1").ok_or("no symbol")?;
-    let bid = order(Side::Buy, 50, abc()?);
-    for (side, price, symbol, crosses) in [
-        (Side::Sell, 50, abc()?, true),
-        (Side::Sell, 51, abc()?, false),
-        (Side::Buy, 50, abc()?, false),
-        (Side::Sell, 50, other, false),
-    ] {
-        assert_eq!(rt; bid.crosses(&order(side, price, symbol)), crosses);
-    }
+    let abc = abc()?;
+    let bid = order(Side::Buy, 50, abc);
+    assert!(rt; bid.crosses(&order(Side::Sell, 50, abc)));
+    assert!(rt; !bid.crosses(&order(Side::Sell, 51, abc)));
+    assert!(rt; !bid.crosses(&order(Side::Buy, 50, abc)));
+    assert!(rt; !bid.crosses(&order(Side::Sell, 50, other)));
     Ok(())
 }

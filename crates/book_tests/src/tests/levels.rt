@@ -70,22 +70,44 @@ fn first_two(levels: &Levels, symbol: &Symbol) -> Option<(Place, Place)>
     Some((first, second))
 }
 
+/// Whether both are found by price and time, none behind them, and none on the other side.
+fn are_found(full: &Full, symbol: &Symbol) -> bool {
+    let Some((first, second)) = first_two(&full.levels, symbol) else {
+        return false;
+    };
+    first == full.earlier && second == full.later && is_last(&full.levels, symbol, second)
+}
+
+fn is_last(levels: &Levels, symbol: &Symbol, place: Place) -> bool
+    requires { get_or levels.now place.number None ≢ None }
+{
+    levels.after(place).is_none() && levels.best(symbol, Side::Sell).is_none()
+}
+
+/// Whether the later order is read, and its read is counted.
+fn later_is_read(full: &Full, symbol: &Symbol) -> bool {
+    let Some((_, second)) = first_two(&full.levels, symbol) else {
+        return false;
+    };
+    let mut reads = full.counter.begin();
+    full.levels.get(second, &mut reads).id == 2 && reads.count() == 1
+}
+
+/// Whether the earlier order leaves, and the later one is the best then.
+fn earlier_leaves(full: &mut Full, symbol: &Symbol) -> bool {
+    let Some((first, second)) = first_two(&full.levels, symbol) else {
+        return false;
+    };
+    full.levels.unlink(first).id == 1 && full.levels.best(symbol, Side::Buy) == Some(second)
+}
+
 #[test]
 fn two_orders_in_levels(rt: HostRuntime) -> Result<(), Fail> {
     let symbol = abc()?;
-    let full = full_levels(rt.alloc(), symbol)?;
-    let mut levels = full.levels;
-    let mut reads = full.counter.begin();
-    let Some((first, second)) = first_two(&levels, &symbol) else {
-        return Err(Fail::from("no two orders"));
-    };
-    assert!(rt; first == full.earlier && second == full.later);
-    assert!(rt; levels.after(second).is_none());
-    assert!(rt; levels.best(&symbol, Side::Sell).is_none());
-    assert_eq!(rt; levels.crossing_total(&symbol, Side::Sell, 50), 20);
-    assert_eq!(rt; levels.get(second, &mut reads).id, 2);
-    assert_eq!(rt; reads.count(), 1);
-    assert_eq!(rt; levels.unlink(first).id, 1);
-    assert!(rt; levels.best(&symbol, Side::Buy) == Some(second));
+    let mut full = full_levels(rt.alloc(), symbol)?;
+    assert!(rt; are_found(&full, &symbol));
+    assert_eq!(rt; full.levels.crossing_total(&symbol, Side::Sell, 50), 20);
+    assert!(rt; later_is_read(&full, &symbol));
+    assert!(rt; earlier_leaves(&mut full, &symbol));
     Ok(())
 }

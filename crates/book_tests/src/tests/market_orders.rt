@@ -1,5 +1,5 @@
 //! Worked days of market orders, the messages of such orders that are rejected, and the cut from which on there are any.
-ghost use Rattle.std.specs.Prelude.{◌≡◌};
+ghost use Rattle.std.specs.Prelude.{◌+◌, OnOk};
 ghost use Rattle.book.specs.Standing.{Below};
 
 use crate::tests::asking::{Kind, Told, abc_book, are_told, ask, limits, room_for_told};
@@ -10,7 +10,7 @@ use book::{Book, BookLogic};
 use fix_orders::decode;
 use std::alloc::{AllocError, Global};
 use std::test::Fail;
-use venue_model::{Command, Side};
+use venue_model::{Command, Output, Side};
 
 const MARKET_ORDER_ALONE: Row = Row {
     asks: &[(1, Day, Buy, 100, 0, 1)],
@@ -144,11 +144,31 @@ fn bytes_of(alloc: Global, text: &[u8]) -> Result<Vec<u8>, AllocError> {
 
 /// Whether an empty book tells C1 this alone of a message.
 fn is_answer(alloc: Global, text: &[u8], body: &'static [u8]) -> Result<bool, Fail> {
+    let command = command_in(alloc, text)?;
     let mut book = abc_book(alloc)?;
     let mut out = room_for_told(alloc)?;
-    let command = decode(&bytes_of(alloc, text)?, true);
-    ask(&mut book, 0, 1, &command, &mut out)?;
-    Ok(are_told(&out, 0, &[(1, body)]))
+    tells(&mut book, 0, &command, &mut out, &[(1, body)])
+}
+
+/// The command of a message, whose market orders are read.
+fn command_in(alloc: Global, text: &[u8]) -> Result<Command, AllocError> {
+    let bytes = bytes_of(alloc, text)?;
+    Ok(decode(&bytes, true))
+}
+
+/// Whether a book tells these reports of C1's command at this sequence, where each earlier one told one.
+fn tells(
+    book: &mut Book,
+    sequence: u64,
+    command: &Command,
+    out: &mut Vec<Output>,
+    reports: &[Told],
+) -> Result<bool, Fail>
+    requires { Below sequence book.old.state.orders }
+    ensures { OnOk result (Below (sequence + 1) book.new.state.orders) }
+{
+    ask(book, sequence, 1, command, out)?;
+    Ok(are_told(out, sequence, reports))
 }
 
 #[test]
@@ -180,14 +200,44 @@ fn is_new(command: &Command) -> bool {
 }
 
 /// Whether the book of a logic tells these reports of the market order, which it reads twice.
-fn reads_twice(alloc: Global, logic: &BookLogic) -> Result<bool, Fail> {
-    let bytes = bytes_of(alloc, MARKET_ORDER)?;
+fn reads_twice(alloc: Global, logic: &BookLogic, bytes: &[u8]) -> Result<bool, Fail> {
     let mut book = Book::of(alloc, *logic)?;
     let mut out = room_for_told(alloc)?;
-    ask(&mut book, 0, 1, &logic.read(0, &bytes), &mut out)?;
-    let is_rejected = are_told(&out, 0, BELOW_THE_CUT);
-    ask(&mut book, 1, 1, &logic.read(1, &bytes), &mut out)?;
-    Ok(is_rejected && are_told(&out, 1, FROM_THE_CUT_ON))
+    tells_twice(&mut book, logic, bytes, &mut out)
+}
+
+fn tells_twice(
+    book: &mut Book,
+    logic: &BookLogic,
+    bytes: &[u8],
+    out: &mut Vec<Output>,
+) -> Result<bool, Fail>
+    requires { Below 0 book.old.state.orders }
+{
+    let is_rejected = tells_of(book, logic, 0, bytes, out, BELOW_THE_CUT)?;
+    let is_told = tells_of(book, logic, 1, bytes, out, FROM_THE_CUT_ON)?;
+    Ok(is_rejected && is_told)
+}
+
+/// Whether a book tells these reports of C1's message, as the logic reads the message at this sequence.
+fn tells_of(
+    book: &mut Book,
+    logic: &BookLogic,
+    sequence: u64,
+    bytes: &[u8],
+    out: &mut Vec<Output>,
+    reports: &[Told],
+) -> Result<bool, Fail>
+    requires { Below sequence book.old.state.orders }
+    ensures { OnOk result (Below (sequence + 1) book.new.state.orders) }
+{
+    let command = logic.read(sequence, bytes);
+    tells(book, sequence, &command, out, reports)
+}
+
+/// Whether the message is a new order from the cut on alone.
+fn is_new_from_the_cut_on(logic: &BookLogic, bytes: &[u8]) -> bool {
+    !is_new(&logic.read(0, bytes)) && is_new(&logic.cut_at(0).read(0, bytes))
 }
 
 #[test]
@@ -196,9 +246,8 @@ fn market_orders_from_the_cut_on(rt: HostRuntime) -> Result<(), Fail> {
     let limits = limits(alloc, &["ABC"])?.cut_at(1);
     assert_eq!(rt; limits.cut(), 1);
     let logic = BookLogic::of(&limits);
-    assert!(rt; reads_twice(alloc, &logic)?);
     let bytes = bytes_of(alloc, MARKET_ORDER)?;
-    assert!(rt; !is_new(&logic.read(0, &bytes)));
-    assert!(rt; is_new(&logic.cut_at(0).read(0, &bytes)));
+    assert!(rt; reads_twice(alloc, &logic, &bytes)?);
+    assert!(rt; is_new_from_the_cut_on(&logic, &bytes));
     Ok(())
 }

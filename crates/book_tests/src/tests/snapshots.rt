@@ -1,5 +1,5 @@
 //! A book that a snapshot spells: it lists the same orders, and goes on as the one that it was taken of.
-ghost use Rattle.std.specs.Prelude.{◌≡◌};
+ghost use Rattle.std.specs.Prelude.{IfOk, OnOk};
 ghost use Rattle.book.specs.Standing.{Below};
 
 use crate::tests::asking::{
@@ -11,7 +11,7 @@ use Side::{Buy, Sell};
 use book::{Book, BookLogic, RestoreFault, Restored};
 use std::alloc::Global;
 use std::test::Fail;
-use venue_model::{Order, Side};
+use venue_model::{Limits, Order, Side};
 
 /// A day behind which three orders rest, one of them filled in part, and C3 has a greatest ClOrdID and none.
 const DAY: [Ask; 7] = [
@@ -36,26 +36,43 @@ const SALE: Ask = (5, Day, Sell, 100, 1, 1);
 /// The snapshot of the day's book.
 fn snapshot_of(alloc: Global, book: &Book, outputs: usize) -> Result<Vec<u8>, Fail> {
     let mut bytes = vec![in alloc; 0_u8; LONG]?;
-    if book.resting() != 3 {
-        return Err(Fail::from("other orders"));
+    if put_snapshot(book, outputs, &mut bytes) {
+        Ok(bytes)
+    } else {
+        Err(Fail::from("other orders"))
     }
-    let _ = book.snapshot(7, outputs as u64, &mut bytes);
-    Ok(bytes)
+}
+
+/// Writes the snapshot of the day's book into a buffer of its length. Answers whether three orders rest there.
+fn put_snapshot(book: &Book, outputs: usize, bytes: &mut [u8]) -> bool {
+    if book.resting() != 3 || bytes.len() != LONG {
+        return false;
+    }
+    let _ = book.snapshot(7, outputs as u64, bytes);
+    true
 }
 
 /// Whether both are the same order.
 fn is_same(one: &Order, other: &Order) -> bool {
+    has_same_names(one, other) && has_same_terms(one, other) && has_same_fills(one, other)
+}
+
+fn has_same_names(one: &Order, other: &Order) -> bool {
     one.id == other.id
         && one.client == other.client
         && one.cl_ord_id == other.cl_ord_id
-        && one.symbol.is(&other.symbol)
+        && one.stamp == other.stamp
+}
+
+fn has_same_terms(one: &Order, other: &Order) -> bool {
+    one.symbol.is(&other.symbol)
         && one.side == other.side
         && one.is_market == other.is_market
         && one.price == other.price
-        && one.total == other.total
-        && one.cum == other.cum
-        && one.notional == other.notional
-        && one.stamp == other.stamp
+}
+
+fn has_same_fills(one: &Order, other: &Order) -> bool {
+    one.total == other.total && one.cum == other.cum && one.notional == other.notional
 }
 
 /// The order that a book lists next behind this one, or first.
@@ -89,16 +106,62 @@ fn list_the_same(book: &Book, other: &Book) -> bool {
     true
 }
 
+/// The book behind the day, how many outputs it told, and its snapshot.
+#[derive(Drop)]
+struct Evening {
+    book: Book,
+    outputs: usize,
+    bytes: Vec<u8>,
+}
+
+fn end_of_day(alloc: Global) -> Result<Evening, Fail>
+    ensures { IfOk result (λ e. Below 7 e.book.state.orders) }
+{
+    let mut book = abc_book(alloc)?;
+    let outputs = count_told(alloc, &mut book)?;
+    let bytes = snapshot_of(alloc, &book, outputs)?;
+    Ok(Evening {
+        book,
+        outputs,
+        bytes,
+    })
+}
+
+/// Asks the empty book the day's requests, and counts the outputs that it tells.
+fn count_told(alloc: Global, book: &mut Book) -> Result<usize, Fail>
+    requires { Below 0 book.old.state.orders }
+    ensures { OnOk result (Below 7 book.new.state.orders) }
+{
+    let out = told(alloc, book, &DAY)?;
+    Ok(out.len())
+}
+
+/// The book that a snapshot spells.
+fn restored_of(alloc: Global, bytes: &[u8]) -> Result<Book, Fail> {
+    let limits = limits(alloc, &["ABC"])?;
+    match restored_with(alloc, bytes, &limits) {
+        Some(book) => Ok(book),
+        None => Err(Fail::from("not restored")),
+    }
+}
+
+fn restored_with(alloc: Global, bytes: &[u8], limits: &Limits) -> Option<Book> {
+    Book::restore(alloc, bytes, limits).ok()
+}
+
+/// Whether the snapshot of a book has these bytes.
+fn has_snapshot(alloc: Global, book: &Book, outputs: usize, bytes: &[u8]) -> Result<bool, Fail> {
+    let its_bytes = snapshot_of(alloc, book, outputs)?;
+    Ok(&its_bytes[..] == bytes)
+}
+
 #[test]
 fn restored_lists_the_same(rt: HostRuntime) -> Result<(), Fail> {
-    let alloc = rt.alloc();
-    let mut book = abc_book(alloc)?;
-    let out = told(alloc, &mut book, &DAY)?;
-    let bytes = snapshot_of(alloc, &book, out.len())?;
-    let restored = Book::restore(alloc, &bytes, &limits(alloc, &["ABC"])?)?;
-    assert!(rt; list_the_same(&book, &restored));
+    let evening = end_of_day(rt.alloc())?;
+    let restored = restored_of(rt.alloc(), &evening.bytes)?;
+    assert!(rt; list_the_same(&evening.book, &restored));
     assert_eq!(rt; restored.reads(), 0);
-    assert!(rt; snapshot_of(alloc, &restored, out.len())? == bytes);
+    assert!(rt; has_snapshot(rt.alloc(), &restored, evening.outputs, &evening.bytes)?);
     Ok(())
 }
 
@@ -114,49 +177,75 @@ fn tell_the_same(
     requires other { Below sequence other.old.state.orders }
 {
     let command = command_of(abc()?, request);
-    let (mut out, mut its_out) = (room_for_told(alloc)?, room_for_told(alloc)?);
+    let mut out = room_for_told(alloc)?;
+    let mut its_out = room_for_told(alloc)?;
     ask(book, sequence, request.0, &command, &mut out)?;
     ask(other, sequence, request.0, &command, &mut its_out)?;
     Ok(are_same(&out, &its_out))
 }
 
+/// The book that a snapshot spells, where the counts behind it are those of the day.
+fn restored_behind(alloc: Global, evening: &Evening) -> Result<Book, Fail>
+    ensures { IfOk result (λ b. Below 7 b.state.orders) }
+{
+    let logic = abc_logic(alloc)?;
+    let restored = Restored::of(alloc, &evening.bytes, logic)?;
+    if restored.commands == 7 && restored.outputs == evening.outputs as u64 {
+        Ok(restored.book)
+    } else {
+        Err(Fail::from("other counts"))
+    }
+}
+
+/// The logic of a venue that trades ABC alone.
+fn abc_logic(alloc: Global) -> Result<BookLogic, Fail> {
+    let limits = limits(alloc, &["ABC"])?;
+    Ok(BookLogic::of(&limits))
+}
+
 #[test]
 fn restored_goes_on(rt: HostRuntime) -> Result<(), Fail> {
-    let alloc = rt.alloc();
-    let mut book = abc_book(alloc)?;
-    let out = told(alloc, &mut book, &DAY)?;
-    let bytes = snapshot_of(alloc, &book, out.len())?;
-    let logic = BookLogic::of(&limits(alloc, &["ABC"])?);
-    let mut restored = Restored::of(alloc, &bytes, logic)?;
-    if restored.commands != 7 || restored.outputs != out.len() as u64 {
-        return Err(Fail::from("other counts"));
-    }
-    assert!(rt; tell_the_same(alloc, &mut book, &mut restored.book, 7, &SALE)?);
-    assert!(rt; list_the_same(&book, &restored.book));
+    let mut evening = end_of_day(rt.alloc())?;
+    let mut restored = restored_behind(rt.alloc(), &evening)?;
+    assert!(rt; tell_the_same(rt.alloc(), &mut evening.book, &mut restored, 7, &SALE)?);
+    assert!(rt; list_the_same(&evening.book, &restored));
     Ok(())
 }
 
 /// Whether the bytes are refused as no snapshot.
 fn are_refused(alloc: Global, bytes: &[u8]) -> Result<bool, Fail> {
-    match Book::restore(alloc, bytes, &limits(alloc, &["ABC"])?) {
-        Ok(_) => Ok(false),
-        Err(fault) => Ok(fault == RestoreFault::BadSnapshot),
+    let limits = limits(alloc, &["ABC"])?;
+    Ok(is_no_snapshot(alloc, bytes, &limits))
+}
+
+fn is_no_snapshot(alloc: Global, bytes: &[u8], limits: &Limits) -> bool {
+    match Book::restore(alloc, bytes, limits) {
+        Ok(_) => false,
+        Err(fault) => fault == RestoreFault::BadSnapshot,
     }
+}
+
+/// Whether the bytes are refused without the last one.
+fn are_refused_short(alloc: Global, bytes: &[u8]) -> Result<bool, Fail> {
+    match bytes.split_last() {
+        Some((_, front)) => are_refused(alloc, front),
+        None => Ok(false),
+    }
+}
+
+/// Whether the bytes are refused where this one of them is 7.
+fn are_refused_with_seven(alloc: Global, bytes: &mut [u8], place: usize) -> Result<bool, Fail> {
+    if let Some(byte) = bytes.get_mut(place) {
+        *byte = 7;
+    }
+    are_refused(alloc, bytes)
 }
 
 #[test]
 fn bad_snapshot(rt: HostRuntime) -> Result<(), Fail> {
-    let alloc = rt.alloc();
-    let mut book = abc_book(alloc)?;
-    let out = told(alloc, &mut book, &DAY)?;
-    let mut bytes = snapshot_of(alloc, &book, out.len())?;
-    assert!(rt; !are_refused(alloc, &bytes)?);
-    let last = bytes.pop();
-    assert!(rt; are_refused(alloc, &bytes)?);
-    bytes.push(last.unwrap_or(0))?;
-    if let Some(stamp) = bytes.get_mut(SECOND_STAMP) {
-        *stamp = 7;
-    }
-    assert!(rt; are_refused(alloc, &bytes)?);
+    let mut evening = end_of_day(rt.alloc())?;
+    assert!(rt; !are_refused(rt.alloc(), &evening.bytes)?);
+    assert!(rt; are_refused_short(rt.alloc(), &evening.bytes)?);
+    assert!(rt; are_refused_with_seven(rt.alloc(), &mut evening.bytes, SECOND_STAMP)?);
     Ok(())
 }

@@ -1,5 +1,6 @@
 //! The book and a plain list are asked the same, by chance: they tell the same, and the book reads no more than it says.
-ghost use Rattle.std.specs.Prelude.{◌+◌, OnOk};
+ghost use Rattle.std.specs.Prelude.{◌≡◌, ◌+◌, IfOk, OnOk};
+ghost use Rattle.venue_model.specs.Step.{empty};
 ghost use Rattle.book.specs.Standing.{Below};
 
 use crate::tests::asking::{ask, limits, room_for_told};
@@ -8,6 +9,7 @@ use crate::tests::plain_book::PlainBook;
 use crate::tests::tally::Tally;
 use book::Book;
 use fix_orders::body_of;
+use std::alloc::Global;
 use std::test::Fail;
 use venue_model::{Command, ExecType, LONGEST_MESSAGE, MOST_RESTING, Output, Report, Symbol};
 
@@ -24,6 +26,19 @@ struct Beside {
 }
 
 impl Beside {
+    /// The empty list of a venue with these symbols, and nothing told yet.
+    fn new(alloc: Global, symbols: &[Symbol]) -> Result<Beside, Fail> {
+        let plain = PlainBook::new(alloc, symbols)?;
+        let out = room_for_told(alloc)?;
+        let plainly = room_for_told(alloc)?;
+        Ok(Beside {
+            plain,
+            out,
+            plainly,
+            tally: Tally::new(),
+        })
+    }
+
     /// Asks the book and the list the same, and compares what they tell. For a new order the book reads no more orders
     /// than it fills, and one.
     fn ask(
@@ -55,6 +70,13 @@ impl Beside {
         self.tally.count(&self.plainly);
         Ok(())
     }
+
+    /// Whether as many orders rest in the book as in the list, but fewer than can, and each kind was told thirty times.
+    fn is_at_the_end(&self, book: &Book) -> bool {
+        book.resting() == self.plain.orders.len()
+            && book.resting() < MOST_RESTING
+            && self.tally.least() >= 30
+    }
 }
 
 /// Whether two lists of outputs are the same, in all that clients are told.
@@ -67,14 +89,25 @@ pub fn are_same(some: &[Output], others: &[Output]) -> bool {
 }
 
 fn is_same(one: &Output, other: &Output) -> bool {
-    let mut body = [0; LONGEST_MESSAGE];
-    let mut other_body = [0; LONGEST_MESSAGE];
-    let end = body_of(one, 1, &mut body);
-    let other_end = body_of(other, 1, &mut other_body);
-    one.to == other.to
-        && one.cause == other.cause
-        && one.sending_time == other.sending_time
-        && body[..end] == other_body[..other_end]
+    goes_with(one, other) && bodies_are_same(one, other)
+}
+
+/// Whether both go to the same client, at the same time, and come of the same command.
+fn goes_with(one: &Output, other: &Output) -> bool {
+    one.to == other.to && one.cause == other.cause && one.sending_time == other.sending_time
+}
+
+fn bodies_are_same(one: &Output, other: &Output) -> bool {
+    let mut buf = [0; LONGEST_MESSAGE];
+    let end = body_of(one, 1, &mut buf);
+    has_body(other, &buf[..end])
+}
+
+/// Whether an output's body has these bytes.
+fn has_body(output: &Output, body: &[u8]) -> bool {
+    let mut buf = [0; LONGEST_MESSAGE];
+    let end = body_of(output, 1, &mut buf);
+    &buf[..end] == body
 }
 
 /// How many of the outputs tell of a fill of a resting order.
@@ -111,20 +144,29 @@ fn symbols() -> Result<[Symbol; 4], Fail> {
     Ok([one, two, three, other])
 }
 
+/// The empty book of the venue that trades the first three.
+fn book_of_three(alloc: Global) -> Result<Book, Fail>
+    ensures { IfOk result (λ b. b.state ≡ empty) }
+{
+    let limits = limits(alloc, &["ABC", "ABD", "X1"])?;
+    Ok(Book::new(alloc, &limits)?)
+}
+
+/// Asks the empty book and a list beside it. Answers whether as many orders rest in both then, but fewer than can, and
+/// each kind of output was told thirty times.
+fn told_the_same(alloc: Global, book: &mut Book) -> Result<bool, Fail>
+    requires { Below 0 book.old.state.orders }
+{
+    let symbols = symbols()?;
+    let mut beside = Beside::new(alloc, &symbols[..3])?;
+    let mut chance = Chance::new(symbols);
+    ask_many(book, &mut beside, &mut chance)?;
+    Ok(beside.is_at_the_end(book))
+}
+
 #[test]
 fn two_books(rt: HostRuntime) -> Result<(), Fail> {
-    let alloc = rt.alloc();
-    let symbols = symbols()?;
-    let mut book = Book::new(alloc, &limits(alloc, &["ABC", "ABD", "X1"])?)?;
-    let mut beside = Beside {
-        plain: PlainBook::new(alloc, &symbols[..3])?,
-        out: room_for_told(alloc)?,
-        plainly: room_for_told(alloc)?,
-        tally: Tally::new(),
-    };
-    ask_many(&mut book, &mut beside, &mut Chance::new(symbols))?;
-    assert_eq!(rt; book.resting(), beside.plain.orders.len());
-    assert!(rt; beside.tally.least() >= 30);
-    assert!(rt; book.resting() < MOST_RESTING);
+    let mut book = book_of_three(rt.alloc())?;
+    assert!(rt; told_the_same(rt.alloc(), &mut book)?);
     Ok(())
 }

@@ -1,5 +1,5 @@
 //! Worked days of limit orders: requests, and all reports that come of them.
-ghost use Rattle.std.specs.Prelude.{◌≡◌, IfOk};
+ghost use Rattle.std.specs.Prelude.{◌+◌, IfOk, OnOk};
 ghost use Rattle.book.specs.Standing.{Below};
 
 use crate::tests::asking::{
@@ -10,7 +10,7 @@ use Side::{Buy, Sell};
 use book::Book;
 use std::alloc::Global;
 use std::test::Fail;
-use venue_model::{MOST_RESTING, Output, Side};
+use venue_model::{MOST_RESTING, Output, Side, Symbol};
 
 /// A day's requests, and what is told of them.
 #[derive(Clone, Copy)]
@@ -407,11 +407,33 @@ fn full_book(alloc: Global, out: &mut Vec<Output>) -> Result<Book, Fail>
 {
     let symbol = abc()?;
     let mut book = abc_book(alloc)?;
-    for turn in 0..4_096_u64 {
-        let buy = command_of(symbol, &(1, Day, Buy, 1, 1, turn + 1));
-        ask(&mut book, turn, 1, &buy, out)?;
-    }
+    fill(&mut book, symbol, out)?;
     Ok(book)
+}
+
+/// Fills the empty book with buys of 1 at 1.
+fn fill(book: &mut Book, symbol: Symbol, out: &mut Vec<Output>) -> Result<(), Fail>
+    requires { Below 0 book.old.state.orders }
+    ensures { OnOk result (Below 4096 book.new.state.orders) }
+{
+    for turn in 0..4_096_u64 {
+        buy_one(book, symbol, turn, out)?;
+    }
+    Ok(())
+}
+
+/// Asks at this sequence for a buy of 1 at 1.
+fn buy_one(
+    book: &mut Book,
+    symbol: Symbol,
+    sequence: u64,
+    out: &mut Vec<Output>,
+) -> Result<(), Fail>
+    requires { Below sequence book.old.state.orders }
+    ensures { OnOk result (Below (sequence + 1) book.new.state.orders) }
+{
+    let buy = command_of(symbol, &(1, Day, Buy, 1, 1, sequence.wrapping_add(1)));
+    ask(book, sequence, 1, &buy, out)
 }
 
 /// Asks the full book these requests. The first one reads no order, and the second one two at most.

@@ -163,20 +163,29 @@ fn expect_piece<A: Abort, W: Wire>(rt: &A, wire: &mut W, bytes: &[u8], from: usi
     expect_read(rt, wire, TryRead::Nothing);
 }
 
-#[test]
-fn standard_input_is_read_ahead_and_handed_out_at_rest(rt: HostRuntime) -> Result<(), Fail> {
-    let mut bytes = Vec::new(rt.alloc());
+/// 250 rows of 16 bytes each.
+fn rows_of_16(alloc: Global) -> Result<Vec<u8>, AllocError> {
+    let mut bytes = Vec::new(alloc);
     for row in 0..250 {
         bytes.extend_from_slice(&[row; 16])?;
     }
+    Ok(bytes)
+}
+
+/// Where the pieces of them begin.
+const PIECES: [usize; 8] = [0, 512, 1024, 1536, 2048, 2560, 3072, 3584];
+
+#[test]
+fn standard_input_is_read_ahead_and_handed_out_at_rest(rt: HostRuntime) -> Result<(), Fail> {
+    let bytes = rows_of_16(rt.alloc())?;
     let calls = Cell::new(0);
     let reader = Asked {
         bytes: &bytes,
         calls: &calls,
     };
     let mut wire = StdWire::new(rt.alloc(), reader, Script(&[]))?;
-    for from in [0, 512, 1024, 1536, 2048, 2560, 3072, 3584] {
-        expect_piece(&rt, &mut wire, &bytes, from);
+    for from in &PIECES {
+        expect_piece(&rt, &mut wire, &bytes, *from);
         assert_eq!(rt; calls.get(), 1);
     }
     expect_counts(&rt, &wire, 0, (16, 0));
@@ -188,38 +197,43 @@ fn standard_input_is_read_ahead_and_handed_out_at_rest(rt: HostRuntime) -> Resul
 #[test]
 fn a_session_reads_at_most_512_bytes(rt: HostRuntime) -> Result<(), Fail> {
     let mut wire = MemWire::new(rt.alloc(), &[b'0'; 1300])?;
-    for count in [512, 512, 276] {
-        let mut input = Input::new();
-        assert_eq!(rt; input.fill(&mut wire), TryRead::Got(count));
-        assert_eq!(rt; input.as_slice().len(), count);
-    }
+    assert!(rt; fills(&mut wire, 512));
+    assert!(rt; fills(&mut wire, 512));
+    assert!(rt; fills(&mut wire, 276));
     Ok(())
+}
+
+/// Whether a session reads so many bytes at once.
+fn fills(wire: &mut MemWire, count: usize) -> bool {
+    let mut input = Input::new();
+    input.fill(wire) == TryRead::Got(count) && input.as_slice().len() == count
 }
 
 #[test]
 fn a_wire_counts_what_moved_nothing(rt: HostRuntime) -> Result<(), Fail> {
     let open = MemWire::new(rt.alloc(), b"8=FIX")?.staying_open();
-    let mut full = open.full_after(7);
-    expect_read(&rt, &mut full, TryRead::Got(5));
-    expect_read(&rt, &mut full, TryRead::Nothing);
-    expect_read(&rt, &mut full, TryRead::Nothing);
-    expect_writes(
-        &rt,
-        &mut full,
-        b"8=FIX.4",
-        &[TryWrite::Put(7), TryWrite::Nothing],
-    );
-    expect_counts(&rt, &full, 0, (2, 1));
+    expect_full(&rt, &mut open.full_after(7));
     let mut breaks = MemWire::new(rt.alloc(), b"")?.breaking_after(7);
-    expect_read(&rt, &mut breaks, TryRead::End);
-    expect_writes(
-        &rt,
-        &mut breaks,
-        b"8=FIX.4",
-        &[TryWrite::Put(7), TryWrite::Failed],
-    );
-    expect_counts(&rt, &breaks, 1, (0, 0));
+    expect_breaks(&rt, &mut breaks);
     Ok(())
+}
+
+/// Five bytes come and then none, and seven are taken and then none.
+fn expect_full<A: Abort>(rt: &A, full: &mut MemWire) {
+    expect_read(rt, full, TryRead::Got(5));
+    expect_read(rt, full, TryRead::Nothing);
+    expect_read(rt, full, TryRead::Nothing);
+    let answers = [TryWrite::Put(7), TryWrite::Nothing];
+    expect_writes(rt, full, b"8=FIX.4", &answers);
+    expect_counts(rt, full, 0, (2, 1));
+}
+
+/// The client has nothing to say, and its stream breaks behind seven bytes.
+fn expect_breaks<A: Abort>(rt: &A, breaks: &mut MemWire) {
+    expect_read(rt, breaks, TryRead::End);
+    let answers = [TryWrite::Put(7), TryWrite::Failed];
+    expect_writes(rt, breaks, b"8=FIX.4", &answers);
+    expect_counts(rt, breaks, 1, (0, 0));
 }
 
 #[test]
@@ -384,6 +398,21 @@ fn what_is_written_waits_until_it_is_sent(rt: HostRuntime) -> Result<(), Fail> {
     Ok(())
 }
 
+/// Whether these are 200 rows of 1,024 bytes each, in order.
+fn are_rows(sent: &[u8]) -> bool {
+    for row in 0..200 {
+        if !is_row(sent, row) {
+            return false;
+        }
+    }
+    sent.len() == 204_800
+}
+
+fn is_row(sent: &[u8], row: u8) -> bool {
+    let from = usize::from(row) * 1024;
+    sent.get(from..from + 1024) == Some([row; 1024].as_slice())
+}
+
 #[test]
 fn a_slow_client_gets_all_in_order(rt: HostRuntime) -> Result<(), Fail> {
     let steps = [
@@ -404,12 +433,7 @@ fn a_slow_client_gets_all_in_order(rt: HostRuntime) -> Result<(), Fail> {
     }
     assert_eq!(rt; wire.below().stream().sent.len(), 193_536);
     assert!(rt; wire.flush());
-    let sent = wire.below().stream().sent.as_slice();
-    assert_eq!(rt; sent.len(), 204_800);
-    for row in 0..200 {
-        let from = usize::from(row) * 1024;
-        assert!(rt; sent.get(from..from + 1024) == Some([row; 1024].as_slice()));
-    }
+    assert!(rt; are_rows(&wire.below().stream().sent));
     expect_counts(&rt, &wire, 0, (0, 0));
     expect_counts(&rt, wire.below(), 0, (0, 2));
     Ok(())
@@ -484,15 +508,19 @@ fn is_broken<A: Abort, W: DirectWire + Drop>(rt: &A, wire: &mut GatheringWire<W>
 
 #[test]
 fn a_wire_whose_write_failed_is_broken(rt: HostRuntime) -> Result<(), Fail> {
-    for step in [Step::Fails(ErrorKind::BrokenPipe), Step::Moves(0)] {
-        let steps = [step, Step::Moves(1000)];
-        let line = Line::new(rt.alloc(), b"8=FIX.4.4", &[Step::Moves(3)], &steps);
-        let mut wire = wire_over(rt.alloc(), line)?;
-        expect_writes(&rt, &mut wire, b"8=FIX", &[TryWrite::Put(5)]);
-        is_broken(&rt, &mut wire);
-        expect_writes(&rt, &mut wire, b".4.4", &[TryWrite::Failed]);
-        assert!(rt; wire.below().stream().sent.is_empty());
-    }
+    expect_broken_at(&rt, rt.alloc(), Step::Fails(ErrorKind::BrokenPipe))?;
+    expect_broken_at(&rt, rt.alloc(), Step::Moves(0))
+}
+
+/// The first write goes so, and breaks the wire, over which nothing is sent.
+fn expect_broken_at<A: Abort>(rt: &A, alloc: Global, step: Step) -> Result<(), Fail> {
+    let steps = [step, Step::Moves(1000)];
+    let line = Line::new(alloc, b"8=FIX.4.4", &[Step::Moves(3)], &steps);
+    let mut wire = wire_over(alloc, line)?;
+    expect_writes(rt, &mut wire, b"8=FIX", &[TryWrite::Put(5)]);
+    is_broken(rt, &mut wire);
+    expect_writes(rt, &mut wire, b".4.4", &[TryWrite::Failed]);
+    assert!(rt; wire.below().stream().sent.is_empty());
     Ok(())
 }
 

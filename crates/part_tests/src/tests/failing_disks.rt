@@ -3,6 +3,7 @@
 ghost use Rattle.std.specs.Prelude.{◌≡◌, ◌≤◌, length};
 
 use super::journals::{FRESH, ONE_ENTRY};
+use disks::DiskFailed;
 use journal::{Call, Journal, JournalDisk, JournalFault, MemDisk, entries};
 use std::alloc::{AllocError, Global};
 use std::process::Abort;
@@ -40,14 +41,15 @@ const STOPS: [Cut; 4] = [
     (4, 0, [true; 4]),
 ];
 
+/// Whether both answers are 41.
+fn are_device_faults(fault: JournalFault, again: Result<(), JournalFault>) -> bool {
+    fault == JournalFault::Device && again == Err(JournalFault::Device)
+}
+
 /// Adds these entries to a journal without any, in blocks of this size, until one fails; behind that each answers 41.
-/// Gives the number of entries that were answered, and the disk.
-fn add_blocks(
-    mut journal: Journal<MemDisk>,
-    all: &[Entry],
-    size: usize,
-) -> Result<(usize, MemDisk), Fail>
-    requires empty { journal.count ≡ 0 }
+/// Gives the number of entries that were answered.
+fn add_blocks(journal: &mut Journal<MemDisk>, all: &[Entry], size: usize) -> Result<usize, Fail>
+    requires empty { journal.old.count ≡ 0 }
     requires size { (1 ≤ size) × (size ≤ 100) }
     requires few { length all.now ≤ 100 }
 {
@@ -58,15 +60,35 @@ fn add_blocks(
             break;
         }
         if let Err(fault) = journal.append(block) {
-            let again = journal.append(block);
-            if (fault, again) != (JournalFault::Device, Err(JournalFault::Device)) {
+            if !are_device_faults(fault, journal.append(block)) {
                 return Err(Fail::from("not 41"));
             }
             break;
         }
         rest = others;
     }
-    Ok((all.len().wrapping_sub(rest.len()), journal.end()))
+    Ok(all.len().wrapping_sub(rest.len()))
+}
+
+/// A fresh journal's disk, whose call of this number fails, and puts so many bytes before if that is a write.
+fn failing_disk(alloc: Global, call: usize, part: usize) -> Result<MemDisk, AllocError> {
+    let mut disk = MemDisk::new(alloc, FRESH)?;
+    disk.fail_at(call as u64, part);
+    Ok(disk)
+}
+
+/// Adds them to a journal that had no entries, and gives the number of those that were answered, and the disk.
+fn add_to_empty(
+    mut journal: Journal<MemDisk>,
+    all: &[Entry],
+    size: usize,
+) -> Result<(usize, MemDisk), Fail>
+    requires empty { journal.count ≡ 0 }
+    requires size { (1 ≤ size) × (size ≤ 100) }
+    requires few { length all.now ≤ 100 }
+{
+    let answered = add_blocks(&mut journal, all, size)?;
+    Ok((answered, journal.end()))
 }
 
 /// Adds them to a fresh journal, on a disk whose call of this number fails.
@@ -80,10 +102,8 @@ fn add_all(
     if size < 1 || 100 < size || 100 < all.len() {
         return Err(Fail::from("too many"));
     }
-    let mut disk = MemDisk::new(alloc, FRESH)?;
-    disk.fail_at(call as u64, part);
-    match Journal::open(alloc, disk) {
-        Ok((journal, base)) if base.is_empty() => add_blocks(journal, all, size),
+    match Journal::open(alloc, failing_disk(alloc, call, part)?) {
+        Ok((journal, base)) if base.is_empty() => add_to_empty(journal, all, size),
         Ok(_) => Err(Fail::from("entries in a fresh journal")),
         Err((JournalFault::Device, disk)) => Ok((0, disk)),
         Err((fault, _)) => Err(fault)?,
@@ -94,13 +114,18 @@ fn add_all(
 fn behind(alloc: Global, calls: &[Call]) -> Result<MemDisk, Fail> {
     let mut disk = MemDisk::new(alloc, FRESH)?;
     for call in calls {
-        match call {
-            Call::Read { .. } => {}
-            Call::Write { at, bytes, .. } => disk.write_at(*at, bytes)?,
-            Call::Sync { .. } => disk.sync()?,
-        }
+        make(&mut disk, call)?;
     }
     Ok(disk)
+}
+
+/// Makes a call of the disk again, other than a read.
+fn make(disk: &mut MemDisk, call: &Call) -> Result<(), DiskFailed> {
+    match call {
+        Call::Read { .. } => Ok(()),
+        Call::Write { at, bytes, .. } => disk.write_at(*at, bytes),
+        Call::Sync { .. } => disk.sync(),
+    }
 }
 
 /// Whether these entries are the first of those.
@@ -109,27 +134,43 @@ fn begin(some: &[Entry], all: &[Entry]) -> bool {
         return false;
     }
     for k in 0..some.len() {
-        if some[k].gateway() != all[k].gateway() || some[k].bytes() != all[k].bytes() {
+        if !is_same(&some[k], &all[k]) {
             return false;
         }
     }
     true
 }
 
+fn is_same(one: &Entry, other: &Entry) -> bool {
+    one.gateway() == other.gateway() && one.bytes() == other.bytes()
+}
+
+/// Whether these entries are the first of those, and but one follows.
+fn begin_before_one(some: &[Entry], all: &[Entry]) -> bool {
+    begin(some, all) && all.len() == some.len().wrapping_add(1)
+}
+
 /// How many of these entries `open` finds after a crash: they are the first ones. Another one can be added to them.
 fn found(alloc: Global, disk: &MemDisk, fill: Option<u8>, all: &[Entry]) -> Result<usize, Fail> {
-    let Ok((mut journal, found)) = Journal::open(alloc, disk.crash(fill)?) else {
+    let Ok((journal, found)) = Journal::open(alloc, disk.crash(fill)?) else {
         return Err(Fail::from("not opened"));
     };
     if all.len() < found.len() || 100 < all.len() {
         return Err(Fail::from("too many"));
     }
-    journal.append(&[Entry::new(8, b"another")])?;
-    let more = entries(alloc, &mut journal.end())?;
-    if !begin(&found, all) || !begin(&found, &more) || more.len() != found.len() + 1 {
+    let more = with_another(alloc, journal)?;
+    if !begin(&found, all) || !begin_before_one(&found, &more) {
         return Err(Fail::from("not a beginning"));
     }
     Ok(found.len())
+}
+
+/// The entries of a journal's disk behind another one that is added.
+fn with_another(alloc: Global, mut journal: Journal<MemDisk>) -> Result<Vec<Entry>, Fail>
+    requires few { journal.count ≤ 100 }
+{
+    journal.append(&[Entry::new(8, b"another")])?;
+    Ok(entries(alloc, &mut journal.end())?)
 }
 
 /// So many entries `AB` of gateway 1.
@@ -191,7 +232,8 @@ fn look_behind_fail<A: Abort>(
     let (call, part, found) = cut;
     let last = opening.wrapping_add(call);
     let (answered, disk) = add_all(alloc, block, block.len(), last, part)?;
-    assert_eq!(rt; (answered, disk.calls().len()), (0, last));
+    assert_eq!(rt; answered, 0);
+    assert_eq!(rt; disk.calls().len(), last);
     expect_finds(rt, alloc, &disk, block, found, "failed:")
 }
 
@@ -211,13 +253,34 @@ fn look_behind_stop<A: Abort>(
 fn cut_short<A: Abort>(rt: &A, alloc: Global, count: usize) -> Result<(), Fail> {
     let block = alike(alloc, count)?;
     let (_, whole) = add_all(alloc, &block, count, 0, 0)?;
-    let opening = whole.calls().len().wrapping_sub(4);
-    for cut in FAILS {
-        look_behind_fail(rt, alloc, &block, opening, cut)?;
+    look_behind_fails(rt, alloc, &block, whole.calls())?;
+    look_behind_stops(rt, alloc, &block, whole.calls())
+}
+
+/// Looks behind each first append of the block of which a call fails, where the whole one makes these.
+fn look_behind_fails<A: Abort>(
+    rt: &A,
+    alloc: Global,
+    block: &[Entry],
+    whole: &[Call],
+) -> Result<(), Fail> {
+    for cut in &FAILS {
+        look_behind_fail(rt, alloc, block, whole.len().wrapping_sub(4), *cut)?;
     }
-    for (call, _, found) in STOPS {
-        let calls = whole.calls().get(..opening.wrapping_add(call));
-        look_behind_stop(rt, alloc, &block, calls.ok_or("calls")?, found)?;
+    Ok(())
+}
+
+/// Looks behind each first append of the block in which the program stops, where the whole one makes these calls.
+fn look_behind_stops<A: Abort>(
+    rt: &A,
+    alloc: Global,
+    block: &[Entry],
+    whole: &[Call],
+) -> Result<(), Fail> {
+    let opening = whole.len().wrapping_sub(4);
+    for (call, _, found) in &STOPS {
+        let calls = whole.get(..opening.wrapping_add(*call)).ok_or("calls")?;
+        look_behind_stop(rt, alloc, block, calls, *found)?;
     }
     Ok(())
 }
@@ -331,13 +394,26 @@ fn look_behind_call<A: Abort>(
     call: usize,
     before: usize,
 ) -> Result<(), Fail> {
-    for part in [0, 1, 8] {
-        let (answered, disk) = add_all(alloc, all, 2, call, part)?;
-        assert_eq!(rt; (answered, disk.calls().len()), (before, call));
-        let kept = are_kept(alloc, &disk, answered, all)?;
+    for part in &[0, 1, 8] {
+        let kept = is_kept_behind(alloc, all, call, *part, before)?;
         assert!(rt; kept, "{call} failed");
     }
     Ok(())
+}
+
+/// Whether so many entries are answered where this call fails behind so many bytes, and a crash keeps them.
+fn is_kept_behind(
+    alloc: Global,
+    all: &[Entry],
+    call: usize,
+    part: usize,
+    before: usize,
+) -> Result<bool, Fail> {
+    let (answered, disk) = add_all(alloc, all, 2, call, part)?;
+    if answered != before || disk.calls().len() != call {
+        return Ok(false);
+    }
+    are_kept(alloc, &disk, answered, all)
 }
 
 /// A crash behind these calls keeps the entries that were answered by then.
@@ -368,12 +444,22 @@ fn answered_blocks_are_kept(rt: HostRuntime) -> Result<(), Fail> {
     let all = of_all_blocks(rt.alloc())?;
     let (answered, whole) = add_all(rt.alloc(), &all, 2, 0, 0)?;
     assert_eq!(rt; answered, 2 * BLOCKS);
-    let opening = whole.calls().len().wrapping_sub(4 * BLOCKS);
-    for call in 1..=whole.calls().len() {
+    look_behind_each(&rt, rt.alloc(), &all, whole.calls())
+}
+
+/// Looks behind each of the calls that add all blocks: it fails, or the program stops behind it.
+fn look_behind_each<A: Abort>(
+    rt: &A,
+    alloc: Global,
+    all: &[Entry],
+    whole: &[Call],
+) -> Result<(), Fail> {
+    let opening = whole.len().wrapping_sub(4 * BLOCKS);
+    for call in 1..=whole.len() {
         let before = 2 * ((call - 1).saturating_sub(opening) / 4);
-        look_behind_call(&rt, rt.alloc(), &all, call, before)?;
+        look_behind_call(rt, alloc, all, call, before)?;
         let answered = 2 * (call.saturating_sub(opening) / 4);
-        look_behind_calls(&rt, rt.alloc(), &all, &whole.calls()[..call], answered)?;
+        look_behind_calls(rt, alloc, all, &whole[..call], answered)?;
     }
     Ok(())
 }

@@ -1,12 +1,14 @@
-//! The numbers of refused claims and of the reasons for which a session ends.
+//! The numbers of refused claims, of a processor that can't be made, and of the reasons for which a session ends.
 use gateway::Reason;
 use sequencer::ClaimRefusal;
+use stages::ProcessorError;
 
 #[test]
 fn numbers_of_refusals(rt: HostRuntime) {
     assert_eq!(rt; ClaimRefusal::Full.number(), 31);
     assert_eq!(rt; ClaimRefusal::Contended.number(), 32);
     assert_eq!(rt; ClaimRefusal::Exhausted.number(), 33);
+    assert_eq!(rt; ProcessorError::Memory.number(), 12);
 }
 
 #[test]

@@ -7,104 +7,16 @@ ghost use Rattle.std.specs.Thread.{IsSync};
 
 use super::staff::Staff;
 use super::trading::Seat;
-use super::waiting::nap;
 use small_venue::crew::open_venue;
+use small_venue::meeting::{Entrance, Meeting};
 use small_venue::member::{Member, next_two};
 use small_venue::venue::TestRings;
 use std::alloc::Global;
 use std::rt::Clock;
-use std::sync::atomic::{AtomicBool, Ordering};
 use std::test::Fail;
 use std::thread::{Threads, join};
 use venue_model::LONGEST_MESSAGE;
 use workers::{Ended, Gate, Outcome, Parks, Signals, Station, Worker, run, work};
-
-/// How often a worker looks for the others before it gives up: for ten seconds and more.
-const MOST_LOOKS: u64 = 150_000;
-
-/// Where the six workers meet: a flag for each, and whether one of them waited in vain.
-#[derive(Drop)]
-struct Meeting {
-    here: [AtomicBool; 6],
-    in_vain: AtomicBool,
-}
-
-impl Meeting {
-    fn new() -> Meeting {
-        Meeting {
-            here: [
-                AtomicBool::new(false),
-                AtomicBool::new(false),
-                AtomicBool::new(false),
-                AtomicBool::new(false),
-                AtomicBool::new(false),
-                AtomicBool::new(false),
-            ],
-            in_vain: AtomicBool::new(false),
-        }
-    }
-
-    /// Sets the worker's flag.
-    fn come(&self, worker: Station) {
-        let place = match worker {
-            Station::Unmarshaller => 0,
-            Station::Journaller => 1,
-            Station::Processor => 2,
-            Station::Marshaller => 3,
-            Station::Gateway(1) => 4,
-            Station::Gateway(_) => 5,
-        };
-        self.here[place].store(true, Ordering::SeqCst);
-    }
-
-    /// Whether all are here.
-    fn is_full(&self) -> bool {
-        let mut all = true;
-        for flag in &self.here {
-            all = all && flag.load(Ordering::SeqCst);
-        }
-        all
-    }
-
-    /// Whether all are here, or one waited in vain.
-    fn is_over(&self) -> bool {
-        self.is_full() || self.in_vain.load(Ordering::SeqCst)
-    }
-
-    /// Whether all came while the others waited. Who waited in vain lets the others come behind it.
-    fn was_held(&self) -> bool {
-        self.is_full() && !self.in_vain.load(Ordering::SeqCst)
-    }
-
-    /// Comes, and waits for the others.
-    fn wait<C: Clock>(&self, clock: &C, worker: Station) {
-        self.come(worker);
-        for _ in 0..MOST_LOOKS {
-            if self.is_over() {
-                return;
-            }
-            nap(clock);
-        }
-        self.in_vain.store(true, Ordering::SeqCst);
-    }
-}
-
-/// The gate before a worker's first turn, where it waits for the others.
-#[derive(Drop)]
-struct Entrance<'a, C: Clock> {
-    clock: &'a C,
-    meeting: &'a Meeting,
-}
-
-impl<C: Clock> Gate for Entrance<'_, C> {
-    fn enter(&self, worker: Station, seq: u64) {
-        if seq == 0 {
-            self.meeting.wait(self.clock, worker);
-        }
-    }
-
-    fn leave(&self, _worker: Station, _seq: u64) {}
-}
 
 /// A gateway that looks for an output once.
 #[derive(Drop)]

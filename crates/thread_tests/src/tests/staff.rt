@@ -6,7 +6,7 @@ ghost use Rattle.std.specs.Thread.{IsSync};
 use super::waiting::{TRIES, nap};
 use journal::NullDisk;
 use small_venue::venue::TestRings;
-use stages::{Crew, Journaller, Marshaller, Processor, Stage, Turn, Unmarshaller};
+use stages::{Crew, Journaller, Marshaller, Processor, Stage, Turn, Turns, Unmarshaller};
 use std::rt::Clock;
 use std::sync::atomic::{AtomicBool, Ordering};
 use std::thread::{Threads, join};
@@ -99,7 +99,18 @@ pub fn work_all<T: Threads + Clock + Sync, const N: usize, const M: usize, const
     }
 }
 
-/// Polls all four on this thread, until the day is over.
+/// Whether one of the stages got on. The processor doesn't where the output ring is full, and isn't idle then.
+fn got_on(turns: &Turns) -> bool {
+    let all = [
+        turns.unmarshaller,
+        turns.journaller,
+        turns.processor,
+        turns.marshaller,
+    ];
+    all.iter().any(|turn| matches!(turn, Turn::Did(_)))
+}
+
+/// Polls all four on this thread until the day is over, and sleeps where none of them got on.
 fn poll_all<C: Clock, const N: usize, const M: usize, const G: usize>(
     clock: &C,
     rings: &TestRings<N, M, G>,
@@ -113,7 +124,7 @@ fn poll_all<C: Clock, const N: usize, const M: usize, const G: usize>(
         if over.load(Ordering::SeqCst) {
             return staff;
         }
-        if staff.poll(rings).are_idle() {
+        if !got_on(&staff.poll(rings)) {
             nap(clock);
         }
     }

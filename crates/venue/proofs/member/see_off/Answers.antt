@@ -1,14 +1,28 @@
 -- The client that leaves was gone on with.
-use Rattle.std.proofs.Common.{◌≡◌, ◌∙◌, Bool, false, refl, ap, sym, subst, Option, Some}
+use Rattle.std.proofs.Common.{◌≡◌, ◌∙◌, Bool, false, not, refl, ap, sym, subst, Option, Some, None}
 use Rattle.venue.specs.Leaving.{told_leaving, LeavesOn, IsSeenOff, GoesOnLeaving}
 use Rattle.venue.specs.declared.leaving.Leaving.{Leaving}
 use Rattle.venue.specs.Trading.{TradesOn, HasClient}
 use Rattle.venue.specs.TradingLaws.{no_turn}
-use Rattle.venue.proofs.MemberTurns.{at_door, waited_for, has_left, nobody_there}
+use Rattle.venue.proofs.MemberTurns.{at_door, waited_for, has_left, nobody_there, none_is}
 use Rattle.wires.specs.Clients.{ShutsLast}
 use Rattle.wires.specs.Ports.{Register}
 use Rattle.wires.specs.Wires.{Told}
 use Rattle.venue.proofs.member.see_off.Goals as goal
+
+pub returns-then-is_none : goal.returns-then-is_none
+returns-then-is_none g c =
+    let desk = c.args.desk.now in let rings = c.args.rings.now in
+    let tells = g.W.Wire.tells in let told = told_leaving tells in
+    let w = g.W.ClientWire in let flushed = w.flushed in let shuts = ShutsLast w.holds w.failed w.was_shut in
+    let register = g.X.Port.tells c.args.port.now in
+    let none : desk.leaving ≡ None = none_is desk.leaving (c.is_none.ensures ∙ ap not c.if-is_none.true) in record {
+      goes = no_turn rings (at_door desk.acceptor (told desk.leaving) register);
+      at = c.requires.at;
+      one = c.requires.one;
+      off = subst (λ (l : Option (Leaving _)). IsSeenOff tells flushed shuts l desk.leaving) (sym none) none;
+      others = (refl, refl);
+    }
 
 pub returns-in_default : goal.returns-in_default
 returns-in_default g c =

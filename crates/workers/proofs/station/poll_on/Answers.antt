@@ -1,5 +1,6 @@
 -- Poll by poll.
 use Rattle.std.proofs.Common.{refl, arith, inl, inr}
+use Rattle.workers.specs.Resting.{moments}
 use Rattle.workers.specs.Working.{TurnAndRest}
 use Rattle.workers.specs.Polling.{PollsAs}
 use Rattle.workers.proofs.Turns.{one_more, the_last, one_on, some_on}
@@ -15,7 +16,9 @@ loop-polls-preserved g c =
     let rested = c.goes_on.ensures in record {
       sits = polled.sits;
       goes = inr (one_on (g.S.Stage.goes c.args.rings.now) (g.S.Stage.further _) _ _ _ _ before.goes polled.goes);
-      turns = one_more (TurnAndRest (PollsAs (g.S.Stage.polled c.args.rings.now)) g.P.Pauses.paused g.P.Pauses.parked)
+      turns = one_more (TurnAndRest (PollsAs (g.S.Stage.polled c.args.rings.now))
+          (moments g.P.Pauses.paused g.P.Pauses.parked g.P.Pauses.snoozed g.P.Pauses.timed
+          g.P.Pauses.asked_until g.P.Pauses.turned_shy))
           c.loop-polls.polls _ _ _
           c.poll_at-outcome.result c.goes_on.result before.turns
           (record { takes = polled.polled; rests = rested.rests }) rested.goes_on c.if-not-goes_on.false;
@@ -33,7 +36,9 @@ returns-then-not-goes_on-clause-ends g c =
       _,
       _,
       c.loop-polls.invariant.turns,
-      the_last (TurnAndRest (PollsAs (g.S.Stage.polled c.args.rings.now)) g.P.Pauses.paused g.P.Pauses.parked) _ _
+      the_last (TurnAndRest (PollsAs (g.S.Stage.polled c.args.rings.now))
+          (moments g.P.Pauses.paused g.P.Pauses.parked g.P.Pauses.snoozed g.P.Pauses.timed
+          g.P.Pauses.asked_until g.P.Pauses.turned_shy)) _ _
           c.poll_at-outcome.result c.goes_on.result (record { takes = polled.polled; rests = rested.rests })
           rested.goes_on c.if-not-goes_on.true,
     )
@@ -50,7 +55,9 @@ returns-then-say_stop-clause-ends g c =
       c.say_stop.ensures c.if-say_stop.true,
       (
         _,
-        one_more (TurnAndRest (PollsAs (g.S.Stage.polled c.args.rings.now)) g.P.Pauses.paused g.P.Pauses.parked)
+        one_more (TurnAndRest (PollsAs (g.S.Stage.polled c.args.rings.now))
+            (moments g.P.Pauses.paused g.P.Pauses.parked g.P.Pauses.snoozed g.P.Pauses.timed
+            g.P.Pauses.asked_until g.P.Pauses.turned_shy))
             c.loop-polls.polls _ _ _
             c.poll_at-outcome.result c.goes_on.result c.loop-polls.invariant.turns
             (record { takes = polled.polled; rests = rested.rests }) rested.goes_on c.if-not-goes_on.false,

@@ -1,5 +1,6 @@
 -- Turn by turn.
 use Rattle.std.proofs.Common.{refl, arith}
+use Rattle.workers.specs.Resting.{moments}
 use Rattle.workers.specs.Working.{TurnAndRest}
 use Rattle.workers.proofs.Turns.{one_more, the_last}
 use Rattle.workers.proofs.worker.work_on.Goals as goal
@@ -13,7 +14,9 @@ loop-turns-preserved g c =
     let turned = c.turn_at-outcome.ensures in
     let rested = c.goes_on.ensures in record {
       goes = g.W.Worker.further _ _ _ before.goes turned.goes;
-      turns = one_more (TurnAndRest g.W.Worker.took g.P.Pauses.paused g.P.Pauses.parked) c.loop-turns.turns _ _ _
+      turns = one_more (TurnAndRest g.W.Worker.took
+          (moments g.P.Pauses.paused g.P.Pauses.parked g.P.Pauses.snoozed g.P.Pauses.timed
+          g.P.Pauses.asked_until g.P.Pauses.turned_shy)) c.loop-turns.turns _ _ _
           c.turn_at-outcome.result c.goes_on.result before.turns (record { takes = turned.took; rests = rested.rests })
           rested.goes_on c.if-not-goes_on.false;
     }
@@ -25,7 +28,10 @@ returns-then-not-goes_on-clause-ends g c =
       _,
       _,
       c.loop-turns.invariant.turns,
-      the_last (TurnAndRest g.W.Worker.took g.P.Pauses.paused g.P.Pauses.parked) _ _ c.turn_at-outcome.result
+      the_last (TurnAndRest g.W.Worker.took
+          (moments g.P.Pauses.paused g.P.Pauses.parked g.P.Pauses.snoozed g.P.Pauses.timed
+          g.P.Pauses.asked_until g.P.Pauses.turned_shy)) _ _
+          c.turn_at-outcome.result
           c.goes_on.result (record { takes = turned.took; rests = rested.rests }) rested.goes_on c.if-not-goes_on.true,
     )
 

@@ -14,6 +14,7 @@ returns-clause-fresh g c =
     let told = g.W.Wire.tells c.args.below in record {
       ahead = c.in-Ok-Ok.ensures;
       waiting = c.in-Ok-Ok.ensures';
+      skipped = refl;
       late = refl;
       broken = refl;
       told = fresh_told told.gave told.took c.in-Ok-Ok.ahead c.in-Ok-Ok.waiting c.new-3.result c.in-Ok-Ok.ensures
