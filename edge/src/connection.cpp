@@ -1,5 +1,6 @@
 #include "connection.h"
 
+#include <poll.h>
 #include <sys/socket.h>
 
 #include <algorithm>
@@ -16,20 +17,25 @@ bool Connection::read() {
     return look == Inbox::Look::Some || look == Inbox::Look::None;
 }
 
+bool Connection::isReadable() const {
+    pollfd it{socket_.get(), POLLIN, 0};
+    return ::poll(&it, 1, 0) > 0;
+}
+
 bool Connection::next(std::string &message) {
-    const std::size_t size = messageSize(in_.bytes(), in_.at(), longest_);
-    if (!size) return false;
-    message.assign(in_.data(), size);
-    in_.take(size);
+    const Sight &sight = framer_.look(in_.data(), in_.size());
+    if (sight.passed) passedOver_.add(in_.data(), sight.passed);
+    in_.take(sight.passed);
+    if (sight.kind == Framer::None) return false;
+    message.assign(in_.data(), sight.size);
+    in_.take(sight.size);
     return true;
 }
 
 bool Connection::send(const std::string &message) {
     if (isEnding_) return false;
-    out_ += message;
+    out_ += writing_(message);
     if (isResending_) most_ = std::max(most_, unsent() + base_);
-    if (isFirst_ && !write()) return false;  // The first one at once, those behind it in one go.
-    isFirst_ = false;
     return true;
 }
 
@@ -38,13 +44,8 @@ bool Connection::isOverfull() const {
 }
 
 bool Connection::flush() {
-    isFirst_ = true;
-    return write();
-}
-
-bool Connection::write() {
-    while (at_ < out_.size()) {
-        const ssize_t done = ::send(socket_.get(), out_.data() + at_, out_.size() - at_, MSG_NOSIGNAL);
+    while (at_ < released_) {
+        const ssize_t done = ::send(socket_.get(), out_.data() + at_, released_ - at_, MSG_NOSIGNAL);
         if (done < 0 && errno == EINTR) continue;
         if (done < 0 && errno == EAGAIN) break;
         if (done < 0) return false;
@@ -52,10 +53,11 @@ bool Connection::write() {
     }
     if (at_ == out_.size()) {
         out_.clear();
-        at_ = 0;
+        at_ = released_ = 0;
         most_ = base_;
     } else if (at_ >= DONE) {
         out_.erase(0, at_);
+        released_ -= at_;
         at_ = 0;
     }
     return true;

@@ -3,33 +3,60 @@
 #include <quickfix/Responder.h>
 
 #include <cstddef>
+#include <functional>
 #include <string>
 
 #include "descriptor.h"
-#include "frames.h"
+#include "framer.h"
 #include "inbox.h"
+#include "passed_over.h"
 
 namespace edge {
 
-/// A client's connection, and what is to be written to it: the session's way out. No call of it waits. What a client
-/// doesn't take is kept up to a bound, behind which the connection ends: its session's store has all of it.
+/// A client's connection, and what is to be written to it: the session's way out. No call of it waits. Nothing is
+/// written before it is released, behind the commit of what it rests on. What a client doesn't take is kept up to a
+/// bound, behind which the connection ends: its session's store has all of it.
 class Connection : public FIX::Responder {
 public:
-    Connection(Descriptor socket, const std::string &read, std::size_t longest, std::size_t mostUnsent)
-        : socket_(std::move(socket)), longest_(longest), base_(mostUnsent), most_(mostUnsent) {
+    /// What is written of a message that the session sends.
+    using Writing = std::function<std::string(const std::string &)>;
+
+    Connection(Descriptor socket, const std::string &read, std::size_t longest, std::size_t mostUnsent, Writing writing)
+        : socket_(std::move(socket)),
+          framer_(longest),
+          passedOver_(longest),
+          base_(mostUnsent),
+          most_(mostUnsent),
+          writing_(std::move(writing)) {
         in_.put(read);
     }
 
     /// Reads once. Whether the client is still there.
     bool read();
 
-    /// Takes the next whole message out of what was read; false where there is none yet. Throws BadBytes.
+    /// Takes the next message out of what was read; false where there is none yet. What stands in front of it, and is
+    /// none, is passed over.
     bool next(std::string &message);
+
+    /// What has found that message, and lists its fields until the next one is taken.
+    const Framer &framer() const { return framer_; }
+
+    /// What can't be read of this client.
+    PassedOver &passedOver() { return passedOver_; }
+
+    /// Whether there is something to be read.
+    bool isReadable() const;
 
     /// Whether more was read than what has been taken.
     bool hasMore() const { return in_.size(); }
 
-    /// Writes what it can. Whether the client is still there.
+    /// Lets all that was sent so far be written.
+    void release() { released_ = out_.size(); }
+
+    /// Forgets what was sent and not released.
+    void drop() { out_.resize(released_); }
+
+    /// Writes what it can of what was released. Whether the client is still there.
     bool flush();
 
     bool send(const std::string &message) override;
@@ -46,16 +73,16 @@ public:
     std::size_t unsent() const { return out_.size() - at_; }
 
 private:
-    bool write();
-
     Descriptor socket_;
     Inbox in_;
+    Framer framer_;
+    PassedOver passedOver_;
     std::string out_;
-    std::size_t at_ = 0;  // So much of `out_` has been written.
-    const std::size_t longest_, base_;
+    std::size_t at_ = 0, released_ = 0;  // So much of `out_` has been written, and may be.
+    const std::size_t base_;
     std::size_t most_;
+    const Writing writing_;
     bool isEnding_ = false, isResending_ = false;
-    bool isFirst_ = true;  // Nothing has been written since the last flush.
 };
 
 }

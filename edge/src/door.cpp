@@ -3,24 +3,26 @@
 #include <arpa/inet.h>
 #include <netinet/tcp.h>
 #include <poll.h>
+#include <quickfix/FixFieldNumbers.h>
 #include <sys/socket.h>
 
-#include <algorithm>
 #include <cerrno>
 #include <thread>
 #include <vector>
 
-#include "fields.h"
+#include "canonical.h"
+#include "guests.h"
 #include "lines.h"
 
 namespace edge {
 
 namespace {
 
-constexpr std::size_t GUESTS = 64;  // Clients that haven't said who they are.
 constexpr std::chrono::seconds PATIENCE(10);
 constexpr std::chrono::milliseconds TURN(200);
+constexpr int AT_ONCE = 16;  // Clients that are taken in before the others are looked at again.
 constexpr std::size_t PIECE = 4096;
+constexpr std::size_t MOST_LOOKED = 1 << 20;  // With each piece all before it are looked at again: that takes time.
 constexpr int SILENCE = 30;  // Seconds behind which the system asks whether a client's machine is still there.
 // Of what is written to a client: else the system holds megabytes that nobody counts.
 constexpr int SYSTEMS_ROOM = 1 << 18;
@@ -48,15 +50,15 @@ Descriptor listener(const std::string &host, int port) {
 }
 
 Door::Door(FIX::Application &application, FIX::MessageStoreFactory &stores, const Settings &settings,
-           FIX::LogFactory &logs, const Members &members)
-    : FIX::Acceptor(application, stores, settings.library, logs), settings_(settings), members_(members) {
-    for (const MemberSettings &member : settings.members) longest_ = std::max(longest_, member.limits.messageBytes);
-}
+           FIX::LogFactory &logs, Member &member)
+    : FIX::Acceptor(application, stores, settings.library, logs),
+      settings_(settings),
+      member_(member),
+      framer_(settings.member.limits.messageBytes) {}
 
 void Door::onInitialize(const FIX::SessionSettings &) throw(FIX::RuntimeError) {
     try {
-        for (const MemberSettings &member : settings_.members)
-            if (!listeners_.count(member.port)) listeners_.emplace(member.port, listener(settings_.host, member.port));
+        listener_ = listener(settings_.host, settings_.member.port);
     } catch (const std::runtime_error &why) {
         throw FIX::RuntimeError(why.what());
     }
@@ -78,30 +80,33 @@ void Door::onStop() {}
 void Door::turn() {
     std::vector<pollfd> all;
     const bool admits = Clock::now() >= admitAt_;
-    for (const auto &it : listeners_) all.push_back({it.second.get(), static_cast<short>(admits ? POLLIN : 0), 0});
+    all.push_back({listener_.get(), static_cast<short>(admits ? POLLIN : 0), 0});
     for (const Guest &it : guests_) all.push_back({it.socket.get(), POLLIN, 0});
     ::poll(all.data(), all.size(), static_cast<int>(TURN.count()));
-    std::size_t at = listeners_.size();
+    std::size_t at = 1;
     for (auto it = guests_.begin(); it != guests_.end(); at++) {
         const bool isOver = (all[at].revents && isDone(*it)) || Clock::now() - it->since > PATIENCE;
         if (isOver && it->socket) say("", "a client from " + it->from + " is let go: it didn't log on");
         it = isOver ? guests_.erase(it) : std::next(it);
     }
-    at = 0;
-    for (const auto &it : listeners_)
-        if (all[at++].revents) admit(it.second.get(), it.first);
+    for (int count = 0; all[0].revents && count < AT_ONCE && admit(); count++) {}
+    sayCounts();
 }
 
-void Door::admit(int listener, int port) {
+/// Takes a client in, or refuses it; false where there is none.
+bool Door::admit() {
     sockaddr_in address{};
     socklen_t size = sizeof address;
-    Descriptor socket(::accept4(listener, reinterpret_cast<sockaddr *>(&address), &size, SOCK_NONBLOCK | SOCK_CLOEXEC));
+    Descriptor socket(
+        ::accept4(listener_.get(), reinterpret_cast<sockaddr *>(&address), &size, SOCK_NONBLOCK | SOCK_CLOEXEC));
     if (!socket) {
-        if (errno == EAGAIN || errno == ECONNABORTED || errno == EINTR) return;
+        if (errno == EAGAIN || errno == ECONNABORTED || errno == EINTR) return false;
         say("", "no client can be taken in: " + reason());
         admitAt_ = Clock::now() + TURN;
-        return;
+        return false;
     }
+    const std::string from = placeOf(address);
+    if (!makeRoom(address.sin_addr.s_addr, from)) return true;
     const auto set = [&socket](int level, int name, int value) {
         ::setsockopt(socket.get(), level, name, &value, sizeof value);
     };
@@ -110,11 +115,22 @@ void Door::admit(int listener, int port) {
     set(SOL_SOCKET, SO_KEEPALIVE, 1);  // A session without heartbeats ends with the client's machine, too.
     set(IPPROTO_TCP, TCP_KEEPIDLE, SILENCE);
     set(IPPROTO_TCP, TCP_KEEPINTVL, SILENCE / 3);
-    if (guests_.size() == GUESTS) {  // Who says at once who it is finds room, whoever else waits here.
-        say("", "a client from " + guests_.front().from + " is let go: too many wait to log on");
-        guests_.pop_front();
-    }
-    guests_.push_back(Guest{std::move(socket), "", placeOf(address), port, Clock::now()});
+    guests_.push_back(Guest{std::move(socket), address.sin_addr.s_addr, "", from, Clock::now()});
+    return true;
+}
+
+/// Whether one more client from this address finds room, or is let go.
+bool Door::makeRoom(std::uint32_t address, const std::string &from) {
+    std::vector<Waiting> waiting;
+    waiting.reserve(guests_.size());
+    for (const Guest &it : guests_) waiting.push_back({it.address, it.since});
+    const Guests room(waiting, address, Clock::now());
+    if (room.way() == Guests::Way::Free) return true;
+    const auto who = std::next(guests_.begin(), static_cast<long>(room.place()));
+    const bool isRefused = room.way() == Guests::Way::Refused;
+    say("", "a client from " + (isRefused ? from : who->from) + " is let go: too many wait to log on", 1);
+    if (!isRefused) guests_.erase(who);
+    return !isRefused;
 }
 
 /// Reads what a guest says: whether it goes, to its member or away. One that goes to its member leaves no socket here.
@@ -134,22 +150,50 @@ bool Door::isDone(Guest &guest) {
 }
 
 bool Door::greet(Guest &guest) {
-    const std::size_t size = messageSize(guest.bytes, 0, longest_);
-    if (!size) return false;
-    if (handOver(guest)) return true;
-    say("", "a client from " + guest.from + " is let go, whose first message is no Logon of a member: " +
-                shown(masked(guest.bytes.substr(0, size))));
+    guest.looked += guest.bytes.size();
+    if (guest.looked > MOST_LOOKED) throw BadBytes("its first message comes in too many pieces");
+    const Sight &sight = framer_.look(guest.bytes.data(), guest.bytes.size());
+    if (sight.passed) throw BadBytes("what came is no FIX message, or too long a one");
+    if (sight.kind == Framer::None) return false;
+    const std::string first = guest.bytes.substr(0, sight.size);
+    const Judged logon(first, framer_);
+    if (!logon.isGood()) throw BadBytes("its first message can't be read: " + logon.why());
+    if (isOfMember(logon)) handOver(guest, logon);
+    else
+        say("", "a client from " + guest.from +
+                    " is let go, whose first message is no Logon of a member: " + shown(masked(first)));
     guest.socket.reset();
     return true;
 }
 
-bool Door::handOver(Guest &guest) {
-    const Fields first(guest.bytes.data(), guest.bytes.size(), '\1');
-    const FIX::SessionID session(first.text(8), first.text(56), first.text(49));
-    const auto found = members_.find(session);
-    if (first.text(35) != "A" || found == members_.end() || found->second->settings().port != guest.port) return false;
-    found->second->hand(std::move(guest.socket), guest.bytes, guest.from);
-    return true;
+bool Door::isOfMember(const Judged &logon) const {
+    const FIX::SessionID &session = member_.settings().session;
+    const bool isMembers = logon.is(FIX::FIELD::SenderCompID, session.getTargetCompID().getValue()) &&
+                           logon.is(FIX::FIELD::TargetCompID, session.getSenderCompID().getValue());
+    return isMembers && logon.is(FIX::FIELD::MsgType, "A");
+}
+
+void Door::handOver(Guest &guest, const Judged &logon) {
+    if (isLookedAt(guest, logon)) member_.hand(std::move(guest.socket), guest.bytes, guest.from);
+}
+
+/// Whether the password is the member's. Who hasn't got it reaches neither the session nor its store, and is told
+/// nothing: a Logout would take a number of the session, or shift those of its engine.
+bool Door::isLookedAt(const Guest &guest, const Judged &logon) {
+    const std::string front = "a Logon from " + guest.from + " is refused: ";
+    const auto now = Clock::now();
+    if (!delays_.isOver(guest.address, now)) {
+        say("", front + "it comes too soon behind a wrong password", 1);
+        return false;
+    }
+    if (member_.knows(logon.text(553), logon.text(554))) {
+        delays_.succeeded(guest.address);
+        return true;
+    }
+    const auto pause = delays_.failed(guest.address, now);
+    say("", front + "Username (553) or Password (554) is wrong; the next one from there is looked at in " +
+                std::to_string(pause.count()) + " ms");
+    return false;
 }
 
 }

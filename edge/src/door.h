@@ -4,34 +4,35 @@
 
 #include <atomic>
 #include <chrono>
+#include <cstdint>
 #include <list>
-#include <map>
 #include <string>
 
+#include "delays.h"
 #include "descriptor.h"
+#include "framer.h"
 #include "member.h"
 #include "settings.h"
 
 namespace edge {
 
 /// The library's acceptor over sockets of the edge's own: it listens, reads the first message of each client, and hands
-/// the client over to the member whose Logon that is. It holds few clients, for some seconds each, and waits for none
-/// of them.
+/// a client whose Logon that is over to the member. It holds few clients, for some seconds each, and waits for none of
+/// them.
 class Door : public FIX::Acceptor {
 public:
-    using Members = std::map<FIX::SessionID, Member *>;
-
     Door(FIX::Application &application, FIX::MessageStoreFactory &stores, const Settings &settings,
-         FIX::LogFactory &logs, const Members &members);
+         FIX::LogFactory &logs, Member &member);
 
 private:
     using Clock = std::chrono::steady_clock;
 
     struct Guest {
         Descriptor socket;
+        std::uint32_t address;
         std::string bytes, from;
-        int port;
         Clock::time_point since;
+        std::size_t looked = 0;  // So many bytes of it were looked at, some of them again and again.
     };
 
     void onInitialize(const FIX::SessionSettings &settings) throw(FIX::RuntimeError) override;
@@ -40,17 +41,21 @@ private:
     void onStop() override;
 
     void turn();
-    void admit(int listener, int port);
+    bool admit();
+    bool makeRoom(std::uint32_t address, const std::string &from);
     bool isDone(Guest &guest);
     bool greet(Guest &guest);
-    bool handOver(Guest &guest);
+    bool isOfMember(const Judged &logon) const;
+    void handOver(Guest &guest, const Judged &logon);
+    bool isLookedAt(const Guest &guest, const Judged &logon);
 
     const Settings &settings_;
-    const Members &members_;
-    std::map<int, Descriptor> listeners_;  // By their ports.
+    Member &member_;
+    Framer framer_;
+    Descriptor listener_;
     std::list<Guest> guests_;
+    Delays delays_;
     Clock::time_point admitAt_;
-    std::size_t longest_ = 0;
 };
 
 /// A socket that listens there; throws a std::runtime_error where it can't.

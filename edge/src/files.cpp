@@ -5,7 +5,6 @@
 #include <unistd.h>
 
 #include <cerrno>
-#include <cstdio>
 #include <stdexcept>
 
 #include "descriptor.h"
@@ -32,6 +31,29 @@ bool isThere(const std::string &path) {
     return !::stat(path.c_str(), &it);
 }
 
+long changeTime(const std::string &path) {
+    struct stat it;
+    return ::stat(path.c_str(), &it) || !it.st_size ? 0 : it.st_ctim.tv_sec;
+}
+
+std::string firstBytes(const std::string &path) {
+    const Descriptor file(::open(path.c_str(), O_RDONLY | O_CLOEXEC));
+    char bytes[64];
+    const ssize_t count = file ? ::read(file.get(), bytes, sizeof bytes) : 0;
+    return count > 0 ? std::string(bytes, static_cast<std::size_t>(count)) : std::string();
+}
+
+void makeFile(const std::string &path) {
+    const Descriptor file(::open(path.c_str(), O_RDWR | O_CREAT | O_EXCL | O_CLOEXEC, 0600));
+    if (!file && errno == EEXIST) return;
+    if (!file) throw std::runtime_error("can't make " + path + ": " + reason());
+    for (std::string folder = path, inner; folder != "." && folder != inner;) {
+        inner = folder;
+        folder = folderOf(folder);
+        if (isThere(folder + "/.") && !::access(folder.c_str(), R_OK)) syncFolder(folder);
+    }
+}
+
 void writeAll(int fd, const std::string &bytes, const std::string &path) {
     for (std::size_t at = 0; at < bytes.size();) {
         const ssize_t done = ::write(fd, bytes.data() + at, bytes.size() - at);
@@ -41,16 +63,10 @@ void writeAll(int fd, const std::string &bytes, const std::string &path) {
     }
 }
 
-void replaceFile(const std::string &path, const std::string &bytes) {
-    const std::string other = path + ".new";
-    const Descriptor file(::open(other.c_str(), O_WRONLY | O_CREAT | O_TRUNC | O_CLOEXEC, 0600));
-    if (!file) throw std::runtime_error("can't make " + other + ": " + reason());
-    writeAll(file.get(), bytes, other);
-    if (::fsync(file.get()) || std::rename(other.c_str(), path.c_str()))
-        throw std::runtime_error("can't put " + other + " in its place: " + reason());
-    const Descriptor folder(::open(folderOf(path).c_str(), O_RDONLY | O_DIRECTORY | O_CLOEXEC));
-    if (!folder || (::fsync(folder.get()) && errno != EINVAL))  // Not every disk has that for folders.
-        throw std::runtime_error("can't sync the folder of " + path + ": " + reason());
+void syncFolder(const std::string &folder) {
+    const Descriptor it(::open(folder.c_str(), O_RDONLY | O_DIRECTORY | O_CLOEXEC));
+    if (!it || (::fsync(it.get()) && errno != EINVAL))  // Not every disk has that for folders.
+        throw std::runtime_error("can't sync the folder " + folder + ": " + reason());
 }
 
 }

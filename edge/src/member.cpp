@@ -1,13 +1,11 @@
 #include "member.h"
 
 #include <poll.h>
-#include <quickfix/FixFieldNumbers.h>
 #include <sys/eventfd.h>
-#include <sys/socket.h>
 
 #include <array>
 #include <cstdint>
-#include <cstdlib>
+#include <stdexcept>
 
 #include "lines.h"
 
@@ -15,46 +13,50 @@ namespace edge {
 
 namespace {
 
-constexpr std::chrono::milliseconds TICK(500), AGAIN(200), REST(1000);
+constexpr std::chrono::milliseconds TICK(500), AGAIN(200), SOON(5), REST(1000);
 constexpr std::size_t MOST_HANDED = 16;
-constexpr std::size_t MOST_TO_VENUE = 1 << 20;  // Behind this no more is read of the member.
-constexpr std::size_t MOST_BEHIND_GAPS = 32 << 20;
-constexpr std::size_t BESIDE_MESSAGE = 1 << 10;  // What the library takes for a message beside its bytes, about.
-
-/// The value of this field in a whole message, as "\00135=" names it; or nothing.
-std::string fieldOf(const std::string &message, const char *name) {
-    const std::size_t at = message.find(name);
-    if (at == std::string::npos) return "";
-    return message.substr(at + 4, message.find('\1', at + 4) - (at + 4));
-}
-
-/// Compares in a time that doesn't tell where they differ.
-bool isSame(const std::string &one, const std::string &other) {
-    unsigned char differs = one.size() != other.size();
-    for (std::size_t at = 0; at < one.size() && at < other.size(); at++)
-        differs = static_cast<unsigned char>(differs | (one[at] ^ other[at]));
-    return !differs;
-}
+constexpr int MOST_LOOKS = 16;       // At a client, for the end of what it sent, before another one is let go.
+constexpr int MOST_LINK_LOOKS = 64;  // At the venue's link in one turn: the venue ends one that isn't read.
 
 }
 
-Member::Member(const Settings &settings, const MemberSettings &member, Names &names, ReplayTurn &turn)
+const char *wordsOf(Member::State state) {
+    switch (state) {
+        case Member::State::WaitsForVenue: return "waits for the venue";
+        case Member::State::ReadsJournal: return "reads the journal";
+        case Member::State::Serves: return "serves";
+        case Member::State::IsNotServed: break;
+    }
+    return "isn't served";
+}
+
+Member::Member(const Settings &settings, Record &record)
     : settings_(settings),
-      member_(member),
-      names_(names),
-      turn_(turn),
-      link_(settings.venue.port + member.number - 1, member.name()),
-      trader_(settings, member, names, link_),
+      member_(settings.member),
+      record_(record),
+      names_(record),
+      turn_(settings.ofAll.edge),
+      link_(settings.venue.port + settings.member.number - 1, settings.member.name()),
+      trader_(settings, settings.member, record, names_, link_),
+      day_(settings.hours, settings.member.name(), record),
+      logons_(settings.member, trader_),
+      conversation_(settings.member, logons_, link_, trader_, day_),
+      desk_(settings.member.name(), trader_),
       bell_(::eventfd(0, EFD_NONBLOCK | EFD_CLOEXEC)) {}
 
 Member::~Member() {
     stop();
 }
 
-void Member::attach(FIX::Session &session, Store &store) {
+void Member::attach(FIX::Session &session, Store &store, Log &log) {
     session_ = &session;
     store_ = &store;
-    trader_.attach(session, store.told());
+    log_ = &log;
+    isStoreRead_ = store.fault().empty();
+    trader_.attach(session);
+    day_.attach(session, store);
+    conversation_.attach(session, store);
+    desk_.attach(log);
 }
 
 void Member::start() {
@@ -72,48 +74,88 @@ void Member::wake() {
     if (::write(bell_.get(), &one, sizeof one) < 0) return;  // It rings already.
 }
 
+void Member::loggedOn() {
+    isLoggedOn_ = true;
+    trader_.isBack();
+}
+
 void Member::hand(Descriptor socket, const std::string &bytes, const std::string &from) {
+    bool hasRoom;
     {
         const std::lock_guard<std::mutex> lock(mutex_);
-        if (handed_.size() >= MOST_HANDED) return;  // Whoever knocks so often finds the member served.
-        handed_.push_back(Handed{std::move(socket), bytes, from});
+        hasRoom = handed_.size() < MOST_HANDED;
+        if (hasRoom) handed_.push_back(Handed{std::move(socket), bytes, from});
+    }
+    if (!hasRoom) say(member_.name(), "a client from " + from + " is let go: too many wait to be looked at");
+    wake();
+}
+
+void Member::ask(Asked asked) {
+    {
+        const std::lock_guard<std::mutex> lock(mutex_);
+        asked_.push_back(std::move(asked));
     }
     wake();
 }
 
 void Member::run() {
-    while (!isStopping_ || client_) {
+    while (!isStopping_ || conversation_.isOn()) {
         try {
-            if (isStopping_ && client_) endClient("the edge stops");
+            if (isStopping_ && conversation_.isOn()) endClient("the edge stops");
             else turn();
         } catch (const std::exception &why) {
-            const std::string &fault = store_->fault();
-            restAfter(fault.empty() ? why.what() : "the store of its session takes nothing in: " + fault);
+            const std::string fault = store_->fault();
+            restAfter(fault.empty() ? why.what() : fault);
         }
     }
-    if (link_.state() == VenueLink::State::Up && !link_.flush()) say(member_.name(), "the venue: " + link_.why());
+    try {
+        keep();
+        desk_.end();
+        if (link_.state() == VenueLink::State::Up && !link_.flush()) say(member_.name(), "the venue: " + link_.why());
+        record_.finish();
+    } catch (const std::exception &why) {
+        say(member_.name(), why.what());
+    }
     turnBack();
 }
 
+/// Commits what was written since the last time: only behind that may go out what rests on it. Where a part of that
+/// couldn't be written, nothing is committed.
+void Member::keep() {
+    if (!trader_.fault().empty()) throw std::runtime_error(trader_.fault());
+    if (isStoreRead_ && !store_->fault().empty()) throw std::runtime_error(store_->fault());
+    if (record_.isChanging()) day_.keep();  // Else the next look at the clock does.
+    record_.commit();
+    day_.committed();
+    link_.release();
+    conversation_.release();
+    desk_.release();
+}
+
 void Member::turnBack() {
-    if (replay_) turn_.giveBack();
     replay_.reset();
+    turn_.giveBack();
 }
 
 /// Something that this member's thread can't go on from: all connections end, and it begins anew from disk and journal.
 void Member::restAfter(const std::string &why) {
-    if (saidOfVenue_ != why) say(member_.name(), "isn't served: " + why);
-    saidOfVenue_ = why;
-    state_ = "isn't served";
+    if (saidOfFault_ != why) say(member_.name(), "isn't served: " + why);
+    saidOfFault_ = why;
+    state_ = State::IsNotServed;
+    logons_.rests(true);
     link_.end();
     turnBack();
     wantsReplay_ = false;
     trader_.venueLost();
     trader_.clearFault();
-    connectAt_ = Clock::now() + REST;
+    connectAt_ = restsUntil_ = Clock::now() + REST;
     isStoreRead_ = false;
+    record_.close();  // What this turn wrote is lost, and so is what it sent.
+    conversation_.drop();
+    day_.drop();
+    desk_.drop(why);
     try {
-        if (client_) endClient("it isn't served");
+        if (conversation_.isOn()) endClient("it isn't served");
         readStore();
     } catch (const std::exception &) {
         // It is tried again before the next connection to the venue, and what is wrong is said then.
@@ -122,42 +164,82 @@ void Member::restAfter(const std::string &why) {
 
 void Member::readStore() {
     session_->refresh();
-    trader_.attach(*session_, store_->told());
+    trader_.attach(*session_);
+    day_.attach(*session_, *store_);
     isStoreRead_ = true;
 }
 
 void Member::turn() {
     driveLink();
     wait();
+    takeCommands();  // In front of what the client sends.
+    lookAtDay();
     if (hasLink_) readLink();
     if (hasJournal_) readJournal();
-    if (hasClient_ && client_) readClient();
-    else if (isHeldUp_) passMessages();
+    if (conversation_.isHeldUp()) endWhere(conversation_.passMessages());
+    if (hasClient_ && conversation_.isOn() && !conversation_.isHeldUp()) endWhere(conversation_.read());
+    conversation_.sendAgain();
     takeHanded();  // Behind the end of a client that has gone to come back.
     tick();
-    if (!trader_.fault().empty()) throw std::runtime_error(trader_.fault());
-    if (isStoreRead_ && !store_->fault().empty()) throw std::runtime_error(store_->fault());
-    if (trader_.holdsTooMuch()) throw std::runtime_error("too much comes while the journal is read");
+    if (isStoreRead_) desk_.look();
+    keep();
     flush();
+    if (!rests() && record_.isVeryUntidy(trader_.isSweeping())) record_.tidy();
 }
 
-/// Waits until something can be done, and notes what.
-void Member::wait() {
-    std::array<pollfd, 4> all{{{bell_.get(), POLLIN, 0}, {-1, 0, 0}, {-1, 0, 0}, {-1, 0, 0}}};
-    const auto add = [](bool isOn, short event) { return isOn ? event : static_cast<short>(0); };
-    if (client_) {
-        const bool reads = client_->takesMore() && link_.unsent() < MOST_TO_VENUE;
-        all[1] = {client_->fd(), static_cast<short>(add(reads, POLLIN) | add(client_->isWriting(), POLLOUT)), 0};
+/// Whether what the edge does by itself waits a little: a disk that is full would only fail again, at once.
+bool Member::rests() const {
+    return !isStoreRead_ || Clock::now() < restsUntil_;
+}
+
+/// Ends the member's day where its hours have ended since the last look: before this turn tells anything. Its orders
+/// stay, since it was the day that ended, and no connection that was lost.
+void Member::lookAtDay() {
+    if (rests() || !day_.isOver()) return;
+    if (conversation_.isOn()) {
+        trader_.spare();
+        conversation_.logOut("the day ends");
+        endClient("its day ends");
     }
-    if (link_.state() != VenueLink::State::Down)
-        all[2] = {link_.fd(), static_cast<short>(POLLIN | add(link_.isWriting(), POLLOUT)), 0};
+    day_.begin();
+}
+
+/// Takes the commands one by one: what fails in one of them leaves the others there.
+void Member::takeCommands() {
+    for (Asked it; isAsked(it);) {
+        if (isStoreRead_) desk_.take(std::move(it));
+        else desk_.refuse(it, "it isn't served: " + saidOfFault_);
+    }
+}
+
+/// Takes the next command, if there is one.
+bool Member::isAsked(Asked &it) {
+    const std::lock_guard<std::mutex> lock(mutex_);
+    if (asked_.empty()) return false;
+    it = std::move(asked_.front());
+    asked_.pop_front();
+    return true;
+}
+
+/// Waits until something can be done, and notes what. What the last turn has sent is on its way: now its lines are
+/// written, and in a quiet moment the record is tidied up.
+void Member::wait() {
+    log_->flush();
+    std::array<pollfd, 4> all{{{bell_.get(), POLLIN, 0}, conversation_.watched(), {-1, 0, 0}, {-1, 0, 0}}};
+    const int reads = trader_.holdsTooMuch() ? 0 : POLLIN, writes = link_.isWriting() ? POLLOUT : 0;
+    if (link_.state() != VenueLink::State::Down) all[2] = {link_.fd(), static_cast<short>(reads | writes), 0};
+    const bool isReadingOver = replay_ && replay_->isOver();
     if (replay_) all[3] = {replay_->fd(), POLLIN, 0};
-    auto pause = link_.state() == VenueLink::State::Down || wantsReplay_ ? AGAIN / 4 : TICK;
-    if (isHeldUp_ && client_->takesMore()) pause = pause.zero();
-    ::poll(all.data(), all.size(), static_cast<int>(pause.count()));
+    const auto most = link_.state() == VenueLink::State::Down || wantsReplay_ ? AGAIN / 4 : TICK;
+    const auto pause = conversation_.pause(isReadingOver ? SOON : most);
+    const bool isUntidy = record_.isUntidy() && !trader_.isSweeping();
+    if (!isUntidy || ::poll(all.data(), all.size(), 0) == 0) {
+        if (!rests() && isUntidy) record_.tidy();
+        ::poll(all.data(), all.size(), static_cast<int>(pause.count()));
+    }
     hasClient_ = all[1].revents & (POLLIN | POLLHUP | POLLERR);
     hasLink_ = all[2].revents & (POLLIN | POLLHUP | POLLERR);
-    hasJournal_ = all[3].revents;
+    hasJournal_ = all[3].revents || isReadingOver;
     std::uint64_t rings;
     if (all[0].revents && ::read(bell_.get(), &rings, sizeof rings) < 0) return;  // It has been read already.
 }
@@ -168,48 +250,22 @@ void Member::takeHanded() {
         const std::lock_guard<std::mutex> lock(mutex_);
         came.swap(handed_);
     }
-    if (!came.empty() && client_ && client_->isEnding()) endClient("its session has ended");
-    for (Handed &it : came) admit(it);
-}
-
-/// Why this Logon is refused, or nothing.
-std::string Member::refusalOf(const FIX::Message &logon) const {
-    if (!member_.username.empty() && !(isSame(textOf(logon, FIX::FIELD::Username), member_.username) &&
-                                       isSame(textOf(logon, FIX::FIELD::Password), member_.password)))
-        return "Username (553) or Password (554) is wrong";
-    if (textOf(logon, FIX::FIELD::ResetSeqNumFlag) == "Y" && !member_.limits.mayReset)
-        return "ResetSeqNumFlag (141) isn't taken: it would drop what was missed";
-    if (!trader_.isReady()) return "the venue isn't there yet: try again";
-    return "";
-}
-
-void Member::checkLogon(const FIX::Message &logon) const {
-    const std::string refusal = refusalOf(logon);
-    if (refusal.empty()) return;
-    say(member_.name(), "a Logon from " + clientsAddress_ + " is refused: " + refusal);
-    throw FIX::RejectLogon(refusal);
-}
-
-/// Whether this is a Logon with ResetSeqNumFlag that is refused, or one that can't be read. The session obeys the flag
-/// before it asks whether the Logon is taken: so it isn't shown that.
-bool Member::isRefusedReset(const std::string &message, const std::string &from) const {
-    try {
-        const FIX::Message logon(message, false);
-        if (textOf(logon, FIX::FIELD::ResetSeqNumFlag) != "Y") return false;
-        const std::string refusal = refusalOf(logon);
-        if (!refusal.empty()) say(member_.name(), "a Logon from " + from + " is refused: " + refusal);
-        return !refusal.empty();
-    } catch (const FIX::Exception &why) {
-        say(member_.name(), "a Logon from " + from + " can't be read: " + shown(why.what()));
-        return true;
+    for (int looks = 0; !came.empty() && looks < MOST_LOOKS; looks++) {
+        if (conversation_.isEnding()) endClient("its session has ended");
+        if (!conversation_.isRead()) break;
+        // A client that comes back at once has left, and the end of what it sent lies unread.
+        endWhere(conversation_.read());
     }
+    // A client that isn't read now, and has left, makes room for who comes back: what it sent last comes again.
+    if (!came.empty() && conversation_.hasLeft()) endClient("the client closed the connection");
+    for (Handed &it : came) admit(it);
 }
 
 /// Lets a client be this member's, unless there is one.
 void Member::admit(Handed &it) {
-    if (client_) {
+    if (conversation_.isOn()) {
         say(member_.name(),
-            "a second client from " + it.from + " is let go: one is logged on, from " + clientsAddress_);
+            "a second client from " + it.from + " is let go: one is logged on, from " + conversation_.clientsAddress());
         return;
     }
     if (!isStoreRead_) {
@@ -217,79 +273,25 @@ void Member::admit(Handed &it) {
             "a client from " + it.from + " is let go: the store can't be read, so nothing can be answered");
         return;
     }
-    try {
-        const std::size_t size = messageSize(it.bytes, 0, member_.limits.messageBytes);
-        if (isRefusedReset(it.bytes.substr(0, size), it.from)) return;
-    } catch (const BadBytes &why) {  // The door lets the longest message of all members pass.
-        say(member_.name(), "a Logon from " + it.from + " can't be read: " + why.what());
-        return;
-    }
-    clientsAddress_ = it.from;
-    client_.reset(
-        new Connection(std::move(it.socket), it.bytes, member_.limits.messageBytes, member_.limits.unsentBytes));
-    session_->setResponder(client_.get());
-    behindGaps_ = 0;
     hasClient_ = false;
-    say(member_.name(), "a client from " + clientsAddress_);
-    passMessages();
+    endWhere(conversation_.begin(std::move(it.socket), it.bytes, it.from));
 }
 
-void Member::readClient() {
-    if (!client_->read()) {
-        endClient("the client closed the connection");
-        return;
-    }
-    passMessages();
-}
-
-/// Gives the session what whole messages there are, while the client takes what that brings. Whoever isn't logged on
-/// behind a message, its Logon or its Logout, goes.
-void Member::passMessages() {
-    std::string message;
-    try {
-        while (!client_->isEnding() && client_->takesMore() && client_->next(message)) {
-            passMessage(message);
-            if (!session_->isLoggedOn()) client_->disconnect();
-        }
-        isHeldUp_ = client_->hasMore() && !client_->takesMore();
-    } catch (const BadBytes &why) {
-        endClient(why.what());
-    }
-}
-
-void Member::passMessage(const std::string &message) {
-    const std::string type = fieldOf(message, "\00135=");
-    if (type == "A" && isRefusedReset(message, clientsAddress_)) {
-        client_->disconnect();
-        return;
-    }
-    boundGap(message);
-    trader_.isLast(!client_->hasMore());
-    client_->resends(type == "2");
-    try {
-        session_->next(message, FIX::UtcTimeStamp());
-    } catch (const FIX::InvalidMessage &why) {
-        say(member_.name(), "a message can't be read: " + shown(why.what()));
-    }
-    client_->resends(false);
-    if (!trader_.fault().empty()) throw std::runtime_error(trader_.fault());
-}
-
-/// Counts what comes behind a gap in the client's numbers: the session keeps that until its number is due, or for ever
-/// where the client passes the number over, and has no bound for it.
-void Member::boundGap(const std::string &message) {
-    if (std::atol(fieldOf(message, "\00134=").c_str()) <= session_->getExpectedTargetNum()) return;
-    behindGaps_ += message.size() + BESIDE_MESSAGE;
-    if (behindGaps_ > MOST_BEHIND_GAPS) throw BadBytes("too much comes behind a gap in its numbers");
+/// Ends the client's connection where there is a reason.
+void Member::endWhere(const std::string &why) {
+    if (!why.empty()) endClient(why);
 }
 
 /// Ends the client's connection; the session learns that it is gone.
 void Member::endClient(const std::string &why) {
-    if (!why.empty()) say(member_.name(), "the client from " + clientsAddress_ + " is gone: " + why);
+    say(member_.name(), "the client from " + conversation_.clientsAddress() + " is gone: " + why);
     session_->disconnect();
-    client_->flush();
-    client_.reset();
-    hasClient_ = isHeldUp_ = false;
+    keep();
+    conversation_.flush();
+    day_.left();
+    if (isStoreRead_) day_.keep();
+    conversation_.end();
+    hasClient_ = false;
     trader_.left();
 }
 
@@ -301,19 +303,14 @@ void Member::driveLink() {
     }
     if (wantsReplay_ && !replay_ && turn_.tryTake()) {
         wantsReplay_ = false;
-        try {
-            replay_.reset(new Replay(settings_.venue, member_.name()));
-        } catch (const std::exception &) {
-            turn_.giveBack();
-            throw;
-        }
+        replay_.reset(new Replay(settings_.venue, member_.name()));
     }
 }
 
 void Member::dropLink(const std::string &why) {
     if (saidOfVenue_ != why) say(member_.name(), "the venue: " + why);
     saidOfVenue_ = why;
-    state_ = "waits for the venue";
+    state_ = State::WaitsForVenue;
     link_.end();
     turnBack();
     wantsReplay_ = false;
@@ -321,19 +318,20 @@ void Member::dropLink(const std::string &why) {
     connectAt_ = Clock::now() + AGAIN;
 }
 
+/// Reads all that the venue has told, before more is read of the member.
 void Member::readLink() {
     if (link_.state() == VenueLink::State::Down) return;
     const bool wasUp = link_.state() == VenueLink::State::Up;
-    const bool stands =
-        link_.state() == VenueLink::State::Connecting
-            ? link_.flush()
-            : link_.read([this](const char *message, std::size_t size) { trader_.heard(message, size); });
+    const auto take = [this](const Fields &message) { trader_.heard(message); };
+    bool stands = link_.state() == VenueLink::State::Connecting ? link_.flush() : link_.read(take);
+    for (int looks = 1; stands && link_.hasMore() && !trader_.holdsTooMuch() && looks < MOST_LINK_LOOKS; looks++)
+        stands = link_.read(take);
     if (!stands) {
         dropLink(link_.why());
         return;
     }
     if (wasUp || link_.state() != VenueLink::State::Up) return;
-    state_ = "reads the journal";
+    state_ = State::ReadsJournal;
     trader_.beginRecovery();
     wantsReplay_ = true;
 }
@@ -343,29 +341,30 @@ void Member::readJournal() {
     const bool isWhole = replay_->read([this](const char *line, std::size_t size) { trader_.recovered(line, size); });
     if (!isWhole) return;
     turnBack();
-    trader_.endRecovery(client_ != nullptr);
-    state_ = "serves";
+    trader_.endRecovery(conversation_.isOn());
+    state_ = State::Serves;
+    logons_.rests(false);
     saidOfVenue_.clear();
+    saidOfFault_.clear();
     say(member_.name(), "serves, behind report " + std::to_string(trader_.counts().lastReport));
 }
 
-/// Lets the session look at the clock, for heartbeats and the end of its day.
+/// Lets the session look at the clock, for heartbeats.
 void Member::tick() {
     if (Clock::now() < tickAt_) return;
     tickAt_ = Clock::now() + TICK;
-    if (client_) session_->next();
-    unsent_ = client_ ? client_->unsent() : 0;
+    if (conversation_.isOn()) session_->next();
+    trader_.tidy();
+    day_.keep();
+    sayCounts();
+    unsent_ = conversation_.unsent();
 }
 
 /// Writes to both sides what there is, and ends what has to end.
 void Member::flush() {
     const bool isDown = link_.state() == VenueLink::State::Down;
     if (isDown ? trader_.isReady() : link_.isWriting() && !link_.flush()) dropLink(link_.why());
-    if (!client_) return;
-    const bool stands = client_->flush();
-    if (client_->isEnding()) endClient("its session has ended");
-    else if (!stands) endClient("nothing can be written to it");
-    else if (client_->isOverfull()) endClient("it takes too few of its reports, which are in its store");
+    endWhere(conversation_.flush());
 }
 
 }

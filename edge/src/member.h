@@ -1,18 +1,29 @@
 #pragma once
 
-#include <quickfix/Application.h>
+// A member's thread, which does one turn after another. A turn reads what venue_link.h and conversation.h have, commits
+// what came of that by record.h, and only then lets both write.
+
 #include <quickfix/Session.h>
 
 #include <atomic>
+#include <chrono>
+#include <deque>
 #include <memory>
 #include <mutex>
 #include <string>
 #include <thread>
 #include <vector>
 
-#include "connection.h"
+#include "commands.h"
+#include "conversation.h"
+#include "day.h"
+#include "descriptor.h"
+#include "desk.h"
+#include "log.h"
+#include "logons.h"
 #include "names.h"
 #include "replay.h"
+#include "replay_turn.h"
 #include "settings.h"
 #include "store.h"
 #include "trader.h"
@@ -20,25 +31,18 @@
 
 namespace edge {
 
-/// Lets one member at a time read the journal, which takes memory.
-class ReplayTurn {
-public:
-    bool tryTake() { return !isTaken_.exchange(true); }
-    void giveBack() { isTaken_ = false; }
-
-private:
-    std::atomic<bool> isTaken_{false};
-};
-
-/// A member: its session, its connection to the venue, and the one thread that does all for both, so that no member can
-/// hold up another. The thread never waits for a client, for the venue or for the journal alone.
+/// A member: its session, its connection to the venue, and the one thread that does all for both. The thread never
+/// waits for a client, for the venue or for the journal alone.
 class Member {
 public:
-    Member(const Settings &settings, const MemberSettings &member, Names &names, ReplayTurn &turn);
+    /// How far it is with what its own client needs to log on.
+    enum class State { WaitsForVenue, ReadsJournal, Serves, IsNotServed };
+
+    Member(const Settings &settings, Record &record);
     ~Member();
 
-    /// Gives it its session and store, before it starts.
-    void attach(FIX::Session &session, Store &store);
+    /// Gives it its session, and the store and log of that, before it starts.
+    void attach(FIX::Session &session, Store &store, Log &log);
 
     void start();
 
@@ -48,19 +52,29 @@ public:
     /// Wakes the thread, so that it looks what is to be done.
     void wake();
 
-    /// Hands over a client's connection, whose first message is this member's Logon. Of any thread.
+    /// Hands over a client's connection, whose first message is this member's Logon, or lets it go where many wait. Of
+    /// any thread.
     void hand(Descriptor socket, const std::string &bytes, const std::string &from);
 
+    /// Hands over a command of an operator. Of any thread.
+    void ask(Asked asked);
+
+    /// Whether a user of this name and password is this member. Of any thread.
+    bool knows(const std::string &username, const std::string &password) const {
+        return logons_.knows(username, password);
+    }
+
     // What the library calls, on this member's thread.
-    void checkLogon(const FIX::Message &logon) const;
     void asked(const FIX::Message &message) { trader_.asked(message); }
-    void loggedOn() { isLoggedOn_ = true; }
+    void loggedOn();
     void loggedOut() { isLoggedOn_ = false; }
 
     const MemberSettings &settings() const { return member_; }
     const Counts &counts() const { return trader_.counts(); }
+    const Switches &switches() const { return trader_.switches(); }
     bool isLoggedOn() const { return isLoggedOn_; }
-    const char *state() const { return state_; }
+    long dayBegan() const { return day_.began(); }
+    State state() const { return state_; }
     std::size_t unsent() const { return unsent_; }
 
 private:
@@ -73,14 +87,14 @@ private:
 
     void run();
     void turn();
+    void keep();
+    void lookAtDay();
+    void takeCommands();
+    bool isAsked(Asked &it);
     void wait();
     void takeHanded();
     void admit(Handed &it);
-    void readClient();
-    void passMessages();
-    void passMessage(const std::string &message);
-    void boundGap(const std::string &message);
-    bool isRefusedReset(const std::string &message, const std::string &from) const;
+    void endWhere(const std::string &why);
     void endClient(const std::string &why);
     void driveLink();
     void readLink();
@@ -90,35 +104,42 @@ private:
     void tick();
     void turnBack();
     void restAfter(const std::string &why);
+    bool rests() const;
     void readStore();
-    std::string refusalOf(const FIX::Message &logon) const;
 
     const Settings &settings_;
     const MemberSettings &member_;
-    Names &names_;
-    ReplayTurn &turn_;
+    Record &record_;
+    Names names_;
+    ReplayTurn turn_;
     VenueLink link_;
     Trader trader_;
+    Day day_;
+    Logons logons_;
+    Conversation conversation_;
+    Desk desk_;
     FIX::Session *session_ = nullptr;
     Store *store_ = nullptr;
+    Log *log_ = nullptr;
 
     Descriptor bell_;
     std::mutex mutex_;  // Of what is handed over.
     std::vector<Handed> handed_;
+    std::deque<Asked> asked_;
     std::atomic<bool> isStopping_{false}, isLoggedOn_{false};
-    std::atomic<const char *> state_{"waits for the venue"};
+    std::atomic<State> state_{State::WaitsForVenue};
     std::atomic<std::size_t> unsent_{0};
 
-    std::unique_ptr<Connection> client_;
-    std::string clientsAddress_, saidOfVenue_;
+    std::string saidOfVenue_, saidOfFault_;  // What is said isn't said again while it lasts.
     std::unique_ptr<Replay> replay_;
     bool wantsReplay_ = false;
-    Clock::time_point connectAt_, tickAt_;
+    Clock::time_point connectAt_, tickAt_, restsUntil_;
     bool hasClient_ = false, hasLink_ = false, hasJournal_ = false;  // Something to be read, as poll says.
-    std::size_t behindGaps_ = 0;  // So much of what this client sent came behind gaps in its numbers.
-    bool isHeldUp_ = false;    // Messages of the client wait until it takes more of what is written to it.
     bool isStoreRead_ = true;  // Or it has to be read anew, before anything else is done.
     std::thread thread_;
 };
+
+/// A state in words.
+const char *wordsOf(Member::State state);
 
 }

@@ -1,163 +1,167 @@
 #include "names.h"
 
-#include <fcntl.h>
-#include <sys/stat.h>
-
 #include <algorithm>
 #include <cstdlib>
-#include <fstream>
-
-#include "checksum.h"
-#include "files.h"
-#include "lines.h"
+#include <cstring>
+#include <ctime>
 
 namespace edge {
 
 namespace {
 
-// The first line of a file: what it is, and the number that its names begin with.
-const char *const HEAD = "gikvand-edge names 1 from ";
-constexpr char STRUCK = 's';
+constexpr int DROPPED_AT_ONCE = 500;
 
-Names::Kind kindOf(const std::string &name) {
-    if (name == PROBE) return Names::Kind::Probe;
-    return name.compare(0, std::string(CANCEL).size(), CANCEL) ? Names::Kind::Request : Names::Kind::Cancel;
+std::string textOf(Names::Kind kind) {
+    return std::string(1, static_cast<char>(kind));
 }
 
 }
 
-void Names::make(long first) {
-    first_ = next_ = first;
-    replaceFile(path_, checkedLine(HEAD + std::to_string(first)));
-}
-
-void Names::read() {
-    std::ifstream file(path_, std::ios::binary);
-    if (!file) throw std::runtime_error("can't read " + path_ + ": " + reason());
-    std::string line;
-    const std::string head = std::getline(file, line) && !file.eof() ? bodyOf(line) : "";
-    if (head.compare(0, std::string(HEAD).size(), HEAD)) throw Damaged("line 1 of " + path_ + " is damaged");
-    first_ = next_ = std::atol(head.c_str() + std::string(HEAD).size());
-    long long whole = static_cast<long long>(line.size()) + 1;
-    long behind = 0;  // Damaged lines behind the last good one: as many numbers may have been used there.
-    for (long number = 2; std::getline(file, line) && !file.eof(); number++) {
-        whole += static_cast<long long>(line.size()) + 1;
-        const bool isGood = take(bodyOf(line));
-        behind = isGood ? 0 : behind + 1;
-        if (!isGood) say("", "line " + std::to_string(number) + " of " + path_ + " is damaged");
-    }
-    if (file.bad()) throw std::runtime_error("can't read " + path_ + " to its end");
-    next_ += behind;
-    if (!line.empty() && file.eof()) {  // A line that was being written: its request was never sent.
-        say("", "the end of " + path_ + " is a line that was cut short, and is taken away");
-        if (::truncate(path_.c_str(), whole)) throw std::runtime_error("can't shorten " + path_ + ": " + reason());
-    }
-    for (long number = first_; number < next_; number++)
-        if (!entries_.count(number)) missing_.push_back(number);
-}
-
-void Names::openToAppend() {
-    file_.reset(::open(path_.c_str(), O_WRONLY | O_APPEND | O_CLOEXEC));
-    struct stat it;
-    if (!file_ || ::fstat(file_.get(), &it)) throw std::runtime_error("can't write to " + path_ + ": " + reason());
-    size_ = it.st_size;
-}
-
-/// Takes in a line, as "17 r ORD-7": whether it is one.
-bool Names::take(const std::string &body) {
-    char *end;
-    const long number = std::strtol(body.c_str(), &end, 10);
-    const std::string rest(end);
-    if (number < first_ || rest.size() < 3 || rest[0] != ' ' || rest[2] != ' ') return false;
-    if (rest[1] == STRUCK) {
-        const auto found = entries_.find(number);
-        if (found != entries_.end()) found->second.isOpen = false;
-        return found != entries_.end();
-    }
-    if (number < next_) return false;
-    put(number, rest.substr(3), static_cast<Kind>(rest[1]));
-    return true;
-}
-
-void Names::put(long number, const std::string &name, Kind kind) {
-    next_ = std::max(next_, number + 1);
-    entries_[number] = Entry{name, kind, kind == Kind::Request};
-    if (kind != Kind::Probe) numbers_[name] = number;
-}
-
-void Names::append(const std::string &body) {
-    const std::string line = checkedLine(body);
-    try {
-        writeAll(file_.get(), line, path_);
-        if (syncs_ && ::fdatasync(file_.get())) throw std::runtime_error("can't sync " + path_ + ": " + reason());
-    } catch (const std::runtime_error &) {
-        if (::ftruncate(file_.get(), size_)) say("", "a part of a line may stand at the end of " + path_);
-        throw;
-    }
-    size_ += static_cast<off_t>(line.size());
-}
+Names::Names(Record &record)
+    : record_(record),
+      strike_(record.database(), "UPDATE names SET kind = 's' WHERE number = ?"),
+      byNumber_(record.database(), "SELECT name, kind FROM names WHERE number = ?"),
+      byName_(record.database(), "SELECT number, kind FROM names WHERE name = ? AND kind NOT IN ('p', 'w') LIMIT 1"),
+      unanswered_(record.database(),
+                  "SELECT number FROM names WHERE number > ? AND number <= ? AND kind = 'r' ORDER BY number"),
+      from_(record.database(),
+            "SELECT number, at FROM names WHERE number > ? AND (number <= ? OR kind IN ('x', 's')) AND kind != 'w'"
+            " ORDER BY number LIMIT ?"),
+      drop_(record.database(), "DELETE FROM names WHERE number = ?"),
+      sweeps_(record.database(), "SELECT number, name FROM names WHERE kind = 'w' ORDER BY number") {}
 
 long Names::add(const std::string &name, Kind kind) {
-    const long number = next_;
-    append(std::to_string(number) + " " + static_cast<char>(kind) + " " + name);
-    put(number, name, kind);
-    return number;
+    State &state = record_.change();
+    record_.add({state.last + 1, static_cast<char>(kind), name, static_cast<long>(std::time(nullptr))});
+    Recent &recent = recentOf(++state.last);
+    recent.number = state.last;
+    recent.name = name;
+    return state.last;
+}
+
+/// The place of a number. A record that was closed has lost what wasn't committed: all names of before are forgotten.
+Names::Recent &Names::recentOf(long number) {
+    if (recentClosing_ != record_.closings())
+        for (Recent &it : recent_) it.number = 0;
+    recentClosing_ = record_.closings();
+    return recent_[static_cast<std::size_t>(number) % RECENT];
 }
 
 void Names::strike(long number) {
-    append(std::to_string(number) + " " + STRUCK + " ");
-    entries_[number].isOpen = false;
+    record_.changeTables();
+    strike_.run(number);
 }
 
-std::string Names::nameOf(long number) const {
-    const auto found = entries_.find(number);
-    return found == entries_.end() ? std::to_string(number) : found->second.name;
+std::string Names::nameOf(long number) {
+    const Recent &recent = recentOf(number);
+    if (number && recent.number == number) return recent.name;
+    if (const KeptName *const kept = record_.turns().ofNumber(number)) return kept->name;
+    Rows rows = byNumber_.of(number);
+    if (rows.next()) return rows.bytes(0);
+    const long first = record_.state().first;
+    return (first && number >= first ? NAMELESS : "") + std::to_string(number);
 }
 
-long Names::numberOf(const std::string &name) const {
-    const auto found = numbers_.find(name);
-    if (found != numbers_.end()) return found->second;
-    const long number = std::atol(name.substr(0, 15).c_str());  // Of a time before this file, perhaps.
-    return number > 0 && number < first_ && std::to_string(number) == name ? number : 0;
+long Names::numberOf(const std::string &name) {
+    const Found found = find(name);
+    return found.wasRefused ? 0 : found.number;
+}
+
+bool Names::isKnown(const std::string &name) {
+    return find(name).number;
+}
+
+Names::Found Names::find(const std::string &name) {
+    Found it;
+    if (const KeptName *const kept = record_.turns().ofName(name)) {
+        it.number = kept->number;
+        it.wasRefused = kept->kind == static_cast<char>(Kind::Refused);
+        return it;
+    }
+    {
+        Rows rows = byName_.of(name);
+        if (rows.next()) {
+            it.number = rows.number(0);
+            it.wasRefused = rows.bytes(1) == textOf(Kind::Refused);
+            return it;
+        }
+    }
+    const std::size_t from = name.compare(0, std::strlen(NAMELESS), NAMELESS) ? 0 : std::strlen(NAMELESS);
+    const long number = std::atol(name.substr(from, 15).c_str());  // One without a name, perhaps.
+    if (number <= 0 || number > last() || isThere(number)) return it;
+    if (nameOf(number) == name) it.number = number;
+    return it;
+}
+
+/// Whether a name of this number is kept.
+bool Names::isThere(long number) {
+    return record_.turns().ofNumber(number) || byNumber_.of(number).next();
 }
 
 void Names::answered(long number) {
-    if (number < first_) return;
-    const auto found = entries_.find(number);
-    if (found == entries_.end())
-        throw Damaged(path_ + " lacks the number " + std::to_string(number) + ", which the journal has");
-    found->second.isOpen = false;
+    if (number > record_.state().settled) record_.change().settled = number;
 }
 
-std::vector<long> Names::unanswered(long upTo) const {
+bool Names::has(long number) {
+    return number <= last() && (number <= record_.state().settled || isThere(number));
+}
+
+void Names::note(long number) {
+    if (number > last()) record_.change().last = number;
+}
+
+void Names::isRead() {
+    if (!record_.state().first) record_.change().first = last() + 1;
+}
+
+std::vector<long> Names::unanswered(long upTo) {
     std::vector<long> numbers;
-    for (const auto &entry : entries_)
-        if (entry.second.isOpen && entry.first <= upTo) numbers.push_back(entry.first);
-    std::sort(numbers.begin(), numbers.end());
+    record_.fillTables();
+    for (Rows rows = unanswered_.of(record_.state().settled, upTo); rows.next();) numbers.push_back(rows.number(0));
     return numbers;
 }
 
-bool Names::isProbe(long number) const {
-    const auto found = entries_.find(number);
-    return found != entries_.end() && found->second.kind == Kind::Probe;
+bool Names::isProbe(long number) {
+    if (const KeptName *const kept = record_.turns().ofNumber(number))
+        return kept->kind == static_cast<char>(Kind::Probe);
+    Rows rows = byNumber_.of(number);
+    return rows.next() && rows.bytes(1) == textOf(Kind::Probe);
 }
 
-void Names::mend(const std::map<long, std::string> &found) {
-    for (const auto &it : found) {
-        put(it.first, it.second, kindOf(it.second));
-        answered(it.first);
+std::vector<KeptName> Names::sweeps() {
+    const char kind = static_cast<char>(Kind::Sweep);
+    std::vector<KeptName> found;
+    for (Rows rows = sweeps_.of(); rows.next();) found.push_back({rows.number(0), kind, rows.bytes(1), 0});
+    const auto take = [&](const KeptName &it) {
+        if (it.kind == kind) found.push_back(it);
+    };
+    record_.turns().each(take, [](long, const std::string &) {});
+    return found;
+}
+
+void Names::forget(long number) {
+    record_.changeTables();
+    drop_.run(number);
+}
+
+void Names::drop(const std::function<bool(long)> &rests) {
+    const State &state = record_.state();
+    if (!state.dropBefore) return;
+    record_.changeTables();
+    std::vector<long> some;
+    bool isEnd = false;
+    {
+        Rows rows = from_.of(droppedTo_, state.settled, DROPPED_AT_ONCE);
+        while (!isEnd && rows.next()) {
+            isEnd = rows.number(1) >= state.dropBefore;
+            if (!isEnd) some.push_back(rows.number(0));
+        }
     }
-    std::map<long, const Entry *> all;
-    for (const auto &entry : entries_) all[entry.first] = &entry.second;
-    std::string bytes = checkedLine(HEAD + std::to_string(first_));
-    for (const auto &it : all) {
-        const std::string number = std::to_string(it.first) + " ";
-        bytes += checkedLine(number + static_cast<char>(it.second->kind) + " " + it.second->name);
-        if (it.second->kind == Kind::Request && !it.second->isOpen) bytes += checkedLine(number + STRUCK + " ");
-    }
-    replaceFile(path_, bytes);
-    missing_.clear();
-    openToAppend();
+    State &changed = record_.change();
+    for (const long number : some)
+        if (!rests(number)) drop_.run(number);
+    if (isEnd || some.size() < DROPPED_AT_ONCE) changed.dropBefore = droppedTo_ = 0;
+    else droppedTo_ = some.back();
 }
 
 }

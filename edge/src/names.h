@@ -1,98 +1,110 @@
 #pragma once
 
-#include <sys/types.h>
+// The names of a member's requests, and the venue's numbers for them. A request's name is written here in trader.cpp
+// before the request goes to venue_link.h, and each report finds its name here.
 
-#include <map>
-#include <stdexcept>
+#include <functional>
 #include <string>
-#include <unordered_map>
 #include <vector>
 
-#include "descriptor.h"
-#include "files.h"
+#include "record.h"
 
 namespace edge {
 
-/// A file of names that can't be trusted, in words.
-class Damaged : public std::runtime_error {
-    using std::runtime_error::runtime_error;
-};
-
-// Names of the edge's own, which members can't give: of each probe, and the beginning of those of cancels.
+// Names of the edge's own, which members can't give: of each probe, and the beginnings of those of cancels and of
+// requests whose names nobody knows.
 constexpr const char *PROBE = "edge-probe";
 constexpr const char *CANCEL = "edge-cancel-";
+constexpr const char *NAMELESS = "edge-lost-";
 
-/// The names that a member gives its requests (ClOrdID), and the rising numbers that the venue knows them by. A name is
-/// in the file before its request is sent, a line each with a checksum, so that no number and no name is used twice,
-/// whenever the program ends.
+/// The names that a member gives its requests (ClOrdID), and the rising numbers that the venue knows them by. They are
+/// kept in the member's record, so a name is committed before its request is sent. What fails is a DatabaseFault.
 class Names {
 public:
     enum class Kind : char {
-        Request = 'r',  // Of the member.
-        Cancel = 'c',   // A cancel by the edge, where the member went away.
-        Probe = 'p',    // A cancel of nothing: its answer shows that all before it has been answered.
+        Request = 'r',     // Of the member.
+        Cancel = 'c',      // A cancel by the edge, where the member went away, or of many orders at once.
+        Probe = 'p',       // A cancel of nothing: its answer shows that all before it has been answered.
+        Refused = 'x',     // The edge refused it, so the venue never has its number.
+        Struck = 's',      // The venue rejected it as a message, as its member was told.
+        MassCancel = 'q',  // Of the member, and answered by the edge, so the venue never has its number.
+        Sweep = 'w',       // What is kept of a mass cancel until it is over. It isn't a name.
     };
 
-    /// The names in this file. `first` asks for the first number where there is no such file yet: it is made.
-    template <class First>
-    Names(const std::string &path, bool syncs, First first) : path_(path), syncs_(syncs) {
-        if (isThere(path)) read();
-        else make(first());
-        openToAppend();
-    }
+    static constexpr long GREATEST = 999999999999999;  // The venue takes no greater number.
 
-    /// Keeps this name in the file, and gives its number. Throws a std::runtime_error where the file can't take it.
+    explicit Names(Record &record);
+
+    /// Keeps this name, and gives its number.
     long add(const std::string &name, Kind kind);
 
-    /// Keeps in the file that this request never reached the venue, and that its member was told.
+    /// Keeps that the edge refused a request of this name, which isn't known yet.
+    void refuse(const std::string &name) { add(name, Kind::Refused); }
+
+    /// Keeps that no report of this request will come, and that its member was told.
     void strike(long number);
 
-    /// What the member called it. Those before the first are of a time without this file, and are their number.
-    std::string nameOf(long number) const;
+    /// What the member called it. A number of before the first is its own name, and one whose name is lost has one of
+    /// the edge's own.
+    std::string nameOf(long number);
 
-    /// The number of a member's name, or 0.
-    long numberOf(const std::string &name) const;
+    /// The number of a name that went to the venue, or 0.
+    long numberOf(const std::string &name);
 
-    /// Notes that a report answers it. Throws Damaged where the number isn't here, though it should be.
+    /// Whether a request of this name came before: one that went to the venue, or one that the edge refused.
+    bool isKnown(const std::string &name);
+
+    /// Notes that a report answers it.
     void answered(long number);
 
-    /// The requests that no report has answered, from this number down, the lowest first.
-    std::vector<long> unanswered(long upTo) const;
+    /// Whether the edge gave this number, or has noted that somebody else did.
+    bool has(long number);
 
-    bool isProbe(long number) const;
-    bool has(long number) const { return number < first_ || entries_.count(number); }
-    long first() const { return first_; }
-    long last() const { return next_ - 1; }
+    /// Notes that the venue has a request of this number, which has no name here.
+    void note(long number);
 
-    /// Numbers that lines are missing of: what was written there can't be read.
-    const std::vector<long> &missing() const { return missing_; }
+    /// The journal has been read, so it is known which numbers are of a time before these names.
+    void isRead();
 
-    /// Writes the file anew with these names for numbers that were missing, none of them twice. No member is told that
-    /// one of these is lost: it knows that already, or doesn't know the name.
-    void mend(const std::map<long, std::string> &found);
+    /// The requests that no report has answered, up to this number, the lowest first.
+    std::vector<long> unanswered(long upTo);
+
+    bool isProbe(long number);
+
+    /// The rows of sweeps, the first one first, and an end of one.
+    std::vector<KeptName> sweeps();
+    void forget(long number);
+
+    long last() const { return record_.state().last; }
+
+    /// Drops some names of requests that are finished and of before the last day of the session; `rests` says which
+    /// orders aren't finished. It is called again and again, and does little each time.
+    void drop(const std::function<bool(long)> &rests);
 
 private:
-    struct Entry {
-        std::string name;
-        Kind kind;
-        bool isOpen;  // No report has answered it, and its member wasn't told that it is lost.
+    struct Found {
+        long number = 0;  // 0: the name isn't here.
+        bool wasRefused = false;
     };
 
-    void make(long first);
-    void read();
-    void openToAppend();
-    bool take(const std::string &line);
-    void put(long number, const std::string &name, Kind kind);
-    void append(const std::string &body);
+    Found find(const std::string &name);
+    bool isThere(long number);
 
-    std::string path_;
-    bool syncs_;
-    Descriptor file_;
-    off_t size_ = 0;
-    long first_ = 1, next_ = 1;
-    std::unordered_map<long, Entry> entries_;
-    std::unordered_map<std::string, long> numbers_;
-    std::vector<long> missing_;
+    // Names of the last numbers, so that a report needs no look at the record: each at the place of its number.
+    struct Recent {
+        long number = 0;
+        std::string name;
+    };
+
+    static constexpr std::size_t RECENT = 1024;
+
+    Recent &recentOf(long number);
+
+    Record &record_;
+    std::vector<Recent> recent_{RECENT};
+    long recentClosing_ = 0;  // Behind this one of the record they were written.
+    long droppedTo_ = 0;
+    Statement strike_, byNumber_, byName_, unanswered_, from_, drop_, sweeps_;
 };
 
 }

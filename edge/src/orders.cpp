@@ -14,31 +14,43 @@ namespace FIELD = FIX::FIELD;
 // Reasons for refusals, of 103 for orders and 102 for cancels and replaces.
 constexpr int OTHER = 99, UNKNOWN_SYMBOL = 1;
 
+// Of 532 for mass cancels.
+constexpr int UNSUPPORTED = 0, BAD_SECURITY = 1;
+
 constexpr std::size_t LONGEST_NAME = 64;
 
 bool isUsed(int tag, char type) {
+    const bool isOfOrder = type == 'D' || type == 'G';
     switch (tag) {
         case FIELD::ClOrdID:
         case FIELD::Symbol:
         case FIELD::Side:
-        case FIELD::TransactTime:
-        case FIELD::OrderQty: return true;
+        case FIELD::TransactTime: return true;
+        case FIELD::OrderQty: return isOfOrder || type == 'F';
         case FIELD::OrdType:
         case FIELD::Price:
-        case FIELD::TimeInForce: return type != 'F';
-        case FIELD::OrigClOrdID: return type != 'D';
-        case FIELD::OrderID: return type != 'D';  // The venue goes by the ClOrdID alone, as FIX lets it.
+        case FIELD::TimeInForce: return isOfOrder;
+        case FIELD::OrigClOrdID:
+        case FIELD::OrderID: return type == 'F' || type == 'G';  // The venue goes by the ClOrdID alone, as FIX lets it.
+        case FIELD::MassCancelRequestType: return type == 'q';
         default: return false;
     }
 }
 
-/// A name that stands in one line of a file, and isn't one of the edge's own.
+/// Whether a name stands in one line of a file.
+bool isPlain(const std::string &name) {
+    bool is = !name.empty() && name.size() <= LONGEST_NAME;
+    for (const char it : name) is = is && it >= ' ' && it <= '~';
+    return is;
+}
+
+bool isOfEdge(const std::string &name) {
+    return name.compare(0, 5, "edge-") == 0;
+}
+
 void needName(const std::string &name, const char *what) {
-    bool isPlain = !name.empty() && name.size() <= LONGEST_NAME;
-    for (const char it : name) isPlain = isPlain && static_cast<unsigned char>(it) >= ' ';
-    if (!isPlain) throw Refused(OTHER, std::string(what) + " isn't of 1 to 64 bytes that print");
-    if (name.compare(0, 5, "edge-") == 0)
-        throw Refused(OTHER, std::string(what) + " begins with edge-, as the edge's own do");
+    if (!isPlain(name)) throw Refused(OTHER, std::string(what) + " isn't of 1 to 64 bytes that print");
+    if (isOfEdge(name)) throw Refused(OTHER, std::string(what) + " begins with edge-, as the edge's own do");
 }
 
 char sideOf(const Message &message) {
@@ -76,6 +88,10 @@ long priceOf(const Message &message, const Tick &tick) {
 
 }
 
+bool Orders::isName(const std::string &name) {
+    return isPlain(name) && !isOfEdge(name);
+}
+
 Request Orders::headOf(const Message &message) {
     Request it;
     it.type = message.getHeader().getField(FIELD::MsgType)[0];
@@ -94,19 +110,37 @@ void Orders::needKnownFields(const Message &message, char type) const {
 Request Orders::read(const Message &message) const {
     Request it = headOf(message);
     needName(it.name, "ClOrdID (11)");
-    if (!it.isOrder() && it.original.empty()) throw Refused(OTHER, "OrigClOrdID (41) is missing");
+    if (it.original.empty() && (it.type == 'F' || it.type == 'G')) throw Refused(OTHER, "OrigClOrdID (41) is missing");
     needKnownFields(message, it.type);
+    if (it.isMassCancel()) {
+        readMassCancel(message, it);
+        return it;
+    }
     const auto tick = ticks_.find(it.symbol);
     if (tick == ticks_.end()) throw Refused(it.isOrder() ? UNKNOWN_SYMBOL : OTHER, "Symbol (55) isn't traded here");
     it.side = sideOf(message);
     const std::string quantity = textOf(message, FIELD::OrderQty);
-    if (it.type != 'F' || !quantity.empty()) it.quantity = wholeQuantity(quantity);
+    if (it.type != 'F' && quantity.empty()) throw Refused(OTHER, "OrderQty (38) is missing");
+    if (!quantity.empty()) it.quantity = wholeQuantity(quantity);
     if (!it.quantity) throw Refused(OTHER, "OrderQty (38) " + quantity + " isn't a whole number of 1 to 1000000");
     if (it.type == 'F') return it;
     needOrderType(message, it.type);
     it.price = priceOf(message, tick->second);
     it.timeInForce = timeInForceOf(message);
     return it;
+}
+
+/// Of all orders, or of those of a symbol; of one side, where there is one.
+void Orders::readMassCancel(const Message &message, Request &it) const {
+    const std::string type = textOf(message, FIELD::MassCancelRequestType);
+    if (type != "1" && type != "7")
+        throw Refused(UNSUPPORTED, "MassCancelRequestType (530) " + type +
+                                       " isn't one of this venue: 1 cancels a symbol's orders, 7 all");
+    if (type == "7" && !it.symbol.empty())
+        throw Refused(OTHER, "Symbol (55) stands beside a MassCancelRequestType (530) of 7, which is of all symbols");
+    if (type == "1" && it.symbol.empty()) throw Refused(BAD_SECURITY, "Symbol (55) is missing");
+    if (type == "1" && !ticks_.count(it.symbol)) throw Refused(BAD_SECURITY, "Symbol (55) isn't traded here");
+    it.side = message.isSetField(FIELD::Side) ? sideOf(message) : '\0';
 }
 
 std::string bodyFor(const Request &it, long number, long original, const std::string &time) {

@@ -22,15 +22,19 @@ public:
 
 /// What a member asks for, in the venue's terms.
 struct Request {
-    char type;                   // D, F or G.
+    char type;                   // D, F, G or q.
     std::string name, original;  // ClOrdID and OrigClOrdID, as the member wrote them.
     std::string symbol;
-    char side = '1';
+    char side = '1';               // Of q: none, where it is about both.
     long quantity = 1, price = 0;  // Whole numbers; no price: a market order.
     char timeInForce = '\0';       // None: the member gave none.
     long sequence = 0;             // The MsgSeqNum that it went to the venue with.
 
     bool isOrder() const { return type == 'D'; }
+    bool isMassCancel() const { return type == 'q'; }
+
+    /// Whether it asks for an order that may rest.
+    bool mayRest() const { return type == 'D' || type == 'G'; }
 };
 
 /// Reads requests of members: what the venue doesn't have is refused, or dropped where the settings say so.
@@ -41,11 +45,15 @@ public:
     /// The names and the kind of a request, whatever else is wrong with it.
     static Request headOf(const FIX::Message &message);
 
+    /// Whether a request may have this name: 1 to 64 bytes that print, and not as the edge's own begin.
+    static bool isName(const std::string &name);
+
     /// The whole request, or Refused.
     Request read(const FIX::Message &message) const;
 
 private:
     void needKnownFields(const FIX::Message &message, char type) const;
+    void readMassCancel(const FIX::Message &message, Request &it) const;
 
     const std::map<std::string, Tick> &ticks_;
     const std::set<int> &dropped_;

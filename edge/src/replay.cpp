@@ -1,12 +1,12 @@
 #include "replay.h"
 
 #include <fcntl.h>
-#include <poll.h>
 #include <spawn.h>
 #include <sys/wait.h>
 
 #include <cerrno>
 #include <csignal>
+#include <cstring>
 #include <stdexcept>
 #include <vector>
 
@@ -18,16 +18,24 @@ namespace edge {
 
 namespace {
 
-const char *const COUNTS = "commands ";  // So the last line begins.
+const std::string OUTPUT = "output ";  // So a line with a report begins.
 
 std::runtime_error failure(const std::string &why) {
-    return std::runtime_error("venue-replay " + why);
+    return std::runtime_error("venue-events " + why);
 }
 
 }
 
-Replay::Replay(const VenuePlace &venue, const std::string &member) {
-    std::vector<std::string> words{venue.replay, venue.journal, member};
+std::size_t reportIn(const char *line, std::size_t size, const std::string &member) {
+    if (size < OUTPUT.size() || OUTPUT.compare(0, OUTPUT.size(), line, OUTPUT.size())) return 0;
+    const auto *const space = static_cast<const char *>(std::memchr(line + OUTPUT.size(), ' ', size - OUTPUT.size()));
+    if (!space) return 0;
+    const std::size_t at = static_cast<std::size_t>(space + 1 - line), end = at + member.size();
+    return end < size && !member.compare(0, member.size(), line + at, member.size()) && line[end] == ' ' ? end + 1 : 0;
+}
+
+Replay::Replay(const VenuePlace &venue, const std::string &member) : member_(member) {
+    std::vector<std::string> words{venue.events, venue.journal, "once"};
     words.insert(words.end(), venue.symbols.begin(), venue.symbols.end());
     std::vector<char *> pointers;
     for (std::string &word : words) pointers.push_back(&word[0]);
@@ -62,31 +70,27 @@ Replay::~Replay() {
     ::waitpid(child_, nullptr, 0);
 }
 
-void Replay::finish() {
+/// Whether the program has ended, and could read all. One that goes on without a word isn't waited for.
+bool Replay::hasEnded() {
     int status = 0;
-    while (::waitpid(child_, &status, 0) < 0 && errno == EINTR) {}
+    if (!::waitpid(child_, &status, WNOHANG)) return false;
     child_ = -1;
-    if (!status && !last_.compare(0, std::string(COUNTS).size(), COUNTS)) return;
-    const std::string end = WIFEXITED(status) ? "status " + std::to_string(WEXITSTATUS(status))
-                                              : "signal " + std::to_string(WTERMSIG(status));
-    throw failure("can't read the journal: " + (last_.empty() ? end : shown(last_)));
+    if (!status) return true;
+    throw failure("can't read the journal: " + (WIFEXITED(status) ? "status " + std::to_string(WEXITSTATUS(status))
+                                                                  : "signal " + std::to_string(WTERMSIG(status))));
 }
 
 bool Replay::read(const std::function<void(const char *, std::size_t)> &told) {
+    if (isOver()) return hasEnded();
     const auto look = in_.look([this](char *piece, std::size_t size) { return ::read(out_.get(), piece, size); });
     if (look == Inbox::Look::Failed) throw failure("can't be read: " + reason());
     for (std::size_t end; (end = in_.bytes().find('\n', in_.at())) != std::string::npos; in_.take(end + 1 - in_.at())) {
-        if (!in_.bytes().compare(in_.at(), 3, "35=")) told(in_.data(), end - in_.at());
-        else last_ = in_.bytes().substr(in_.at(), end - in_.at());
+        const std::size_t size = end - in_.at(), front = reportIn(in_.data(), size, member_);
+        if (front) told(in_.data() + front, size - front);
     }
     if (look != Inbox::Look::End) return false;
-    finish();
-    return true;
-}
-
-void Replay::readAll(const std::function<void(const char *, std::size_t)> &told) {
-    pollfd it{out_.get(), POLLIN, 0};
-    while (!read(told)) ::poll(&it, 1, -1);
+    out_.reset();
+    return hasEnded();
 }
 
 }

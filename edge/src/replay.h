@@ -11,7 +11,11 @@
 
 namespace edge {
 
-/// The program venue-replay at work: what the journal tells of one member, line by line. Who drops it ends the program.
+/// Where the report to a member begins in a line of venue-events, as `output 17 C1 35=8|..`; 0 where it has none to it.
+std::size_t reportIn(const char *line, std::size_t size, const std::string &member);
+
+/// The program venue-events at work: what the journal tells of one member, line by line, among all that it tells. Who
+/// drops it ends the program.
 class Replay {
 public:
     /// Starts it for a member, as C1.
@@ -20,22 +24,23 @@ public:
     Replay(const Replay &) = delete;
     Replay &operator=(const Replay &) = delete;
 
+    /// Where its lines come from, or -1 where no more are to come.
     int fd() const { return out_.get(); }
 
+    /// Whether no more lines are to come of it, and it hasn't ended: it is to be read again soon, to learn how it ends.
+    bool isOver() const { return !out_; }
+
     /// Reads once what there is, and calls `told` with each report: its line, with a bar behind each field. Whether the
-    /// last line was reached; throws a std::runtime_error where the program can't read the journal.
+    /// program has ended behind its last line; throws a std::runtime_error where it can't read the journal.
     bool read(const std::function<void(const char *, std::size_t)> &told);
 
-    /// Reads all that there is, and waits for it.
-    void readAll(const std::function<void(const char *, std::size_t)> &told);
-
 private:
-    void finish();
+    bool hasEnded();
 
     Descriptor out_;
     pid_t child_ = -1;
     Inbox in_;
-    std::string last_;
+    const std::string member_;
 };
 
 }

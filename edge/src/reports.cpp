@@ -3,8 +3,8 @@
 #include <quickfix/FixFieldNumbers.h>
 
 #include <chrono>
-#include <cstdlib>
-#include <ctime>
+
+#include "seconds.h"
 
 namespace edge {
 
@@ -27,20 +27,35 @@ void copy(const Message &from, Message &into, int tag) {
     if (!text.empty()) into.setField(tag, text);
 }
 
+/// The type of a message of the session, which stands behind its length.
+std::string typeOf(const std::string &message) {
+    const std::size_t at = message.find("\00135=");
+    return at == std::string::npos ? "" : message.substr(at + 4, message.find('\1', at + 4) - at - 4);
+}
+
+/// Makes it one that QuickFIX doesn't count: it was sent before, and has the number 0.
+void uncount(Message &it) {
+    const FIX::SendingTime now(FIX::UtcTimeStamp(), 3);
+    it.getHeader().setField(FIX::MsgSeqNum(0));
+    it.getHeader().setField(FIX::PossDupFlag(true));
+    it.getHeader().setField(now);
+    it.getHeader().setField(FIELD::OrigSendingTime, now.getString());
+}
+
+/// An answer to a mass cancel, that has what this asked for.
+Message massReport(const Message &asked) {
+    Message told = made("r");
+    for (const int tag : {FIELD::ClOrdID, FIELD::MassCancelRequestType, FIELD::Symbol, FIELD::Side})
+        copy(asked, told, tag);
+    told.setField(FIELD::TransactTime, timeNow());
+    return told;
+}
+
 /// The state of an order that the edge speaks of in a cancel reject.
 std::string stateOf(const OpenOrder *order) {
     return !order ? "8" : order->isFilledInPart ? "1" : "0";
 }
 
-}
-
-std::string timeNow() {
-    const std::time_t now = std::time(nullptr);
-    std::tm it;
-    char text[24];
-    ::gmtime_r(&now, &it);
-    std::strftime(text, sizeof text, "%Y%m%d-%H:%M:%S", &it);
-    return text;
 }
 
 std::string Reports::priceOf(const std::string &symbol, long steps) const {
@@ -96,8 +111,17 @@ std::string Reports::nextExecId() {
     return "E" + std::to_string(now) + "." + std::to_string(++refusals_);
 }
 
+/// The price that was asked for, with the decimals of its symbol where that has such a price.
+void Reports::copyPrice(const Message &asked, Message &told, const std::string &symbol) const {
+    const auto tick = ticks_.find(symbol);
+    const long steps = tick == ticks_.end() ? 0 : tick->second.stepsOf(textOf(asked, FIELD::Price));
+    if (steps) told.setField(FIELD::Price, tick->second.priceOf(steps));
+    else copy(asked, told, FIELD::Price);
+}
+
 Message Reports::refusal(const Message &asked, const Request &it, const OpenOrder *order, int reason,
                          const std::string &text) {
+    if (it.isMassCancel()) return massRefusal(asked, reason, text);
     Message told = made(it.isOrder() ? "8" : "9");
     copy(asked, told, FIELD::ClOrdID);
     told.setField(FIELD::OrderID, order ? order->orderId : "NONE");
@@ -110,12 +134,33 @@ Message Reports::refusal(const Message &asked, const Request &it, const OpenOrde
         told.setField(FIELD::CxlRejResponseTo, it.type == 'F' ? "1" : "2");
         return told;
     }
-    for (const int tag : {FIELD::Symbol, FIELD::Side, FIELD::OrderQty, FIELD::Price}) copy(asked, told, tag);
+    for (const int tag : {FIELD::Symbol, FIELD::Side, FIELD::OrderQty}) copy(asked, told, tag);
+    copyPrice(asked, told, it.symbol);
     told.setField(FIELD::ExecID, nextExecId());
     told.setField(FIELD::ExecType, "8");
     told.setField(FIELD::OrdStatus, "8");
     told.setField(FIELD::OrdRejReason, std::to_string(reason));
-    for (const int tag : {FIELD::AvgPx, FIELD::CumQty, FIELD::LeavesQty}) told.setField(tag, "0");
+    told.setField(FIELD::AvgPx, priceOf(it.symbol, 0));
+    for (const int tag : {FIELD::CumQty, FIELD::LeavesQty}) told.setField(tag, "0");
+    return told;
+}
+
+/// Of the reasons of 532 there are 0 and 1: a greater one is of 103 or 102. What FIX has for all others, 99, is refused
+/// by QuickFIX's own dictionary, by which that field has one byte.
+Message Reports::massRefusal(const Message &asked, int reason, const std::string &text) const {
+    Message told = massReport(asked);
+    told.setField(FIELD::OrderID, "NONE");
+    told.setField(FIELD::MassCancelResponse, "0");
+    if (reason <= 1) told.setField(FIELD::MassCancelRejectReason, std::to_string(reason));
+    told.setField(FIELD::Text, SAID_BY_EDGE + text);
+    return told;
+}
+
+Message Reports::massCancelled(const Message &asked, long number, std::size_t count) const {
+    Message told = massReport(asked);
+    told.setField(FIELD::OrderID, "E" + std::to_string(number));
+    told.setField(FIELD::MassCancelResponse, textOf(asked, FIELD::MassCancelRequestType));
+    told.setField(FIELD::TotalAffectedOrders, std::to_string(count));
     return told;
 }
 
@@ -140,9 +185,79 @@ bool Reports::isOfVenue(const Fields &stored) {
     return stored.byte(35) == '9' && stored.text(58).compare(0, 6, SAID_BY_EDGE);
 }
 
-long Reports::lostOf(const Fields &stored) {
-    const std::string id = stored.byte(35) == '8' ? stored.text(17) : "";
-    return id.compare(0, 2, LOST) ? 0 : std::atol(id.c_str() + 2);
+Message sessionReject(const Judged &refused) {
+    Message told = made("3");
+    told.setField(FIELD::RefSeqNum, std::to_string(refused.number(FIELD::MsgSeqNum)));
+    if (refused.tag()) told.setField(FIELD::RefTagID, std::to_string(refused.tag()));
+    told.setField(FIELD::RefMsgType, refused.text(FIELD::MsgType));
+    told.setField(FIELD::SessionRejectReason, std::to_string(refused.reason()));
+    told.setField(FIELD::Text, SAID_BY_EDGE + refused.why());
+    return told;
+}
+
+Message rangeReject(const Judged &refused, int tag) {
+    Message told = made("3");
+    told.setField(FIELD::RefSeqNum, std::to_string(refused.number(FIELD::MsgSeqNum)));
+    told.setField(FIELD::RefTagID, std::to_string(tag));
+    told.setField(FIELD::RefMsgType, refused.text(FIELD::MsgType));
+    told.setField(FIELD::SessionRejectReason, "5");
+    told.setField(FIELD::Text, SAID_BY_EDGE + std::string("field ") + std::to_string(tag) + " is too far away");
+    return told;
+}
+
+Message resendRequest(long first) {
+    Message asked = made("2");
+    asked.setField(FIELD::BeginSeqNo, std::to_string(first));
+    asked.setField(FIELD::EndSeqNo, "0");
+    return asked;
+}
+
+Message typeReject(const Judged &message) {
+    Message told = made("j");
+    told.setField(FIELD::RefSeqNum, std::to_string(message.number(FIELD::MsgSeqNum)));
+    told.setField(FIELD::RefMsgType, message.text(FIELD::MsgType));
+    told.setField(FIELD::BusinessRejectReason, "3");
+    told.setField(FIELD::Text, std::string(SAID_BY_EDGE) + "D, F, G and q are the types of requests here");
+    return told;
+}
+
+std::string uncountedReject(const FIX::SessionID &session, const Judged &logon, const std::string &why) {
+    Message told = made("3");
+    told.getHeader().setField(session.getBeginString());
+    told.getHeader().setField(session.getSenderCompID());
+    told.getHeader().setField(session.getTargetCompID());
+    uncount(told);
+    told.setField(FIELD::RefSeqNum, std::to_string(logon.number(FIELD::MsgSeqNum)));
+    told.setField(FIELD::RefMsgType, "A");
+    told.setField(FIELD::SessionRejectReason, "99");
+    told.setField(FIELD::Text, SAID_BY_EDGE + why);
+    return told.toString();
+}
+
+bool isLogout(const std::string &message) {
+    return typeOf(message) == "5";
+}
+
+bool isCountedAnyway(const std::string &message) {
+    if (!isLogout(message) && typeOf(message) != "3") return false;
+    return Fields(message.data(), message.size(), '\1').number(FIELD::MsgSeqNum) > 1;
+}
+
+std::string uncounted(const std::string &message, long last) {
+    Message told(message, false);
+    uncount(told);
+    if (!isLogout(message)) return told.toString();
+    told.getHeader().setField(FIELD::MsgType, "3");
+    told.setField(FIELD::RefSeqNum, std::to_string(last));
+    told.setField(FIELD::SessionRejectReason, "99");
+    if (!told.isSetField(FIELD::Text)) told.setField(FIELD::Text, SAID_BY_EDGE + std::string("the session ends"));
+    return told.toString();
+}
+
+Message sessionLogout(const std::string &why, bool isEdges) {
+    Message told = made("5");
+    told.setField(FIELD::Text, isEdges ? SAID_BY_EDGE + why : why);
+    return told;
 }
 
 }

@@ -2,9 +2,11 @@
 
 #include <quickfix/Message.h>
 
+#include <cstddef>
 #include <map>
 #include <string>
 
+#include "canonical.h"
 #include "fields.h"
 #include "names.h"
 #include "open_orders.h"
@@ -17,15 +19,19 @@ namespace edge {
 /// edge.
 class Reports {
 public:
-    Reports(const std::map<std::string, Tick> &ticks, const Names &names, const std::string &lastCapacity)
+    Reports(const std::map<std::string, Tick> &ticks, Names &names, const std::string &lastCapacity)
         : ticks_(ticks), names_(names), lastCapacity_(lastCapacity) {}
 
     /// A report of the venue, of the type 8 or 9.
     FIX::Message of(const Fields &report) const;
 
-    /// The edge's refusal of a request. What it says to have been asked for is the member's own text.
+    /// The edge's refusal of a request. What it says to have been asked for is the member's own text, but for the
+    /// decimals of a price.
     FIX::Message refusal(const FIX::Message &asked, const Request &it, const OpenOrder *order, int reason,
                          const std::string &text);
+
+    /// The edge's answer to a mass cancel, known by this number, by which so many cancels went to the venue.
+    FIX::Message massCancelled(const FIX::Message &asked, long number, std::size_t count) const;
 
     /// The edge's word that a request came to nothing: of this name, whatever it asked for.
     FIX::Message lost(long number, const std::string &why) const;
@@ -33,22 +39,45 @@ public:
     /// Whether a message that was stored is a report of the venue, and none of the edge's own.
     static bool isOfVenue(const Fields &stored);
 
-    /// The number of the request that a message which was stored says to be lost, or 0.
-    static long lostOf(const Fields &stored);
-
 private:
     FIX::Message executionOf(const Fields &report) const;
     FIX::Message rejectOf(const Fields &report) const;
+    FIX::Message massRefusal(const FIX::Message &asked, int reason, const std::string &text) const;
     std::string priceOf(const std::string &symbol, long steps) const;
+    void copyPrice(const FIX::Message &asked, FIX::Message &told, const std::string &symbol) const;
     std::string nextExecId();
 
     const std::map<std::string, Tick> &ticks_;
-    const Names &names_;
+    Names &names_;
     const std::string lastCapacity_;
     long refusals_ = 0;
 };
 
-/// The time now, as FIX has it, in whole seconds.
-std::string timeNow();
+/// The session's Reject of a message that isn't canonical.
+FIX::Message sessionReject(const Judged &refused);
+
+/// The session's Reject of a message that has a number in this field that can't be followed.
+FIX::Message rangeReject(const Judged &refused, int tag);
+
+/// The answer to a message of a type that is FIX's, and that the edge has nothing to do with.
+FIX::Message typeReject(const Judged &message);
+
+/// A word to an engine that isn't let in, which QuickFIX doesn't count: a Reject that was sent before, of the number 0.
+/// A Logout is counted there, whatever its number is, so that the report which has the next number is never asked for.
+std::string uncountedReject(const FIX::SessionID &session, const Judged &logon, const std::string &why);
+
+/// Whether QuickFIX counts a message of a session whatever its number is: a Logout and a Reject, but the first message.
+bool isCountedAnyway(const std::string &message);
+bool isLogout(const std::string &message);
+
+/// The same as a word that isn't counted, as the one above: of a message that is counted anyway, which is told behind
+/// the engine's message of this number.
+std::string uncounted(const std::string &message, long last);
+
+/// Asks for all from this number on.
+FIX::Message resendRequest(long first);
+
+/// A Logout that says why.
+FIX::Message sessionLogout(const std::string &why, bool isEdges = true);
 
 }

@@ -4,69 +4,75 @@
 #include <quickfix/MessageStore.h>
 #include <quickfix/Utility.h>
 
-#include <map>
-
 #include "files.h"
 #include "log.h"
 #include "member.h"
-#include "names.h"
+#include "record.h"
 #include "settings.h"
 #include "store.h"
 
 namespace edge {
 
-/// What the library calls for all sessions: each call goes to the session's member.
+/// What the library calls for the session: each call goes to its member.
 class Application : public FIX::Application {
 public:
-    explicit Application(const std::map<FIX::SessionID, Member *> &members) : members_(members) {}
+    explicit Application(Member &member) : member_(member) {}
 
     void onCreate(const FIX::SessionID &) override {}
-    void onLogon(const FIX::SessionID &session) override { members_.at(session)->loggedOn(); }
-    void onLogout(const FIX::SessionID &session) override { members_.at(session)->loggedOut(); }
+    void onLogon(const FIX::SessionID &) override { member_.loggedOn(); }
+    void onLogout(const FIX::SessionID &) override { member_.loggedOut(); }
     void toAdmin(FIX::Message &, const FIX::SessionID &) override {}
     void toApp(FIX::Message &, const FIX::SessionID &) throw(FIX::DoNotSend) override {}
-    void fromAdmin(const FIX::Message &message,
-                   const FIX::SessionID &session) throw(FIX::FieldNotFound, FIX::IncorrectDataFormat,
-                                                        FIX::IncorrectTagValue, FIX::RejectLogon) override;
+    void fromAdmin(const FIX::Message &,
+                   const FIX::SessionID &) throw(FIX::FieldNotFound, FIX::IncorrectDataFormat, FIX::IncorrectTagValue,
+                                                 FIX::RejectLogon) override {}
     void fromApp(const FIX::Message &message,
                  const FIX::SessionID &session) throw(FIX::FieldNotFound, FIX::IncorrectDataFormat,
                                                       FIX::IncorrectTagValue, FIX::UnsupportedMessageType) override;
 
 private:
-    const std::map<FIX::SessionID, Member *> &members_;
+    Member &member_;
 };
 
-/// Makes the stores of the sessions, and knows them.
+/// Makes the store of the session, in its member's record, and knows it.
 class Stores : public FIX::MessageStoreFactory {
 public:
-    Stores(const Settings &settings, const std::map<int, std::unique_ptr<Names>> &names);
+    explicit Stores(Record &record) : record_(record) {}
 
     FIX::MessageStore *create(const FIX::SessionID &session) override;
     void destroy(FIX::MessageStore *store) override;
 
-    Store &of(const FIX::SessionID &session) { return *stores_.at(session); }
+    /// That of the session, once the library has asked for it.
+    Store &store() { return *store_; }
 
 private:
-    const Settings &settings_;
-    const std::map<int, std::unique_ptr<Names>> &names_;
-    std::map<FIX::SessionID, Store *> stores_;
+    Record &record_;
+    Store *store_ = nullptr;
 };
 
-/// Makes the logs of the sessions, and the one of all.
+/// Makes the log of the session, which it knows, and the one of what belongs to none, which is written at once.
 class Logs : public FIX::LogFactory {
 public:
-    explicit Logs(const std::string &folder) : folder_(folder) { FIX::file_mkdir(folder.c_str()); }
+    Logs(const std::string &folder, const LogBounds &bounds) : folder_(folder), bounds_(bounds) {
+        FIX::file_mkdir(folder.c_str());
+    }
 
-    FIX::Log *create() override { return new Log(folder_ + "/GLOBAL"); }
-    FIX::Log *create(const FIX::SessionID &session) override { return new Log(filesOf(folder_, session)); }
+    FIX::Log *create() override { return new Log(folder_ + "/GLOBAL", bounds_, false); }
+    FIX::Log *create(const FIX::SessionID &session) override {
+        return log_ = new Log(filesOf(folder_, session), bounds_, true);
+    }
     void destroy(FIX::Log *log) override { delete log; }
+
+    /// That of the session, once the library has asked for it.
+    Log &log() { return *log_; }
 
 private:
     const std::string folder_;
+    const LogBounds bounds_;
+    Log *log_ = nullptr;
 };
 
-/// Where the edge keeps the names of a member, and what it was told before its store was emptied.
-std::string namesPath(const Settings &settings, const MemberSettings &member);
-std::string toldPath(const Settings &settings, const MemberSettings &member);
+/// What is kept of the member of these settings, not opened yet.
+std::unique_ptr<Record> recordOf(const Settings &settings);
 
 }

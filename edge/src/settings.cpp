@@ -1,21 +1,27 @@
 #include "settings.h"
 
 #include <arpa/inet.h>
+#include <quickfix/DataDictionary.h>
 #include <sys/stat.h>
 #include <unistd.h>
 
 #include <algorithm>
-#include <cstdio>
 #include <fstream>
 #include <sstream>
 
+#include "hours.h"
+#include "identity.h"
 #include "setting_names.h"
+#include "steps.h"
 
 namespace edge {
 
 namespace {
 
-constexpr int MEMBERS = 8;
+constexpr int MEMBERS = 8, GREATEST_TAG = 99999;
+constexpr std::size_t LEAST_READ = 100;  // Messages in a second: below this a Logon alone would hold up for seconds.
+// The dictionary where none is named: the package's own.
+const char *const DICTIONARY = "/usr/share/gikvand-edge/FIX44-edge.xml";
 // Account, HandlInst, ExecInst and others that engines write by themselves and that ask the venue for nothing.
 const char *const DROPPED = "1 15 21 22 48 58 100 114 167 207 528 581 582 1028";
 
@@ -62,11 +68,6 @@ std::vector<std::string> wordsOf(const std::string &text) {
     std::vector<std::string> words;
     for (std::string word; from >> word;) words.push_back(word);
     return words;
-}
-
-bool isSymbol(const std::string &it) {
-    return !it.empty() && it.size() <= 8 &&
-           it.find_first_not_of("ABCDEFGHIJKLMNOPQRSTUVWXYZ0123456789") == std::string::npos;
 }
 
 /// Symbols with their steps, as ABC:0.01 XYZ:1.
@@ -118,6 +119,11 @@ Limits limitsOf(const Dictionary &from) {
     it.openOrders = static_cast<int>(numberOr(from, "MaxOpenOrders", 0, MOST, 0));
     it.messageBytes = static_cast<std::size_t>(numberOr(from, "MaxMessageBytes", 256, 65536, 4096));
     it.unsentBytes = static_cast<std::size_t>(numberOr(from, "MaxUnsentBytes", 65536, 1 << 30, 4 << 20));
+    it.readMessages = static_cast<std::size_t>(numberOr(from, "MaxReadMessagesPerSecond", 0, MOST, 20000));
+    if (it.readMessages && it.readMessages < LEAST_READ)
+        throw BadSetting("MaxReadMessagesPerSecond", "isn't 0, nor " + std::to_string(LEAST_READ) + " or more");
+    it.readBytes = static_cast<std::size_t>(numberOr(from, "MaxReadBytesPerSecond", 0, 1 << 30, 8 << 20));
+    it.underWay = static_cast<std::size_t>(numberOr(from, "MaxRequestsUnderWay", 1, 1000000, 4000));
     it.cancelOnDisconnect = flagOr(from, "CancelOnDisconnect", false);
     it.mayReset = flagOr(from, "ResetByMember", false);
     it.dropped = tagsOf(from, "DropFields", DROPPED);
@@ -129,12 +135,12 @@ Limits limitsOf(const Dictionary &from) {
 
 MemberSettings memberOf(const FIX::SessionID &session, const Dictionary &from) {
     const std::string name = textOf(from, "Member");
-    if (name.size() != 2 || name[0] != 'C' || name[1] < '1' || name[1] > '0' + MEMBERS)
-        throw BadSetting("Member", "isn't C1 to C8: " + name);
+    if (!isMember(name)) throw BadSetting("Member", "isn't C1 to C8: " + name);
     MemberSettings it{name[1] - '0',
                       session,
                       static_cast<int>(numberOf(from, "SocketAcceptPort", 1, 65535)),
                       textOr(from, "Username", ""),
+                      "",
                       "",
                       limitsOf(from)};
     if (from.has("PasswordFile") != from.has("Username"))
@@ -143,13 +149,38 @@ MemberSettings memberOf(const FIX::SessionID &session, const Dictionary &from) {
     return it;
 }
 
-void needTime(const Dictionary &from, const std::string &name) {
-    const std::string text = textOf(from, name);
-    int hour, minute, second;
-    char more;
-    if (text.size() != 8 || std::sscanf(text.c_str(), "%2d:%2d:%2d%c", &hour, &minute, &second, &more) != 3 ||
-        hour > 23 || minute > 59 || second > 59)
-        throw BadSetting(name, "isn't HH:MM:SS: " + text);
+/// What tells this member from others: a password, or a certificate of its own. The settings have to say so where
+/// neither does.
+void readIdentity(const Dictionary &from, Settings &into) {
+    MemberSettings &member = into.member;
+    if (from.has("StunnelConfig")) {
+        if (into.host.compare(0, 4, "127."))
+            throw BadSetting("SocketAcceptHost",
+                             "isn't of the loopback, so that clients may pass by the stunnel of "
+                             "StunnelConfig: " +
+                                 into.host);
+        member.certificate = certificateBy(textOf(from, "StunnelConfig"), into.host, member.port);
+    }
+    if (flagOr(from, "AllowAnyone", false) || !member.username.empty() || !member.certificate.empty()) return;
+    throw BadSetting("Username",
+                     "is missing: neither a password nor a certificate of its own, by StunnelConfig, tells "
+                     "who " +
+                         member.name() + " is; AllowAnyone=Y takes anyone in");
+}
+
+/// A dictionary without fields of data, whose lengths the library believes.
+void needDictionary(const std::string &path) {
+    const char *const name = "DataDictionary";
+    needFile(name, path, R_OK);
+    try {
+        const FIX::DataDictionary it(path);
+        for (int tag = 1; tag <= GREATEST_TAG; tag++)
+            if (it.isDataField(tag))
+                throw BadSetting(name, "has a field of the type DATA, " + std::to_string(tag) +
+                                           ", as edge/FIX44-edge.xml has none: " + path);
+    } catch (const FIX::ConfigError &why) {
+        throw BadSetting(name, "is none of QuickFIX: " + path + ": " + (why.detail.empty() ? why.what() : why.detail));
+    }
 }
 
 void needKnownNames(const Dictionary &from) {
@@ -164,81 +195,163 @@ void refuseOthers(const Dictionary &from) {
             throw BadSetting(name, "would drop what a member missed: leave it out, or see ResetByMember");
     if (!flagOr(from, "PersistMessages", true))
         throw BadSetting("PersistMessages", "has to be Y: it keeps what was missed");
+    for (const char *name : {"ValidateLengthAndChecksum", "ValidateFieldsHaveValues"})
+        if (!flagOr(from, name, true)) throw BadSetting(name, "has to be Y: no other messages are taken");
+    if (from.has("SyncNames")) throw BadSetting("SyncNames", "is always so: leave it out");
     if (from.getString("BeginString") != "FIX.4.4")
         throw BadSetting("BeginString", "isn't FIX.4.4: " + from.getString("BeginString"));
     if (textOf(from, "ConnectionType") != "acceptor") throw BadSetting("ConnectionType", "isn't acceptor");
-    needTime(from, "StartTime");
-    needTime(from, "EndTime");
-    needFile("DataDictionary", textOf(from, "DataDictionary"), R_OK);
+    needDictionary(textOr(from, "DataDictionary", DICTIONARY));
 }
 
-/// The settings for the library alone: it opens its own page at all addresses where HttpAcceptPort is left to it.
-FIX::SessionSettings forLibrary(const FIX::SessionSettings &all) {
-    const auto without = [](const Dictionary &from) {
-        Dictionary it;
-        for (const auto &entry : from)
-            if (entry.first != "HTTPACCEPTPORT") it.setString(entry.first, entry.second);
-        return it;
-    };
+/// The settings for the library alone: it opens its own page at all addresses where HttpAcceptPort is left to it, and
+/// empties stores by hours.
+FIX::SessionSettings forLibrary(const FIX::SessionID &session, const Dictionary &from) {
+    Dictionary it;
+    for (const auto &entry : from)
+        if (entry.first != "HTTPACCEPTPORT" && !isOfHours(entry.first)) it.setString(entry.first, entry.second);
+    if (!it.has("DataDictionary")) it.setString("DataDictionary", DICTIONARY);
+    setEndlessHours(it);
     FIX::SessionSettings library;
-    library.set(without(all.get()));
-    for (const FIX::SessionID &session : all.getSessions()) library.set(session, without(all.get(session)));
+    library.set(session, it);
     return library;
 }
 
-/// What is read for all sessions alone can't be another one for one of them.
-void needCommon(const Dictionary &common, const Dictionary &session) {
-    for (const char *name : {"VenuePort", "VenueJournal", "VenueReplay", "Symbols", "SocketAcceptHost", "EdgePath",
-                             "FileStorePath", "FileLogPath", "HttpAcceptPort", "DiskReserve", "SyncNames"})
+/// What members of one file have of one venue.
+void needOneVenue(const Dictionary &common, const Dictionary &session) {
+    for (const char *name : {"VenuePort", "VenueJournal", "VenueEvents", "Symbols"})
         if (session.has(name) && (!common.has(name) || session.getString(name) != common.getString(name)))
             throw BadSetting(name, "is one for all sessions, and belongs to [DEFAULT]");
 }
 
-void readMembers(const FIX::SessionSettings &all, Settings &into) {
-    std::set<int> numbers;
-    for (const FIX::SessionID &session : all.getSessions()) {
-        needKnownNames(all.get(session));
-        needCommon(all.get(), all.get(session));
-        refuseOthers(all.get(session));
-        into.members.push_back(memberOf(session, all.get(session)));
-        if (!numbers.insert(into.members.back().number).second)
-            throw BadSetting("Member", "has two sessions: " + into.members.back().name());
-    }
-    if (into.members.empty()) throw BadSetting("[SESSION]", "is missing");
+/// Whether a session has a value of its own, and not that of [DEFAULT].
+bool isOwn(const Dictionary &common, const Dictionary &session, const std::string &name) {
+    return !common.has(name) || session.getString(name) != common.getString(name);
 }
 
+/// A member's folder: one of its session as it is, and else a folder of its name in the one of [DEFAULT], which is
+/// noted, too.
+std::string folderOf(const Dictionary &common, const Dictionary &session, const std::string &name,
+                     const std::string &member, std::string &ofAll) {
+    const std::string folder = textOf(session, name);
+    if (isOwn(common, session, name)) return folder;
+    ofAll = folder;
+    return folder + "/" + member;
 }
 
-Settings readSettings(const std::string &path) {
+/// The port of a member's page: one of its session as it is, and else so far above the one of [DEFAULT] as its port at
+/// the venue is above that of C1.
+int statusPortOf(const Dictionary &common, const Dictionary &session, int member) {
+    const char *const name = "HttpAcceptPort";
+    if (!session.has(name)) return 0;
+    if (isOwn(common, session, name)) return static_cast<int>(numberOf(session, name, 1, 65535));
+    return static_cast<int>(numberOf(session, name, 1, 65536 - MEMBERS)) + member - 1;
+}
+
+void readVenue(const Dictionary &from, Settings &into) {
+    into.venue.port = static_cast<int>(numberOf(from, "VenuePort", 1, 65536 - MEMBERS));
+    into.venue.journal = textOf(from, "VenueJournal");
+    if (from.has("VenueReplay")) throw BadSetting("VenueReplay", "is VenueEvents now, the program venue-events");
+    into.venue.events = textOf(from, "VenueEvents");
+    needFile("VenueEvents", into.venue.events, X_OK);
+    readTicks(from, into);
+}
+
+void readHost(const Dictionary &from, Settings &into) {
+    into.host = textOr(from, "SocketAcceptHost", "127.0.0.1");
+    in_addr address;
+    if (::inet_pton(AF_INET, into.host.c_str(), &address) != 1)
+        throw BadSetting("SocketAcceptHost", "is no address, as 127.0.0.1: " + into.host);
+}
+
+Settings settingsOf(const Dictionary &common, const FIX::SessionID &session, const Dictionary &from) {
+    needKnownNames(from);
+    refuseOthers(from);
+    Settings it;
+    readVenue(from, it);
+    readHost(from, it);
+    it.hours = hoursOf(from);
+    it.member = memberOf(session, from);
+    readIdentity(from, it);
+    const std::string name = it.member.name();
+    it.folder = folderOf(common, from, "EdgePath", name, it.ofAll.edge);
+    if (from.has("FileStorePath")) it.storeFolder = folderOf(common, from, "FileStorePath", name, it.ofAll.store);
+    it.logFolder = folderOf(common, from, "FileLogPath", name, it.ofAll.log);
+    it.statusPort = statusPortOf(common, from, it.member.number);
+    it.diskReserve = static_cast<std::uint64_t>(numberOr(from, "DiskReserve", 0, 1L << 40, 16 << 20));
+    it.folderBytes = static_cast<std::uint64_t>(numberOr(from, "MaxFolderBytes", 1 << 20, 1L << 50, 1L << 32));
+    it.log.bytes = static_cast<std::size_t>(numberOr(from, "MaxLogBytes", 65536, 1L << 40, 64 << 20));
+    it.log.files = static_cast<int>(numberOr(from, "MaxLogFiles", 1, 1000, 8));
+    it.library = forLibrary(session, from);
+    needSameSteps(it);
+    return it;
+}
+
+/// What a settings file has, as the library reads it.
+FIX::SessionSettings sectionsOf(const std::string &path) {
     std::ifstream file(path);
     if (!file) throw BadSetting(path, "can't be read");
-    Settings it;
     try {
         FIX::SessionSettings all;
         file >> all;
-        const Dictionary &common = all.get();
-        needKnownNames(common);
-        it.venue.port = static_cast<int>(numberOf(common, "VenuePort", 1, 65528));
-        it.venue.journal = textOf(common, "VenueJournal");
-        it.venue.replay = textOf(common, "VenueReplay");
-        needFile("VenueReplay", it.venue.replay, X_OK);
-        readTicks(common, it);
-        it.host = textOr(common, "SocketAcceptHost", "127.0.0.1");
-        in_addr address;
-        if (::inet_pton(AF_INET, it.host.c_str(), &address) != 1)
-            throw BadSetting("SocketAcceptHost", "is no address, as 127.0.0.1: " + it.host);
-        it.folder = textOf(common, "EdgePath");
-        it.storeFolder = textOf(common, "FileStorePath");
-        it.logFolder = textOf(common, "FileLogPath");
-        it.statusPort = static_cast<int>(numberOr(common, "HttpAcceptPort", 1, 65535, 0));
-        it.diskReserve = static_cast<std::uint64_t>(numberOr(common, "DiskReserve", 0, 1L << 40, 16 << 20));
-        it.syncsNames = flagOr(common, "SyncNames", false);
-        readMembers(all, it);
-        it.library = forLibrary(all);
+        needKnownNames(all.get());
+        const std::set<FIX::SessionID> sessions = all.getSessions();
+        if (sessions.empty()) throw BadSetting("[SESSION]", "is missing");
+        for (const FIX::SessionID &session : sessions)
+            if (sessions.size() > 1) needOneVenue(all.get(), all.get(session));
+        return all;
     } catch (const FIX::ConfigError &why) {
         throw BadSetting(path, why.detail.empty() ? why.what() : why.detail);
     }
-    return it;
+}
+
+}
+
+bool isSymbol(const std::string &it) {
+    return !it.empty() && it.size() <= 8 &&
+           it.find_first_not_of("ABCDEFGHIJKLMNOPQRSTUVWXYZ0123456789") == std::string::npos;
+}
+
+bool isMember(const std::string &it) {
+    return it.size() == 2 && it[0] == 'C' && it[1] >= '1' && it[1] <= '0' + MEMBERS;
+}
+
+std::vector<MemberFolder> readFolders(const std::string &path) {
+    const FIX::SessionSettings all = sectionsOf(path);
+    std::vector<MemberFolder> folders;
+    std::string ofAll;
+    for (const FIX::SessionID &session : all.getSessions()) {
+        const std::string member = textOf(all.get(session), "Member");
+        folders.push_back({member, folderOf(all.get(), all.get(session), "EdgePath", member, ofAll)});
+    }
+    std::sort(folders.begin(), folders.end(),
+              [](const MemberFolder &one, const MemberFolder &other) { return one.member < other.member; });
+    return folders;
+}
+
+std::vector<Settings> readAll(const std::string &path) {
+    const FIX::SessionSettings all = sectionsOf(path);
+    std::vector<Settings> members;
+    for (const FIX::SessionID &session : all.getSessions())
+        members.push_back(settingsOf(all.get(), session, all.get(session)));
+    std::sort(members.begin(), members.end(),
+              [](const Settings &one, const Settings &other) { return one.member.number < other.member.number; });
+    needApart(members);
+    return members;
+}
+
+Settings readOne(const std::string &path, const std::string &member) {
+    const FIX::SessionSettings all = sectionsOf(path);
+    const std::set<FIX::SessionID> sessions = all.getSessions();
+    std::vector<FIX::SessionID> chosen;
+    for (const FIX::SessionID &session : sessions)
+        if (member.empty() || textOr(all.get(session), "Member", "") == member) chosen.push_back(session);
+    if (chosen.empty()) throw BadSetting("Member", "no session has " + member);
+    if (chosen.size() > 1 && !member.empty()) throw BadSetting("Member", "has two sessions: " + member);
+    if (chosen.size() > 1)
+        throw BadSetting("[SESSION]", "there are " + std::to_string(chosen.size()) +
+                                          ": --all serves all of them, and --member C1 the one of C1");
+    return settingsOf(all.get(), chosen[0], all.get(chosen[0]));
 }
 
 }

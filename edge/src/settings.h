@@ -9,6 +9,8 @@
 #include <string>
 #include <vector>
 
+#include "log.h"
+#include "schedule.h"
 #include "ticks.h"
 
 namespace edge {
@@ -22,7 +24,7 @@ public:
 /// Where the venue is, and how what it has kept is read.
 struct VenuePlace {
     int port;                          // Of C1; that of Ck is k - 1 above it.
-    std::string journal, replay;       // Its journal's file, and the program venue-replay.
+    std::string journal, events;       // Its journal's file, and the program venue-events.
     std::vector<std::string> symbols;  // In the venue's order.
 };
 
@@ -30,6 +32,8 @@ struct VenuePlace {
 struct Limits {
     int messagesPerSecond, openOrders;  // 0: no limit.
     std::size_t messageBytes, unsentBytes;
+    std::size_t readMessages, readBytes;  // Of all types, in a second; 0: no bound.
+    std::size_t underWay;                 // Requests that the venue hasn't answered.
     bool cancelOnDisconnect, mayReset;
     std::set<int> dropped;     // Fields of orders that the venue doesn't have, and that are left out in silence.
     std::string lastCapacity;  // What LastCapacity (29) of a fill says; empty: it isn't there.
@@ -41,24 +45,50 @@ struct MemberSettings {
     FIX::SessionID session;
     int port;                        // Where it connects to.
     std::string username, password;  // Empty: none is asked for.
+    std::string certificate;         // The one that its stunnel takes; empty: none that is known.
     Limits limits;
 
     std::string name() const { return "C" + std::to_string(number); }
 };
 
-/// All settings of an edge, read and looked through.
-struct Settings {
-    FIX::SessionSettings library;  // For QuickFIX, without what is the edge's own.
-    VenuePlace venue;
-    std::map<std::string, Tick> ticks;
-    std::string host, folder, storeFolder, logFolder;
-    int statusPort;             // 0: no page.
-    std::uint64_t diskReserve;  // Bytes that have to be free for a new order to be taken.
-    bool syncsNames;
-    std::vector<MemberSettings> members;
+/// The folders of names, store and log.
+struct Folders {
+    std::string edge, store, log;
 };
 
-/// Reads a settings file. What is wrong in it is a BadSetting, with the name of the setting.
-Settings readSettings(const std::string &path);
+/// All settings of the process of one member, read and looked through.
+struct Settings {
+    FIX::SessionSettings library;  // For QuickFIX, of this session alone, without what is the edge's own.
+    VenuePlace venue;
+    std::map<std::string, Tick> ticks;
+    std::string host, folder, logFolder;  // The folders are this member's alone.
+    std::string storeFolder;              // Of an edge of before, and this member's alone; empty: there is none.
+    Folders ofAll;              // The folders of all members that these lie in; empty: a folder isn't in such a one.
+    int statusPort;             // 0: no page.
+    std::uint64_t diskReserve;  // Bytes that have to be free for a new order to be taken.
+    LogBounds log;              // Of messages, and as much of events.
+    std::uint64_t folderBytes;  // As many bytes in the folders are the most with which a new order is taken.
+    Schedule hours;             // When the member's session begins and ends.
+    MemberSettings member;
+};
+
+/// Where the process of a member keeps what it has.
+struct MemberFolder {
+    std::string member, folder;
+};
+
+/// Whether a symbol or a member may have this name: 1 to 8 capitals and digits, and C1 to C8.
+bool isSymbol(const std::string &it);
+bool isMember(const std::string &it);
+
+/// The folders of the members of a file, whatever else its settings say.
+std::vector<MemberFolder> readFolders(const std::string &path);
+
+/// Reads the settings of each member of a file. What is wrong in them, or keeps the members from being served side by
+/// side, is a BadSetting with the name of the setting.
+std::vector<Settings> readAll(const std::string &path);
+
+/// Reads the settings of this member, as C1, out of a file; without a name the file has to have one session.
+Settings readOne(const std::string &path, const std::string &member);
 
 }

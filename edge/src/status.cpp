@@ -6,6 +6,7 @@
 #include <sstream>
 
 #include "door.h"
+#include "seconds.h"
 
 namespace edge {
 
@@ -20,8 +21,21 @@ bool waits(int fd, int milliseconds) {
 
 }
 
-StatusPage::StatusPage(int port, const std::vector<std::unique_ptr<Member>> &members)
-    : members_(members), listener_(listener("127.0.0.1", port)), thread_([this] { run(); }) {}
+std::string statusOf(const Member &member) {
+    const Counts &counts = member.counts();
+    const std::string off = member.switches().words();
+    std::ostringstream line;
+    line << member.settings().name() << " (" << member.settings().session.getTargetCompID().getString()
+         << "): " << wordsOf(member.state()) << ", " << (member.isLoggedOn() ? "logged on" : "away") << ", "
+         << counts.requests << " requests, " << counts.refusals << " refused by the edge, " << counts.reports
+         << " reports, the last " << counts.lastReport << ", " << counts.openOrders << " open orders, "
+         << member.unsent() << " bytes not taken, numbers since " << timeOf(member.dayBegan())
+         << (off.empty() ? "" : ", ") << off;
+    return line.str();
+}
+
+StatusPage::StatusPage(int port, const Member &member)
+    : member_(member), listener_(listener("127.0.0.1", port)), thread_([this] { run(); }) {}
 
 StatusPage::~StatusPage() {
     isStopping_ = true;
@@ -43,39 +57,29 @@ void StatusPage::answer(int socket) const {
     const ssize_t count = ::recv(socket, asked, sizeof asked, 0);
     if (count <= 0) return;
     const bool isFigures = !std::string(asked, static_cast<std::size_t>(count)).compare(0, 12, "GET /metrics");
-    const std::string body = isFigures ? figures() : words();
+    const std::string body = isFigures ? figures() : statusOf(member_) + "\n";
     const std::string page =
         "HTTP/1.0 200 OK\r\nContent-Type: text/plain; charset=utf-8\r\nContent-Length: " + std::to_string(body.size()) +
         "\r\n\r\n" + body;
     if (::send(socket, page.data(), page.size(), MSG_NOSIGNAL) < 0) return;  // Who asked has gone.
 }
 
-std::string StatusPage::words() const {
-    std::ostringstream page;
-    for (const auto &it : members_) {
-        const Counts &counts = it->counts();
-        page << it->settings().name() << " (" << it->settings().session.getTargetCompID().getString()
-             << "): " << it->state() << ", " << (it->isLoggedOn() ? "logged on" : "away") << ", " << counts.requests
-             << " requests, " << counts.refusals << " refused by the edge, " << counts.reports << " reports, the last "
-             << counts.lastReport << ", " << counts.openOrders << " open orders, " << it->unsent()
-             << " bytes not taken\n";
-    }
-    return page.str();
-}
-
 std::string StatusPage::figures() const {
+    const Counts &counts = member_.counts();
+    const std::string member = "{member=\"" + member_.settings().name() + "\"} ";
     std::ostringstream page;
-    for (const auto &it : members_) {
-        const Counts &counts = it->counts();
-        const std::string member = "{member=\"" + it->settings().name() + "\"} ";
-        page << "gikvand_edge_serves" << member << (it->state() == std::string("serves")) << "\n"
-             << "gikvand_edge_logged_on" << member << it->isLoggedOn() << "\n"
-             << "gikvand_edge_requests_total" << member << counts.requests << "\n"
-             << "gikvand_edge_refusals_total" << member << counts.refusals << "\n"
-             << "gikvand_edge_reports_total" << member << counts.reports << "\n"
-             << "gikvand_edge_open_orders" << member << counts.openOrders << "\n"
-             << "gikvand_edge_unsent_bytes" << member << it->unsent() << "\n";
-    }
+    page << "gikvand_edge_serves" << member << (member_.state() == Member::State::Serves) << "\n"
+         << "gikvand_edge_logged_on" << member << member_.isLoggedOn() << "\n"
+         << "gikvand_edge_requests_total" << member << counts.requests << "\n"
+         << "gikvand_edge_refusals_total" << member << counts.refusals << "\n"
+         << "gikvand_edge_reports_total" << member << counts.reports << "\n"
+         << "gikvand_edge_open_orders" << member << counts.openOrders << "\n"
+         << "gikvand_edge_day_began_seconds" << member << member_.dayBegan() << "\n"
+         << "gikvand_edge_unsent_bytes" << member << member_.unsent() << "\n"
+         << "gikvand_edge_stopped" << member << member_.switches().showsStopped() << "\n";
+    for (const auto &it : member_.switches().shownHalted())
+        page << "gikvand_edge_halted{member=\"" << member_.settings().name() << "\",symbol=\"" << it.first << "\"} "
+             << it.second << "\n";
     return page.str();
 }
 

@@ -1,172 +1,135 @@
 #include "store.h"
 
-#include <sys/stat.h>
-#include <unistd.h>
+#include <quickfix/Message.h>
 
-#include <algorithm>
-#include <cerrno>
-#include <cstdio>
-#include <cstdlib>
-#include <fstream>
-#include <vector>
-
-#include "checksum.h"
-#include "files.h"
-#include "lines.h"
-#include "reports.h"
+#include <ctime>
 
 namespace edge {
 
 namespace {
-
-constexpr int AT_ONCE = 1000;  // Messages that are read from a store in one go.
-
-/// How many bytes of these entries are whole ones, as "12,3400,330 ", of messages that the body has.
-std::size_t wholeEntries(const std::string &entries, long body) {
-    const char *const begin = entries.c_str(), *from = begin;
-    for (char *at;; from = at + 1) {
-        std::strtol(from, &at, 10);
-        if (at == from || *at != ',') break;
-        const long place = std::strtol(at + 1, &at, 10);
-        if (*at != ',') break;
-        const long size = std::strtol(at + 1, &at, 10);
-        if (*at != ' ' || place < 0 || size < 0 || place > body || size > body - place) break;
-    }
-    return static_cast<std::size_t>(from - begin);
+constexpr long DAY = 24 * 60 * 60;  // Seconds for which a name is kept at least.
+constexpr int HOUR = 60 * 60;       // In front of each moment that the library looks at.
 }
 
-/// Mends a session's store, and gives its folder; throws a ConfigError, as the library does where it makes a session.
-const std::string &mended(const std::string &folder, const FIX::SessionID &session) {
-    try {
-        mendStore(folder, session);
-    } catch (const std::runtime_error &why) {
-        throw FIX::ConfigError(why.what());
-    }
-    return folder;
-}
-
-}
-
-void mendStore(const std::string &folder, const FIX::SessionID &session) {
-    const std::string front = filesOf(folder, session), header = front + ".header", body = front + ".body";
-    std::ifstream file(header, std::ios::binary);
-    const std::string entries((std::istreambuf_iterator<char>(file)), std::istreambuf_iterator<char>());
-    struct stat bodys;
-    const bool hasBody = !::stat(body.c_str(), &bodys);
-    if (!hasBody && errno != ENOENT) throw std::runtime_error("can't look at " + body + ": " + reason());
-    const std::size_t end = wholeEntries(entries, hasBody ? bodys.st_size : 0);
-    if (!file || end == entries.size()) return;
-    say("", "the end of " + header + " was cut short, and is taken away");
-    if (::truncate(header.c_str(), static_cast<off_t>(end)))
-        throw std::runtime_error("can't shorten " + header + ": " + reason());
-}
-
-Told ToldFile::read() const {
-    std::ifstream file(path_);
-    if (!file) return Told();
-    std::string line;
-    Told it;
-    std::getline(file, line);
-    if (std::sscanf(bodyOf(line).c_str(), "told %ld %ld", &it.report, &it.reject) != 2)
-        throw Damaged("line 1 of " + path_ + " is damaged");
-    return it;
-}
-
-void ToldFile::write(const Told &told) const {
-    replaceFile(path_, checkedLine("told " + std::to_string(told.report) + " " + std::to_string(told.reject)));
-}
-
-void forEachStored(const FIX::MessageStore &store, const std::function<void(const Fields &)> &look) {
-    const int end = store.getNextSenderMsgSeqNum();  // What stands behind it was never told.
-    std::vector<std::string> messages;
-    for (int from = 1; from < end; from += AT_ONCE) {
-        store.get(from, std::min(from + AT_ONCE, end) - 1, messages);
-        for (const std::string &message : messages) look(Fields(message.data(), message.size(), '\1'));
-    }
-}
-
-Told toldBy(const FIX::MessageStore &store, const Names &names) {
-    Told it;
-    forEachStored(store, [&](const Fields &stored) {
-        if (const long lost = Reports::lostOf(stored)) it.lost.insert(lost);
-        if (!Reports::isOfVenue(stored)) return;
-        if (stored.byte(35) == '8') it.report = std::max(it.report, stored.number(17));
-        else it.reject = std::max(it.reject, names.numberOf(stored.text(11)));
-    });
-    return it;
-}
-
-Store::Store(const std::string &folder, const FIX::SessionID &session, const Names &names, const std::string &toldPath,
-             std::uint64_t leastRoom)
-    : FIX::FileStore(mended(folder, session), session),
-      folder_(folder),
+Store::Store(Record &record, const FIX::SessionID &session)
+    : record_(record),
       session_(session),
-      names_(names),
-      file_(toldPath),
-      room_(folder, leastRoom) {}
+      range_(record.database(), "SELECT number, bytes FROM messages WHERE number >= ? AND number <= ? ORDER BY number"),
+      empty_(record.database(), "DELETE FROM messages WHERE number >= ?") {
+    try {
+        refresh();
+    } catch (const FIX::IOException &) {
+        // Its member's thread tries it again.
+    }
+}
 
 /// Does this, and notes why it fails. Only an IOException may come out of what the library calls: any other one would
 /// end the program.
 template <class Act>
-void Store::noting(Act act) {
+void Store::noting(Act act) const {
     try {
+        if (!fault_.empty()) throw FIX::IOException(fault_);
         act();
-    } catch (const FIX::IOException &why) {
-        fault_ = why.detail;
-        throw;
     } catch (const std::exception &why) {
-        fault_ = why.what();
+        if (fault_.empty()) fault_ = why.what();
         throw FIX::IOException(fault_);
     }
 }
 
 bool Store::set(int number, const std::string &message) throw(FIX::IOException) {
-    noting([&] {
-        if (!fault_.empty()) throw FIX::IOException(fault_);
-        if (!room_.isThere()) throw FIX::IOException("the disk is full");
-        FIX::FileStore::set(number, message);
-    });
+    noting([&] { record_.put(number, message); });
     return true;
 }
 
+/// A range that ends within a gap has a message of the session itself at its end: the library would else fill the gap
+/// from the beginning of the range on, which an engine that has got some of it passes over.
+void Store::get(int from, int to, std::vector<std::string> &messages) const throw(FIX::IOException) {
+    noting([&] {
+        messages.clear();
+        record_.fillTables();
+        long last = 0;
+        for (Rows rows = range_.of(static_cast<long>(from), static_cast<long>(to)); rows.next();) {
+            last = rows.number(0);
+            messages.push_back(rows.bytes(1));
+        }
+        if (last && last < to && to < record_.state().sender) messages.push_back(fillerOf(to));
+    });
+}
+
+std::string Store::fillerOf(int number) const {
+    FIX::Message it;
+    it.getHeader().setField(session_.getBeginString());
+    it.getHeader().setField(FIX::MsgType("0"));
+    it.getHeader().setField(session_.getSenderCompID());
+    it.getHeader().setField(session_.getTargetCompID());
+    it.getHeader().setField(FIX::MsgSeqNum(number));
+    it.getHeader().setField(FIX::SendingTime(FIX::UtcTimeStamp()));
+    return it.toString();
+}
+
+int Store::getNextSenderMsgSeqNum() const throw(FIX::IOException) {
+    return static_cast<int>(record_.state().sender);
+}
+
+int Store::getNextTargetMsgSeqNum() const throw(FIX::IOException) {
+    return static_cast<int>(record_.state().target);
+}
+
+void Store::setNextSenderMsgSeqNum(int number) throw(FIX::IOException) {
+    noting([&] { record_.change().sender = number; });
+}
+
+void Store::setNextTargetMsgSeqNum(int number) throw(FIX::IOException) {
+    noting([&] { record_.change().target = number; });
+}
+
 void Store::incrNextSenderMsgSeqNum() throw(FIX::IOException) {
-    noting([&] { FIX::FileStore::incrNextSenderMsgSeqNum(); });
+    noting([&] { record_.change().sender++; });
 }
 
 void Store::incrNextTargetMsgSeqNum() throw(FIX::IOException) {
-    noting([&] { FIX::FileStore::incrNextTargetMsgSeqNum(); });
+    noting([&] { record_.change().target++; });
 }
 
-/// Where it fails that is noted alone: an exception would end the program where the library makes a session of a new
-/// day.
+/// The library takes it before or behind the moment that it compares it with: it is behind both.
+FIX::UtcTimeStamp Store::getCreationTime() const throw(FIX::IOException) {
+    FIX::UtcTimeStamp it;
+    it += HOUR;
+    return it;
+}
+
+/// What was told stays as it is. Where this fails that is noted alone: an exception would end the program where the
+/// library makes a session.
 void Store::reset() throw(FIX::IOException) {
+    if (!mayReset_) return;
     try {
-        noting([&] {
-            file_.write(told());
-            FIX::FileStore::reset();
-            fault_.clear();
-        });
+        beginDay();
+        dropRest();
     } catch (const FIX::IOException &) {
         // Nothing is put into the store now, so that it isn't taken for an empty one.
     }
 }
 
-/// The first time closes the files: what was still to be written to one of them is written then, and may be cut short.
-void Store::refresh() throw(FIX::IOException) {
+void Store::beginDay() {
     noting([&] {
-        FIX::FileStore::refresh();
-        mendStore(folder_, session_);
-        FIX::FileStore::refresh();
-        fault_.clear();
+        State &state = record_.change();
+        state.sender = state.target = state.heard = 1;
+        state.created = FIX::UtcTimeStamp();
+        state.dropBefore = std::time(nullptr) - DAY;
     });
 }
 
-Told Store::told() const {
-    const Told before = file_.read();
-    Told it = toldBy(*this, names_);
-    it.report = std::max(it.report, before.report);
-    it.reject = std::max(it.reject, before.reject);
-    return it;
+void Store::dropRest() {
+    noting([&] {
+        record_.changeTables();
+        empty_.run(record_.state().sender);
+        record_.numbersBegan();
+    });
+}
+
+void Store::refresh() throw(FIX::IOException) {
+    fault_.clear();
+    noting([&] { record_.open(); });
 }
 
 }

@@ -1,76 +1,63 @@
 #pragma once
 
-#include <quickfix/FileStore.h>
+// The session's messages and numbers, as the library asks for them. What the edge sends to a member is put here before
+// it goes to connection.h.
 
-#include <cstdint>
-#include <functional>
-#include <set>
+#include <quickfix/MessageStore.h>
+
 #include <string>
+#include <vector>
 
-#include "fields.h"
-#include "names.h"
-#include "room.h"
+#include "record.h"
 
 namespace edge {
 
-/// The last report of the venue that a member's store has: of the type 8 by its ExecID, of the type 9 by the number of
-/// its request. Both rise, so a report is new where it is above.
-struct Told {
-    long report = 0, reject = 0;
-    std::set<long> lost;  // The numbers of requests of which the edge said that they never reached the venue.
-};
-
-/// Where a store keeps what it had been told, as the library empties it at the end of a day.
-class ToldFile {
+/// The store of a session, in its member's record: what it takes in is committed at the end of the turn.
+class Store : public FIX::MessageStore {
 public:
-    explicit ToldFile(const std::string &path) : path_(path) {}
-    Told read() const;
-    void write(const Told &told) const;
-
-private:
-    std::string path_;
-};
-
-/// What the store of a session holds of the venue's reports.
-Told toldBy(const FIX::MessageStore &store, const Names &names);
-
-/// Calls this with the fields of each message that a store holds, one after another.
-void forEachStored(const FIX::MessageStore &store, const std::function<void(const Fields &)> &look);
-
-/// Takes away what a full disk or a power cut left at the end of a store's places, behind which the library reads
-/// nothing.
-void mendStore(const std::string &folder, const FIX::SessionID &session);
-
-/// The library's store in files, which notes what it has told before it is emptied, takes nothing in where the disk has
-/// no room left, and mends what a full disk may have cut short.
-class Store : public FIX::FileStore {
-public:
-    Store(const std::string &folder, const FIX::SessionID &session, const Names &names, const std::string &toldPath,
-          std::uint64_t leastRoom);
+    /// Opens the record. Where that can't be done, the store is empty, and has a fault.
+    Store(Record &record, const FIX::SessionID &session);
 
     bool set(int number, const std::string &message) throw(FIX::IOException) override;
+    void get(int from, int to, std::vector<std::string> &messages) const throw(FIX::IOException) override;
+
+    int getNextSenderMsgSeqNum() const throw(FIX::IOException) override;
+    int getNextTargetMsgSeqNum() const throw(FIX::IOException) override;
+    void setNextSenderMsgSeqNum(int number) throw(FIX::IOException) override;
+    void setNextTargetMsgSeqNum(int number) throw(FIX::IOException) override;
     void incrNextSenderMsgSeqNum() throw(FIX::IOException) override;
     void incrNextTargetMsgSeqNum() throw(FIX::IOException) override;
+
+    /// A moment that is in the same day as any that the library looks at: it ends no day by itself.
+    FIX::UtcTimeStamp getCreationTime() const throw(FIX::IOException) override;
+
+    /// Empties the store where that was allowed, and else does nothing.
     void reset() throw(FIX::IOException) override;
     void refresh() throw(FIX::IOException) override;
 
-    /// Why something couldn't be kept, or nothing. Nothing is put behind that until the store is read anew, by
+    /// Whether the library may empty it, as a member may ask for by its Logon.
+    void letReset(bool may) { mayReset_ = may; }
+
+    /// Begins a day: the next numbers are 1, and what the last day's messages were can be read until `dropRest`.
+    void beginDay();
+
+    /// Drops what stands behind the messages that were put since the numbers began.
+    void dropRest();
+
+    /// Why something couldn't be kept or read, or nothing. Nothing is put behind that until the record is read anew, by
     /// `refresh`.
     const std::string &fault() const { return fault_; }
 
-    /// What the store has, and had before it was emptied.
-    Told told() const;
-
 private:
     template <class Act>
-    void noting(Act act);
+    void noting(Act act) const;
+    std::string fillerOf(int number) const;
 
-    const std::string folder_;
+    Record &record_;
     const FIX::SessionID session_;
-    const Names &names_;
-    const ToldFile file_;
-    Room room_;
-    std::string fault_;
+    mutable std::string fault_;
+    bool mayReset_ = false;
+    mutable Statement range_, empty_;
 };
 
 }

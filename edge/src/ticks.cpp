@@ -57,6 +57,7 @@ long Tick::stepsOf(const std::string &price) const {
 }
 
 std::string Tick::priceOf(long steps) const {
+    if (steps < 0 || steps > MOST) throw std::invalid_argument("no price of the venue: " + std::to_string(steps));
     std::string digits = std::to_string(steps * mantissa_);
     if (!decimals_) return digits;
     const std::size_t decimals = static_cast<std::size_t>(decimals_);

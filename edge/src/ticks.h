@@ -16,7 +16,8 @@ public:
     /// How many steps this price is: 0 where it is none, is above what the venue takes, or no whole number of steps.
     long stepsOf(const std::string &price) const;
 
-    /// The price of so many steps, with as many decimals as the step has.
+    /// The price of so many steps, with as many decimals as the step has. Of more than the venue takes it is a
+    /// std::invalid_argument.
     std::string priceOf(long steps) const;
 
     const std::string &text() const { return text_; }

@@ -1,10 +1,13 @@
 #include "trader.h"
 
+#include <quickfix/FieldConvertors.h>
 #include <quickfix/FixFieldNumbers.h>
 
 #include <algorithm>
+#include <ctime>
 
 #include "lines.h"
+#include "seconds.h"
 
 namespace edge {
 
@@ -13,35 +16,47 @@ namespace {
 // Reasons of 103 for orders, and of 102 for cancels and replaces.
 constexpr int CLOSED = 2, UNKNOWN_ORDER = 1, EXCHANGE_OPTION = 2, DUPLICATE = 6, OTHER = 99;
 
-constexpr std::size_t MOST_HELD = 64 << 20;
+// Of what the venue tells while the journal is read. What comes behind that stays unread: the venue keeps 16 MiB of it.
+constexpr std::size_t MOST_HELD = 2 << 20;
+constexpr std::chrono::seconds PATIENCE(5);  // With a venue that has many requests to answer.
+constexpr long BESIDE = 3;                   // Numbers that a mass cancel takes beside those of its cancels.
+constexpr std::size_t SHOWN = 20;            // Orders of which the names are said.
+
+// Seconds. A name is kept for a day at least, so what is sent again within half of one is known if it came before. The
+// clocks of a member and of the edge are no further apart than the library lets them be.
+constexpr long OLDEST = 12 * 60 * 60, MOST_APART = 120;
+
+/// The second that a text of FIX says, or 0 where it says none.
+long secondOf(const std::string &text) {
+    try {
+        return FIX::UtcTimeStampConvertor::convert(text).getTimeT();
+    } catch (const FIX::Exception &) {
+        return 0;
+    }
+}
 
 }
 
-bool Rate::take() {
-    if (!most_) return true;
-    const auto now = Clock::now();
-    left_ = std::min<double>(most_, left_ + most_ * std::chrono::duration<double>(now - at_).count());
-    at_ = now;
-    if (left_ < 1) return false;
-    left_ -= 1;
-    return true;
-}
-
-Trader::Trader(const Settings &settings, const MemberSettings &member, Names &names, VenueLink &link)
+Trader::Trader(const Settings &settings, const MemberSettings &member, Record &record, Names &names, VenueLink &link)
     : settings_(settings),
       member_(member),
+      record_(record),
       names_(names),
       link_(link),
       orders_(settings.ticks, member.limits.dropped),
       reports_(settings.ticks, names, member.limits.lastCapacity),
+      cancels_(names, link),
+      switches_(record, settings.venue.symbols),
       rate_(member.limits.messagesPerSecond),
-      namesRoom_(settings.folder, settings.diskReserve),
-      storeRoom_(settings.storeFolder, settings.diskReserve) {}
+      room_(settings.folder, settings.diskReserve),
+      quota_({settings.folder, settings.logFolder}, settings.folderBytes) {}
 
-void Trader::attach(FIX::Session &session, const Told &told) {
+void Trader::attach(FIX::Session &session) {
     session_ = &session;
-    told_ = told;
-    counts_.lastReport = told.report;
+    counts_.lastReport = record_.state().told.report;
+    if (!record_.database().isOpen()) return;  // It is tried again.
+    cancels_.attach();
+    switches_.attach();
 }
 
 void Trader::asked(const FIX::Message &message) {
@@ -56,17 +71,25 @@ void Trader::pass(const FIX::Message &message) {
     const Request head = Orders::headOf(message);
     counts_.requests++;
     try {
-        const bool isKnown = names_.numberOf(head.name);
-        if (isKnown && textOf(message.getHeader(), FIX::FIELD::PossDupFlag) == "Y") {
-            say(member_.name(), "a request that was sent again has been passed on before: " + shown(head.name));
+        const bool isKnown = names_.isKnown(head.name), isAgain = isSentAgain(message);
+        if (isKnown && isAgain) {
+            const char *const what =
+                names_.numberOf(head.name) ? "has been passed on before: " : "was refused before: ";
+            say(member_.name(), "a request that was sent again " + (what + shown(head.name)));
             return;
         }
-        if (!rate_.take())
-            throw Refused(head.isOrder() ? OTHER : EXCHANGE_OPTION,
-                          "more than " + std::to_string(member_.limits.messagesPerSecond) + " requests a second");
+        if (isAgain) needSure(message);
+        else if (record_.state().isDoubtful) record_.change().isDoubtful = false;
+        needRate(head);
         if (isKnown) throw Refused(DUPLICATE, "ClOrdID (11) was used before");
         const Request it = orders_.read(message);
         if (!isReady_) throw Refused(CLOSED, "the venue isn't there");
+        needFewUnderWay(it);
+        if (it.isMassCancel()) {
+            massCancel(message, it);
+            return;
+        }
+        needAllowed(it);
         needRoom(it);
         if (it.isOrder()) needFewOrders();
         passOn(it, originalOf(it));
@@ -75,20 +98,32 @@ void Trader::pass(const FIX::Message &message) {
     }
 }
 
+/// Whether its engine says that it may have sent this before.
+bool Trader::isSentAgain(const FIX::Message &message) {
+    const FIX::Header &header = message.getHeader();
+    return textOf(header, FIX::FIELD::PossDupFlag) == "Y" || textOf(header, FIX::FIELD::PossResend) == "Y";
+}
+
+/// A request that is sent again and isn't known is taken only where its name would be known: names of before may have
+/// been dropped, or be lost with the end of a record.
+void Trader::needSure(const FIX::Message &message) const {
+    const State &state = record_.state();
+    const long time = secondOf(textOf(message, FIX::FIELD::TransactTime));
+    if (state.isDoubtful || time < state.doubtedAt + MOST_APART)
+        throw Refused(OTHER, "it may have been passed on before, and its name lost: send a new one");
+    if (time < std::time(nullptr) - OLDEST)
+        throw Refused(OTHER, "it may have been passed on before, and is older than 12 hours: send a new one");
+}
+
 /// Keeps the name of a request, and sends the request to the venue by its number.
 void Trader::passOn(const Request &it, long original) {
+    if (!hasNumber()) throw Refused(OTHER, "the venue takes no greater number");
     const std::string time = timeNow();
-    long number;
-    try {
-        number = names_.add(it.name, Names::Kind::Request);
-    } catch (const std::runtime_error &why) {
-        say(member_.name(), why.what());
-        throw Refused(OTHER, "this request can't be kept on the disk");
-    }
+    const long number = names_.add(it.name, Names::Kind::Request);
     const char type[] = {it.type, '\0'};
     Request &sent = underWay_[number] = it;
     sent.sequence = link_.send(type, bodyFor(it, number, original, time), time);
-    if (isLast_ && !link_.flush()) return;  // The connection is lost, which the end of this turn sees.
+    if (underWay_.size() >= member_.limits.underWay) heardAt_ = Bucket::Clock::now();
 }
 
 long Trader::originalOf(const Request &it) const {
@@ -98,12 +133,44 @@ long Trader::originalOf(const Request &it) const {
     return number;
 }
 
+void Trader::needRate(const Request &it) {
+    if (!rate_.hasRoom())
+        throw Refused(it.isOrder() ? OTHER : EXCHANGE_OPTION,
+                      "more than " + std::to_string(member_.limits.messagesPerSecond) + " requests a second");
+    rate_.take();
+}
+
+void Trader::needFewUnderWay(const Request &it) const {
+    if (underWay_.size() >= member_.limits.underWay)
+        throw Refused(it.isOrder() ? OTHER : EXCHANGE_OPTION,
+                      std::to_string(underWay_.size()) + " requests wait for the venue, which doesn't answer");
+}
+
+/// While the venue answers nothing for long its member is read all the same, for its heartbeats.
+bool Trader::isBusy() const {
+    return isReady_ && underWay_.size() >= member_.limits.underWay && Bucket::Clock::now() - heardAt_ < PATIENCE;
+}
+
 void Trader::needRoom(const Request &it) {
     if (it.type == 'F') return;
-    const bool hasRoom = namesRoom_.isThere() && storeRoom_.isThere();
-    if (hasRoom_ && !hasRoom) say(member_.name(), "new orders are refused: the disk is nearly full");
+    if (!hasRoom()) throw Refused(it.isOrder() ? OTHER : EXCHANGE_OPTION, "its disk is nearly full");
+}
+
+/// Cancels pass, whatever an operator has switched off.
+void Trader::needAllowed(const Request &it) const {
+    if (!it.mayRest()) return;
+    if (switches_.isStopped()) throw Refused(CLOSED, "the operator has stopped this member");
+    if (switches_.isHalted(it.symbol)) throw Refused(CLOSED, "the operator has halted " + it.symbol);
+}
+
+bool Trader::hasRoom() {
+    const bool isKept = quota_.isKept();
+    const bool hasRoom = room_.isThere() && isKept;
+    if (hasRoom_ && !hasRoom)
+        say(member_.name(), std::string("new orders are refused: ") +
+                                (isKept ? "the disk is nearly full" : "its folders have more than MaxFolderBytes"));
     hasRoom_ = hasRoom;
-    if (!hasRoom_) throw Refused(it.isOrder() ? OTHER : EXCHANGE_OPTION, "its disk is nearly full");
+    return hasRoom_;
 }
 
 void Trader::needFewOrders() {
@@ -116,6 +183,7 @@ void Trader::needFewOrders() {
 
 void Trader::refuse(const FIX::Message &message, const Request &it, const Refused &why) {
     counts_.refusals++;
+    if (Orders::isName(it.name) && !names_.isKnown(it.name)) names_.refuse(it.name);  // Committed before it is told.
     FIX::Message told = reports_.refusal(message, it, open_.find(names_.numberOf(it.original)), why.reason, why.what());
     send(told);
 }
@@ -127,9 +195,11 @@ void Trader::send(FIX::Message &message) {
 void Trader::beginRecovery() {
     isRecovering_ = true;
     isReady_ = false;
-    hasSeenTold_ = !told_.report;
+    hasSeenTold_ = !record_.state().told.report;
+    lacking_ = 0;
     open_.clear();
     underWay_.clear();
+    cancels_.venueLost();
 }
 
 void Trader::recovered(const char *line, std::size_t size) {
@@ -139,12 +209,18 @@ void Trader::recovered(const char *line, std::size_t size) {
 /// The journal has the last report that the store has, or is another one, of which nothing may be told.
 void Trader::needTold() const {
     if (!hasSeenTold_)
-        throw std::runtime_error("its store has report " + std::to_string(told_.report) +
+        throw std::runtime_error("its store has report " + std::to_string(record_.state().told.report) +
                                  ", which the journal hasn't: that is another journal, or an older copy");
 }
 
 void Trader::endRecovery(bool hasClient) {
     needTold();
+    if (lacking_)
+        say(member_.name(), "the journal has " + std::to_string(lacking_) + " requests, up to the number " +
+                                std::to_string(names_.last()) + ", whose names aren't here: of another client of its " +
+                                "port, or lost. Nothing has to be done for them");
+    names_.isRead();
+    record_.isRead();
     isRecovering_ = false;
     isReady_ = true;
     const std::vector<std::string> held = std::move(held_);
@@ -152,17 +228,19 @@ void Trader::endRecovery(bool hasClient) {
     heldBytes_ = 0;
     for (const std::string &message : held) take(Fields(message.data(), message.size(), '\1'));
     if (!names_.unanswered(names_.last()).empty()) probe();
-    if (!hasClient && member_.limits.cancelOnDisconnect) isCancelDue_ = true;  // Cancels may have been lost, too.
+    else if (cancels_.isOwed()) probe();
+    // Cancels may have been lost, too.
+    if (!hasClient && member_.limits.cancelOnDisconnect && !record_.state().isSpared) isCancelDue_ = true;
     if (isCancelDue_) cancelAll();
 }
 
-void Trader::heard(const char *message, std::size_t size) {
+void Trader::heard(const Fields &message) {
     if (!isReady_) {
-        held_.emplace_back(message, size);
-        heldBytes_ += size;
+        held_.push_back(message.bytes());
+        heldBytes_ += message.size();
         return;
     }
-    take(Fields(message, size, '\1'));
+    take(message);
 }
 
 bool Trader::holdsTooMuch() const {
@@ -174,35 +252,50 @@ void Trader::take(const Fields &report) {
     const char type = report.byte(35);
     if (type == '3' && !isRecovering_) rejected(report);
     if (type != '8' && type != '9') return;
-    const bool isBehind = isBehindTold(report);
     const long number = report.number(11);
-    names_.answered(number);
-    underWay_.erase(number);
+    const bool isNamed = isRecovering_ ? names_.has(number) : number <= names_.last();
+    if (!isNamed) lacks(number);
+    const bool isBehind = isBehindTold(report);
+    if (underWay_.erase(number)) heardAt_ = Bucket::Clock::now();
     if (type == '8' && (isBehind || isRecovering_)) open_.take(report);
     if (isBehind) tell(report);
+    if (isNamed) names_.answered(number);  // Behind what a probe's answer tells of those before it.
+    if (isReady_) sweepOwed();
     counts_.openOrders = static_cast<long>(open_.size());
+}
+
+/// The journal has a request that no name is of. A session that may be an older copy is told all behind it once more.
+void Trader::lacks(long number) {
+    if (number <= names_.last()) return;  // It was noted before.
+    if (record_.isUnread() && record_.stepsBack())
+        throw std::runtime_error("the journal has requests that its record lacks: it begins anew");
+    names_.note(number);
+    lacking_++;
 }
 
 /// Whether this report stands behind what the store has. All that the journal has in front of the last one were told.
 bool Trader::isBehindTold(const Fields &report) {
-    if (report.byte(35) == '9') return hasSeenTold_ && report.number(11) > told_.reject;
+    const Told &told = record_.state().told;
+    if (report.byte(35) == '9') return hasSeenTold_ && report.number(11) > told.reject;
     const long number = report.number(17);
-    if (number == told_.report) hasSeenTold_ = true;
-    if (number > told_.report) needTold();
-    return number > told_.report;
+    if (number == told.report) hasSeenTold_ = true;
+    if (number > told.report) needTold();
+    return number > told.report;
 }
 
 void Trader::tell(const Fields &report) {
-    if (report.byte(35) == '9' && names_.isProbe(report.number(11))) {
-        told_.reject = report.number(11);
-        tellLost(told_.reject);
-        return;
+    const bool isExecution = report.byte(35) == '8';
+    const long number = report.number(isExecution ? 17 : 11);
+    if (!isExecution && names_.isProbe(number)) {
+        tellLost(number);
+    } else {
+        FIX::Message message = reports_.of(report);
+        send(message);
+        counts_.reports++;
     }
-    FIX::Message message = reports_.of(report);
-    send(message);
-    (report.byte(35) == '8' ? told_.report : told_.reject) = report.number(report.byte(35) == '8' ? 17 : 11);
-    counts_.reports++;
-    counts_.lastReport = told_.report;
+    Told &told = record_.change().told;
+    (isExecution ? told.report : told.reject) = number;
+    counts_.lastReport = told.report;
 }
 
 /// Tells the member of each request up to this number that no report answers: it never reached the venue.
@@ -210,15 +303,10 @@ void Trader::tellLost(long upTo) {
     for (const long number : names_.unanswered(upTo)) tellLost(number, "this request never reached the venue");
 }
 
-/// Tells that a request is lost, unless the store has that: then the edge had ended before it noted it beside the name.
 void Trader::tellLost(long number, const std::string &why) {
-    if (!told_.lost.count(number)) {
-        FIX::Message message = reports_.lost(number, why);
-        send(message);
-        told_.lost.insert(number);
-        say(member_.name(), why + ": " + shown(names_.nameOf(number)));
-    }
-    names_.strike(number);
+    FIX::Message message = reports_.lost(number, why);
+    send(message);
+    say(member_.name(), why + ": " + shown(names_.nameOf(number)));
 }
 
 /// The venue rejects a message where it isn't of its profile, as a market order is where its journal is of version 1.
@@ -227,36 +315,99 @@ void Trader::rejected(const Fields &reject) {
         if (it->second.sequence != reject.number(45)) continue;
         tellLost(it->first,
                  "the venue rejected field " + reject.text(371) + " of this request, by reason " + reject.text(373));
+        names_.strike(it->first);
         underWay_.erase(it);
         return;
     }
 }
 
+/// Asks the venue what it has answered. Where it takes no greater number nothing tells that.
 void Trader::probe() {
+    if (!hasNumber()) return;
     const long number = names_.add(PROBE, Names::Kind::Probe);
     const std::string time = timeNow();
     link_.send("F", probeFor(settings_.venue.symbols[0], number, time), time);
+    cancels_.probed(number);
 }
 
 void Trader::left() {
-    if (!member_.limits.cancelOnDisconnect) return;
+    if (!member_.limits.cancelOnDisconnect || record_.state().isSpared) return;
     isCancelDue_ = true;
     if (isReady_) cancelAll();
 }
 
-void Trader::cancelAll() {
+void Trader::isBack() {
+    if (record_.state().isSpared) record_.change().isSpared = false;
+}
+
+/// All that rest or may come to, as far as the venue has told.
+std::map<long, OpenOrder> Trader::orders() const {
     std::map<long, OpenOrder> orders = open_.all();
     for (const auto &it : underWay_)
         if (it.second.type != 'F') orders[it.first] = {"", it.second.symbol, it.second.side, false};
-    const std::string time = timeNow();
-    for (const auto &order : orders) {
-        const std::string name = CANCEL + std::to_string(names_.last() + 1);
-        const long number = names_.add(name, Names::Kind::Cancel);
-        link_.send("F", cancelFor(order.second, number, order.first, time), time);
-    }
-    if (!orders.empty())
-        say(member_.name(), "cancels " + std::to_string(orders.size()) + " orders: the member is away");
+    return orders;
+}
+
+void Trader::cancelAll() {
+    const std::map<long, OpenOrder> all = orders();
+    const std::size_t count = cancels_.send(all), left = hasNumber() ? 0 : all.size() - count;
+    if (count) say(member_.name(), "cancels " + std::to_string(count) + " orders: the member is away");
+    if (left)
+        say(member_.name(),
+            std::to_string(left) + " orders stay, though the member is away: the venue takes no greater number");
     isCancelDue_ = false;
+}
+
+/// Sends a cancel for each order of a sweep: how many.
+std::size_t Trader::sweep(Sweep &it) {
+    const std::map<long, OpenOrder> all = orders();
+    if (names_.last() + static_cast<long>(all.size()) + BESIDE > Names::GREATEST)
+        throw Refused(OTHER, "the venue takes no greater number");
+    return cancels_.begin(it, all);
+}
+
+Sweep Trader::cancelEach() {
+    Sweep it;
+    sweep(it);
+    return it;
+}
+
+/// Tells the member how many cancels go to the venue for its mass cancel: each is answered by a report of its own.
+void Trader::massCancel(const FIX::Message &message, const Request &it) {
+    Sweep those{it.symbol, it.side, it.name};
+    const std::size_t count = sweep(those);
+    FIX::Message told = reports_.massCancelled(message, names_.add(it.name, Names::Kind::MassCancel), count);
+    send(told);
+}
+
+/// Sends anew what is owed of sweeps, where the venue has answered all that was sent before.
+void Trader::sweepOwed() {
+    cancels_.answered(record_.state().settled);
+    for (Sweep &it : cancels_.takeOwed(record_.state().settled)) {
+        try {
+            const std::size_t count = sweep(it);
+            if (count) say(member_.name(), "cancels " + std::to_string(count) + " orders, as was asked for before");
+        } catch (const Refused &why) {
+            say(member_.name(), std::string("orders stay that were to be cancelled: ") + why.what());
+        }
+    }
+}
+
+std::string Trader::restsOf(const Sweep &it) {
+    std::size_t count = 0;
+    std::string names;
+    for (const auto &order : orders()) {
+        if (!it.takes(order.first, order.second)) continue;
+        if (count++ < SHOWN) names += " " + names_.nameOf(order.first);
+    }
+    return std::to_string(count) + " of its orders may rest" + (count ? ":" + names : "") +
+           (count > SHOWN ? " .." : "");
+}
+
+void Trader::tidy() {
+    if (!isReady_) return;
+    names_.drop([this](long number) { return open_.find(number); });
+    cancels_.tidy();
 }
 
 void Trader::venueLost() {

@@ -9,28 +9,19 @@
 #include <string>
 #include <vector>
 
+#include "bucket.h"
+#include "cancels.h"
 #include "names.h"
 #include "open_orders.h"
 #include "orders.h"
+#include "quota.h"
 #include "reports.h"
 #include "settings.h"
-#include "store.h"
+#include "room.h"
+#include "switches.h"
 #include "venue_link.h"
 
 namespace edge {
-
-/// At most so many in each second.
-class Rate {
-public:
-    explicit Rate(int most) : most_(most), left_(most) {}
-    bool take();
-
-private:
-    using Clock = std::chrono::steady_clock;
-    const int most_;
-    double left_;
-    Clock::time_point at_ = Clock::now();
-};
 
 /// Counts for who looks from outside, of any thread.
 struct Counts {
@@ -41,19 +32,35 @@ struct Counts {
 /// once. It is used by the member's own thread.
 class Trader {
 public:
-    Trader(const Settings &settings, const MemberSettings &member, Names &names, VenueLink &link);
+    Trader(const Settings &settings, const MemberSettings &member, Record &record, Names &names, VenueLink &link);
 
-    /// Gives it its session, and what that session's store has told already.
-    void attach(FIX::Session &session, const Told &told);
+    /// Gives it its session, whose record has been read.
+    void attach(FIX::Session &session);
 
     /// Takes a request of the member. What goes wrong is told to the member, or is the `fault`.
     void asked(const FIX::Message &message);
 
-    /// Whether the request that comes now is the last one at hand: then it goes to the venue at once.
-    void isLast(bool is) { isLast_ = is; }
-
     /// The member isn't connected any longer.
     void left();
+
+    /// Its orders stay until it has been logged on again: its day ends.
+    void spare() { record_.change().isSpared = true; }
+    void isBack();
+
+    /// Cancels all orders that rest or are under way, as a sweep which is over once the venue has answered that.
+    /// Refused where the venue takes no more.
+    Sweep cancelEach();
+    bool isOver(const Sweep &it) const { return isReady_ && cancels_.isOver(it.upTo); }
+
+    /// Whether many cancels are under way: what can wait waits for these.
+    bool isSweeping() const { return cancels_.isSweeping(); }
+
+    /// Those of its orders that may still rest, in words: how many, and some of their names.
+    std::string restsOf(const Sweep &it);
+
+    /// What an operator has switched off.
+    Switches &switches() { return switches_; }
+    const Switches &switches() const { return switches_; }
 
     /// The journal is to be read, from its beginning on.
     void beginRecovery();
@@ -61,15 +68,24 @@ public:
     void endRecovery(bool hasClient);
 
     /// A message of the venue. It waits until what the journal tells has been taken in, which stands before it.
-    void heard(const char *message, std::size_t size);
+    void heard(const Fields &message);
 
     /// The connection to the venue has ended.
     void venueLost();
 
+    /// Drops some names that nobody needs any longer.
+    void tidy();
+
     /// Whether requests go to the venue.
     bool isReady() const { return isReady_; }
 
-    /// Whether what waits is more than should be held.
+    /// Whether as many requests as may be wait for the venue, which answers: no more are read until it has.
+    bool isBusy() const;
+
+    /// Whether the disk and the bounds of its folders have room for new orders.
+    bool hasRoom();
+
+    /// Whether as much of the venue waits for the journal as may be held: it isn't read now.
     bool holdsTooMuch() const;
 
     /// What keeps this member from being served, or nothing.
@@ -80,12 +96,22 @@ public:
 
 private:
     void pass(const FIX::Message &message);
+    void needSure(const FIX::Message &message) const;
     long originalOf(const Request &it) const;
+    void needRate(const Request &it);
     void needRoom(const Request &it);
+    void needFewUnderWay(const Request &it) const;
     void needFewOrders();
+    void needAllowed(const Request &it) const;
+    void massCancel(const FIX::Message &message, const Request &it);
+    std::size_t sweep(Sweep &it);
+    std::map<long, OpenOrder> orders() const;
+    void sweepOwed();
     void passOn(const Request &it, long original);
+    static bool isSentAgain(const FIX::Message &message);
     void refuse(const FIX::Message &message, const Request &it, const Refused &why);
     void take(const Fields &report);
+    void lacks(long number);
     bool isBehindTold(const Fields &report);
     void needTold() const;
     void tell(const Fields &report);
@@ -95,25 +121,31 @@ private:
     void send(FIX::Message &message);
     void cancelAll();
     void probe();
+    bool hasNumber() const { return names_.last() < Names::GREATEST; }
 
     const Settings &settings_;
     const MemberSettings &member_;
+    Record &record_;
     Names &names_;
     VenueLink &link_;
     FIX::Session *session_ = nullptr;
     Orders orders_;
     Reports reports_;
     OpenOrders open_;
-    std::map<long, Request> underWay_;  // Requests that no report has answered yet.
-    Rate rate_;
-    Told told_;
+    Cancels cancels_;
+    Switches switches_;
+    std::map<long, Request> underWay_;   // Requests that no report has answered yet.
+    Bucket::Clock::time_point heardAt_;  // When the venue answered last, or had as many requests as may be.
+    Bucket rate_;
     std::vector<std::string> held_;  // Messages of the venue, until the journal has been read.
     std::size_t heldBytes_ = 0;
     bool hasSeenTold_ = false;  // The journal has the last report that the store has.
     bool isRecovering_ = false, isReady_ = false, isCancelDue_ = false;
     std::string fault_;
-    Room namesRoom_, storeRoom_;  // For new orders.
-    bool hasRoom_ = true, isLast_ = true;
+    Room room_;  // For new orders.
+    Quota quota_;
+    bool hasRoom_ = true;
+    long lacking_ = 0;  // So many requests that the journal has are none of the names.
     Counts counts_;
 };
 

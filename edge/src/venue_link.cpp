@@ -7,16 +7,16 @@
 #include <cerrno>
 #include <cstdlib>
 
-#include "fields.h"
-#include "frames.h"
 #include "lines.h"
-#include "reports.h"
+#include "seconds.h"
 
 namespace edge {
 
 namespace {
-constexpr std::size_t LONGEST = 1 << 14;  // Of the venue's messages.
+constexpr std::size_t LONGEST = 1 << 14;  // Of the bodies of the venue's messages.
 }
+
+VenueLink::VenueLink(int port, const std::string &member) : port_(port), member_(member) {}
 
 void VenueLink::connect() {
     end();
@@ -49,7 +49,9 @@ void VenueLink::end() {
     socket_.reset();
     in_.clear();
     out_.clear();
+    released_ = 0;
     number_ = 0;
+    hasMore_ = false;
     state_ = State::Down;
 }
 
@@ -64,16 +66,18 @@ bool VenueLink::flush() {
         }
         state_ = State::LoggingOn;
         send("A", "98=0\001108=0\001141=Y\1", timeNow());
+        release();
     }
     std::size_t at = 0;
-    while (at < out_.size()) {
-        const ssize_t done = ::send(socket_.get(), out_.data() + at, out_.size() - at, MSG_NOSIGNAL);
+    while (at < released_) {
+        const ssize_t done = ::send(socket_.get(), out_.data() + at, released_ - at, MSG_NOSIGNAL);
         if (done < 0 && errno == EINTR) continue;
         if (done < 0 && errno == EAGAIN) break;
         if (done < 0) return fail("can't write: " + reason());
         at += static_cast<std::size_t>(done);
     }
     out_.erase(0, at);
+    released_ -= at;
     return true;
 }
 
@@ -88,30 +92,34 @@ long VenueLink::send(const char *type, const std::string &body, const std::strin
     return number_;
 }
 
-bool VenueLink::take(const char *message, std::size_t size,
-                     const std::function<void(const char *, std::size_t)> &told) {
-    const Fields fields(message, size, '\1');
-    if (fields.byte(35) == '5') return fail("it ended the session: " + shown(fields.text(58)));
+bool VenueLink::take(const Fields &message, const std::function<void(const Fields &)> &told) {
+    if (message.byte(35) == '5') return fail("it ended the session: " + shown(message.text(58)));
     if (state_ == State::LoggingOn) {
-        if (fields.byte(35) != 'A') return fail("it answered the Logon by " + shown(std::string(message, size)));
+        if (message.byte(35) != 'A') return fail("it answered the Logon by " + shown(message.bytes()));
         state_ = State::Up;
         return true;
     }
-    told(message, size);
+    told(message);
     return true;
 }
 
-bool VenueLink::read(const std::function<void(const char *, std::size_t)> &told) {
-    const auto look = in_.look([this](char *piece, std::size_t size) { return ::recv(socket_.get(), piece, size, 0); });
+bool VenueLink::read(const std::function<void(const Fields &)> &told) {
+    const auto look = in_.look([this](char *piece, std::size_t size) {
+        const ssize_t count = ::recv(socket_.get(), piece, size, 0);
+        hasMore_ = count == static_cast<ssize_t>(size);
+        return count;
+    });
     if (look == Inbox::Look::Failed) return fail("can't read: " + reason());
     if (look == Inbox::Look::End) return fail("it closed the connection");
-    try {
-        for (std::size_t size; (size = messageSize(in_.bytes(), in_.at(), LONGEST)); in_.take(size))
-            if (!take(in_.data(), size, told)) return false;
-    } catch (const BadBytes &why) {
-        return fail(why.what());
+    for (;;) {
+        const VenueFrame frame = venueFrame(in_.data(), in_.size(), LONGEST);
+        if (frame.kind == VenueFrame::Kind::None) return true;
+        const Fields message(in_.data(), frame);
+        if (frame.kind == VenueFrame::Kind::Bad || !message.areVenues() || !message.isFirst(35))
+            return fail("what came is no message of the venue");
+        in_.take(frame.size);
+        if (!take(message, told)) return false;
     }
-    return true;
 }
 
 }

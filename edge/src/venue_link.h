@@ -5,6 +5,7 @@
 #include <string>
 
 #include "descriptor.h"
+#include "fields.h"
 #include "inbox.h"
 
 namespace edge {
@@ -14,19 +15,22 @@ class VenueLink {
 public:
     enum class State { Down, Connecting, LoggingOn, Up };
 
-    VenueLink(int port, const std::string &member) : port_(port), member_(member) {}
+    VenueLink(int port, const std::string &member);
 
     /// Begins to connect.
     void connect();
 
     /// Goes on where the connection has something: calls `told` with each whole message behind the Logon. Whether it
     /// still stands.
-    bool read(const std::function<void(const char *, std::size_t)> &told);
+    bool read(const std::function<void(const Fields &)> &told);
 
     /// Puts a message behind what is to be written: its MsgSeqNum.
     long send(const char *type, const std::string &body, const std::string &time);
 
-    /// Writes what it can. Whether the connection still stands.
+    /// Lets all that was sent so far be written: what it rests on is committed.
+    void release() { released_ = out_.size(); }
+
+    /// Writes what it can of what was released. Whether the connection still stands.
     bool flush();
 
     /// Ends the connection, if there is one.
@@ -36,11 +40,15 @@ public:
     int fd() const { return socket_.get(); }
     bool isWriting() const { return state_ == State::Connecting || !out_.empty(); }
     std::size_t unsent() const { return out_.size(); }
+    long sent() const { return number_; }
+
+    /// Whether the last look at it filled its place: there may be more.
+    bool hasMore() const { return hasMore_; }
     const std::string &why() const { return why_; }
 
 private:
     bool fail(const std::string &why);
-    bool take(const char *message, std::size_t size, const std::function<void(const char *, std::size_t)> &told);
+    bool take(const Fields &message, const std::function<void(const Fields &)> &told);
 
     const int port_;
     const std::string member_;
@@ -48,7 +56,9 @@ private:
     State state_ = State::Down;
     Inbox in_;
     std::string out_, why_;
+    std::size_t released_ = 0;  // So much of `out_` may be written.
     long number_ = 0;
+    bool hasMore_ = false;
 };
 
 }

@@ -82,12 +82,12 @@ class Day:
 
 
 def logon(day):
-    """log on, with numbers as your engine has them and a HeartBtInt (108) of at most 60"""
+    """log on, with numbers as your engine has them and a HeartBtInt (108) of 5 to 60"""
     day.ask("log on")
     it = day.said("A", "no Logon came")
     day.has(it, _49=NAMES[MEMBER], _56="GIKVAND", _98="0")
-    if not 0 < int(it["108"]) <= 60:
-        raise Failed(f"HeartBtInt (108) is {it['108']}, and not 1 to 60")
+    if not 5 <= int(it["108"]) <= 60:
+        raise Failed(f"HeartBtInt (108) is {it['108']}, and not 5 to 60")
     day.heartbeat = int(it["108"])
     day.told("the Logon wasn't taken: see the field 58 of the answer", _35="A")
 

@@ -1,117 +1,96 @@
-"""Files of the edge that were cut short, damaged or lost: found at the start, and made whole where that can be done."""
-import os
-import subprocess
+"""Records that were cut short or damaged, or that another program has: found at the start, and others go on."""
+import contextlib
+import shutil
+import sqlite3
 
-from edges import EDGE, Edge, Trouble, again, pair, stored, told
-from engines import Engine, cancel, order
+from edges import Edge, Trouble, await_that, copied, pair, path_of, rows, told
+from engines import Engine, at_rest, order
 from gikvand.fix import value
-from recovery_tests import names_file, places, restarted, settings, trade_a_little, unread_order
+from recovery_tests import places, restarted, settings, trade_a_little
 from trading_tests import expect
 
-
-def flip(data, at):
-    return data[:at] + bytes([data[at] ^ 1]) + data[at + 1:]
-
-
-def names():
-    with open("edge/C1.names", encoding="ascii") as file:
-        return [line.rstrip("\n") for line in file if " r " in line]
+CUTS = 40
+PAGE = 2048  # Bytes of a page of the database.
 
 
-def one_line(line):
-    return line.split(" ", 3)[3]
+def await_second_alone(edge, why):
+    """Waits until C2 is served, and C1 said to be not, in any order."""
+    texts = (f"C1: isn't served: edge/C1/C1.db: {why}", "C2: serves")
+    await_that("C2 alone that is served", lambda: all(any(text in line for line in edge.lines) for text in texts))
 
 
-def test_damaged_names():
-    """The file of names cut and with bits flipped: found at the start, and made whole out of journal and store."""
+def bytes_of(path):
+    with open(path, "rb") as file:
+        return file.read()
+
+
+def put(path, data):
+    with open(path, "wb") as file:
+        file.write(data)
+
+
+def is_whole(many):
+    """The names and the messages of a record that was cut: both are those of one commit, so the last requests of the
+    member, the answers to them and the two numbers agree."""
+    names = rows(1, "SELECT number, name FROM names ORDER BY number")
+    (sender, target, report), = rows(1, "SELECT sender, target, report FROM session")
+    expect(names, [(at + 1, f"n{at}") for at in range(len(names))])
+    expect(places(1), list(range(1, report + 1)))
+    if not report <= len(names) <= many or target < len(names) + 1 or sender < report + 1:
+        raise Trouble(f"{len(names)} names, report {report}, numbers {sender} and {target}")
+    return len(names)
+
+
+def test_torn_record():
+    """The log of a record cut at many places, as a power cut may leave it: what is there is all of some turns, in their
+    order, and the rest is told and asked for again."""
     venue, edge, port = pair()
-    one = trade_a_little(port)
-    edge.stop()
-    with open("edge/C1.names", "rb") as file:
-        whole = file.read()
-    lines = whole.splitlines(keepends=True)
-    starts = [sum(map(len, lines[:at])) for at in range(len(lines))]
-    changes = [lambda data, at=at: flip(data, at) for at in (starts[1], starts[3] + 12, starts[7] + 10, len(whole) - 2)]
-    cuts = (starts[1], starts[4], starts[4] + 5, starts[7], len(whole) - 1)
-    changes += [lambda data, at=at: data[:at] for at in cuts]
-    for change in changes:
-        names_file(lambda _: change(whole))
-        edge = restarted()
-        edge.stop()
-        with open("edge/C1.names", "rb") as file:
-            if file.read().replace(b" s \n", b"") == b"" or sorted(one_line(it) for it in names()) != sorted(
-                    f"n{at}" for at in range(6)) + ["none"]:
-                raise Trouble(f"the names are {names()}")
+    one = Engine(port, 1).log_on()
+    for at in range(12):
+        one.send("D", order(f"n{at}", 1, 1, "50"))
+        one.report(_150="0", _11=f"n{at}")
+    copied(1, "before")
+    edge.kill()
+    log, found = bytes_of("before/C1/C1.db-wal"), []
+    for cut in range(CUTS):
+        shutil.copy("before/C1/C1.db", path_of(1))
+        put(path_of(1) + "-wal", log[:len(log) * cut // CUTS])
+        found.append(is_whole(12) if cut > CUTS // 2 else 0)
+    if found != sorted(found) or len(set(found)) < 4:
+        raise Trouble(f"the names of each cut are {found}")
     edge = restarted()
-    one.log_on().send("D", order("n3", 1, 1, "50"))
-    expect(value(one.report(_150="8"), "103"), "6")
-    one.send("F", cancel("c", "n2", 1))
-    one.report(_150="4", _41="n2")
+    expect(places(1), [int(value(it, "17")) for it in told(1)])
 
 
-def test_lost_probe():
-    """Lost names behind a question by the edge itself, which no store has: they are found, and so is the question."""
-    venue, edge, port, one = unread_order("kept", "lost")
-    venue.kill()
-    again(port, 1, venue.port)
-    one.report(_11="lost", _150="8")
-    one.send("F", cancel("c", "kept", 2))
-    one.report(_35="9", _11="c")
-    one.log_out()
-    edge.stop()
-    names_file(lambda data: b"".join(it for it in data.splitlines(keepends=True) if it[9:13] not in (b"3 p ", b"4 r ")))
-    edge = restarted()
-    one.log_on().send("F", cancel("c", "kept", 1))
-    expect((value(one.report(_35="9"), "102"), [one_line(it) for it in names()]), ("6", ["kept", "lost", "c"]))
-    expect([it for it in stored(1) if "edge-" in it], [])
-
-
-def test_lost_names():
-    """Names that neither journal nor store tell any more: refused with a line; --mend gives some, none used again."""
-    venue, edge, port = pair()
+def test_damaged_record():
+    """A record whose bytes were changed, also where no start reads them: its member isn't served, in words, and another one
+    is; a copy helps."""
+    venue, edge, port = pair(2)
     trade_a_little(port)
     edge.stop()
-    for name in os.listdir("store"):
-        os.remove(f"store/{name}")
-    names_file(lambda data: b"".join(data.splitlines(keepends=True)[:3]) + b"damaged\n" * 6)
-    edge = Edge(settings())
-    edge.hears("lacks the number 3, and the store doesn't tell its name")
-    expect(edge.status(), 1)
-    ran = subprocess.run([EDGE, "--mend", "edge.cfg"], capture_output=True, text=True, timeout=60)
-    expect(ran.returncode, 0)
-    edge = restarted()
-    one = Engine(port, 1).log_on()
-    one.send("D", order("new", 1, 1, "50"))
-    expect(value(one.report(_150="0", _11="new"), "11"), "new")
-    expect([value(it, "11") for it in told(1) if value(it, "150") == "0"], ["1", "2", "3", "4", "5", "6", "9"])
-    expect([it for it in stored(1) if "edge-lost-8" in it], [])  # The venue never had it.
-    names_file(lambda data: flip(data, 3))
+    (page,), = rows(1, "SELECT rootpage FROM sqlite_master WHERE name = 'by_name'")
+    whole = bytes_of(path_of(1))
+    for data in (b"x" * 100 + whole[100:], whole[:PAGE * (page - 1)] + bytes(PAGE) + whole[PAGE * page:],
+                 whole[:-PAGE] + bytes(PAGE), whole[:len(whole) // 2]):
+        put(path_of(1), data)
+        edge = Edge(settings())
+        await_second_alone(edge, "")
+        edge.stop()
+    put(path_of(1), whole)
+    restarted(2)
+    expect(places(1), [int(value(it, "17")) for it in told(1) if value(it, "17")])
+
+
+def test_busy_record():
+    """Another program has a record open: its member isn't served, and is as soon as that has ended."""
+    venue, edge, port = pair(2)
     edge.stop()
-    edge = Edge(settings())
-    edge.hears("line 1 of edge/C1.names is damaged")
-    expect(edge.status(), 1)
+    with contextlib.closing(sqlite3.connect(path_of(1), isolation_level=None)) as other:
+        other.execute("BEGIN EXCLUSIVE")
+        edge = Edge(settings())
+        await_second_alone(edge, "database is locked")
+    edge.hears("C1: serves")
+    at_rest(port, "a")
 
 
-def test_torn_store():
-    """An entry that a full disk has cut short at the end of a store: found at the start, and all behind it is kept."""
-    venue, edge, port = pair()
-    one = trade_a_little(port)
-    edge.stop()
-    with open("store/FIX.4.4-GIKVAND-DESK-A.header", "a", encoding="ascii") as file:
-        file.write("11,30")
-    edge = restarted()
-    one.log_on().send("D", order("more", 1, 1, "50"))
-    one.report(_150="0", _11="more")
-    edge.kill()
-    edge = restarted()
-    wanted = [int(value(it, "17")) for it in told(1) if value(it, "17")]
-    expect(places(1), wanted)
-    edge.kill()
-    with open("store/FIX.4.4-GIKVAND-DESK-A.body", "r+b") as file:
-        file.truncate(os.path.getsize(file.name) - 9)  # A power cut took the end of the last report.
-    names_file(lambda data: b"".join(it for it in data.splitlines(keepends=True) if not it.endswith(b" n3\n")))
-    restarted()
-    expect((places(1), [one_line(it) for it in names()][3]), (wanted, "n3"))
-
-
-TESTS = [test_damaged_names, test_lost_names, test_lost_probe, test_torn_store]
+TESTS = [test_torn_record, test_damaged_record, test_busy_record]

@@ -10,9 +10,9 @@ ADMIN = "0 1 2 3 4 5 A".split()
 BEHIND_HEADER = {"8", "9", "10", "35", "49", "56", "34", "52", "43", "122"}
 
 
-def now():
-    """The time, with milliseconds."""
-    at = time.time()
+def now(at=None):
+    """The time, with milliseconds: this one of the system's, or the present one."""
+    at = time.time() if at is None else at
     return time.strftime("%Y%m%d-%H:%M:%S", time.gmtime(at)) + f".{int(at * 1000) % 1000:03}"
 
 
@@ -21,14 +21,19 @@ class Engine:
     that hasn't been asked for yet is in `reports`."""
 
     def __init__(self, port, member=1, target="GIKVAND", sender=None, heartbeat=30):
-        self.port, self.target, self.sender, self.heartbeat = port, target, sender or NAMES[member], heartbeat
+        """One that connects to a member's port, which is so far above the port of C1 as the member's number says."""
+        self.port, self.target, self.heartbeat = port + member - 1, target, heartbeat
+        self.member, self.sender = member, sender or NAMES[member]
         self.out = self.next = 1       # The number of the next message that it sends, and of the next that it takes.
+        self.greatest = 0              # The greatest number of what came, also of what came behind a gap.
         self.sent, self.came, self.reports, self.history, self.admin = {}, [], [], [], []
         self.socket, self.rest, self.has_asked = None, b"", False
+        self.filled = set()  # The numbers of what isn't sent again.
 
     def connect(self):
         self.socket, self.rest, self.has_asked = socket.create_connection((HOST, self.port), PATIENCE), b"", False
         self.socket.setsockopt(socket.IPPROTO_TCP, socket.TCP_NODELAY, 1)
+        self.admin.clear()
         return self
 
     def close(self):
@@ -53,7 +58,7 @@ class Engine:
     def log_on(self, more=""):
         """Connects and logs on; Trouble with what came in its place."""
         self.connect().send("A", f"98=0|108={self.heartbeat}|{more}")
-        if not (came := self.next_of("A5")):
+        if not (came := self.next_of("A53")):
             raise Trouble(f"{self.sender}: the Logon wasn't answered")
         if value(came, "35") != "A":
             raise Trouble(f"{self.sender}: the Logon was answered by {came}")
@@ -99,6 +104,7 @@ class Engine:
         if kind == "4" and value(it, "123") != "Y":
             self.next = int(value(it, "36"))
             return
+        self.greatest = max(self.greatest, number)
         if number > self.next:
             if kind in "A5":
                 self.admin.append(it)
@@ -111,6 +117,8 @@ class Engine:
         if number < self.next:
             if value(it, "43") != "Y":
                 raise Trouble(f"{self.sender}: number {number} where {self.next} is next: {it}")
+            if not number:
+                self.admin.append(it)  # A word to who isn't let in, which isn't counted.
             return
         self.has_asked = False
         self.next = int(value(it, "36")) if kind == "4" else number + 1
@@ -129,12 +137,20 @@ class Engine:
             self.admin.append(it)
 
     def send_again(self, first):
-        """Sends its orders again from this number on, and fills the numbers of all else."""
+        """Sends its orders again from this number on, and fills the numbers of all else, as long as it is connected."""
+        try:
+            self.write_again(first)
+        except OSError:
+            self.close()
+
+    def write_again(self, first):
+        """The same where the connection is sure to stand."""
         gap = None
         for number in range(first, self.out + 1):
             kind, body = self.sent.get(number, ("", ""))
             if number < self.out and kind in ADMIN:
                 gap = gap or number
+                self.filled.add(number)
                 continue
             if gap:
                 self.write("4", f"123=Y|36={number}|", gap, f"43=Y|122={now()}|")
@@ -144,13 +160,21 @@ class Engine:
 
     def settle(self):
         """Waits until the edge has passed on all that was sent to it: it has answered a TestRequest behind that, and one
-        behind that answer, which it reads when it has written all of the turn before."""
-        for _ in range(2):
-            name = f"settle-{self.out}"
+        behind that answer, which it reads when it has written all of the turn before. One whose number was filled, since the
+        edge has asked for what was in front of it, gets no answer, and another one is sent. An answer that comes behind a
+        gap counts once the gap is filled, which the edge does in pieces."""
+        answered = 0
+        while answered < 2:
+            number, name = self.out, f"settle-{self.out}"
             self.send("1", f"112={name}|")
-            while not any(value(it, "112") == name for it in self.came):
+            while not (is_answered := self.has_all_up_to(name)) and number not in self.filled:
                 if not self.pump(PATIENCE):
                     raise Trouble(f"{self.sender}: the connection ended")
+            answered += is_answered
+
+    def has_all_up_to(self, name):
+        """Whether the TestRequest of this name is answered, and nothing is missing in front of what came."""
+        return self.next > self.greatest and any(value(it, "112") == name for it in self.came)
 
     def report(self, **wanted):
         """Waits for a report whose fields, by tag, are these, behind those that were taken; gives it."""
@@ -163,6 +187,18 @@ class Engine:
             if not self.pump(end - time.monotonic()):
                 break
         raise Trouble(f"{self.sender}: no report of {wanted}; there were {self.reports[-4:]}, {self.admin[-2:]}")
+
+
+def refused(one, wanted, more=""):
+    """This engine's Logon is refused in words that have this text, or isn't answered."""
+    try:
+        one.log_on(more)
+    except Trouble as why:
+        if wanted not in str(why):
+            raise
+        one.close()
+        return
+    raise Trouble(f"a Logon was taken, where {wanted!r} should come")
 
 
 def at_rest(port, name, quantity=1, member=1):

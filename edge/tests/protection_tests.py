@@ -1,32 +1,18 @@
-"""What a member may do is bounded, and none holds up another: rates, sizes, orders, passwords, slow readers, disks."""
+"""What a member may do is bounded, and none holds up another: rates, sizes, orders, passwords, slow readers."""
 import contextlib
 import os
-import shutil
 import socket
 import subprocess
 import time
 import urllib.request
 
-from edges import HOST, JOURNAL, NAMES, PATIENCE, SYMBOLS, Client, Trouble, again, free_port, kill_all, pair
-from edges import started, stored, told, venue_order
-from engines import Engine, at_rest, cancel, now, order, replace
+from edges import HOST, PATIENCE, ROOT, Trouble, again, await_that, free_port, pair, session_files, told
+from engines import Engine, at_rest, cancel, now, order, refused, replace
 from gikvand.fix import framed, value
 from recovery_tests import places, restarted
 from trading_tests import expect
 
 AT_ONCE = 40
-
-
-def refused(one, wanted, more=""):
-    """This engine's Logon is refused by a Logout of this text."""
-    try:
-        one.log_on(more)
-    except Trouble as why:
-        if wanted not in str(why):
-            raise
-        one.close()
-        return
-    raise Trouble(f"a Logon was taken, where {wanted!r} should come")
 
 
 def test_rate():
@@ -67,15 +53,13 @@ def test_open_orders():
 
 
 def test_message_size():
-    """A message above the bound ends the connection, and not the session."""
+    """A message above the bound is passed over and asked for, and the session goes on without it."""
     venue, edge, port = pair(MaxMessageBytes="256")
     one = Engine(port, 1).log_on()
     one.send("D", order("a", 1, 1, "50", more="58=" + "x" * 300 + "|"))
-    edge.hears("where 256 are the most")
-    while one.pump(1):
-        pass
-    del one.sent[2]
-    one.log_on().send("D", order("b", 1, 1, "50"))
+    edge.hears("a message can't be read: 8=FIX.4.4|9=")
+    one.sent[2] = "0", ""  # Its engine gives the order up, and fills its number.
+    one.send("D", order("b", 1, 1, "50"))
     one.report(_150="0", _11="b")
 
 
@@ -115,6 +99,14 @@ def test_lost_cancels():
     one.log_on().report(_150="4", _41="a")
 
 
+def unknown(edge, one, more):
+    """This engine's Logon has a wrong password: nothing answers it, once it is looked at."""
+    wrong, seen = "is refused: Username (553) or Password (554) is wrong", len(edge.lines)
+    while not any(wrong in line for line in edge.lines[seen:]):
+        refused(one, "wasn't answered", more)
+        time.sleep(0.05)
+
+
 def test_passwords():
     """A session with a password takes no other, keeps it out of its log, and its store is safe from who hasn't it."""
     with open("passwords", "w", encoding="ascii") as file:
@@ -126,18 +118,18 @@ def test_passwords():
     one.report(_150="0")
     one.log_out()
     before = places(1)
-    for more in ("", "553=desk|554=secret|", "553=other|554=s=cret|", "553=desk|", "553=desk|554=s=cre|"):
-        refused(one, "is wrong", more)
-        edge.hears("is refused: Username (553) or Password (554) is wrong")
-    refused(one, "wasn't answered", "141=Y|553=desk|554=no|")
-    edge.hears("is refused: Username (553) or Password (554) is wrong")
+    refused(one, "wasn't answered", "553=desk|554=s=cret|925=s=cret2|")  # FIX 4.4 has no NewPassword (925).
+    for more in ("", "553=desk|554=secret|", "553=other|554=s=cret|", "553=desk|", "553=desk|554=s=cre|",
+                 "141=Y|553=desk|554=no|"):
+        unknown(edge, one, more)
     expect((before, places(1)), ([1], [1]))
-    with open(f"log/FIX.4.4-GIKVAND-{NAMES[1]}.messages.current.log", encoding="ascii") as file:
+    with open(session_files(1, "log") + "messages.current.log", encoding="ascii") as file:
         if "cret" in file.read():
             raise Trouble("the log has a password")
     refused(Engine(port, 1, sender="DESK-X"), "wasn't answered", "553=desk|554=s=cret|")
     if "cret" in edge.hears("no Logon of a member"):
         raise Trouble("a line has a password")
+    time.sleep(4)  # As long as the edge waits behind the last wrong password.
     one = Engine(port, 1).log_on("141=Y|553=desk|554=s=cret|")
     expect((one.next, places(1)), (2, []))
 
@@ -147,7 +139,7 @@ def test_no_reset():
     venue, edge, port = pair()
     one = at_rest(port, "a")
     one.log_out()
-    refused(one, "wasn't answered", "141=Y|")
+    refused(one, "ResetSeqNumFlag (141) isn't taken", "141=Y|")
     edge.hears("is refused: ResetSeqNumFlag (141) isn't taken")
     expect(places(1), [1])
     one.out -= 1  # Its Logon was never looked at.
@@ -166,7 +158,7 @@ def narrow(port):
     one.socket = socket.socket()
     one.socket.setsockopt(socket.SOL_SOCKET, socket.SO_RCVBUF, 2048)
     one.socket.connect((HOST, port))
-    one.send("A", "98=0|108=0|")
+    one.send("A", "98=0|108=60|")
     one.next_of("A")
     one.send("D", order("rest", 1, 1000000, "50"))
     one.report(_150="0")
@@ -231,6 +223,50 @@ def test_many_resends():
     expect(sum(value(it, "43") == "Y" and value(it, "150") == "0" for it in one.came), 100)
 
 
+def test_bound_behind_a_resend():
+    """A resend may take more than a member's bound; behind the resend the bound is what it was, and a member that takes
+    nothing then is let go by it."""
+    page = free_port(1)
+    limits = {"MaxMessageBytes": "65536", "MaxReadMessagesPerSecond": "0", "MaxReadBytesPerSecond": "0"}
+    venue, edge, port = pair(2, common={"HttpAcceptPort": page}, MaxUnsentBytes="65536", **limits)
+    one, other = at_rest(port, "rest", 1000000), Engine(port, 2).log_on()
+    for at in range(1000):
+        one.send("D", order("far", 1, 1, "50", "X" * 1000))  # Its refusal is as long.
+        if at % 50 == 49:
+            one.settle()
+    one.send("2", "7=1|16=0|")
+    one.settle()
+    head, far = f"49={one.sender}|52={now()}|56={one.target}", order("far", 1, 1, "50", "X" * 30000)
+    one.socket.setblocking(False)
+    with contextlib.suppress(BlockingIOError):
+        while True:
+            one.out += one.socket.send(framed(f"35=D|34={one.out}|{head}|{far}")) > 0
+    count = 0
+    while not any("it takes too few of its reports" in line for line in edge.lines):
+        sold(other, count)
+        count += 1
+        if count % 20 == 0 and (unsent := figure(page, "gikvand_edge_unsent_bytes")) > 200000:
+            raise Trouble(f"{unsent} bytes wait for a member that takes nothing")
+
+
+def test_waits_for_room():
+    """What a client doesn't take at once is written as soon as it has room: the edge waits for that, and not for the next
+    moment at which it would look anyway."""
+    subprocess.run(["cc", "-O1", "-shared", "-fPIC", "-o", "full.so", f"{ROOT}/edge/tests/full.c", "-ldl"], check=True)
+    env = {**os.environ, "LD_PRELOAD": os.path.abspath("full.so"), "FULL": os.path.abspath("full")}
+    venue, edge, port = pair(env=env, MaxMessageBytes="65536", MaxReadMessagesPerSecond="0", MaxReadBytesPerSecond="0")
+    one = at_rest(port, "rest")
+    for at in range(900):
+        one.send("D", order("far", 1, 1, "50", "X" * 3000))  # Its refusal is as long.
+        if at % 50 == 49:
+            one.settle()
+    one.send("2", "7=1|16=0|")
+    await_that("a client that has no room", lambda: os.path.exists("full"))
+    one.settle()
+    with open("full", encoding="ascii") as file:
+        expect(set(file.read().split()), {"asked"})
+
+
 def test_deaf_for_a_minute():
     """A member takes nothing for a minute, in which another trades with it all the time; then it is told all of it."""
     venue, edge, port = pair(2)
@@ -252,135 +288,25 @@ def test_deaf_for_a_minute():
 
 
 def test_status_page():
-    """The page says how each member fares, as words and as figures, on loopback alone."""
-    page = free_port(1)
+    """The page of each member says how it fares, as words and as figures, on loopback alone."""
+    page = free_port(2)
     venue, edge, port = pair(2, common={"HttpAcceptPort": str(page)})
     one = at_rest(port, "a")
-    one.send("D", order("a", 1, 1, "50"))
-    one.report(_150="8")
-    with urllib.request.urlopen(f"http://127.0.0.1:{page}/", timeout=30) as answer:
-        lines = answer.read().decode().splitlines()
-    expect(lines[0], "C1 (DESK-A): serves, logged on, 2 requests, 1 refused by the edge, 1 reports, the last 1, "
-                     "1 open orders, 0 bytes not taken")
-    expect(lines[1][:27], "C2 (DESK-B): serves, away, ")
-    expect(figure(page, "gikvand_edge_open_orders"), 1)
-
-
-def fill(path, left):
-    """Takes the room of a disk but for so many bytes."""
-    room = shutil.disk_usage(path).free - left
-    with open(os.path.join(path, "ballast"), "ab") as file:
-        file.write(b"x" * max(0, room))
-
-
-@contextlib.contextmanager
-def small_disk():
-    """A disk of 8 MB, at `disk`."""
-    if os.geteuid():
-        raise Trouble("this test mounts a small disk, which takes root")
-    os.mkdir("disk")
-    subprocess.run(["mount", "-t", "tmpfs", "-o", "size=8m", "tmpfs", "disk"], check=True)
-    try:
-        yield
-    finally:
-        kill_all()
-        subprocess.run(["umount", "-l", "disk"], check=True)
-
-
-def test_full_disk():
-    """The disk of the edge fills: new orders are refused in words, what was sent is told, and all goes on with room."""
-    with small_disk():
-        common = {"EdgePath": "disk/edge", "FileStorePath": "disk/store", "DiskReserve": "2000000"}
-        venue, edge, port = pair(2, started(JOURNAL, 3, list(SYMBOLS)), common=common)
-        one, other = at_rest(port, "a", 100), Engine(port, 2).log_on()
-        fill("disk", 1000000)
-        time.sleep(0.1)
-        one.send("D", order("b", 1, 100, "50"))
-        if "its disk is nearly full" not in one.report(_150="8", _11="b"):
-            raise Trouble("a refusal doesn't say that the disk is full")
-        one.send("F", cancel("c", "a", 1))
-        one.report(_150="4")
-        os.remove("disk/ballast")
-        time.sleep(0.1)
-        one.send("D", order("d", 1, 100, "50"))
-        one.report(_150="0", _11="d")
-        fill("disk", 0)
-        time.sleep(0.1)
-        third = Client(venue.port, 3).log_on()
-        third.send("D", venue_order(1, 2, 30, 5000))
-        edge.hears("C1: isn't served: the store of its session takes nothing in")
-        os.remove("disk/ballast")
-        edge.hears("C1: serves, behind report")
-        for it in (one, other):
-            it.close()
-            it.log_on()
-        one.report(_150="F", _11="d", _32="30")
-        one.send("D", order("f", 1, 100, "50"))
-        one.report(_150="0", _11="f")
-        for member in (1, 2):
-            wanted = [int(value(it, "17")) for it in told(member)]
-            came = [int(value(it, "17")) for it in stored(member, "disk/store") if (value(it, "17") or "").isdecimal()]
-            expect(came, wanted)
-
-
-def test_full_store():
-    """A heartbeat that can't be kept on the disk: it is said, and all goes on with room, the log as well."""
-    with small_disk():
-        common = {"FileStorePath": "disk/store", "FileLogPath": "disk/log", "DiskReserve": "500000"}
-        venue, edge, port = pair(common=common)
-        one = Engine(port, 1, heartbeat=1).log_on()
-        fill("disk", 0)
-        edge.hears("C1: isn't served: the store of its session takes nothing in: the disk is full")
-        os.remove("disk/ballast")
-        edge.hears("C1: serves, behind report")
-        one.close()
-        one.log_on().send("D", order("a", 1, 1, "50"))
-        one.report(_150="0")
-        with open(f"disk/log/FIX.4.4-GIKVAND-{NAMES[1]}.messages.current.log", encoding="ascii") as file:
-            expect([value(it.replace("\x01", "|"), "11") for it in file if "\x0135=D" in it], ["a"])
-
-
-def test_store_away():
-    """The folder of the stores goes away and comes back, like an unmounted disk: it is said, and nothing is lost."""
-    venue, edge, port = pair()
-    one = at_rest(port, "a")
-    os.rename("store", "away")
-    time.sleep(0.1)
-    one.send("1", "112=x|")
-    edge.hears("C1: isn't served: the store of its session takes nothing in: can't look at store")
-    edge.hears("C1: isn't served: the store of its session takes nothing in: Configuration failed")
-    refused(Engine(port, 1), "wasn't answered")
-    edge.hears("is let go: the store can't be read")
-    os.rename("away", "store")
-    edge.hears("C1: serves, behind report 1")
-    one.close()
-    one.log_on().send("D", order("b", 1, 1, "50"))
-    one.report(_150="0", _11="b")
-    expect(places(1), [1, 2])
-
-
-def test_names_disk():
-    """A request whose name can't be kept is refused, and the venue never sees it; the name may be used later."""
-    with small_disk():
-        venue, edge, port = pair(common={"EdgePath": "disk/edge", "DiskReserve": "0"})
-        one = Engine(port, 1).log_on()
-        fill("disk", 0)
-        for at in range(1000):  # The last page of the file may have room for some.
-            one.send("D", order(f"a{at}", 1, 1, "50"))
-            if value(it := one.report(_11=f"a{at}"), "150") == "8":
-                break
-        if "this request can't be kept on the disk" not in it:
-            raise Trouble(f"a refusal says something else: {it}")
-        expect(len(told(1)), at)
-        os.remove("disk/ballast")
-        one.send("D", order(f"a{at}", 1, 1, "50"))
-        one.report(_150="0", _11=f"a{at}")
-        edge.kill()
-        restarted()
-        expect(len(places(1)), at + 1)
+    for _ in range(2):
+        one.send("D", order("a", 1, 1, "50"))
+        one.report(_150="8")
+    lines = []
+    for port in (page, page + 1):
+        with urllib.request.urlopen(f"http://127.0.0.1:{port}/", timeout=30) as answer:
+            lines.append(answer.read().decode())
+    expect(lines[0].rpartition(" ")[0], "C1 (DESK-A): serves, logged on, 3 requests, 2 refused by the edge, 1 reports, "
+                                        "the last 1, 1 open orders, 0 bytes not taken, numbers since")
+    expect((lines[1][:27], lines[1].count("\n")), ("C2 (DESK-B): serves, away, ", 1))
+    names = ("serves", "logged_on", "requests_total", "refusals_total", "reports_total", "open_orders", "unsent_bytes")
+    expect([figure(page, f"gikvand_edge_{name}") for name in names], [1, 1, 3, 2, 1, 1, 0])
 
 
 TESTS = [test_rate, test_open_orders, test_message_size, test_cancel_on_disconnect, test_lost_cancels, test_passwords,
-         test_no_reset, test_slow_reader, test_many_resends, test_status_page, test_full_disk, test_full_store,
-         test_store_away, test_names_disk]
+         test_no_reset, test_slow_reader, test_many_resends, test_bound_behind_a_resend, test_waits_for_room,
+         test_status_page]
 LONG_TESTS = [test_deaf_for_a_minute]

@@ -1,10 +1,11 @@
 """Members, edge and venue end at any moment and come back: what was missed is told once, and no name is used twice."""
 import os
+import signal
 import time
 
-from edges import JOURNAL, PATIENCE, REPLAY, SYMBOLS, Client, Edge, Trouble, again, free_port, pair, started, stored
-from edges import told, venue_order
-from engines import Engine, at_rest, cancel, order
+from edges import EVENTS, JOURNAL, PATIENCE, SYMBOLS, Client, Edge, again, changed, free_port, freeze, pair, started
+from edges import rows, stored, told, venue_order
+from engines import Engine, at_rest, cancel, order, refused
 from gikvand.fix import fields_of, value
 from relay import Relay
 from trading_tests import expect
@@ -22,15 +23,6 @@ def restarted(members=1):
 def places(member):
     """The ExecIDs of the venue's reports in a member's store."""
     return [int(value(it, "17")) for it in stored(member) if (value(it, "17") or "").isdecimal()]
-
-
-def names_file(change):
-    """Changes the bytes of the file of names."""
-    with open("edge/C1.names", "r+b") as file:
-        data = change(file.read())
-        file.seek(0)
-        file.truncate()
-        file.write(data)
 
 
 def two_members():
@@ -84,9 +76,11 @@ def test_venue_restarts():
     for _ in range(2):
         edge.hears(": serves, behind report")
     one.send("D", order("gone", 1, 5, "50"))
-    one.report(_150="0", _11="gone")
+    expect(value(one.report(_11="gone"), "103"), "6")  # A name that was refused is a used one.
+    one.send("D", order("back", 1, 5, "50"))
+    one.report(_150="0", _11="back")
     other.send("D", order("b", 2, 105, "50"))
-    one.report(_150="F", _11="gone", _39="2")
+    one.report(_150="F", _11="back", _39="2")
 
 
 def test_edge_first():
@@ -97,13 +91,7 @@ def test_edge_first():
     edge = Edge(settings())
     edge.hears("C1: the venue: can't connect")
     one = Engine(port, 1)
-    try:
-        one.log_on()
-        raise Trouble("a Logon was taken without a venue")
-    except Trouble as why:
-        if "the venue isn't there yet" not in str(why):
-            raise
-    one.close()
+    refused(one, "the venue isn't there yet")
     again(port, 1, venue.port)
     edge.hears("C1: serves")
     one.log_on().send("D", order("a", 1, 1, "50"))
@@ -120,8 +108,7 @@ def test_lost_request():
     one.send("D", order("lost", 1, 1, "50"))
     expect(value(one.report(_11="lost"), "103"), "6")
     edge.kill()
-    names_file(lambda data: b"".join(it for it in data.splitlines(keepends=True) if not it.endswith(b" s \n")))
-    restarted()  # As where it was killed before it noted that its member was told.
+    restarted()
     one.close()
     one.log_on().send("D", order("next", 1, 1, "50"))
     one.report(_11="next", _150="0")
@@ -145,10 +132,7 @@ def test_request_under_way():
 
 def forget(count):
     """Lets the session of C1 expect the last messages of the member once more, so many of them."""
-    with open("store/FIX.4.4-GIKVAND-DESK-A.seqnums", "r+", encoding="ascii") as file:
-        sender, target = file.read().split(" : ")
-        file.seek(0)
-        file.write(f"{sender} : {int(target) - count:010}")
+    changed(1, f"UPDATE session SET target = target - {count}")
 
 
 def test_many_sent_again():
@@ -180,6 +164,113 @@ def test_sent_again():
     one.report(_150="0", _11="b")
     edge.hears("has been passed on before: a")
     expect([value(it, "11") for it in told(1)], ["1", "2"])
+
+
+def test_possible_resend():
+    """A PossResend of a name that is known is passed over, as its order rests; one of a new name is taken."""
+    venue, edge, port = pair()
+    one = at_rest(port, "a")
+    one.write("D", order("a", 1, 1, "50"), head="97=Y|")
+    one.out += 1
+    edge.hears("has been passed on before: a")
+    one.write("D", order("b", 1, 1, "50"), head="97=Y|")
+    one.out += 1
+    one.report(_150="0", _11="b")
+    one.write("D", order("b", 1, 1, "50"), head="97=N|")
+    one.out += 1
+    expect(value(one.report(_11="b"), "103"), "6")
+    expect([value(it, "11") for it in one.history], ["a", "b", "b"])
+
+
+def refusals(name):
+    """What the store of C1 has of this name."""
+    return [value(it, "58") for it in stored(1) if value(it, "11") == name]
+
+
+def full_of(port, edge, name):
+    """A member that has as many open orders as it may, and one more, of this name, that was refused; the edge is killed
+    before it noted that request's number."""
+    one = at_rest(port, "a")
+    one.send("D", order(name, 1, 1, "50"))
+    one.report(_150="8", _11=name)
+    edge.kill()
+    forget(1)
+    return one
+
+
+def test_refusal_sent_again():
+    """The edge is killed when a refusal has been told and its request's number isn't noted: the request, which is sent
+    again, stays refused, though nothing speaks against it any more, and its name stays used."""
+    venue, edge, port = pair(MaxOpenOrders="1")
+    one = full_of(port, edge, "no")
+    edge = Edge(settings().replace("MaxOpenOrders=1", "MaxOpenOrders=9")).ready()
+    one.close()
+    one.log_on().settle()
+    edge.hears("was refused before: no")
+    one.send("D", order("yes", 1, 1, "50"))
+    one.report(_150="0", _11="yes")
+    one.write("D", order("no", 1, 1, "50"), head="97=Y|")
+    one.out += 1
+    edge.hears("was refused before: no")
+    one.send("D", order("no", 1, 1, "50"))
+    expect(value(one.report(_11="no"), "103"), "6")
+    one.send("F", cancel("c", "no", 1))
+    expect(value(one.report(_35="9"), "102"), "1")
+    expect((refusals("no"), len(told(1))), (["edge: more than 1 open orders", "edge: ClOrdID (11) was used before"], 2))
+    one.send("D", order("never", 1, 1, "50.001"))
+    one.report(_150="8", _11="never")
+    edge.stop()
+    restarted()
+    one.close()
+    one.log_on().send("D", order("no", 1, 1, "50"))
+    expect(value(one.report(_11="no"), "103"), "6")
+
+
+def test_refusal_untold():
+    """The record takes a refused name and not its refusal: neither is kept, and the member isn't told. Sent again, the
+    request is taken, once."""
+    venue, edge, port = pair(MaxOpenOrders="1")
+    one = at_rest(port, "a")
+    one.log_out()
+    edge.stop()
+    changed(1, "CREATE TRIGGER refusals BEFORE INSERT ON turns WHEN instr(NEW.did, x'013135303d3801')"
+               " BEGIN SELECT raise(ABORT, 'no refusals'); END")
+    edge = restarted()
+    one.log_on().send("D", order("no", 1, 1, "50"))
+    edge.hears("C1: isn't served: edge/C1/C1.db: no refusals")
+    while one.pump(PATIENCE):
+        pass
+    edge.kill()
+    expect((rows(1, "SELECT name FROM names WHERE name = 'no'"), refusals("no"), len(one.history)), ([], [], 1))
+    changed(1, "DROP TRIGGER refusals")
+    edge = Edge(settings().replace("MaxOpenOrders=1", "MaxOpenOrders=9")).ready()
+    one.log_on().report(_150="0", _11="no")
+    expect((refusals("no"), len(told(1))), ([None], 2))
+
+
+def test_name_not_taken():
+    """The record doesn't take a request's name, in a turn that changes the tables since it also answers a ResendRequest:
+    nothing of that turn is kept, so the request isn't counted, and is taken once when it is sent again."""
+    venue, edge, port = pair()
+    one = at_rest(port, "a")
+    one.log_out()
+    edge.stop()
+    changed(1, "CREATE TRIGGER no_names BEFORE INSERT ON names WHEN NEW.name = 'b' BEGIN SELECT raise(ABORT, 'no names'); END")
+    edge = restarted()
+    one.log_on().send("D", order("x", 1, 1, "50"))
+    one.report(_150="0", _11="x")
+    freeze(edge.process_of(1))
+    one.send("2", "7=1|16=0|")
+    one.send("D", order("b", 1, 1, "50"))
+    os.kill(edge.process_of(1), signal.SIGCONT)
+    edge.hears("C1: isn't served: edge/C1/C1.db: no names")
+    while one.pump(PATIENCE):
+        pass
+    edge.kill()
+    changed(1, "DROP TRIGGER no_names")
+    restarted()
+    one.log_on().report(_150="0", _11="b")
+    expect((len(told(1)), len(one.history)), (3, 3))
 
 
 def trade_a_little(port):
@@ -233,8 +324,8 @@ def test_behind_logon():
     expect(places(1), [int(value(it, "17")) for it in told(1)])
 
 
-SLOW_REPLAY = """#!/bin/sh
-'{replay}' "$@" >told.$$
+SLOW_EVENTS = """#!/bin/sh
+'{events}' "$@" >told.$$
 touch read
 while [ ! -e go ]; do sleep 0.01; done
 cat told.$$
@@ -245,13 +336,13 @@ def test_meanwhile():
     """What the venue tells while the journal is being read waits, and is told behind that, once."""
     venue, edge, port = pair()
     edge.stop()
-    with open("slow-replay", "w", encoding="ascii") as file:
-        file.write(SLOW_REPLAY.format(replay=REPLAY))
-    os.chmod("slow-replay", 0o755)
+    with open("slow-events", "w", encoding="ascii") as file:
+        file.write(SLOW_EVENTS.format(events=EVENTS))
+    os.chmod("slow-events", 0o755)
     venue.stop()
     venue = again(port, 2, venue.port)
     open("go", "w", encoding="ascii").close()
-    edge = Edge(settings().replace(REPLAY, os.path.abspath("slow-replay"))).ready()
+    edge = Edge(settings().replace(EVENTS, os.path.abspath("slow-events"))).ready()
     one = at_rest(port, "a", 10)
     os.remove("go")
     os.remove("read")
@@ -274,8 +365,7 @@ def test_other_journal():
     trade_a_little(port)
     edge.stop()
     venue.stop()
-    for name in (JOURNAL, "edge/C1.names"):
-        os.remove(name)
+    os.remove(JOURNAL)
     again(port, 2, venue.port)
     for member, orders in ((2, 6), (1, 1)):
         one = Client(venue.port, member).log_on()
@@ -284,14 +374,16 @@ def test_other_journal():
             one.next()
         one.close()
     edge = Edge(settings())
-    edge.hears("C1: edge/C1.names isn't there, and is made")
     edge.hears("C1: isn't served: its store has report 6, which the journal hasn't")
     time.sleep(2.5)  # It tries again each second.
+    one = Engine(port, 1)
+    one.out = rows(1, "SELECT target FROM session")[0][0]
+    refused(one, "this member can't be served, and the operator of the venue is told why")
     expect((places(1), [it for it in edge.lines if ": serves" in it]), ([1, 2, 3, 4, 5, 6], []))
 
 
 def test_new_day():
-    """The library empties a store at its day's end: nothing of the day before is told again, and nothing is missed."""
+    """A day has ended while the edge was down: nothing that was told before is told again, and nothing is missed."""
     venue, edge, port = pair()
     one = at_rest(port, "a")
     one.send("F", cancel("b", "zz", 1))
@@ -299,8 +391,7 @@ def test_new_day():
     one.report(_35="9", _11="c")
     one.log_out()
     edge.stop()
-    with open("store/FIX.4.4-GIKVAND-DESK-A.session", "w", encoding="ascii") as file:
-        file.write("20250102-09:30:00")
+    changed(1, "UPDATE session SET created = '20250102-09:30:00'")
     edge = restarted()
     expect(places(1), [])
     one = at_rest(port, "d")
@@ -308,14 +399,8 @@ def test_new_day():
     edge.kill()
     edge = restarted()
     expect(len(places(1)), 1)
-    edge.stop()
-    for name in ("edge/C1.told", "store/FIX.4.4-GIKVAND-DESK-A.session"):  # Another day, and what was told is damaged.
-        with open(name, "w", encoding="ascii") as file:
-            file.write("20250102-09:30:00")
-    edge = Edge(settings())
-    edge.hears("line 1 of edge/C1.told is damaged")
-    expect(edge.status(), 1)
 
 
 TESTS = [test_away, test_venue_restarts, test_edge_first, test_lost_request, test_request_under_way, test_sent_again,
-         test_many_sent_again, test_behind_logon, test_meanwhile, test_other_journal, test_new_day]
+         test_many_sent_again, test_possible_resend, test_refusal_sent_again, test_refusal_untold, test_name_not_taken,
+         test_behind_logon, test_meanwhile, test_other_journal, test_new_day]

@@ -27,11 +27,11 @@ class Relay(threading.Thread):
             if time.monotonic() < self.closed_until:
                 member.close()
                 continue
-            with member, socket.create_connection((HOST, self.edge), PATIENCE) as edge:
-                try:
+            try:
+                with member, socket.create_connection((HOST, self.edge), PATIENCE) as edge:
                     self.serve(member, edge)
-                except OSError:
-                    pass
+            except OSError:  # One of both went, or the edge isn't there yet: the member connects anew.
+                pass
 
     def serve(self, member, edge):
         rests = {member: b"", edge: b""}

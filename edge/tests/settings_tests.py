@@ -1,32 +1,42 @@
 """What is wrong in a settings file is said in one line with its name, and nothing starts."""
 import fcntl
 import os
+import shutil
 import subprocess
 import time
 
-from edges import EDGE, Edge, Trouble, free_port, members_of, pair, settings_of
+from edges import DICTIONARY, EDGE, ROOT, Edge, Trouble, free_port, members_of, pair, settings_of
+from engines import Engine, cancel, order
+from gikvand.fix import value
+from trading_tests import expect
 
-SECRETS = "passwords"
+SECRETS, DATA = "passwords", "data.xml"
 # What is wrong of a setting of all sessions, or of one, and what is said behind its name. None: it is left out.
 WRONG = {
     "VenuePort": {None: "is missing", "0": "isn't 1 to 65528", "nine": "is no number"},
     "VenueJournal": {None: "is missing"},
-    "VenueReplay": {"/nowhere": "can't be used"},
+    "VenueEvents": {None: "is missing", "/nowhere": "can't be used"},
+    "VenueReplay": {"/bin/true": "is VenueEvents now, the program venue-events"},
     "Symbols": {None: "is missing", "ABC": "isn't of SYMBOL:STEP", "ABC:0": "no step", "ABC:1 ABC:2": "has one twice",
                 "abc:1": "isn't of SYMBOL:STEP", "ABC:99999.000000001": "too great a step"},
     "EdgePath": {None: "is missing"},
-    "FileStorePath": {None: "is missing"},
     "FileLogPath": {None: "is missing"},
     "SocketAcceptHost": {"localhost": "is no address"},
     "HttpAcceptPort": {"x": "is no number"},
     "DiskReserve": {"-1": "is no number"},
     "StartTime": {None: "is missing"},
     "EndTime": {"25:00": "isn't HH:MM:SS"},
-    "DataDictionary": {"/nowhere": "can't be used"},
+    "UseLocalTime": {"Y": "isn't N: hours are in UTC"},
+    "LogonTime": {"08:00:00": "isn't taken: members may log on from StartTime to EndTime"},
+    "DataDictionary": {"/nowhere": "can't be used", "edge.cfg": "is none of QuickFIX: edge.cfg",
+                       DATA: "has a field of the type DATA, 58, as edge/FIX44-edge.xml has none: data.xml"},
     "ConnectionType": {"initiator": "isn't acceptor"},
     "BeginString": {"FIX.4.2": "isn't FIX.4.4"},
     "ResetOnLogon": {"Y": "would drop"},
     "PersistMessages": {"N": "has to be Y"},
+    "ValidateLengthAndChecksum": {"N": "has to be Y"},
+    "ValidateFieldsHaveValues": {"N": "has to be Y"},
+    "SyncNames": {"Y": "is always so", "N": "is always so"},
     "CANCELONDISCONECT": {"Y": "is no setting"},
 }
 WRONG_OF_ONE = {
@@ -38,9 +48,19 @@ WRONG_OF_ONE = {
     "CancelOnDisconnect": {"yes": "is neither Y nor N"},
     "DropFields": {"1 x": "has what is no tag"},
     "LastCapacity": {"9": "isn't 1 to 4"},
-    "FileStorePath": {"elsewhere": "is one for all sessions"},
-    "SyncNames": {"Y": "is one for all sessions"},
+    "MaxReadMessagesPerSecond": {"-1": "is no number", "99": "isn't 0, nor 100 or more"},
+    "MaxReadBytesPerSecond": {"9999999999": "isn't 0 to 1073741824"},
+    "MaxRequestsUnderWay": {"0": "isn't 1 to 1000000"},
+    "MaxLogBytes": {"10": "isn't 65536 to"},
+    "MaxLogFiles": {"0": "isn't 1 to 1000"},
+    "MaxFolderBytes": {"1000": "isn't 1048576 to"},
+    "AllowAnyone": {"yes": "is neither Y nor N"},
+    "SyncNames": {"Y": "is always so"},
 }
+WRONG_HOURS = {"StartDay: is missing beside the other of the two": {"EndDay": "Friday"},
+               "EndDay: is no day, as Monday: Funday": {"StartDay": "Monday", "EndDay": "Funday"},
+               "EndDay: is StartDay, with an EndTime behind StartTime": {"StartDay": "Monday", "EndDay": "Monday",
+                                                                         "EndTime": "17:00:00"}}
 WRONG_USERS = {"PasswordFile: is missing": {}, "PasswordFile: can't be read": {"PasswordFile": "/nowhere"},
                "PasswordFile: may be used by others": {"PasswordFile": SECRETS}}
 
@@ -49,18 +69,20 @@ def wrong_settings():
     """Each wrong setting: those of all sessions, those of the one, and what is said."""
     for is_of_all, those in ((True, WRONG), (False, WRONG_OF_ONE)):
         for name, values in those.items():
-            for value, fault in values.items():
-                it = {name: value}
+            for wrong, fault in values.items():
+                it = {name: wrong}
                 yield (it, {}, f"{name}: {fault}") if is_of_all else ({}, it, f"{name}: {fault}")
+    for fault, it in WRONG_HOURS.items():
+        yield it, {}, fault
     for fault, it in WRONG_USERS.items():
         yield {}, {"Username": "desk", **it}, fault
 
 
-def said(settings):
+def said(settings, *words):
     """The status and the lines of an edge with these settings, which doesn't start."""
     with open("edge.cfg", "w", encoding="ascii") as file:
         file.write(settings)
-    ran = subprocess.run([EDGE, "edge.cfg"], capture_output=True, text=True, timeout=30)
+    ran = subprocess.run([EDGE, *words, "edge.cfg"], capture_output=True, text=True, timeout=30)
     return ran.returncode, ran.stderr.splitlines()
 
 
@@ -69,18 +91,22 @@ def test_wrong_settings():
     with open(SECRETS, "w", encoding="ascii") as file:
         file.write("desk:secret\n")
     os.chmod(SECRETS, 0o644)
+    with open(DICTIONARY, encoding="utf-8") as file, open(DATA, "w", encoding="utf-8") as changed:
+        changed.write(file.read().replace('name="Text" type="STRING"', 'name="Text" type="DATA"'))
     port = free_port(2)
     for common, session, wanted in wrong_settings():
         members = [{**it, **session} for it in members_of(1, port)]
-        status, lines = said(settings_of({"VenuePort": port + 1, **common}, members))
-        if status != 1 or len(lines) != 1 or not lines[0].startswith(f"gikvand-edge: {wanted}"):
-            raise Trouble(f"{common or session}: wanted {wanted!r}, came {status} {lines}")
-    if left := set(os.listdir()) - {"edge.cfg", SECRETS}:
+        for words in ((), ("--all",), ("--check",), ("--check", "--all")):
+            status, lines = said(settings_of({"VenuePort": port + 1, **common}, members), *words)
+            if status != 1 or len(lines) != 1 or not lines[0].startswith(f"gikvand-edge: {wanted}"):
+                raise Trouble(f"{words} {common or session}: wanted {wanted!r}, came {status} {lines}")
+    if left := set(os.listdir()) - {"edge.cfg", SECRETS, DATA}:
         raise Trouble(f"something was made: {left}")
 
 
 def test_more_settings():
-    """Two sessions of a member, no session, a user without a password, other symbols than the journal's, no file."""
+    """Two sessions of a member, no session, a user without a password, a file of passwords that others may use, other
+    symbols than the journal's, no file."""
     port = free_port(2)
     two = members_of(2, port)
     two[1]["Member"] = "C1"
@@ -89,18 +115,30 @@ def test_more_settings():
         file.write("desk:secret\n")
     with open("venue.journal.symbols", "w", encoding="ascii") as file:
         file.write("ABC\n")
-    for text, wanted in (
-            (settings_of({"VenuePort": port}, two), "Symbols: are others than those of venue.journal.symbols"),
-            (settings_of({"VenuePort": port, "Symbols": "ABC:1"}, two), "Member: has two sessions: C1"),
-            (settings_of({"VenuePort": port, "Symbols": "ABC:1"}, []), "[SESSION]: is missing"),
+    for text, words, wanted in (
+            (settings_of({"VenuePort": port}, two), "--all", "Symbols: are others than those of venue.journal.symbols"),
+            (settings_of({"VenuePort": port, "Symbols": "ABC:1"}, two), "--all", "Member: has two sessions: C1"),
+            (settings_of({"VenuePort": port, "Symbols": "ABC:1"}, two), "--member C1", "Member: has two sessions: C1"),
+            (settings_of({"VenuePort": port, "Symbols": "ABC:1"}, two), "--member C2", "Member: no session has C2"),
+            (settings_of({"VenuePort": port, "Symbols": "ABC:1"}, two), "", "[SESSION]: there are 2: --all serves"),
+            (settings_of({"VenuePort": port, "Symbols": "ABC:1"}, []), "--all", "[SESSION]: is missing"),
             (settings_of({"VenuePort": port, "Symbols": "ABC:1"},
-                         members_of(1, port, Username="other", PasswordFile=SECRETS)),
+                         members_of(1, port, Username="other", PasswordFile=SECRETS)), "",
              "Username: has no line in passwords")):
-        status, lines = said(text)
+        status, lines = said(text, *words.split())
         if status != 1 or len(lines) != 1 or wanted not in lines[0]:
             raise Trouble(f"wanted {wanted!r}, came {status} {lines}")
-    for words, wanted in ((["nowhere.cfg"], "nowhere.cfg: can't be read"), ([], "usage:"), (["--no", "x"], "usage:")):
-        ran = subprocess.run([EDGE, *words], capture_output=True, text=True, timeout=30)
+    text = settings_of({"VenuePort": port, "Symbols": "ABC:1"}, members_of(1, port, Username="desk", PasswordFile=SECRETS))
+    for mode in (0o640, 0o620, 0o610, 0o604, 0o602, 0o601, 0o600):  # Its owner alone may use it in any way.
+        os.chmod(SECRETS, mode)
+        status, lines = said(text, "--check")
+        wanted = [f"gikvand-edge: PasswordFile: may be used by others than its owner: chmod 0600 {SECRETS}"]
+        expect((oct(mode), lines), (oct(mode), wanted if mode & 0o077 else []))
+    for words, wanted in (("nowhere.cfg", "nowhere.cfg: can't be read"), ("", "usage:"), ("--no x", "usage:"), ("--mend x", "usage:"),
+                          ("--all", "usage:"), ("--member C1", "usage:"), ("--all --check x", "usage:"),
+                          ("--all --member C1 x", "usage:"), ("a b", "usage:"), ("--version x", "usage:"),
+                          ("--check --version", "usage:")):
+        ran = subprocess.run([EDGE, *words.split()], capture_output=True, text=True, timeout=30)
         if ran.returncode != 1 or wanted not in ran.stderr:
             raise Trouble(f"{words}: {ran.returncode} {ran.stderr}")
 
@@ -110,24 +148,118 @@ def test_second_edge():
     venue, edge, port = pair()
     with open("edge.cfg", encoding="ascii") as file:
         settings = file.read()
-    second = Edge(settings)
-    second.hears("EdgePath: is another edge's")
-    third = Edge(settings.replace("EdgePath=edge", "EdgePath=other").replace("Path=store", "Path=store2"))
-    third.hears(f"can't listen on 127.0.0.1:{port}")
-    fourth = Edge(settings.replace("Path=", "Path=more-").replace(f"AcceptPort={port}", f"AcceptPort={free_port(1)}")
-                  .replace("[DEFAULT]", f"[DEFAULT]\nHttpAcceptPort={port}"))
-    fourth.hears(f"can't listen on 127.0.0.1:{port}")
-    if [second.status(), third.status(), fourth.status()] != [1, 1, 1]:
+    others = [Edge(settings), Edge(settings, words=())]
+    for it in others:
+        it.hears("EdgePath: is another edge's: edge")
+    others.append(Edge(settings.replace("Path=", "Path=other-"), words=("--member", "C1")))
+    others[-1].hears(f"can't listen on 127.0.0.1:{port}")
+    page = settings.replace("Path=", "Path=more-").replace(f"AcceptPort={port}", f"AcceptPort={free_port(1)}")
+    others.append(Edge(page.replace("[DEFAULT]", f"[DEFAULT]\nHttpAcceptPort={port}"), words=()))
+    others[-1].hears(f"can't listen on 127.0.0.1:{port}")
+    if any(it.status() != 1 for it in others):
         raise Trouble("another edge started")
-    ran = subprocess.run([EDGE, "--check", "edge.cfg"], capture_output=True, text=True, timeout=30)
-    if (ran.returncode, ran.stdout) != (0, "the settings are right\n"):
-        raise Trouble(f"--check: {ran}")
+    for words in (["--check"], ["--check", "--all"], ["--check", "--member", "C1"]):
+        ran = subprocess.run([EDGE, *words, "edge.cfg"], capture_output=True, text=True, timeout=30)
+        if (ran.returncode, ran.stdout) != (0, "the settings are right\n"):
+            raise Trouble(f"{words}: {ran}")
     edge.stop()
-    with open("edge/lock", encoding="ascii") as file:  # As a child of an edge that was killed holds it.
+    for lock, words in (("edge/lock", ()), ("edge/C1/lock", ()), ("edge/lock", ("--all",)),
+                        ("edge/all.lock", ("--all",))):
+        with open(lock, encoding="ascii") as file:  # The first one is what an edge of before holds.
+            fcntl.flock(file, fcntl.LOCK_EX)
+            last = Edge(settings, words=words)
+            last.hears("EdgePath: is another edge's: edge")
+            if last.status() != 1:
+                raise Trouble(f"an edge started beside the holder of {lock}")
+    with open("edge/C1/lock", encoding="ascii") as file:  # As a child of an edge that was killed holds it.
         fcntl.flock(file, fcntl.LOCK_EX)
         last = Edge(settings)
         time.sleep(0.4)
     last.ready()
 
 
-TESTS = [test_wrong_settings, test_more_settings, test_second_edge]
+def test_version():
+    """It tells the project's version, and fails where that can't be told."""
+    with open(os.path.join(ROOT, "VERSION"), encoding="ascii") as file:
+        wanted = f"gikvand-edge {file.read()}"
+    ran = subprocess.run([EDGE, "--version"], capture_output=True, text=True, timeout=30)
+    expect((ran.returncode, ran.stdout, ran.stderr), (0, wanted, ""))
+    with open("/dev/full", "w", encoding="ascii") as full:
+        expect(subprocess.run([EDGE, "--version"], stdout=full, timeout=30).returncode, 1)
+
+
+# Starts the edge where the system's folder of what is shared is another one.
+ELSEWHERE = """#!/bin/sh
+exec unshare -rm sh -c 'mount --bind "$0" /usr/share && exec "$@"' {} {} "$@"
+"""
+
+
+def test_dictionary_of_the_package():
+    """Without DataDictionary a member is served by the one that the package installs; where that isn't, nothing starts."""
+    for name in ("bare", "share/gikvand-edge"):
+        os.makedirs(name)
+    if subprocess.run(["unshare", "-rm", "mount", "--bind", "bare", "/usr/share"], capture_output=True).returncode:
+        print("edge/check: the package's dictionary isn't tried: no folder of the system can be another one here", flush=True)
+        return
+    shutil.copy(DICTIONARY, "share/gikvand-edge/FIX44-edge.xml")
+    for name in ("bare", "share"):
+        with open(f"in-{name}", "w", encoding="ascii") as file:
+            file.write(ELSEWHERE.format(os.path.abspath(name), EDGE))
+        os.chmod(f"in-{name}", 0o755)
+    venue, edge, port = pair(wait=False, program="./in-bare", common={"DataDictionary": None})
+    edge.hears("DataDictionary: can't be used: /usr/share/gikvand-edge/FIX44-edge.xml")
+    expect(edge.status(), 1)
+    venue, edge, port = pair(venue=venue, program="./in-share", common={"DataDictionary": None})
+    one = Engine(port, 1).log_on()
+    one.send("D", order("a", 1, 10, "10.00"))
+    one.report(_150="0", _11="a")
+    one.send("D", "11=b|")  # The dictionary says what lacks.
+    if not one.next_of("3"):
+        raise Trouble("an order without its fields wasn't rejected")
+
+
+OTHER_STEPS = {"ABC:0.05 XYZ:0.25": "have ABC:0.05, whose step was 0.01", "ABC:0.01 XYZ:0.250": "have XYZ:0.250, whose step was 0.25",
+               "ABC:0.01": "have no XYZ, whose step was 0.25",
+               "XYZ:0.25 ABC:0.01": "are others, or in another order, than they were: ABC:0.01 XYZ:0.25",
+               "ABC:0.01 XYZ:0.25 DEF:1": "are others, or in another order, than they were: ABC:0.01 XYZ:0.25"}
+
+
+def test_other_steps():
+    """Behind a member's first start no other step is taken, nor are other symbols, by a start or a look: an order that
+    rests would have another price. With its own ones the member is served again."""
+    venue, edge, port = pair()
+    one = Engine(port, 1).log_on()
+    one.send("D", order("a", 1, 10, "10.00"))
+    one.report(_150="0", _44="10.00")
+    one.log_out()
+    edge.stop()
+    with open("edge.cfg", encoding="ascii") as file:
+        own = file.read()
+    ours = "Symbols=ABC:0.01 XYZ:0.25\n"
+    for symbols, fault in OTHER_STEPS.items():
+        wanted = f"gikvand-edge: Symbols: {fault} (edge/C1/C1.symbols): what rests in the book would have other prices"
+        for words in ((), ("--all",), ("--check",), ("--check", "--all")):
+            status, lines = said(own.replace(ours, f"Symbols={symbols}\n"), *words)
+            if (status, lines) != (1, [wanted]):
+                raise Trouble(f"{words}: wanted {wanted!r}, came {status} {lines}")
+    with open("edge/C1/C1.symbols", "w", encoding="ascii"):
+        pass
+    status, lines = said(own, "--check")
+    if (status, lines) != (1, ["gikvand-edge: Symbols: what they were can't be read: edge/C1/C1.symbols"]):
+        raise Trouble(f"an empty file: {status} {lines}")
+    os.remove("edge/C1/C1.symbols")  # As an edge of before had none.
+    for _ in range(2):
+        edge = Edge(own).ready()
+        with open("edge/C1/C1.symbols", encoding="ascii") as file:
+            if (kept := file.read()) != "ABC:0.01 XYZ:0.25\n":
+                raise Trouble(f"what is kept: {kept!r}")
+        edge.stop()
+    edge = Edge(own).ready()
+    one.log_on()
+    one.send("F", cancel("b", "a", 1, 10))
+    if value(one.report(_150="4"), "44") != "10.00":
+        raise Trouble("the order's price is another one")
+
+
+TESTS = [test_wrong_settings, test_more_settings, test_version, test_dictionary_of_the_package, test_second_edge,
+         test_other_steps]

@@ -14,8 +14,8 @@ SETTINGS = """[DEFAULT]
 ConnectionType=initiator
 ReconnectInterval=1
 HeartBtInt=30
-StartTime=00:00:00
-EndTime=00:00:00
+StartTime={start}
+EndTime={end}
 FileStorePath=client-{name}
 UseDataDictionary=Y
 DataDictionary={dictionary}
@@ -38,13 +38,15 @@ IN = re.compile(rb"\nIN: (8=FIX[^\n]*)\n")
 class TradeClient:
     """One that runs, as a member of the edge."""
 
-    def __init__(self, port, member=1):
+    def __init__(self, port, member=1, hours=("00:00:00", "00:00:00"), env=None):
         self.name = NAMES[member]
         config = f"client-{self.name}.cfg"
         with open(config, "w", encoding="ascii") as file:
-            file.write(SETTINGS.format(name=self.name, port=port, dictionary=STOCK))
+            file.write(SETTINGS.format(name=self.name, port=port + member - 1, dictionary=STOCK, start=hours[0],
+                                       end=hours[1]))
         pipe = subprocess.PIPE
-        self.process = subprocess.Popen([CLIENT, config], stdin=pipe, stdout=pipe, stderr=subprocess.STDOUT)
+        self.process = subprocess.Popen([CLIENT, config], stdin=pipe, stdout=pipe, stderr=subprocess.STDOUT,
+                                        env=env)
         running.append(self)
         self.out, self.at, self.seen = b"", 0, 0
         threading.Thread(target=self.read, daemon=True).start()

@@ -2,20 +2,16 @@
 import os
 import re
 
-from edges import NAMES, ROOT, Trouble, pair, stored, told
+from edges import DICTIONARY, ROOT, Trouble, pair, session_files, stored, told
 from engines import Engine, cancel, order, replace
 from gikvand.fix import fields_of, value
-from tradeclients import TradeClient
-
-
-def expect(came, wanted):
-    if came != wanted:
-        raise Trouble(f"expected {wanted!r} came {came!r}")
+from tradeclients import STOCK, TradeClient
+from venues import expect
 
 
 def logged(member):
     """What passed between a member and the edge, by the edge's log."""
-    with open(f"log/FIX.4.4-GIKVAND-{NAMES[member]}.messages.current.log", encoding="ascii") as file:
+    with open(session_files(member, "log") + "messages.current.log", encoding="ascii") as file:
         return file.read().replace("\x01", "|").splitlines()
 
 
@@ -82,7 +78,7 @@ def test_each_report():
     other.send("D", order("f", 2, 99, "50", more="59=4|"))
     other.report(_150="0", _11="f")
     other.report(_150="4", _11="f", _39="4")
-    one.send("F", cancel("a3", "a2", 1))
+    one.send("F", cancel("a3", "a2", 1).replace("38=1|", ""))  # FIX lets a cancel leave its OrderQty out.
     expect(value(one.report(_150="4"), "41"), "a2")
     one.send("G", replace("a4", "a2", 1, 90, "50"))
     expect(value(one.report(_35="9", _434="2"), "102"), "1")
@@ -94,14 +90,17 @@ def test_each_report():
 
 
 REFUSED = [  # A body, tags of the refusal, and a word of its text.
-    (order("p1", 1, 10, "50.005"), {"103": "99"}, "steps of 0.01"),
+    (order("p1", 1, 10, "50.005"), {"103": "99", "44": "50.005", "6": "0.00"}, "steps of 0.01"),
     (order("p2", 1, 10, "-1"), {"103": "99"}, "Price (44)"),
     (order("p3", 1, 10, "10000.01"), {"103": "99"}, "Price (44)"),
-    (order("q1", 1, "0.5", "50"), {"103": "99"}, "OrderQty (38)"),
-    (order("q2", 1, 1000001, "50"), {"103": "99"}, "OrderQty (38)"),
+    (order("q1", 1, "0.5", "50"), {"103": "99", "44": "50.00"}, "OrderQty (38)"),
+    (order("q4", 1, "10.5", "50"), {"103": "99"}, "OrderQty (38) 10.5 isn't a whole number"),
+    (order("q5", 1, "999999.9", "50"), {"103": "99"}, "OrderQty (38)"),
+    (order("q2", 1, 1000001, "50"), {"103": "99"}, "OrderQty (38) 1000001 isn't a whole number"),
+    (order("q3", 1, 10, "50").replace("38=10|", ""), {"103": "99"}, "OrderQty (38) is missing"),
     (order("s1", 5, 10, "50"), {"103": "99"}, "Side (54)"),
-    (order("t1", 1, 10, "50", more="59=1|"), {"103": "99"}, "TimeInForce (59)"),
-    (order("u1", 1, 10, "50", symbol="NONE"), {"103": "1"}, "Symbol (55)"),
+    (order("t1", 1, 10, "50", more="59=1|"), {"103": "99", "44": "50.00", "6": "0.00"}, "TimeInForce (59)"),
+    (order("u1", 1, 10, "50", symbol="NONE"), {"103": "1", "44": "50", "6": "0"}, "Symbol (55)"),
     (order("o1", 1, 10, "50").replace("40=2", "40=3"), {"103": "99"}, "OrdType (40)"),
     (order("o2", 1, 10, "50").replace("40=2", "40=1"), {"103": "99"}, "Price (44)"),
     (order("o3", 1, 10, "50", more="110=5|"), {"103": "99"}, "field 110"),
@@ -110,19 +109,27 @@ REFUSED = [  # A body, tags of the refusal, and a word of its text.
 ]
 
 
+COPIED = ("11", "38", "54", "55")  # Fields that a refusal of an order has out of the order, as they are.
+
+
 def test_refused_fields():
-    """What the venue doesn't have is refused in words, and never reaches it; what the settings drop is dropped."""
+    """What the venue doesn't have is refused in words, and never reaches it; what the settings drop is dropped. Each
+    refusal has an ExecID of its own, and what the order said of itself."""
     venue, edge, port = pair()
-    one = Engine(port, 1).log_on()
+    one, ids = Engine(port, 1).log_on(), set()
     for body, tags, word in REFUSED:
         one.send("D", body)
-        got = fields_of(one.report(_150="8"))
+        got, asked = fields_of(one.report(_150="8")), fields_of(f"|{body}")
         if any(got.get(tag) != wanted for tag, wanted in tags.items()) or word not in got["58"]:
             raise Trouble(f"{body} was refused by {got}")
+        expect({tag: got.get(tag) for tag in COPIED}, {tag: asked.get(tag) for tag in COPIED})
+        ids.add(got["17"])
+    expect(len(ids), len(REFUSED))
     one.send("D", order("good", 1, 10, "50", more="1=ACC|15=USD|528=A|"))
     expect(value(one.report(_150="0"), "17"), "1")
     one.send("D", order("good", 1, 10, "50"))
-    expect(value(one.report(_150="8"), "103"), "6")
+    got = fields_of(one.report(_150="8"))
+    expect([got[tag] for tag in ("103", "6", "44")], ["6", "0.00", "50.00"])
     one.write("D", order("good", 1, 10, "50"), head="43=N|")
     one.out += 1
     expect(value(one.report(_150="8"), "103"), "6")
@@ -138,6 +145,30 @@ def test_refused_fields():
     expect([len(told(1)), len([it for it in one.came if "|35=j|" in it or "|35=3|" in it])], [2, 1])
 
 
+def test_other_types():
+    """Each type of FIX 4.4 that the edge has nothing to do with, or only sends, is answered by a BusinessMessageReject, and
+    counts; what is no type of FIX by a Reject."""
+    with open(DICTIONARY, encoding="utf-8") as file:
+        own = re.findall(r'<message [^>]*msgtype="([^"]*)"', file.read())
+    types = ["6", "B", "R", "V", "AE", "BH", "n"]
+    if os.path.exists(STOCK):
+        with open(STOCK, encoding="utf-8") as file:
+            types = [it for it in re.findall(r"<message [^>]*msgtype='([^']*)'", file.read()) if it not in own or it == "r"]
+        expect(len(types), 79)
+    venue, edge, port = pair()
+    one = Engine(port, 1).log_on()
+    for it in types:
+        one.send(it, "131=q|146=1|55=ABC|")
+        got = fields_of(one.report(_35="j"))
+        expect((got["45"], got["372"], got["380"]), (str(one.out - 1), it, "3"))
+    for it in ("I", "O", "U", "BI", "ZZ", "AAA", "a1"):
+        one.send(it)
+        expect(value(one.next_of("3"), "373"), "11")
+    one.send("D", order("a", 1, 10, "50"))
+    one.report(_150="0")
+    expect([it for it in one.came if "|35=2|" in it], [])
+
+
 def test_last_capacity():
     """LastCapacity stands in reports of fills where the settings ask for it, and not elsewhere."""
     venue, edge, port = pair(2, LastCapacity="1")
@@ -148,4 +179,4 @@ def test_last_capacity():
     expect(value(other.report(_150="F"), "29"), "1")
 
 
-TESTS = [test_tradeclients, test_each_report, test_refused_fields, test_last_capacity]
+TESTS = [test_tradeclients, test_each_report, test_refused_fields, test_other_types, test_last_capacity]

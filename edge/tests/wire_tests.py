@@ -1,17 +1,16 @@
 """What passes on the wire, seen by others' programs: tshark on both sides of the edge, and members behind stunnel."""
-import os
 import shutil
 import socket
 import ssl
 import struct
 import subprocess
-import time
 
-from edges import HOST, JOURNAL, PATIENCE, ROOT, SYMBOLS, Edge, Trouble, free_port, members_of, pair, running
-from edges import settings_of, started
+from edges import HOST, JOURNAL, PATIENCE, SYMBOLS, Edge, Trouble, free_port, members_of, running, settings_of, started
 from engines import Engine, cancel, order, replace
+from identity_tests import certificate, stunnel_configuration
 from relay import Relay
 from trading_tests import expect
+from venues import await_that
 
 PCAP = struct.pack("<IHHiIII", 0xA1B2C3D4, 2, 4, 0, 0, 65535, 101)  # Of packets that begin with their IP header.
 MEMBERS_PORT, VENUES_PORT = 9800, 9001
@@ -51,7 +50,7 @@ def test_dissected():
     if not shutil.which("tshark"):
         raise Trouble("tshark isn't there: edge/setup --tests installs it")
     venue = started(JOURNAL, 2, list(SYMBOLS))
-    to_venue, to_edge, port = free_port(2), free_port(1), free_port(1)
+    to_venue, to_edge, port = free_port(2), free_port(1), free_port(2)
     inner = [Relay(to_venue + k, venue.port + k) for k in range(2)]
     outer = Relay(to_edge, port)
     for it in (*inner, outer):
@@ -85,30 +84,23 @@ def test_dissected():
         raise Trouble("tshark sees no wrong sum, so it shows nothing")
 
 
-def certificate(name, issuer=None):
-    """Makes a key and a certificate: its own issuer, or by another one."""
-    words = ["openssl", "req", "-x509", "-newkey", "rsa:2048", "-nodes", "-keyout", f"{name}.key", "-out",
-             f"{name}.pem", "-days", "2", "-subj", f"/CN={name}"]
-    subprocess.run(words + (["-CA", f"{issuer}.pem", "-CAkey", f"{issuer}.key"] if issuer else []), check=True,
-                   capture_output=True)
-
-
 class Stunnel:
-    """stunnel by the configuration of the edge, with other ports and files."""
+    """stunnel by the configuration of the edge for one member, with ports and files of this test."""
 
-    def __init__(self, tls, port):
-        with open(os.path.join(ROOT, "edge/stunnel.conf"), encoding="ascii") as file:
-            text = file.read()
-        for old, new in (("0.0.0.0:9843", f"{HOST}:{tls}"), ("127.0.0.1:9800", f"{HOST}:{port}"),
-                         ("/etc/gikvand-edge/", "")):
-            if old not in text:
-                raise Trouble(f"stunnel.conf has no {old}")
-            text = text.replace(old, new)
-        with open("stunnel.conf", "w", encoding="ascii") as file:
-            file.write(text)
+    def __init__(self, name, tls, port):
+        words = ["stunnel", stunnel_configuration(name, tls, port)]
         nothing = subprocess.DEVNULL
-        self.process = subprocess.Popen(["stunnel", "stunnel.conf"], stdout=nothing, stderr=nothing)
+        self.process = subprocess.Popen(words, stdout=nothing, stderr=nothing)
         running.append(self)
+        await_that("a stunnel that listens", lambda: self.listens(tls))
+
+    @staticmethod
+    def listens(tls):
+        try:
+            socket.create_connection((HOST, tls), 5).close()
+            return True
+        except OSError:
+            return False
 
     def kill(self):
         self.process.kill()
@@ -116,10 +108,10 @@ class Stunnel:
 
 
 class TlsEngine(Engine):
-    """An engine that speaks TLS, with this certificate or with none."""
+    """An engine that speaks TLS to this port, with this certificate or with none."""
 
-    def __init__(self, port, name):
-        super().__init__(port, 1)
+    def __init__(self, port, name, sender):
+        super().__init__(port, 1, sender=sender)
         self.context = ssl.create_default_context(cafile="edge.pem")
         self.context.check_hostname = False
         if name:
@@ -133,31 +125,36 @@ class TlsEngine(Engine):
 
 
 def test_tls():
-    """A member with a certificate trades through stunnel; one without, or with another's, doesn't get through."""
+    """A member trades through its own stunnel with its own certificate. With another's, with none, with one of the same
+    issuer, or by the stunnel of another one with that one's certificate, nobody logs on as it."""
     if not shutil.which("stunnel"):
         raise Trouble("stunnel isn't there: edge/setup --tests installs it")
-    for name in ("edge", "members", "stranger"):
+    for name in ("edge", "issuer", "stranger"):
         certificate(name)
-    certificate("desk", "members")
-    venue, edge, port = pair()
-    tls = free_port(1)
-    Stunnel(tls, port)
-    end = time.monotonic() + PATIENCE
-    while time.monotonic() < end:
+    for name in ("a", "b", "c"):
+        certificate(name, "issuer")
+    port, tls, venue = free_port(2), free_port(2), started(JOURNAL, 2, list(SYMBOLS))
+    members = [{**it, "StunnelConfig": stunnel_configuration(name, tls + at, port + at)}
+               for at, (it, name) in enumerate(zip(members_of(2, port), "ab"))]
+    edge = Edge(settings_of({"VenuePort": venue.port, "AllowAnyone": None}, members)).ready(2)
+    for at, name in enumerate("ab"):
+        Stunnel(name, tls + at, port + at)
+    wrong = [(tls, name, "DESK-A") for name in (None, "stranger", "b", "c", "issuer")]
+    wrong += [(tls + 1, "a", "DESK-A"), (tls + 1, "a", "DESK-B"), (tls, "a", "DESK-B"), (tls + 1, "b", "DESK-A")]
+    for door, name, sender in wrong:
         try:
-            socket.create_connection((HOST, tls), 5).close()
-            break
-        except OSError:
-            time.sleep(0.05)
-    one = TlsEngine(tls, "desk").log_on()
-    one.send("D", order("a", 1, 10, "50.25"))
-    one.report(_150="0")
-    for name in (None, "stranger"):
-        try:
-            TlsEngine(tls, name).log_on()
+            TlsEngine(door, name, sender).log_on()
         except (OSError, Trouble):
             continue
-        raise Trouble(f"a member with the certificate {name} came in")
+        raise Trouble(f"{sender} came in with the certificate {name}")
+    logons = lambda: sorted(line[:17] for line in edge.lines if "whose first message is no Logon of a member" in line)
+    await_that("each of the two says what came", lambda: len(logons()) >= 2)
+    expect(logons(), ["gikvand-edge: C1:", "gikvand-edge: C2:"])
+    for at, (name, sender) in enumerate((("a", "DESK-A"), ("b", "DESK-B"))):
+        one = TlsEngine(tls + at, name, sender).log_on()
+        one.send("D", order(f"{name}1", 1, 10, "50.25"))
+        one.report(_150="0")
+    expect([line for line in edge.lines if "isn't served" in line], [])
 
 
 TESTS = [test_dissected, test_tls]

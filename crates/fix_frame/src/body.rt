@@ -4,7 +4,7 @@ ghost use Rattle.std.specs.Prelude.{◌<◌, length};
 ghost use Rattle.fix_frame.specs.Cuts.{EndsInSoh};
 ghost use Rattle.fix_frame.specs.OneProof.{Ends-prop};
 
-use crate::field::{Field, Fields, read_field};
+use crate::field::{Field, Fields, read_field, read_sized};
 
 /// The bytes of a body from some field on. Whether they are a run of fields shows as they are read: then they are used
 /// up.
@@ -15,8 +15,9 @@ pub struct Body<'a> {
 }
 
 impl<'a> Body<'a> {
-    ghost use Rattle.std.specs.Prelude.{◌≡◌, ◌↔◌, [], MatchOption, IsTrue};
-    ghost use Rattle.fix_frame.specs.Fields.{as_field};
+    ghost use Rattle.std.specs.Prelude.{◌≡◌, ◌↔◌, [], None, IfSome, MatchOption, IsTrue};
+    ghost use Rattle.fix_frame.specs.Fields.{as_field, sized};
+    ghost use Rattle.fix_frame.specs.Grammar.{LacksSoh};
     ghost use Rattle.fix_frame.specs.Runs.{IsRun};
     ghost use Rattle.fix_frame.specs.Bodies.{bytes_left, fields_in, TakesOff, EndsBody};
     ghost use Rattle.fix_frame.specs.Borrowed.{fields_left};
@@ -32,6 +33,23 @@ impl<'a> Body<'a> {
         let (field, rest) = read_field(self.rest)?;
         self.rest = rest;
         Some(field)
+    }
+
+    /// The value of the next field, where that has this tag and a value of so many bytes, whose end isn't looked for.
+    /// So SOH may stand within what is answered: then no field was taken off.
+    #[inline(always)]
+    pub fn next_sized(&mut self, tag: u32, size: usize) -> Option<&'a [u8]>
+        requires some { 0 < size }
+        ensures none { result ≡ None → self.new ≡ self.old }
+        ensures size { IfSome result (λ v. length v.now ≡ size) }
+        ensures field { IfSome result (λ v. LacksSoh v.now → TakesOff self.old self.new (sized tag v.now)) }
+    {
+        if self.rest.is_empty() {
+            return None;
+        }
+        let (value, behind) = read_sized(self.rest, tag, size)?;
+        self.rest = behind;
+        Some(value)
     }
 
     /// Whether the bytes are used up.

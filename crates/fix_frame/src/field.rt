@@ -1,9 +1,9 @@
 //! Fields, tag=value and SOH: what a body is made of, read where it lies.
-ghost use Rattle.std.specs.Prelude.{◌≡◌, ◌<◌, ◌+◌, ◌++◌, ◌∷◌, length, take, drop, MatchOption, IsTrue, ◌↔◌};
+ghost use Rattle.std.specs.Prelude.{◌≡◌, ◌<◌, ◌+◌, ◌++◌, ◌∷◌, length, take, drop, IfSome, MatchOption, IsTrue, ◌↔◌};
 ghost use Rattle.fix_frame.specs.Ascii.{soh, equals_sign};
 ghost use Rattle.fix_frame.specs.Cuts.{Lacks, EndsInSoh, BeginsNoField, BeginsField, IsTag, BeginsNoTag};
 ghost use Rattle.fix_frame.specs.Runs.{IsRun};
-ghost use Rattle.fix_frame.specs.Fields.{as_field};
+ghost use Rattle.fix_frame.specs.Fields.{as_field, sized};
 ghost use Rattle.fix_frame.specs.OneProof.{IsRun-prop};
 ghost use Rattle.std.specs.Fmt.{decimal};
 
@@ -82,6 +82,23 @@ pub(crate) fn read_field(bytes: &[u8]) -> Option<(Field<'_>, &[u8])>
     Some((Field { tag, value }, &behind[end + 1..]))
 }
 
+/// The value of the field at the front and the bytes behind, where the field has this tag and SOH stands behind so many
+/// bytes of the value. Whether SOH stands within these isn't looked at.
+#[inline(always)]
+pub(crate) fn read_sized(bytes: &[u8], tag: u32, size: usize) -> Option<(&[u8], &[u8])>
+    requires ends { EndsInSoh bytes.now }
+    requires some { 0 < size }
+    ensures size { IfSome result (λ p. length p.0.now ≡ size) }
+    ensures ends { IfSome result (λ p. 0 < length p.1.now → EndsInSoh p.1.now) }
+    ensures field { IfSome result (λ p. Lacks soh p.0.now → BeginsField bytes.now (sized tag p.0.now) p.1.now) }
+{
+    let (found, behind) = read_tag(bytes)?;
+    if found != tag || behind.len() <= size || behind[size] != SOH {
+        return None;
+    }
+    Some((&behind[..size], &behind[size + 1..]))
+}
+
 /// Whether the bytes, none or such as SOH ends, are a run of fields.
 pub(crate) fn is_run(bytes: &[u8]) -> bool
     requires { 0 < length bytes.now → EndsInSoh bytes.now }
@@ -105,6 +122,7 @@ const TWO_ZEROS: u32 = 528;
 
 /// The tag at the front, 1 to 99,999 and no zero in front, and what stands behind its equals sign. Almost all tags
 /// have two digits, which are read without a loop.
+#[inline(always)]
 fn read_tag(bytes: &[u8]) -> Option<(u32, &[u8])>
     requires { EndsInSoh bytes.now }
     ensures { MatchOption result (BeginsNoTag bytes.now)

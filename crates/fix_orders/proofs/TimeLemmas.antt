@@ -1,10 +1,13 @@
 -- Times and their numbers.
-use Rattle.std.proofs.Common.{◌≡◌, ℕ, ◌+◌, ◌/◌, ◌%◌, ◌≤◌, true, IsTrue, List, ◌++◌, length, length-set, set, codes, ap}
+use Rattle.std.proofs.Common.{◌≡◌, ◌≢◌, ℕ, zero, suc, ◌+◌, ◌/◌, ◌%◌, ◌≤◌, true, not, IsTrue, List, [], ◌∷◌, ◌++◌}
+use Rattle.std.proofs.Common.{length, length-set, set, codes, ap}
+use Rattle.std.specs.List.{list_all, zip}
 use Rattle.std.proofs.Common.{sym, ◌∙◌, refl, arith, ◌==◌}
 use Rattle.std.proofs.lemmas.Bool.{and_parts}
 use Rattle.std.proofs.lemmas.Bool.Decides.{nat_tests}
 use Rattle.std.proofs.lemmas.List.{take_all}
-use Rattle.fix_orders.specs.Formats.{last_digits, is_time, time_text}
+use Rattle.fix_frame.specs.Grammar.{LacksSoh}
+use Rattle.fix_orders.specs.Formats.{last_digits, time_shape, fits, is_time, time_text}
 use Rattle.fix_orders.specs.Writing.{Puts}
 use Rattle.fix_orders.specs.WritingLaws.{puts_join, puts_byte}
 
@@ -48,3 +51,24 @@ time_parts n =
 -- what was written is the whole buffer
 pub puts_all : {a b : List ℕ} {j : ℕ} {bytes : List ℕ} → Puts a b 0 j bytes → length b ≤ j → b ≡ bytes
 puts_all {a} {b} {j} {bytes} puts whole = sym (take_all j b whole) ∙ puts.written
+
+-- a byte that fits another one than SOH isn't SOH
+fits_lacks : (s b : ℕ) → not (s == 1) ≡ true → fits (s, b) ≡ true → b ≢ 1
+fits_lacks s zero other fit = λ e. absurd (omega (arith, e))
+fits_lacks s (suc zero) other fit = absurd (grind (arith, nat_tests))
+fits_lacks s (suc (suc b)) other fit = λ e. absurd (omega (arith, e))
+
+-- so the bytes that fit a shape without SOH lack SOH
+shaped_lacks : (shape value : List ℕ) → length value ≡ length shape → list_all (λ s. not (s == 1)) shape ≡ true
+    → list_all fits (zip shape value) ≡ true → LacksSoh value
+shaped_lacks shape [] long other fit = tt
+shaped_lacks [] (b ∷ value) long other fit = absurd (omega (arith, long))
+shaped_lacks (s ∷ shape) (b ∷ value) long other fit =
+    let first = and_parts (not (s == 1)) (list_all (λ s. not (s == 1)) shape) other in
+    let here = and_parts (fits (s, b)) (list_all fits (zip shape value)) fit in
+    (fits_lacks s b first.0 here.0, shaped_lacks shape value (omega (arith, long)) first.1 here.1)
+
+-- no byte of a time is SOH
+pub time_lacks : (time : List ℕ) → IsTrue (is_time time) → LacksSoh time
+time_lacks time is =
+    shaped_lacks time_shape time (length_time time is) refl (and_parts (length time == 17) _ is).1

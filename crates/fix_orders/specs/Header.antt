@@ -1,6 +1,6 @@
 -- The header of a message (FIX 4.4, volume 2, "Standard Header"; docs/PROFILE.md, "Header"): behind
 -- BeginString and BodyLength its fields stand in one order.
-use Rattle.std.specs.Prelude.{◌≡◌, ◌≢◌, ◌↔◌, ◌≤◌, length, ⊤, ℕ, Bool, ◌&&◌, nat_le, ◌==◌, if◌then◌else◌, List, [], ◌∷◌, Option, Some, None}
+use Rattle.std.specs.Prelude.{◌≡◌, ◌≢◌, ◌↔◌, ◌≤◌, length, ⊤, ℕ, Bool, false, ◌&&◌, nat_le, ◌==◌, if◌then◌else◌, List, [], ◌∷◌, Option, Some, None}
 use Rattle.fix_frame.specs.Grammar.{Field}
 use Rattle.fix_frame.specs.Runs.{IsRun}
 use Rattle.fix_frame.specs.Bodies.{bytes_left, fields_in}
@@ -58,6 +58,11 @@ as_header h = record {
 abbrev pub LacksFirst : ℕ → List Field → Type 0
 LacksFirst tag [] = ⊤
 LacksFirst tag (f ∷ fields) = f.tag ≢ tag
+
+-- no SendingTime that is a time stands first
+abbrev pub LacksTime : List Field → Type 0
+LacksTime [] = ⊤
+LacksTime (f ∷ fields) = (f.tag == 52 && is_time f.value) ≡ false
 
 -- five fields that were read, and those behind them
 abbrev pub header_by : HeaderFields → List Field → Header

@@ -5,11 +5,12 @@ ghost use Rattle.fix_frame.specs.Bodies.{bytes_left, fields_in, TakesOff};
 ghost use Rattle.fix_frame.specs.Borrowed.{fields_left};
 ghost use Rattle.fix_frame.specs.Runs.{IsRun};
 ghost use Rattle.fix_orders.specs.Formats.{is_time, value_of};
-ghost use Rattle.fix_orders.specs.Header.{LacksFirst, is_seq_num, as_header, header_of, BeginsNoHeader, TakesHeader};
+ghost use Rattle.fix_orders.specs.Header.{LacksFirst, LacksTime, is_seq_num, as_header, header_of};
+ghost use Rattle.fix_orders.specs.Header.{BeginsNoHeader, TakesHeader};
 ghost use Rattle.fix_orders.specs.Text.{field};
 
 use crate::number::read_number;
-use crate::time::is_time;
+use crate::time::{TIME, is_time};
 use fix_frame::{Body, Fields};
 
 /// The header of a message, and the fields behind it.
@@ -68,10 +69,7 @@ pub fn take_header<'a>(body: &mut Body<'a>) -> Option<HeaderFields<'a>>
     let sender = next_value(body, 49)?;
     let target = next_value(body, 56)?;
     let number = seq_num(next_value(body, 34)?)?;
-    let time = next_value(body, 52)?;
-    if !is_time(time) {
-        return None;
-    }
+    let time = next_time(body)?;
     Some(HeaderFields {
         msg_type,
         sender,
@@ -93,6 +91,23 @@ fn next_value<'a>(body: &mut Body<'a>, tag: u32) -> Option<&'a [u8]>
     } else {
         None
     }
+}
+
+/// SendingTime, where it is a time. All of these are as long, so that its end is known before it is looked for.
+#[inline(always)]
+fn next_time<'a>(body: &mut Body<'a>) -> Option<&'a [u8]>
+    ensures { MatchOption result (IsRun (bytes_left body.old) → LacksTime (fields_in body.old))
+        (λ v. TakesOff body.old body.new (field 52 v.now) × IsTrue (is_time v.now)) }
+{
+    let mut ahead = *body;
+    if let Some(time) = ahead.next_sized(52, TIME)
+        && is_time(time)
+    {
+        *body = ahead;
+        return Some(time);
+    }
+    let time = next_value(body, 52)?;
+    if is_time(time) { Some(time) } else { None }
 }
 
 /// MsgSeqNum.

@@ -9,6 +9,9 @@ use crate::put::{put_bytes, put_two};
 /// YYYYMMDD-HH:MM:SS, where 0 stands for any digit.
 const SHAPE: [u8; 17] = *b"00000000-00:00:00";
 
+/// How many bytes a time has.
+pub(crate) const TIME: usize = 17;
+
 /// What the bytes of two digits, the first one ten times, add up to above their number.
 const TWO_ZEROS: u64 = 528;
 

@@ -1,0 +1,9 @@
+pub mod NumberLemmas
+pub mod PieceLemmas
+pub mod HeadLemmas
+pub mod BeginLemmas
+pub mod ListLemmas
+pub mod FrontLemmas
+pub mod CutLemmas
+pub mod CutOnce
+pub mod VenueLemmas

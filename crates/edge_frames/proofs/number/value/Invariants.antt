@@ -1,0 +1,7 @@
+-- So far the value is that of the digits read.
+use Rattle.std.proofs.Common.{◌≡◌, take}
+use Rattle.std.specs.Str.Parse.{digits_value}
+use Rattle.edge_frames.proofs.number.value.Given as goal
+
+abbrev pub invariant-loop-byte : goal.invariant-loop-byte
+invariant-loop-byte l = l.value ≡ digits_value 10 (take l.byte-index l.text)

@@ -1,0 +1,9 @@
+pub mod Fields
+pub mod Reasons
+pub mod Faults
+pub mod Messages
+pub mod Stream
+pub mod Lists
+pub mod Looks
+pub mod Pieces
+pub mod Heads

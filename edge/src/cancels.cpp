@@ -1,0 +1,121 @@
+#include "cancels.h"
+
+#include <algorithm>
+#include <cstdio>
+
+#include "orders.h"
+#include "seconds.h"
+
+namespace edge {
+
+namespace {
+
+const char *const ALL = "*";  // In the place of a symbol or a side.
+constexpr std::size_t MOST_OWED = 100;
+
+/// A sweep as its row has it, as `17 ABC 1 MC-7`.
+std::string textOf(const Sweep &it) {
+    return std::to_string(it.upTo) + " " + (it.symbol.empty() ? ALL : it.symbol) + " " +
+           (it.side ? std::string(1, it.side) : ALL) + " " + it.name;
+}
+
+/// The sweep of a row.
+Sweep sweepOf(const KeptName &row) {
+    Sweep it;
+    char symbol[9], side;
+    int end = 0;
+    if (std::sscanf(row.name.c_str(), "%ld %8s %c%n", &it.upTo, symbol, &side, &end) != 3)
+        throw DatabaseFault("row " + std::to_string(row.number) + " of its record is none of a mass cancel");
+    if (symbol != std::string(ALL)) it.symbol = symbol;
+    if (side != *ALL) it.side = side;
+    it.name = row.name.substr(std::min(row.name.size(), static_cast<std::size_t>(end) + 1));
+    it.row = row.number;
+    return it;
+}
+
+}
+
+void Cancels::attach() {
+    venueLost();
+    sweeps_.clear();
+    over_.clear();
+    for (const KeptName &row : names_.sweeps()) sweeps_.push_back(sweepOf(row));
+}
+
+void Cancels::venueLost() {
+    underWay_.clear();
+    orders_.clear();
+    probe_ = 0;
+    for (Sweep &it : sweeps_) it.last = 0;
+}
+
+std::size_t Cancels::send(const Orders &orders, const std::string &name) {
+    const std::string time = timeNow();
+    std::size_t count = 0;
+    for (const auto &order : orders) {
+        if (names_.last() >= Names::GREATEST) break;
+        if (!orders_.insert(order.first).second) continue;
+        const long number =
+            names_.add(name.empty() ? CANCEL + std::to_string(names_.last() + 1) : name, Names::Kind::Cancel);
+        link_.send("F", cancelFor(order.second, number, order.first, time), time);
+        underWay_[number] = order.first;
+        count++;
+    }
+    return count;
+}
+
+/// Whether each of these orders has a cancel under way.
+bool Cancels::areUnderWay(const Orders &orders) const {
+    return std::all_of(orders.begin(), orders.end(),
+                       [this](const Orders::value_type &it) { return orders_.count(it.first); });
+}
+
+std::size_t Cancels::begin(Sweep &it, const Orders &orders) {
+    const bool isNew = !it.upTo;
+    if (isNew) it.upTo = names_.last() + 1;
+    Orders taken;
+    for (const auto &order : orders)
+        if (it.takes(order.first, order.second)) taken.insert(order);
+    it.count = taken.size();
+    const bool mayCome = probe_ && sweeps_.size() < MOST_OWED;
+    if (areUnderWay(taken) && !mayCome && (taken.empty() || (isNew && !it.name.empty()))) return 0;
+    it.row = names_.add(textOf(it), Names::Kind::Sweep);
+    const std::size_t count = send(taken, it.name);
+    it.last = probe_ ? 0 : underWay_.empty() ? it.row : underWay_.rbegin()->first;  // Some may be of another sweep.
+    sweeps_.push_back(it);
+    return count;
+}
+
+void Cancels::answered(long settled) {
+    while (!underWay_.empty() && underWay_.begin()->first <= settled) {
+        orders_.erase(underWay_.begin()->second);
+        underWay_.erase(underWay_.begin());
+    }
+    while (!sweeps_.empty() && !isOwed() && sweeps_.front().last <= settled) {
+        over_.push_back(sweeps_.front().row);
+        sweeps_.erase(sweeps_.begin());
+    }
+}
+
+std::vector<Sweep> Cancels::takeOwed(long settled) {
+    std::vector<Sweep> owed;
+    if (!probe_ || settled < probe_) return owed;
+    probe_ = 0;
+    const auto isKnown = [](const Sweep &it) { return it.last; };
+    const auto end = std::find_if(sweeps_.begin(), sweeps_.end(), isKnown);
+    owed.assign(sweeps_.begin(), end);
+    sweeps_.erase(sweeps_.begin(), end);
+    for (const Sweep &it : owed) over_.push_back(it.row);
+    return owed;
+}
+
+bool Cancels::isOver(long upTo) const {
+    return std::none_of(sweeps_.begin(), sweeps_.end(), [upTo](const Sweep &it) { return it.upTo == upTo; });
+}
+
+void Cancels::tidy() {
+    for (const long row : over_) names_.forget(row);
+    over_.clear();
+}
+
+}

@@ -1,0 +1,47 @@
+#pragma once
+
+// What an operator asks the process of a member for. console.h sends it, control.h takes it in, and desk.h carries it
+// out.
+
+#include <chrono>
+#include <cstddef>
+#include <ctime>
+#include <functional>
+#include <string>
+
+namespace edge {
+
+/// A command of an operator.
+struct Command {
+    enum class Kind { Stop, Resume, Cancel, Halt, ResumeSymbol, Status };
+
+    Kind kind;
+    std::string symbol;  // Of Halt and ResumeSymbol.
+
+    /// In the words that go over the control socket, as `halt ABC`.
+    std::string words() const;
+
+    /// Reads such words. Whether they are a command.
+    static bool read(const std::string &words, Command &into);
+};
+
+/// A command that has come, and where its outcome goes.
+struct Asked {
+    Command command;
+    std::string who;  // As the system says of the connection.
+    std::time_t at;
+    std::chrono::steady_clock::time_point until;  // It is told by then whether it is done.
+    std::function<void(bool isDone, const std::string &what)> tell;
+};
+
+/// How long a command waits for the venue, in seconds.
+constexpr int MOST_WAIT = 10;
+
+// In front of the outcome of a command, in the answer to it.
+constexpr const char *DONE = "done: ";
+constexpr const char *FAILED = "failed: ";
+
+// The longest line of either side, in bytes.
+constexpr std::size_t LONGEST_COMMAND = 64, LONGEST_ANSWER = 4096;
+
+}

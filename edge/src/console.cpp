@@ -1,0 +1,120 @@
+#include "console.h"
+
+#include <poll.h>
+#include <sys/socket.h>
+
+#include <algorithm>
+#include <cerrno>
+#include <cstring>
+#include <iostream>
+#include <set>
+#include <utility>
+
+#include "control_socket.h"
+#include "lines.h"
+#include "settings.h"
+
+namespace edge {
+
+namespace {
+
+using Clock = std::chrono::steady_clock;
+
+constexpr std::chrono::seconds PATIENCE(MOST_WAIT + 5);
+
+/// A member's process that is asked.
+class Asking {
+public:
+    Asking(const MemberFolder &of, const Command &command) : of_(of), isStatus_(command.kind == Command::Kind::Status) {
+        socket_ = controlConnection(of.folder, of.member);
+        if (!socket_) {
+            fault_ = std::string(errno == EAGAIN ? "its process is busy" : "its process doesn't run") + ": " +
+                     controlPath(of.folder, of.member) + ": " + reason();
+            return;
+        }
+        const std::string line = of.member + " " + command.words() + "\n";
+        if (::send(socket_.get(), line.data(), line.size(), MSG_NOSIGNAL) != static_cast<ssize_t>(line.size()))
+            fault_ = "its process can't be asked: " + reason();
+    }
+
+    /// Waits for the answer, and prints it. Whether that is done.
+    bool print(Clock::time_point until);
+
+private:
+    void hear(Clock::time_point until);
+
+    const MemberFolder of_;
+    const bool isStatus_;  // Its answer has the member's name.
+    Descriptor socket_;
+    std::string bytes_, fault_;
+};
+
+/// Reads the answer, which is a line. Who has broken into the process may send anything.
+void Asking::hear(Clock::time_point until) {
+    while (fault_.empty() && (bytes_.empty() || bytes_.back() != '\n') && bytes_.size() < LONGEST_ANSWER) {
+        const auto left = std::chrono::duration_cast<std::chrono::milliseconds>(until - Clock::now()).count();
+        pollfd it{socket_.get(), POLLIN, 0};
+        char piece[LONGEST_ANSWER];
+        if (left <= 0 || ::poll(&it, 1, static_cast<int>(left)) == 0) {
+            fault_ = "its process doesn't answer: ask for its status";
+            continue;
+        }
+        const ssize_t count = ::recv(socket_.get(), piece, sizeof piece, 0);
+        if (count < 0 && (errno == EAGAIN || errno == EINTR)) continue;
+        if (count > 0) bytes_.append(piece, static_cast<std::size_t>(count));
+        else fault_ = "its process ended before it answered: ask for its status once it runs";
+    }
+}
+
+bool Asking::print(Clock::time_point until) {
+    hear(until);
+    const std::string line = printed(bytes_.substr(0, bytes_.find('\n')));
+    const bool isDone = fault_.empty() && !line.compare(0, std::strlen(DONE), DONE);
+    if (fault_.empty() && !isDone && line.compare(0, std::strlen(FAILED), FAILED))
+        fault_ = "its process gives no answer";
+    if (isDone) std::cout << (isStatus_ ? "" : of_.member + ": ") << line.substr(std::strlen(DONE)) << std::endl;
+    else say(of_.member, fault_.empty() ? line.substr(std::strlen(FAILED)) : fault_);
+    return isDone;
+}
+
+std::vector<MemberFolder> foldersOf(const Call &call) {
+    std::vector<MemberFolder> folders;
+    for (const std::string &path : call.paths)
+        for (const MemberFolder &it : readFolders(path))
+            if (call.member.empty() || call.member == it.member) folders.push_back(it);
+    return folders;
+}
+
+}
+
+bool isVerb(const std::string &word) {
+    static const std::set<std::string> verbs{"stop", "resume", "cancel", "halt", "status"};
+    return verbs.count(word);
+}
+
+bool readCall(const std::vector<std::string> &words, Call &into) {
+    if (words.size() < 3) return false;
+    const std::string &verb = words[0], &what = words[1];
+    const bool isOfMembers = what == "all" || isMember(what);
+    if (!Command::read(isOfMembers ? verb : verb + " " + what, into.command)) return false;
+    if (isMember(what)) into.member = what;
+    into.paths.assign(words.begin() + 2, words.end());
+    return std::none_of(into.paths.begin(), into.paths.end(),
+                        [](const std::string &it) { return it.empty() || it[0] == '-'; });
+}
+
+int callMembers(const Call &call) {
+    const std::vector<MemberFolder> folders = foldersOf(call);
+    if (folders.empty()) {
+        say("", "no session of these settings is of " + (call.member.empty() ? "a member" : call.member));
+        return 1;
+    }
+    std::vector<Asking> all;
+    for (const MemberFolder &it : folders) all.emplace_back(it, call.command);
+    const auto until = Clock::now() + PATIENCE;
+    bool areDone = true;
+    for (Asking &it : all) areDone = it.print(until) && areDone;
+    return areDone && std::cout ? 0 : 1;
+}
+
+}

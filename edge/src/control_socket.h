@@ -1,0 +1,25 @@
+#pragma once
+
+// The socket of a member's process in the member's folder, by which an operator's commands come: control.h listens
+// there, and console.h connects to it.
+
+#include <string>
+
+#include "descriptor.h"
+
+namespace edge {
+
+/// Its path, of this member and in this folder of the member.
+std::string controlPath(const std::string &folder, const std::string &member);
+
+/// A socket that listens there, and that the user of this process alone may connect to. One that a killed process has
+/// left is taken away: the folder is held by this one. Throws a std::runtime_error where it can't.
+Descriptor controlListener(const std::string &folder, const std::string &member);
+
+/// Takes the socket away.
+void endControl(const std::string &folder, const std::string &member);
+
+/// A connection to it, or none, where errno says why. It doesn't wait.
+Descriptor controlConnection(const std::string &folder, const std::string &member);
+
+}

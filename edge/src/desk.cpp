@@ -1,0 +1,123 @@
+#include "desk.h"
+
+#include <utility>
+
+#include "lines.h"
+#include "seconds.h"
+
+namespace edge {
+
+namespace {
+
+using Clock = std::chrono::steady_clock;
+
+constexpr int LINES = 1000;  // In a second: none of what operators did is left out.
+const char *const UNCHANGED = ": nothing was changed";
+
+/// The orders of a sweep that the venue has answered for.
+std::string cancelled(const Sweep &it) {
+    return it.count ? "the venue has answered the cancels of " + std::to_string(it.count) + " orders"
+                    : "no order rested";
+}
+
+}
+
+void Desk::take(Asked asked) {
+    if (Clock::now() >= asked.until) {
+        refuse(asked, "its thread was held up for too long");
+        return;
+    }
+    entries_.push_back(Entry());
+    entries_.back().asked = std::move(asked);
+    try {
+        act(entries_.back());
+    } catch (const Refused &why) {
+        const Entry it = std::move(entries_.back());
+        entries_.pop_back();
+        refuse(it.asked, why.what());
+    }
+}
+
+void Desk::act(Entry &it) {
+    Switches &switches = trader_.switches();
+    const Command &command = it.asked.command;
+    if (!command.symbol.empty() && !switches.knows(command.symbol))
+        throw Refused(0, command.symbol + " isn't a symbol of the venue");
+    it.isOver = it.isDone = true;
+    switch (command.kind) {
+        case Command::Kind::Stop:
+        case Command::Kind::Cancel: cancel(it); break;
+        case Command::Kind::Resume:
+            it.what = switches.isStopped() ? "trades again" : "wasn't stopped";
+            switches.resume();
+            break;
+        case Command::Kind::Halt:
+            it.what = command.symbol + " is halted";
+            switches.halt(command.symbol, it.asked.who);
+            break;
+        case Command::Kind::ResumeSymbol:
+            it.what = command.symbol + (switches.isHalted(command.symbol) ? " trades again" : " wasn't halted");
+            switches.resume(command.symbol);
+            break;
+        case Command::Kind::Status: break;  // The page's words are the answer to that.
+    }
+}
+
+/// Cancels what rests, and stops the member before that where this is asked for.
+void Desk::cancel(Entry &it) {
+    if (!trader_.isReady()) throw Refused(0, "the venue isn't there");
+    it.sweep = trader_.cancelEach();
+    if (it.asked.command.kind == Command::Kind::Stop) {
+        trader_.switches().stop(it.asked.who);
+        it.what = "stopped, and ";
+    }
+    it.isOver = it.isDone = trader_.isOver(it.sweep);
+    if (it.isOver) it.what += cancelled(it.sweep);
+}
+
+void Desk::look() {
+    for (Entry &it : entries_) {
+        if (it.isOver) continue;
+        it.isDone = trader_.isOver(it.sweep);
+        it.isOver = it.isDone || Clock::now() >= it.asked.until;
+        if (it.isDone) it.what += cancelled(it.sweep);
+        else if (it.isOver)
+            it.what += "the venue hasn't answered all cancels within " + std::to_string(MOST_WAIT) + " s; " +
+                       trader_.restsOf(it.sweep);
+    }
+}
+
+void Desk::release() {
+    for (auto it = entries_.begin(); it != entries_.end();) {
+        it->isKept = true;
+        if (it->isOver) tell(it->asked, it->isDone, it->what);
+        it = it->isOver ? entries_.erase(it) : std::next(it);
+    }
+}
+
+/// A command that was kept by a turn before goes on: the venue's answers come again.
+void Desk::drop(const std::string &why) {
+    for (auto it = entries_.begin(); it != entries_.end();) {
+        if (!it->isKept) refuse(it->asked, "it isn't served: " + why);
+        it = it->isKept ? std::next(it) : entries_.erase(it);
+    }
+}
+
+void Desk::refuse(const Asked &asked, const std::string &why) {
+    tell(asked, false, why + UNCHANGED);
+}
+
+void Desk::end() {
+    for (const Entry &it : entries_) tell(it.asked, false, it.what + "the edge stops; " + trader_.restsOf(it.sweep));
+    entries_.clear();
+}
+
+void Desk::tell(const Asked &asked, bool isDone, const std::string &what) {
+    const std::string line = "operator " + asked.who + " at " + timeOf(asked.at) + ": " + asked.command.words() + ": " +
+                             (isDone ? DONE : FAILED) + what;
+    say(member_, line, LINES);
+    log_->onEvent(line);
+    asked.tell(isDone, what);
+}
+
+}

@@ -1,0 +1,86 @@
+#include "identity.h"
+
+#include <fstream>
+#include <functional>
+#include <iterator>
+
+#include "stunnel.h"
+
+namespace edge {
+
+namespace {
+
+const char *const CONFIGURATION = "StunnelConfig";
+
+[[noreturn]] void refuse(const std::string &configuration, const std::string &why) {
+    throw BadSetting(CONFIGURATION, "isn't one member's own: " + configuration + ": " + why);
+}
+
+std::string contentOf(const std::string &path) {
+    std::ifstream file(path, std::ios::binary);
+    const std::string content((std::istreambuf_iterator<char>(file)), std::istreambuf_iterator<char>());
+    if (!file) throw BadSetting(CONFIGURATION, "can't be read: " + path);
+    return content;
+}
+
+bool leadsTo(const std::string &connect, const std::string &host, int port) {
+    const std::string number = std::to_string(port);
+    if (connect == host + ":" + number) return true;
+    return host == "127.0.0.1" && (connect == number || connect == "localhost:" + number);
+}
+
+/// Two members for whom this is so can't be served side by side: what each has of this setting is the same.
+using Clash = std::function<bool(const Settings &, const Settings &)>;
+
+void needOwn(const std::vector<Settings> &members, const char *setting, const Clash &clashes) {
+    for (auto one = members.begin(); one != members.end(); ++one)
+        for (auto other = std::next(one); other != members.end(); ++other)
+            if (clashes(*one, *other))
+                throw BadSetting(setting, "is the same for " + one->member.name() + " and " + other->member.name() +
+                                              ", and has to be each one's own");
+}
+
+bool isOneDoor(const Settings &one, const Settings &other) {
+    const std::string everywhere = "0.0.0.0";
+    return one.member.port == other.member.port &&
+           (one.host == other.host || one.host == everywhere || other.host == everywhere);
+}
+
+}
+
+std::string certificateBy(const std::string &configuration, const std::string &host, int port) {
+    StunnelService service;
+    try {
+        service = serviceOf(contentOf(configuration));
+    } catch (const BadService &why) {
+        refuse(configuration, why.what());
+    }
+    if (!leadsTo(service.connect, host, port))
+        refuse(configuration, "connect isn't " + host + ":" + std::to_string(port));
+    if (service.certificates.empty() || service.certificates[0] != '/')
+        refuse(configuration, "CAfile is no path that begins with /");
+    try {
+        return onlyCertificate(contentOf(service.certificates));
+    } catch (const BadService &why) {
+        refuse(configuration, "CAfile " + service.certificates + " " + why.what());
+    }
+}
+
+void needApart(const std::vector<Settings> &members) {
+    for (std::size_t at = 1; at < members.size(); at++)
+        if (members[at].member.number == members[at - 1].member.number)
+            throw BadSetting("Member", "has two sessions: " + members[at].member.name());
+    using One = const Settings &;
+    needOwn(members, "SocketAcceptPort", isOneDoor);
+    needOwn(members, "HttpAcceptPort",
+            [](One it, One other) { return it.statusPort && it.statusPort == other.statusPort; });
+    needOwn(members, "EdgePath", [](One it, One other) { return it.folder == other.folder; });
+    needOwn(members, "FileStorePath",
+            [](One it, One other) { return !it.storeFolder.empty() && it.storeFolder == other.storeFolder; });
+    needOwn(members, "FileLogPath", [](One it, One other) { return it.logFolder == other.logFolder; });
+    needOwn(members, "StunnelConfig", [](One it, One other) {
+        return !it.member.certificate.empty() && it.member.certificate == other.member.certificate;
+    });
+}
+
+}

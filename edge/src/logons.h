@@ -1,0 +1,34 @@
+#pragma once
+
+// Whether a Logon is that of the member, and may be taken. The door asks that of a stranger's first message, and
+// conversation.h of each Logon that it would show the session.
+
+#include <string>
+
+#include "canonical.h"
+#include "settings.h"
+#include "trader.h"
+
+namespace edge {
+
+/// What a Logon has to have to be taken as the member's. The hours of the session are another thing, of day.h.
+class Logons {
+public:
+    Logons(const MemberSettings &member, const Trader &trader) : member_(member), trader_(trader) {}
+
+    /// Whether a user of this name and password is this member. Of any thread.
+    bool knows(const std::string &username, const std::string &password) const;
+
+    /// Why a Logon is refused, or nothing. Where HeartBtInt is missing the session says so.
+    std::string refusalOf(const Judged &logon) const;
+
+    /// Whether the member has rested for a fault, and hasn't been served since.
+    void rests(bool isFaulty) { isFaulty_ = isFaulty; }
+
+private:
+    const MemberSettings &member_;
+    const Trader &trader_;
+    bool isFaulty_ = false;
+};
+
+}

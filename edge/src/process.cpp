@@ -1,0 +1,119 @@
+#include "process.h"
+
+#include <fcntl.h>
+#include <sched.h>
+#include <sys/syscall.h>
+#include <unistd.h>
+
+#include <csignal>
+#include <cstdint>
+#include <cstdlib>
+#include <memory>
+
+#include "control.h"
+#include "door.h"
+#include "folders.h"
+#include "lines.h"
+#include "sessions.h"
+#include "status.h"
+#include "steps.h"
+
+namespace edge {
+
+namespace {
+
+/// What the system keeps of how a thread is scheduled (struct sched_attr, its first version).
+struct Scheduling {
+    std::uint32_t size, policy;
+    std::uint64_t flags;
+    std::int32_t nice;
+    std::uint32_t priority;
+    std::uint64_t runtime, deadline, period;
+};
+
+/// The shortest slice that a system gives, in nanoseconds.
+constexpr std::uint64_t SHORTEST = 100000;
+
+/// Asks for the shortest slices of a core, for this thread and all that it starts. The share of the cores stays the
+/// same, but beside programs that only reckon a thread is let in at once where it has work, as after each sync. A
+/// system before Linux 6.12 gives none, and one that refuses them leaves the slices of all others.
+void shortenSlices() {
+    Scheduling it = Scheduling();
+    if (::syscall(SYS_sched_getattr, 0, &it, sizeof it, 0) < 0 || it.policy != SCHED_OTHER) return;
+    it.size = sizeof it;
+    it.runtime = SHORTEST;
+    ::syscall(SYS_sched_setattr, 0, &it, 0);
+}
+
+/// Signals that end the process in order, held back from all threads. Before that they end it at once: a start leaves
+/// nothing half done.
+sigset_t heldBack() {
+    sigset_t signals;
+    sigemptyset(&signals);
+    sigaddset(&signals, SIGTERM);
+    sigaddset(&signals, SIGINT);
+    ::pthread_sigmask(SIG_BLOCK, &signals, nullptr);
+    return signals;
+}
+
+/// Where the one who started this process waits to hear that it listens, if there is one. No child has it.
+Descriptor starter() {
+    const char *text = std::getenv(READY);
+    Descriptor it(text ? std::atoi(text) : -1);
+    ::unsetenv(READY);
+    if (it) ::fcntl(it.get(), F_SETFD, FD_CLOEXEC);
+    return it;
+}
+
+/// The threads of door and member, which end in order, whatever ends them: nobody comes in any more, then the member's
+/// ends, and only then does the session that it uses.
+class Running {
+public:
+    Running(Door &door, Member &member) : door_(door), member_(member) {}
+
+    ~Running() {
+        door_.stop();
+        member_.stop();
+    }
+
+    void start(const Descriptor &starter) {
+        door_.start();
+        say("", "ready");
+        if (starter && ::write(starter.get(), "r", 1) < 0) say("", "who started it doesn't listen: " + reason());
+        member_.start();
+    }
+
+private:
+    Door &door_;
+    Member &member_;
+};
+
+}
+
+void serveMember(const Settings &settings) {
+    shortenSlices();
+    Descriptor whoStarted = starter();
+    const std::vector<Descriptor> locks = heldFolders(settings);
+    keepSteps(settings);
+    const std::unique_ptr<Record> record = recordOf(settings);
+    const sigset_t signals = heldBack();
+    Member member(settings, *record);
+    Application application(member);
+    Stores stores(*record);
+    Logs logs(settings.logFolder, settings.log);
+    Door door(application, stores, settings, logs, member);
+    member.attach(*door.getSession(settings.member.session), stores.store(), logs.log());
+    std::unique_ptr<StatusPage> page;
+    if (settings.statusPort) page.reset(new StatusPage(settings.statusPort, member));
+    const Control control(settings, member);
+    {
+        Running running(door, member);
+        running.start(whoStarted);
+        whoStarted.reset();
+        int signal;
+        ::sigwait(&signals, &signal);
+    }
+    say("", "stopped");
+}
+
+}

@@ -1,0 +1,290 @@
+#include "record.h"
+
+#include <quickfix/FieldConvertors.h>
+
+#include <algorithm>
+#include <cstdlib>
+#include <ctime>
+#include <utility>
+
+#include "files.h"
+#include "lines.h"
+#include "take_over.h"
+
+namespace edge {
+
+namespace {
+
+constexpr long VERSION = 3;
+constexpr long WITHOUT_TURNS = 1, WITHOUT_SWITCHES = 2;  // Versions of before, whose records lack such tables.
+
+// A turn has its names and messages in the bytes of one row, as turns.h reads them, and what they change of the state.
+const char *const TURNS =
+    "CREATE TABLE turns (turn INTEGER PRIMARY KEY, at INTEGER NOT NULL, sender INTEGER NOT NULL,"
+    " target INTEGER NOT NULL, report INTEGER NOT NULL, reject INTEGER NOT NULL, last INTEGER NOT NULL,"
+    " heard INTEGER NOT NULL, settled INTEGER NOT NULL, did BLOB NOT NULL)";
+
+// What an operator has switched off, as switches.h has it, and the rows of names that are of mass cancels.
+const char *const SWITCHES =
+    "CREATE TABLE IF NOT EXISTS switches (what TEXT PRIMARY KEY, at INTEGER NOT NULL, who TEXT NOT NULL);"
+    "CREATE INDEX IF NOT EXISTS sweeps ON names (number) WHERE kind = 'w'";
+
+// The kinds of names are those of Names::Kind. A name has more than one row where the edge refused a request of it.
+const char *const TABLES =
+    "CREATE TABLE names (number INTEGER PRIMARY KEY, kind TEXT NOT NULL, name TEXT NOT NULL, at INTEGER NOT NULL);"
+    "CREATE INDEX by_name ON names (name);"
+    "CREATE TABLE messages (number INTEGER PRIMARY KEY, bytes BLOB NOT NULL);"
+    "CREATE TABLE session (sender INTEGER NOT NULL, target INTEGER NOT NULL, created TEXT NOT NULL,"
+    " report INTEGER NOT NULL, reject INTEGER NOT NULL, first INTEGER NOT NULL, last INTEGER NOT NULL,"
+    " heard INTEGER NOT NULL, spared INTEGER NOT NULL, settled INTEGER NOT NULL, doubted_at INTEGER NOT NULL,"
+    " doubtful INTEGER NOT NULL, drop_before INTEGER NOT NULL, boot TEXT NOT NULL, at INTEGER NOT NULL);"
+    "INSERT INTO session VALUES (1, 1, '', 0, 0, 0, 0, 1, 0, 0, 0, 0, 0, '', 0)";
+
+const char *const READ =
+    "SELECT sender, target, created, report, reject, first, last, heard, spared, settled, doubted_at, doubtful,"
+    " drop_before, boot, at FROM session";
+
+const char *const READ_TURNS =
+    "SELECT at, sender, target, report, reject, last, heard, settled, did FROM turns ORDER BY turn";
+
+// So many names and messages of turns go into the tables at a quiet moment, and so many at any, or where that has to
+// be.
+constexpr std::size_t MANY = 64, TOO_MANY = 512, FAR_TOO_MANY = 4096;
+
+// So many bytes of the database's log go into its file at a quiet moment, and so many at any.
+constexpr long LONG_LOG = 1 << 20, TOO_LONG_LOG = 2 << 20;
+
+// A file is written to within its commit, or a moment later. One that was changed later than that was put there. A log
+// that SQLite has made, and nothing was written to, tells nothing.
+constexpr long MOMENT = 5;
+
+// The name in the environment of the system's words for its run, as a service has them that doesn't see all of /proc.
+constexpr const char *BOOT = "GIKVAND_BOOT";
+
+/// The words that the system has for its run, from its start to its end, without their dashes.
+std::string bootOfSystem() {
+    const char *const given = std::getenv(BOOT);
+    std::string words = given ? given : firstBytes("/proc/sys/kernel/random/boot_id");
+    words.erase(std::min(words.find('\n'), words.size()));
+    words.erase(std::remove(words.begin(), words.end(), '-'), words.end());
+    return words;
+}
+
+}
+
+void Record::open() {
+    close();
+    if (wasOpen_ && !isThere(database_.path())) database_.fail("it isn't there any more");
+    const long changed = std::max(changeTime(database_.path()), changeTime(database_.path() + "-wal"));
+    database_.open();
+    isUnread_ = true;
+    hasStepped_ = isOfThisRun_ = false;
+    try {
+        boot_ = bootOfSystem();
+        Statement version(database_, "PRAGMA user_version");
+        Rows rows = version.of();
+        const long found = rows.next() ? rows.number(0) : 0;
+        if (found && found != VERSION && found != WITHOUT_TURNS && found != WITHOUT_SWITCHES)
+            database_.fail("it is of another version of the edge");
+        if (found && found != VERSION) addTables(found);
+        if (found) look(changed);
+        else make();
+    } catch (const DatabaseFault &) {
+        close();
+        throw;
+    }
+    wasOpen_ = true;
+    toldBefore_ = state_.told;
+    sentBefore_ = state_.sender;
+}
+
+/// Gives a record of this version of before the tables that it lacks.
+void Record::addTables(long version) {
+    database_.run(std::string("BEGIN; ") + (version == WITHOUT_TURNS ? TURNS : "") + "; " + SWITCHES +
+                  "; PRAGMA user_version = " + std::to_string(VERSION) + "; COMMIT");
+}
+
+void Record::make() {
+    say(member_, database_.path() + " is made: no name of before is known, and numbers begin with 1");
+    begin_.run();
+    isChanging_ = areTablesChanging_ = true;
+    database_.run(TABLES);
+    database_.run(TURNS);
+    database_.run(SWITCHES);
+    state_ = State();
+    const bool tookOver = takeOver(before_, member_, database_, state_);
+    database_.run("PRAGMA user_version = " + std::to_string(VERSION));
+    commit();
+    if (tookOver) putAside(before_);
+}
+
+/// Reads the state, and looks whether something may be missing behind it.
+void Record::look(long changed) {
+    Statement damage(database_, "PRAGMA quick_check(1)"), row(database_, READ);
+    if (!wasOpen_) {
+        Rows rows = damage.of();
+        if (!rows.next() || rows.bytes(0) != "ok") database_.fail("it is damaged: put a copy back");
+    }
+    Rows rows = row.of();
+    if (!rows.next()) database_.fail("it is damaged, and has no session: put a copy back");
+    state_.sender = rows.number(0);
+    state_.target = rows.number(1);
+    state_.created = FIX::UtcTimeStampConvertor::convert(rows.bytes(2));
+    state_.told.report = rows.number(3);
+    state_.told.reject = rows.number(4);
+    state_.first = rows.number(5);
+    state_.last = rows.number(6);
+    state_.heard = rows.number(7);
+    state_.isSpared = rows.number(8);
+    state_.settled = rows.number(9);
+    state_.doubtedAt = rows.number(10);
+    state_.isDoubtful = rows.number(11);
+    state_.dropBefore = rows.number(12);
+    written_ = state_;
+    const std::string boot = rows.bytes(13);
+    long at = rows.number(14);
+    lookAtTurns(at);
+    if (boot_.empty() || boot != boot_) step("the system was started anew");
+    else if (changed > at + MOMENT) step("its file was put there behind its last commit");
+}
+
+/// Reads what turns have kept behind the state of the tables, and in which second the last one was.
+void Record::lookAtTurns(long &at) {
+    Statement all(database_, READ_TURNS);
+    for (Rows rows = all.of(); rows.next();) {
+        at = rows.number(0);
+        state_.sender = rows.number(1);
+        state_.target = rows.number(2);
+        state_.told.report = rows.number(3);
+        state_.told.reject = rows.number(4);
+        state_.last = rows.number(5);
+        state_.heard = rows.number(6);
+        state_.settled = rows.number(7);
+        if (!turns_.take(rows.bytes(8), at)) database_.fail("it is damaged, and a turn can't be read: put a copy back");
+    }
+}
+
+void Record::step(const std::string &why) {
+    State &state = change();
+    state.sender += STEP;
+    hasStepped_ = true;
+    const std::string line = "its next number is " + std::to_string(state.sender) + ", behind a gap of " +
+                             std::to_string(STEP) + ", since messages may be lost: " + why;
+    if (saidOfStep_ != line) say(member_, line);
+    saidOfStep_ = line;
+}
+
+bool Record::stepsBack() {
+    State &state = change();
+    changeTables();
+    const bool steps = !hasStepped_ && !state.isDoubtful;
+    state.isDoubtful = true;
+    state.doubtedAt = std::time(nullptr);
+    if (!steps) return false;
+    database_.run("DELETE FROM messages WHERE number >= " + std::to_string(sentBefore_));
+    state.told = toldBefore_;
+    state.sender = sentBefore_;
+    step("the journal has requests that it lacks");
+    commit();
+    return true;
+}
+
+void Record::close() {
+    isChanging_ = areTablesChanging_ = false;
+    closings_++;
+    turns_.clear();
+    database_.close();
+}
+
+void Record::finish() {
+    if (!database_.isOpen()) return;
+    change();  // For the time of its end.
+    changeTables();
+    commit();
+    database_.closeWhole();
+}
+
+State &Record::change() {
+    if (!database_.isOpen()) database_.fail("it isn't open");
+    isChanging_ = true;
+    return state_;
+}
+
+void Record::changeTables() {
+    change();
+    if (areTablesChanging_) return;
+    begin_.run();
+    areTablesChanging_ = true;
+    turns_.each([this](const KeptName &it) { addName_.run(it.number, std::string(1, it.kind), it.name, it.at); },
+                [this](long number, const std::string &bytes) { putMessage_.run(number, Blob{bytes}); });
+    forgetTurns_.run();
+    turns_.clear();
+}
+
+void Record::add(KeptName it) {
+    change();
+    if (areTablesChanging_) addName_.run(it.number, std::string(1, it.kind), it.name, it.at);
+    else turns_.add(std::move(it));
+}
+
+void Record::put(long number, const std::string &bytes) {
+    change();
+    if (areTablesChanging_) putMessage_.run(number, Blob{bytes});
+    else turns_.put(number, bytes);
+}
+
+bool Record::isUntidy() const {
+    return turns_.size() >= MANY || database_.logged() >= LONG_LOG;
+}
+
+bool Record::isVeryUntidy(bool isUrgent) const {
+    return turns_.size() >= (isUrgent ? FAR_TOO_MANY : TOO_MANY) || database_.logged() >= TOO_LONG_LOG;
+}
+
+void Record::tidy() {
+    if (turns_.size() >= MANY) {
+        changeTables();
+        commit();
+    }
+    if (database_.logged() >= LONG_LOG) database_.shortenLog();
+}
+
+/// The text changes once a day: each commit has it.
+const std::string &Record::createdText() {
+    if (createdText_.empty() || createdOfText_ != state_.created)
+        createdText_ = FIX::UtcTimeStampConvertor::convert(createdOfText_ = state_.created);
+    return createdText_;
+}
+
+/// Whether what has changed of the state is in the row of a turn.
+bool Record::isOneRow() const {
+    return isOfThisRun_ && state_.created == written_.created && state_.isSpared == written_.isSpared &&
+           state_.first == written_.first && state_.doubtedAt == written_.doubtedAt &&
+           state_.isDoubtful == written_.isDoubtful && state_.dropBefore == written_.dropBefore;
+}
+
+void Record::writeState() {
+    write_.run(state_.sender, state_.target, createdText(), state_.told.report, state_.told.reject, state_.first,
+               state_.last, state_.heard, static_cast<long>(state_.isSpared), state_.settled, state_.doubtedAt,
+               static_cast<long>(state_.isDoubtful), state_.dropBefore, boot_, static_cast<long>(std::time(nullptr)));
+    commit_.run();
+    areTablesChanging_ = false;
+    isOfThisRun_ = true;
+    written_ = state_;
+}
+
+void Record::commit() {
+    if (!isChanging_) return;
+    if (!areTablesChanging_ && !isOneRow()) changeTables();
+    if (areTablesChanging_) {
+        writeState();
+    } else {
+        keepTurn_.run(turns_.rows() + 1, static_cast<long>(std::time(nullptr)), state_.sender, state_.target,
+                      state_.told.report, state_.told.reject, state_.last, state_.heard, state_.settled,
+                      Blob{turns_.present()});
+        turns_.kept();
+    }
+    isChanging_ = false;
+}
+
+}

@@ -1,0 +1,30 @@
+#pragma once
+
+// The one row of a member's record: the next numbers of its session, and how far requests and reports have come.
+
+#include <quickfix/FieldTypes.h>
+
+namespace edge {
+
+/// The last report of the venue that a member was told: of the type 8 by its ExecID, of the type 9 by the number of its
+/// request. Both rise, so a report is new where it is above.
+struct Told {
+    long report = 0, reject = 0;
+};
+
+/// What is kept of a member in one row.
+struct State {
+    long sender = 1, target = 1;  // The next numbers of the session, of the edge's messages and of the member's.
+    FIX::UtcTimeStamp created;    // When these numbers began with 1.
+    long heard = 1;               // All below this number was sent to an engine that was logged on.
+    bool isSpared = false;        // Its orders stay, since its day ended, until the member has been logged on again.
+    Told told;
+    long first = 0;      // The first number that has a name here; 0: not known yet. The venue may have some before.
+    long last = 0;       // The greatest number of a request.
+    long settled = 0;    // Each request up to this one was answered, or is noted as lost.
+    long doubtedAt = 0;  // Names may be missing of what the member sent before this second; 0: none.
+    bool isDoubtful = false;  // And the member has sent nothing since but what it says to be sent again.
+    long dropBefore = 0;      // Names of finished requests of before this second may go; 0: none.
+};
+
+}

@@ -1,0 +1,32 @@
+"""A clock of the edge's own, by Debian's faketime: it stands where a test puts it, and goes on from there."""
+import calendar
+import glob
+import os
+import time
+
+from edges import Trouble
+
+LIBRARIES = "/usr/lib/*/faketime/libfaketimeMT.so.1"
+
+
+class Clock:
+    """What the edge takes for the time. Waits are as long as they are: the clock that only goes on isn't changed."""
+
+    def __init__(self, text, name="clock"):
+        """One that shows this, as "2030-01-04 23:59:50" of UTC, by a file of this name. That is ahead of the
+        system's, which the times of files go by."""
+        found = glob.glob(LIBRARIES)
+        if not found:
+            raise Trouble("faketime isn't there: edge/setup --tests installs it")
+        self.path = os.path.abspath(name)
+        self.put(text)
+        self.env = {**os.environ, "LD_PRELOAD": found[0], "FAKETIME_TIMESTAMP_FILE": self.path,
+                    "FAKETIME_NO_CACHE": "1", "FAKETIME_DONT_FAKE_MONOTONIC": "1", "DONT_FAKE_MONOTONIC": "1",
+                    "NO_FAKE_STAT": "1"}
+
+    def put(self, text):
+        """Puts it forward or back, for all that go by it, at once."""
+        ahead = calendar.timegm(time.strptime(text, "%Y-%m-%d %H:%M:%S")) - time.time()
+        with open(self.path + ".new", "w", encoding="ascii") as file:
+            file.write(f"{ahead:+.6f}\n")
+        os.replace(self.path + ".new", self.path)

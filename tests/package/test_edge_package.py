@@ -1,0 +1,389 @@
+"""Tests of the package gikvand-edge: its files, man pages, settings, services, scripts and the completion of its words. Those that
+need the edge are skipped where edge/setup hasn't built it."""
+import functools
+import os
+import re
+import shutil
+import stat
+import subprocess
+import tempfile
+from collections.abc import Iterator
+from unittest import mock
+
+import pytest
+
+import test_debian
+from checks import EDGE, ROOT, can_have_places, contents, is_edge_built, ran, text_of
+from mdoc import Page
+from packed import SCRIPT, Packed
+from script_modules import loaded
+from test_completion import completed
+from test_pages import PAGES, plain
+
+pytestmark = [pytest.mark.quick, pytest.mark.edge]
+
+COMMANDS, SETTINGS = "gikvand-edge.8", "gikvand-edge.cfg.5"
+WORDS = "| words | what they do |"
+DEBIAN, DROP_IN = os.path.join(ROOT, "contrib/edge/debian"), "contrib/edge/venued-edge.conf"
+MEMBERS = [f"C{number}" for number in range(1, 9)]
+UNITS, DOC = "usr/lib/systemd/system", "usr/share/doc/gikvand-edge"
+DICTIONARY = "usr/share/gikvand-edge/FIX44-edge.xml"
+EXPOSED = 15  # The greatest exposure of the service that is taken, in tenths, as systemd-analyze reckons it.
+NO_FINDING = re.compile(r".*STYLE: referenced manual not found: Xr ({})\b.*".format(
+    "|".join(re.escape(" ".join(it.rsplit(".", 1))) for it in (*PAGES, COMMANDS, SETTINGS))))
+packing = pytest.mark.debian("dpkg-deb", "strip")
+of_the_edge = pytest.mark.skipif(not is_edge_built(), reason=f"{os.path.relpath(EDGE)} isn't built (edge/setup builds it)")
+
+
+PACKED = Packed("--edge")
+made, unpacked = PACKED.made, PACKED.unpacked
+
+
+def older_and_newer() -> tuple[str, ...]:
+    """The package and one of a later version, or none where the edge isn't built, which has a line."""
+    if not is_edge_built():
+        print("package: no edge is installed: it isn't built (edge/setup builds it)")
+        return ()
+    status, out, err = ran(SCRIPT, "--edge", "--output", os.path.dirname(made()), "--version", "99.1")
+    assert (status, err) == (0, "")
+    return made(), out.strip()
+
+
+@pytest.fixture(scope="module", autouse=True)
+def removed() -> Iterator[None]:
+    """Removes the package at the end."""
+    yield
+    PACKED.remove()
+
+
+def packed_page(name: str) -> str:
+    """The text of a page as the package has it."""
+    with tempfile.TemporaryDirectory(prefix="filled-") as folder:
+        it = loaded("scripts/package")
+        with mock.patch.object(it.Tree, "put_stripped", lambda *_: None):
+            it.fill_edge(it.Tree(folder), it.releases(), "1", 0)
+        return ran("gzip", "-dc", os.path.join(folder, f"usr/share/man/man{name[-1]}/{name}.gz"))[1]
+
+
+@functools.cache
+def page(name: str) -> Page:
+    with tempfile.TemporaryDirectory(prefix="page-") as folder:
+        with open(os.path.join(folder, name), "w", encoding="ascii") as file:
+            file.write(packed_page(name))
+        return Page(file.name)
+
+
+def rows_of(head: str, behind: str = "") -> list[list[str]]:
+    """The rows of the first table of EDGE.md whose first line this is, behind this text."""
+    lines = text_of("docs/EDGE.md").partition(behind or "\n")[2].split(f"\n{head}\n")[1].split("\n\n")[0].splitlines()[1:]
+    return [[cell.strip() for cell in re.split(r"(?<= )\|(?= )", line[1:-1])] for line in lines]
+
+
+@of_the_edge
+def test_edge_usage() -> None:
+    """The forms of the command line are those that the program prints, and it tells the project's version."""
+    lines = "\n       ".join(page(COMMANDS).synopsis())
+    for status, words in ((1, []), (1, ["--help"]), (1, ["--version", "x"]), (1, ["--check"]), (1, ["--all", "--version"]), (1, ["x", "y"]),
+                          (2, ["stop"]), (2, ["halt", "ABC"])):
+        assert (words, *ran(EDGE, *words)) == (words, status, "", f"usage: {lines}\n")
+    assert f"usage: {page(COMMANDS).synopsis()[0]} ..." in page(COMMANDS).items("DIAGNOSTICS")
+    assert ran(EDGE, "--version") == (0, f"gikvand-edge {text_of('VERSION')}", "")
+    with open("/dev/full", "w", encoding="ascii") as full:
+        assert subprocess.run([EDGE, "--version"], stdout=full).returncode == 1
+
+
+def test_edge_words() -> None:
+    """Each word of EDGE.md's table is told as it stands there, and no other is."""
+    said = {head.split()[0]: plain(what) for head, what in page(COMMANDS).items("DESCRIPTION").items()}
+    wanted = {}
+    for words, what in rows_of(WORDS):
+        option = re.search(r"--[a-z]+", words)
+        if " stop " not in words:
+            wanted[option[0] if option else "SETTINGS"] = plain(what)
+    assert {name: what if what in said.get(name, "") else said.get(name) for name, what in wanted.items()} == wanted
+    assert sorted(said) == sorted(wanted)
+
+
+def test_edge_switch() -> None:
+    """And each word for processes that run."""
+    said = page(COMMANDS).items("SWITCH")
+    rows = [(re.search(r"gikvand-edge (\w+ \w+)", words)[1], what) for words, what in rows_of(WORDS, "\n## An operator's switch\n")]
+    assert list(said) == [words.replace("C1", "Ck").replace("ABC", "SYMBOL") for words, _ in rows]
+    for (words, what), told in zip(rows, said.values()):
+        begun = plain(what.partition(", as [")[0])
+        assert (words, plain(told)[:len(begun)]) == (words, begun)
+
+
+@of_the_edge
+def test_edge_statuses() -> None:
+    """The program ends with the statuses of its page, and no other one stands there."""
+    assert list(page(COMMANDS).items("EXIT STATUS")) == ["0", "1", "2"]
+    with tempfile.TemporaryDirectory(prefix="statuses-") as folder:
+        assert ran(EDGE, "none.cfg", folder=folder) == (1, "", "gikvand-edge: none.cfg: can't be read\n")
+        assert ran(EDGE, "--check", "none.cfg", folder=folder) == (1, "", "gikvand-edge: none.cfg: can't be read\n")
+    assert "gikvand-edge: NAME: ..." in page(COMMANDS).items("DIAGNOSTICS")
+
+
+def known_names() -> list[str]:
+    """The edge's own settings, as the program knows them, in capitals."""
+    own = text_of("edge/src/setting_names.h").partition("// The edge's own.")[2]
+    return re.findall(r'"([A-Z]+)"', own)
+
+
+def test_edge_settings() -> None:
+    """The page has each setting that the program knows as EDGE.md's table has it, and no other one."""
+    rows = rows_of("| setting | value | where it is left out |")
+    wanted = {", ".join(re.findall(r"`(\w+)`", names)): (plain(value), plain(left_out)) for names, value, left_out in rows}
+    said = page(SETTINGS).items("DESCRIPTION")
+    assert list(said) == list(wanted)
+    for names, (value, left_out) in wanted.items():
+        told = plain(said[names].replace("( ", "("))
+        assert (names, told.startswith(value), told.endswith(left_out)) == (names, True, True)
+        assert (names, "it is needed" in told or "where it is left out" in told) == (names, True)
+    # (SyncNames and VenueReplay are known so that they are refused in words, and the library knows the port too.)
+    own = {*known_names(), "SOCKETACCEPTPORT"} - {"SYNCNAMES", "VENUEREPLAY"}
+    assert sorted(it.upper() for names in wanted for it in names.split(", ")) == sorted(own)
+    for name, text in (("settings.cpp", text_of("edge/src/settings.cpp")), ("EDGE.md", text_of("docs/EDGE.md")),
+                       *((name, packed_page(name)) for name in (COMMANDS, SETTINGS))):
+        assert (name, f"/{DICTIONARY}" in text) == (name, True)
+
+
+def test_edge_defaults() -> None:
+    """Where the table has a number for a setting that is left out, it is the program's."""
+    told = {re.search(r"`(\w+)`", names)[1]: left_out for names, _, left_out in rows_of("| setting | value | where it is left out |")}
+    found = re.findall(r'numberOr\(from, "(\w+)", .*, ([0-9L< ]+)\)', text_of("edge/src/settings.cpp"))
+    assert len(found) == sum(bool(re.fullmatch(r"\d+|no bound", it)) for it in told.values())
+    for name, number in found:
+        first, _, by = number.replace("L", "").partition("<<")
+        assert (name, told[name]) == (name, str(int(first) << int(by or 0)) if int(first) else "no bound")
+
+
+def put_example(folder: str, **others: str) -> str:
+    """Writes the package's settings of C1 for this folder, with other values of some: the path."""
+    text = text_of("contrib/edge/examples/C1.cfg").replace("/var/lib/gikvand-edge/C1", folder)
+    for name, it in {"VenueEvents": "/bin/true", "PasswordFile": f"{folder}/passwords", **others}.items():
+        text, count = re.subn(rf"^#?{name}=.*", f"{name}={it}", text, flags=re.MULTILINE)
+        assert (name, count) == (name, 1)
+    with open(os.path.join(folder, "passwords"), "w", encoding="ascii") as file:
+        file.write("desk-a:secret\n")
+    os.chmod(file.name, stat.S_IRUSR | stat.S_IWUSR)
+    with open(os.path.join(folder, "C1.cfg"), "w", encoding="ascii") as file:
+        file.write(text)
+    return file.name
+
+
+@of_the_edge
+@packing
+def test_edge_example() -> None:
+    """The example of a member's settings, with that of its stunnel, is right as it stands; the dictionary is the installed one."""
+    with tempfile.TemporaryDirectory(prefix="example-") as folder:
+        stunnel = os.path.join(folder, "gikvand-C1.conf")
+        with open(stunnel, "w", encoding="ascii") as file:
+            file.write(text_of("edge/stunnel/member.conf").replace("/etc/gikvand-edge", folder))
+        key = ["-nodes", "-newkey", "rsa:2048", "-keyout", os.path.join(folder, "key.pem"), "-subj", "/CN=C1"]
+        assert ran("openssl", "req", "-x509", *key, "-out", os.path.join(folder, "C1.pem"))[0] == 0
+        share = os.path.join(unpacked(), "usr/share")
+        places = 'mount --bind "$0" /usr/share && exec "$@"'
+        if ran("unshare", "-rm", "sh", "-c", places, share, "true")[0]:
+            print("package: the example isn't tried: no folder of the system can be another one here")
+            return
+        right = (0, "the settings are right\n", "")
+        for others, wanted in (({}, right), ({"StunnelConfig": stunnel}, right),
+                               ({"Symbols": "ABC"}, (1, "", "gikvand-edge: Symbols: isn't of SYMBOL:STEP, as ABC:0.01: ABC\n"))):
+            said = ran("unshare", "-rm", "sh", "-c", places, share, EDGE, "--check", put_example(folder, **others))
+            assert (others, *said) == (others, *wanted)
+        with tempfile.TemporaryDirectory(prefix="bare-") as bare:
+            said = ran("unshare", "-rm", "sh", "-c", places, bare, EDGE, "--check", put_example(folder))
+            assert said == (1, "", f"gikvand-edge: DataDictionary: can't be used: /{DICTIONARY}\n")
+
+
+@of_the_edge
+@packing
+def test_files_of_the_edge_package() -> None:
+    """What is in it, whose it is, and with which rights; its version, its sums, and that its program is stripped."""
+    _, out, _ = ran("dpkg-deb", "-c", made())
+    lines = [line.split(maxsplit=5) for line in out.splitlines()]
+    assert {(line[1], line[0]) for line in lines} == {("root/root", it) for it in ("drwxr-xr-x", "-rwxr-xr-x", "-rw-r--r--", "lrwxrwxrwx")}
+    assert [line[5] for line in lines if line[0] == "-rwxr-xr-x"] == ["./usr/bin/gikvand-edge"]
+    found = {line[5].split(" -> ")[0][2:] for line in lines if line[0][0] != "d"}
+    assert found == {"usr/bin/gikvand-edge", f"{UNITS}/gikvand-edge@.service", "usr/lib/sysusers.d/gikvand-edge.conf",
+                   *(f"{UNITS}/{it}.service.d/gikvand-edge.conf" for it in ("venued", "venued@")), DICTIONARY,
+                   *(f"usr/share/man/man{it[-1]}/{it}.gz" for it in (COMMANDS, SETTINGS)),
+                   "usr/share/bash-completion/completions/gikvand-edge", "usr/share/doc/gikvand/EDGE.md",
+                   *(f"{DOC}/{it}" for it in ("EDGE.md", "copyright", "changelog.gz", "examples/C1.cfg", "examples/gikvand-C1.conf"))}
+    assert "./etc/gikvand-edge/" in {line[5] for line in lines}
+    for name, place in (("edge/FIX44-edge.xml", DICTIONARY), ("docs/EDGE.md", f"{DOC}/EDGE.md"), ("LICENSE", f"{DOC}/copyright")):
+        assert (name, contents(os.path.join(unpacked(), place)) == contents(os.path.join(ROOT, name))) == (name, True)
+    version = field("Version")
+    assert version.split("+")[0] == text_of("VERSION").strip()
+    assert os.path.basename(made()) == f"gikvand-edge_{version}_amd64.deb"
+    program = os.path.join(unpacked(), "usr/bin/gikvand-edge")
+    assert ".symtab" not in ran("readelf", "-S", program)[1]
+    assert ran(program, "--version") == (0, f"gikvand-edge {text_of('VERSION')}", "")
+    sums = ran("bash", "-c", 'dpkg-deb --ctrl-tarfile "$0" | tar -xO ./md5sums', made())[1]
+    assert ran("md5sum", "--check", "--quiet", given=sums, folder=unpacked()) == (0, "", "")
+    assert len(sums.splitlines()) == sum(line[0][0] == "-" for line in lines)
+
+
+def field(name: str) -> str:
+    return ran("dpkg-deb", "-f", made(), name)[1].strip()
+
+
+@of_the_edge
+@packing
+def test_needs_of_the_edge_package() -> None:
+    """It comes with the venue's package of its version, and each library that its program is linked with has its package."""
+    needed = [it.strip() for it in field("Depends").split(",")]
+    assert needed[0] == f"gikvand (= {field('Version')})"
+    assert field("Recommends") == "stunnel4"
+    owners = set()
+    for path in re.findall(r"=> (/\S+)", ran("ldd", EDGE)[1]):
+        linked = re.search(rf"NEEDED +{re.escape(os.path.basename(path))}$", ran("objdump", "-p", EDGE)[1], re.MULTILINE)
+        status, out, _ = ran("dpkg", "-S", path)
+        out = ran("dpkg", "-S", f"/usr{path}")[1] if status else out  # (as a system has it whose /lib is a link)
+        owners |= {out.split(":")[0]} if linked else set()
+    assert {it.split()[0] for it in needed[1:-1]} == owners
+    libc = next(re.fullmatch(r"libc6 \(>= (.*)\)", it)[1] for it in needed if it.startswith("libc6"))
+    for it in re.findall(r"GLIBC_(\d[\d.]*)", ran("readelf", "--version-info", EDGE)[1]):
+        assert (it, ran("dpkg", "--compare-versions", it, "le", libc)[0]) == (it, 0)
+    assert f"GLIBC_{libc}" in ran("readelf", "--version-info", EDGE)[1]
+
+
+@of_the_edge
+@packing
+def test_changelog_of_the_edge_package() -> None:
+    """It is the project's: the package's version stands first."""
+    assert ran("gzip", "-dc", os.path.join(unpacked(), f"{DOC}/changelog.gz"))[1].splitlines()[0] == (
+        f"gikvand ({field('Version')}) unstable; urgency=medium")
+    assert field("Source") == "gikvand"
+
+
+@of_the_edge
+@packing
+def test_same_bytes_of_the_edge_package() -> None:
+    """The same tree and program give the same package, whatever umask, folder and time zone are there."""
+    with tempfile.TemporaryDirectory(prefix="again-") as folder:
+        words = 'umask 077; cd /; exec "$0" --edge --output "$1"'
+        assert ran("bash", "-c", words, SCRIPT, folder, TZ="Asia/Tokyo", LC_ALL="C", GIKVAND_EDGE=EDGE)[::2] == (0, "")
+        assert contents(os.path.join(folder, os.path.basename(made()))) == contents(made())
+        status, out, err = ran(SCRIPT, "--edge", "--output", folder, "--version", "99.1", SOURCE_DATE_EPOCH="1800000000")
+        assert (status, os.path.basename(out.strip()), err) == (0, "gikvand-edge_99.1_amd64.deb", "")
+        assert "2027-01-15" in ran("dpkg-deb", "-c", out.strip(), TZ="UTC")[1]
+        assert ran("dpkg-deb", "-f", out.strip(), "Depends")[1].split(",")[0] == "gikvand (= 99.1)"
+
+
+def test_unbuilt_edge() -> None:
+    """Where the edge isn't built there is no package of it, and a line that says how it is."""
+    with tempfile.TemporaryDirectory(prefix="unbuilt-") as folder:
+        status, out, err = ran(SCRIPT, "--edge", folder=folder, GIKVAND_EDGE="none")
+        assert (status, out, err) == (2, "", "package: none isn't built: edge/setup builds it\n")
+        assert os.listdir(folder) == []
+
+
+@pytest.mark.debian("mandoc")
+def test_lint_of_the_edge_pages() -> None:
+    """mandoc has nothing to say of them, but that the other ones aren't among the system's."""
+    for name in (COMMANDS, SETTINGS):
+        _, out, err = ran("mandoc", "-Tlint", given=packed_page(name))
+        assert (name, [line for line in out.splitlines() if not NO_FINDING.fullmatch(line)], err) == (name, [], "")
+
+
+@of_the_edge
+@packing
+@pytest.mark.debian("lintian")
+def test_lint_of_the_edge_package() -> None:
+    status, out, _ = ran("lintian", "--fail-on", "error,warning", made(), LC_ALL="C.UTF-8")
+    assert (status, out) == (0, "")
+
+
+@of_the_edge
+@packing
+@pytest.mark.debian("systemd-analyze")
+def test_services_of_the_edge_package() -> None:
+    """systemd takes its service, and the venue's with what it changes of these; hardly anything is open to it."""
+    with tempfile.TemporaryDirectory(prefix="services-") as folder:
+        units = os.path.join(folder, UNITS)
+        shutil.copytree(f"/{UNITS}", units, symlinks=True)
+        shutil.copytree(unpacked(), folder, symlinks=True, dirs_exist_ok=True)
+        for unit in ("venued.service", "venued@.service"):
+            shutil.copy(os.path.join(ROOT, "contrib", unit), units)
+        os.makedirs(os.path.join(folder, "bin"))
+        for program in ("usr/bin/venued", "bin/sh"):
+            shutil.copy("/bin/true", os.path.join(folder, program))
+        for unit in ("gikvand-edge@C1.service", "venued.service", "venued@one.service"):
+            assert ran("systemd-analyze", "verify", "--man=no", "--recursive-errors=no", f"--root={folder}", unit) == (0, "", "")
+        words = ["--offline=true", f"--threshold={EXPOSED}", "--no-pager", os.path.join(units, "gikvand-edge@.service")]
+        status, out, err = ran("systemd-analyze", "security", *words)
+        assert (status, out.splitlines()[-1:] if status else [], err) == (0, [], "")
+
+
+@pytest.mark.debian("systemd-sysusers")
+def test_users_of_the_edge_package() -> None:
+    """Each member's edge has a user of its own, who may not log in."""
+    with tempfile.TemporaryDirectory(prefix="users-") as folder:
+        os.mkdir(os.path.join(folder, "etc"))
+        status, _, err = ran("systemd-sysusers", f"--root={folder}", os.path.join(ROOT, "contrib/edge/gikvand-edge.sysusers"))
+        assert (status, err if status else "") == (0, "")
+        with open(os.path.join(folder, "etc/passwd"), encoding="ascii") as file:
+            users = {line.split(":")[0]: line.split(":")[5:] for line in file if line.startswith("gikvand-edge-")}
+        assert users == {f"gikvand-edge-{it}": [f"/var/lib/gikvand-edge/{it}", "/usr/sbin/nologin\n"] for it in MEMBERS}
+
+
+def test_edge_reads_a_journal_of_before() -> None:
+    """At the venue's next start its journal and symbols are opened to the group, and nothing else; where there is none it starts."""
+    line, = re.findall(r"^ExecStartPre=-/bin/sh -c '(.*)'$", text_of(DROP_IN), re.MULTILINE)
+    with tempfile.TemporaryDirectory(prefix="opened-") as folder:
+        assert ran("sh", "-c", line.replace("$$", "$"), folder=folder) == (0, "", "")
+        for name in ("venue.journal", "venue.journal.symbols", "other"):
+            with open(os.path.join(folder, name), "w", encoding="ascii"):
+                os.chmod(os.path.join(folder, name), 0o600)
+        assert ran("sh", "-c", line.replace("$$", "$"), folder=folder) == (0, "", "")
+        assert {name: oct(os.stat(os.path.join(folder, name)).st_mode & 0o777) for name in os.listdir(folder)} == (
+            {"venue.journal": "0o640", "venue.journal.symbols": "0o640", "other": "0o600"})
+    for it in ("StateDirectoryMode=0750", "UMask=0027"):
+        assert (it, f"\n{it}\n" in text_of(DROP_IN)) == (it, True)
+
+
+def asked_by(script: str, *words: str, by_systemd: bool = True) -> list[str]:
+    """What a script of this package calls with these words. Records in /var/lib/gikvand-edge have to be there behind it."""
+    places = test_debian.PLACES.replace("/var/lib/venued", "/var/lib/gikvand-edge")
+    with mock.patch.object(test_debian, "PLACES", places):
+        return test_debian.asked_by(os.path.join(DEBIAN, script), *words, by_systemd=by_systemd)
+
+
+def test_edge_as_it_is_installed() -> None:
+    """The users are made and systemd looks again; nothing is started, and no venue is touched."""
+    if can_have_places():
+        made_users = ["systemd-sysusers gikvand-edge.conf"]
+        assert asked_by("postinst", "configure", "") == [*made_users, "systemctl --system daemon-reload"]
+        assert asked_by("postinst", "configure", "0.3.0", by_systemd=False) == made_users
+        assert asked_by("postinst", "abort-upgrade", "0.3.0") == []
+
+
+def test_edge_as_it_is_removed() -> None:
+    """An upgrade leaves the edges as they run, before a removal they are stopped in order, and behind a purge the records stay."""
+    if can_have_places():
+        stop = "deb-systemd-invoke stop gikvand-edge@*.service"
+        for words, wanted in ((["upgrade", "99.1"], []), (["deconfigure"], []), (["failed-upgrade", "99.1"], []),
+                              (["remove"], [stop])):
+            assert (words, asked_by("prerm", *words)) == (words, wanted)
+        assert asked_by("prerm", "remove", by_systemd=False) == []
+        assert asked_by("postrm", "remove") == ["systemctl --system daemon-reload"]
+        for words in (["purge"], ["upgrade", "99.1"], ["abort-install"]):
+            assert (words, asked_by("postrm", *words)) == (words, [])
+
+
+def test_edge_words_completed() -> None:
+    """The program's words by their place, files and members."""
+    options = re.findall(r"--[a-z]+", " ".join(page(COMMANDS).synopsis()))
+    assert completed("gikvand-edge", "-") == sorted(options)
+    with tempfile.TemporaryDirectory(prefix="completion-") as folder:
+        for name in ("C1.cfg", "edge.cfg"):
+            with open(os.path.join(folder, name), "w", encoding="ascii"):
+                pass
+        files = ["C1.cfg", "edge.cfg"]
+        for words, wanted in (("", files), ("e", ["edge.cfg"]), ("--check ", files), ("--check -", ["--all", "--member"]),
+                              ("--all ", files), ("--check --all e", ["edge.cfg"]), ("--member ", MEMBERS), ("--member C1 ", files),
+                              ("--check --member C", MEMBERS), ("--check --member C2 ", files), ("--version ", []), ("edge.cfg ", []),
+                              ("--all edge.cfg ", []), ("--member C1 edge.cfg ", []), ("--all -", [])):
+            assert (words, completed("gikvand-edge", *words.split(" "), folder=folder)) == (words, wanted)
