@@ -11,6 +11,7 @@ mod Middles
 mod NamedLists
 mod Keepings
 mod RestingCalls
+mod RestingDepths
 mod Fillings
 mod Amendings
 mod QueueLemmas

@@ -11,6 +11,7 @@ pub mod Tables
 pub mod Books
 pub mod Laws
 pub mod Listing
+pub mod Depths
 pub mod Next
 pub mod Histories
 pub mod Rows

@@ -3,9 +3,11 @@ ghost use Rattle.std.specs.Prelude.{◌≡◌, ◌+◌, ◌*◌, ◌^◌, ◌<�
 ghost use Rattle.std.specs.List.Sorted.{IsPermutation};
 ghost use Rattle.std.specs.Vec.{vec_len, vec_capacity};
 ghost use Rattle.venue_model.specs.Match.{output};
+ghost use Rattle.venue_model.specs.Requests.{named};
 ghost use Rattle.venue_model.specs.Step.{empty, cause, step, IsCommand};
 ghost use Rattle.venue_model.specs.declared.orders.Order.{Order};
 ghost use Rattle.book.specs.Books.{FollowsRequest, IsBook};
+ghost use Rattle.book.specs.Depths.{depth_at};
 ghost use Rattle.book.specs.Listing.{listing};
 ghost use Rattle.book.specs.Reads.{ReadsFew};
 ghost use Rattle.book.specs.Standing.{Below};
@@ -15,10 +17,12 @@ use crate::logic::BookLogic;
 use crate::reports::{output, put};
 use crate::resting::RestingOrders;
 use crate::symbol_spots::SymbolSpots;
-use price_levels::{ReadCounter, Reads};
+use price_levels::{Depth, ReadCounter, Reads};
 use std::alloc::{AllocError, Global};
 use std::marker::Model;
-use venue_model::{Cause, Command, Limits, MOST_GATEWAYS, Malformed, Order, Output, Report};
+use venue_model::{
+    Cause, Command, Limits, MOST_GATEWAYS, Malformed, Order, Output, Report, Side, Symbol,
+};
 
 /// The resting orders, each client's greatest accepted ClOrdID, and how many resting orders the last command read.
 /// Contracts see the venue's limits, the state, in which the orders stand in the order of their stamps, and that
@@ -137,6 +141,22 @@ impl Book {
         ensures once { IsPermutation self.now.state.orders (listing self.now.limits.symbols self.now.state.orders) }
     {
         next(self.logic.symbols(), &self.orders, &from, &self.counter)
+    }
+
+    /// The client's resting order of this name. What commands read isn't changed by it.
+    pub fn order(&self, client: u8, cl_ord_id: u64) -> Option<Order>
+        ensures { result ≡ named self.now.state client cl_ord_id }
+    {
+        self.orders
+            .named(client, cl_ord_id, &mut self.counter.begin())
+    }
+
+    /// What rests at a price of a symbol and side. It takes the time of a look for the price, and of going along the
+    /// orders there to count them.
+    pub fn depth(&self, symbol: &Symbol, side: Side, price: u64) -> Depth
+        ensures { result ≡ depth_at symbol.now side price self.now.state.orders }
+    {
+        self.orders.depth(symbol, side, price)
     }
 
     /// Does what the command asks, and counts what it reads.

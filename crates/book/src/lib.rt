@@ -25,5 +25,6 @@ pub use laws::{
 };
 pub use listing::every_order_is_listed_once;
 pub use logic::BookLogic;
+pub use price_levels::Depth;
 pub use snapshot::{RestoreFault, Restored};
 pub use venue_model::{MOST_OUTPUTS, MOST_RESTING};

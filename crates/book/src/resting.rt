@@ -9,10 +9,11 @@ ghost use Rattle.price_levels.specs.Stamps.{InStamps, Comes};
 ghost use Rattle.book.specs.Standing.{InRange, Rests, Below, BehindLevel, NoneNamed};
 ghost use Rattle.venue_model.specs.declared.orders.Order.{Order};
 ghost use Rattle.book.specs.Firsts.{FillsFirst, FillsNone, NoneCrossed};
+ghost use Rattle.book.specs.Depths.{depth_at};
 ghost use Rattle.book.specs.Queues.{NoneQueuedOf, IsFirst, NoneQueuedBehind, IsQueuedNext};
 
 use crate::order_index::OrderIndex;
-use price_levels::{Levels, Place, ReadCounter, Reads};
+use price_levels::{Depth, Levels, Place, ReadCounter, Reads};
 use std::alloc::{AllocError, Global};
 use std::marker::Model;
 use venue_model::{MOST_RESTING, Order, Side, Symbol};
@@ -196,5 +197,12 @@ impl RestingOrders {
     {
         self.levels
             .crossing_total(&incoming.symbol, incoming.side, incoming.price)
+    }
+
+    /// What rests at a price of a symbol and side. It reads no order.
+    pub(crate) fn depth(&self, symbol: &Symbol, side: Side, price: u64) -> Depth
+        ensures { result ≡ depth_at symbol.now side price self.now }
+    {
+        self.levels.depth(symbol, side, price)
     }
 }

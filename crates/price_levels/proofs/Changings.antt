@@ -1,7 +1,7 @@
 -- An order in the levels is another now, of its level and stamp: all else stays.
 use Rattle.std.proofs.Common.{◌≡◌, ℕ, ◌+◌, ◌-◌, ◌*◌, ◌^◌, ◌<◌, ◌≤◌, inl, inr, List, Option, Some, None, refl, ap, sym}
 use Rattle.std.proofs.Common.{subst, ◌∙◌, arith}
-use Rattle.std.specs.Prelude.{option_map, unwrap_or, slice_set}
+use Rattle.std.specs.Prelude.{◌≢◌, option_map, slice_set}
 use Rattle.std.proofs.Math.Decide.{ℕ_discrete}
 use Rattle.venue_model.specs.declared.orders.Order.{Order}
 use Rattle.venue_model.specs.Orders.{leaves}
@@ -10,12 +10,14 @@ use Rattle.price_levels.specs.declared.keys.Level.{Level}
 use Rattle.price_levels.specs.declared.nodes.Node.{Node}
 use Rattle.price_levels.specs.Keys.{key_of, level_of}
 use Rattle.price_levels.specs.Arena.{Point, At, End, leads_to, end_to, AreRings, key_at, node_at, order_at, next_point}
-use Rattle.price_levels.specs.Arena.{prev_point, places_of, left_of, total_left, AreLevels, Replaces, vacant}
+use Rattle.price_levels.specs.Arena.{prev_point, places_of, one_in, AreLevels, Replaces, vacant}
 use Rattle.price_levels.proofs.KeyLemmas.{decide_key}
 use Rattle.price_levels.proofs.Rings.{Sets, some-same}
 use Rattle.price_levels.proofs.LevelLists.{Changes}
-use Rattle.price_levels.proofs.NodeLemmas.{Seen, seen-sets, within-nodes, changed-seen, kept}
-use Rattle.price_levels.proofs.LeftLemmas.{left-own, left-other, left-elsewhere, left-here}
+use Rattle.price_levels.proofs.NodeLemmas.{Seen, seen-sets, within-nodes, changed-seen, member-seen, kept}
+use Rattle.price_levels.proofs.LeftLemmas.{Share, what-is-left, how-many, said_of, total_of, said-is, said-here}
+use Rattle.price_levels.proofs.LeftLemmas.{said-again}
+use Rattle.price_levels.proofs.LeftLemmas.{left-own, one-own}
 use Rattle.std.proofs.Math.Seq.{map-set_same}
 
 -- the order that stood at a place: of the same key and stamp
@@ -29,7 +31,7 @@ module _ (nodes : List Node) (levels levels' : List Level) (are : AreLevels node
     (l m : Level)
     (here : order_at nodes p ≡ Some o) (replaces : Replaces o y) (changes : Changes levels levels' (key_of o) (Some m))
     (level : level_of (key_of o) levels ≡ Some l) (first : m.first ≡ l.first) (last : m.last ≡ l.last)
-    (left : m.left ≡ l.left - leaves o + leaves y) where
+    (left : m.left ≡ l.left - leaves o + leaves y) (orders : m.orders ≡ l.orders) where
   abbrev k : Key
   k = key_of o
 
@@ -126,18 +128,27 @@ module _ (nodes : List Node) (levels levels' : List Level) (are : AreLevels node
         ∙ a_was.stamp);
   }
 
-  left-changed : (j : Key) → left_of levels' j ≡ total_left j (places_of nodes')
-  left-changed j = elim (decide_key j k) [
-    | inl is ↦ subst (λ i. left_of levels' i ≡ total_left i (places_of nodes')) (sym is)
-        (left-here nodes nodes' levels levels' p (Some o) (Some y) k seen here are.left changes.others
-        (λ i h. left-other i o (λ e. h (sym e))) (λ i h. left-other i y (λ e. h (sym e ∙ replaces.key)))
-        (leaves o) (leaves y) (left-own k (Some o) o refl refl) (left-own k (Some y) y refl replaces.key)
-        (let m_is = ap (λ x. unwrap_or (option_map (λ (n : Level). n.left) x) 0) changes.here in
-        let l_is = ap (λ x. unwrap_or (option_map (λ (n : Level). n.left) x) 0) level in
-        omega (arith, m_is, l_is, left)))
-    | inr other ↦ left-elsewhere nodes nodes' levels levels' p (Some o) (Some y) k seen here are.left changes.others
-        (λ i h. left-other i o (λ e. h (sym e))) (λ i h. left-other i y (λ e. h (sym e ∙ replaces.key))) j other
-  ]
+  said-changed : (s : Share) (n n' : ℕ) → s.part k (Some o) ≡ n → s.part k (Some y) ≡ n'
+      → ((j : Key) → said_of s levels j ≡ total_of s j (places_of nodes)) → s.told m ≡ s.told l - n + n'
+      → (j : Key) → said_of s levels' j ≡ total_of s j (places_of nodes')
+  said-changed s n n' part part' said told =
+      let not_here = λ (j : Key) (other : j ≢ k). s.other j o (λ e. other (sym e)) in
+      let not_there = λ (j : Key) (other : j ≢ k). s.other j y (λ e. other (sym e ∙ replaces.key)) in
+      let m_is = said-is s levels' k m changes.here in
+      let l_is = said-is s levels k l level in
+      said-again s nodes nodes' levels levels' p (Some o) (Some y) k seen here said changes.others not_here not_there
+      (said-here s nodes nodes' levels levels' p (Some o) (Some y) k seen here said changes.others not_here not_there
+      n n' part part' (omega (arith, m_is, l_is, told)))
+
+  -- it is one of them still
+  as_many : m.orders ≡ l.orders - 1 + 1
+  as_many =
+      let counted = are.orders k in
+      let l_is = said-is how-many levels k l level in
+      let own = one-own k o refl in
+      let at_p = ap (one_in k) here in
+      let member = member-seen (one_in k) nodes nodes' p (Some y) seen refl in
+      omega (arith, orders, counted, l_is, own, at_p, member)
 
   pub change : AreLevels nodes' levels'
   change = record {
@@ -154,5 +165,7 @@ module _ (nodes : List Node) (levels levels' : List Level) (are : AreLevels node
     };
     rings = rings';
     in_order = changes.order;
-    left = left-changed;
+    left = said-changed what-is-left (leaves o) (leaves y) (left-own k (Some o) o refl refl)
+        (left-own k (Some y) y refl replaces.key) are.left left;
+    orders = said-changed how-many 1 1 (one-own k o refl) (one-own k y replaces.key) are.orders as_many;
   }

@@ -1,7 +1,7 @@
--- An order comes into the levels: the rings, the order of the levels and what they have left are right again.
-use Rattle.std.proofs.Common.{◌≡◌, ℕ, ◌+◌, ◌*◌, ◌^◌, ◌<◌, ◌≤◌, inl, inr, List, length, Option, Some, None, refl, ap}
+-- An order comes into the levels: the rings, the order of the levels, and what these say of orders are right again.
+use Rattle.std.proofs.Common.{◌≡◌, ℕ, ◌+◌, ◌*◌, ◌^◌, ◌<◌, ◌≤◌, List, length, Option, Some, None, refl, ap}
 use Rattle.std.proofs.Common.{sym, subst, ◌∙◌, arith}
-use Rattle.std.specs.Prelude.{◌≢◌, option_map, MatchOption, unwrap_or}
+use Rattle.std.specs.Prelude.{◌≢◌, option_map, MatchOption}
 use Rattle.std.proofs.Math.Decide.{ℕ_discrete}
 use Rattle.venue_model.specs.declared.orders.Order.{Order}
 use Rattle.venue_model.specs.Orders.{leaves}
@@ -11,16 +11,17 @@ use Rattle.price_levels.specs.declared.nodes.Node.{Node}
 use Rattle.price_levels.specs.Places.{ComesLater}
 use Rattle.price_levels.specs.Keys.{key_of}
 use Rattle.price_levels.specs.Arena.{At, End, leads_to, end_to, key_at, node_at, order_at, first_of, last_of}
-use Rattle.price_levels.specs.Arena.{next_point, prev_point, places_of, left_of, total_left, AreLevels, node_behind}
+use Rattle.price_levels.specs.Arena.{next_point, prev_point, places_of, left_of, orders_of, AreLevels, node_behind}
 use Rattle.price_levels.specs.Arena.{nodes_with, IsWithinNodes}
-use Rattle.price_levels.proofs.KeyLemmas.{decide_key}
 use Rattle.price_levels.proofs.Rings.{Moves, Sets, rings-come, some-same, not-here, key-before}
 use Rattle.price_levels.proofs.RingLaws.{Stands, stands}
 use Rattle.price_levels.proofs.LevelLists.{Changes}
 use Rattle.price_levels.proofs.PointLemmas.{Turns, moves}
 use Rattle.price_levels.proofs.NodeLemmas.{Seen, seen-sets, order-is, within-nodes, with-seen, with-here, with-next}
 use Rattle.price_levels.proofs.NodeLemmas.{with-next-else, with-prev}
-use Rattle.price_levels.proofs.LeftLemmas.{left-own, left-other, left-elsewhere, left-here}
+use Rattle.price_levels.proofs.LeftLemmas.{Share, what-is-left, how-many, said_of, total_of, said-is, said-here}
+use Rattle.price_levels.proofs.LeftLemmas.{said-again}
+use Rattle.price_levels.proofs.LeftLemmas.{left-own, one-own}
 
 -- the last order of a level stands
 pub last-stands : (nodes : List Node) (levels : List Level) → AreLevels nodes levels → (k : Key) (q : ℕ)
@@ -38,7 +39,8 @@ module _ (nodes : List Node) (levels levels' : List Level) (are : AreLevels node
     (last_is : last ≡ last_of levels (key_of o)) (changes : Changes levels levels' (key_of o) (Some m))
     (m_last : m.last ≡ p)
     (m_first : MatchOption last (m.first ≡ p) (λ q. Some m.first ≡ first_of levels (key_of o)))
-    (m_left : m.left ≡ left_of levels (key_of o) + leaves o) where
+    (m_left : m.left ≡ left_of levels (key_of o) + leaves o)
+    (m_orders : m.orders ≡ orders_of levels (key_of o) + 1) where
   abbrev k : Key
   k = key_of o
 
@@ -118,18 +120,16 @@ module _ (nodes : List Node) (levels levels' : List Level) (are : AreLevels node
     price = ap (λ (j : Key). j.price) key;
   })
 
-  left-come : (j : Key) → left_of levels' j ≡ total_left j (places_of nodes')
-  left-come j = elim (decide_key j k) [
-    | inl is ↦ subst (λ i. left_of levels' i ≡ total_left i (places_of nodes')) (sym is)
-        (left-here nodes nodes' levels levels' p None (Some o) k seen free are.left changes.others (λ i other. refl)
-        (λ i other. left-other i o (λ e. other (sym e)))
-        0 (leaves o) refl (left-own k (Some o) o refl refl)
-        (let m_is = ap (λ l. unwrap_or (option_map (λ (n : Level). n.left) l) 0) changes.here in
-        omega (arith, m_is, m_left)))
-    | inr other ↦ left-elsewhere nodes nodes' levels levels' p None (Some o) k seen free are.left changes.others
-        (λ i h. refl)
-        (λ i h. left-other i o (λ e. h (sym e))) j other
-  ]
+  said-come : (s : Share) (n : ℕ) → s.part k (Some o) ≡ n
+      → ((j : Key) → said_of s levels j ≡ total_of s j (places_of nodes)) → s.told m ≡ said_of s levels k + n
+      → (j : Key) → said_of s levels' j ≡ total_of s j (places_of nodes')
+  said-come s n part said told =
+      let not_here = λ (j : Key) (other : j ≢ k). s.nothing j in
+      let not_there = λ (j : Key) (other : j ≢ k). s.other j o (λ e. other (sym e)) in
+      let m_is = said-is s levels' k m changes.here in
+      said-again s nodes nodes' levels levels' p None (Some o) k seen free said changes.others not_here not_there
+      (said-here s nodes nodes' levels levels' p None (Some o) k seen free said changes.others not_here not_there
+      0 n (s.nothing k) part (omega (arith, m_is, told)))
 
   pub come : AreLevels nodes' levels'
   come = record {
@@ -150,5 +150,6 @@ module _ (nodes : List Node) (levels levels' : List Level) (are : AreLevels node
         (subst (λ a. Moves (prev_point nodes levels) (prev_point nodes' levels') (At p) (End k) a (At p))
         (sym before-end) prev-moves);
     in_order = changes.order;
-    left = left-come;
+    left = said-come what-is-left (leaves o) (left-own k (Some o) o refl refl) are.left m_left;
+    orders = said-come how-many 1 (one-own k o refl) are.orders m_orders;
   }

@@ -20,7 +20,7 @@ use Rattle.price_levels.proofs.NodeLemmas.{order-is}
 use Rattle.price_levels.proofs.LeftLemmas.{each-small}
 use Rattle.price_levels.proofs.Totals.{same-sum, exchange, same-either, once, all-found}
 use Rattle.price_levels.proofs.Leavings.{has-level}
-use Rattle.price_levels.proofs.Ends.{left-is}
+use Rattle.price_levels.proofs.LeftLemmas.{what-is-left, said-is}
 use Rattle.price_levels.proofs.Groups.{false-if, of-not-before, crossed-of, no-further}
 
 module _ {X : Type 0} where
@@ -182,7 +182,7 @@ module _ (symbol : List ℕ) (side : Side) (price : ℕ) where
         (places_of nodes)) levels
     left-known = all-found (λ l. when (key_crossed symbol side price l.key) l.left ≡ sum_by (λ x. adds l.key x)
         (places_of nodes)) levels are.in_order (λ l is.
-        ap (when (key_crossed symbol side price l.key)) (sym (left-is levels l.key l is) ∙ are.left l.key)
+        ap (when (key_crossed symbol side price l.key)) (sym (said-is what-is-left levels l.key l is) ∙ are.left l.key)
         ∙ when-sum (key_crossed symbol side price l.key) (left_in l.key) (places_of nodes))
 
     pub crossing-is : sum_by (λ (l : Level). when

@@ -10,10 +10,10 @@ use Rattle.price_levels.specs.declared.keys.Key.{Key}
 use Rattle.price_levels.specs.declared.nodes.Node.{Node}
 use Rattle.price_levels.specs.Places.{Places, standing}
 use Rattle.price_levels.specs.Arena.{Point, At, End, leads_to, key_at, vacant, node_at, order_at, next_point}
-use Rattle.price_levels.specs.Arena.{prev_point, places_of, total_left, IsArena, AreLevels, IsLevels}
+use Rattle.price_levels.specs.Arena.{prev_point, places_of, IsArena, AreLevels, IsLevels}
 use Rattle.price_levels.proofs.ArenaLemmas.{bit, count-end}
 use Rattle.price_levels.proofs.NodeLemmas.{order-is}
-use Rattle.price_levels.proofs.LeftLemmas.{none-left}
+use Rattle.price_levels.proofs.LeftLemmas.{Share, what-is-left, how-many, total_of, none-given}
 
 -- each number below this one, once
 pub record AreFirst (free : List ℕ) (n : ℕ) : Type 0 where
@@ -71,8 +71,8 @@ prev-itself : (n : ℕ) (x : Point) → prev_point (replicate n vacant) [] x ≡
 prev-itself n (At p) = ap (λ o. leads_to o (node_at (replicate n vacant) p).prev p) (empty-at n p)
 prev-itself n (End k) = refl
 
-empty-left-of : (n : ℕ) (k : Key) → total_left k (places_of (replicate n vacant)) ≡ 0
-empty-left-of n k = none-left k (places_of (replicate n vacant)) (λ p o is. absurd (none-is n p o (sym (order-is
+empty-said-of : (s : Share) (n : ℕ) (k : Key) → total_of s k (places_of (replicate n vacant)) ≡ 0
+empty-said-of s n k = none-given s k (places_of (replicate n vacant)) (λ p o is. absurd (none-is n p o (sym (order-is
     (replicate n vacant) p) ∙ is)))
 
 pub empty-levels : (n : ℕ) → n * 1000000 < 2 ^ 64 → AreLevels (replicate n vacant) []
@@ -90,7 +90,8 @@ empty-levels n fits = record {
     apart = λ p q o x is also key stamp. absurd (none-is n p o is);
   };
   in_order = tt;
-  left = λ k. sym (empty-left-of n k);
+  left = λ k. sym (empty-said-of what-is-left n k);
+  orders = λ k. sym (empty-said-of how-many n k);
 }
 
 vacant-there : (t : Bool) (o : Option Order) → o ≡ None → bit t ≡ bit (t && is_none o)

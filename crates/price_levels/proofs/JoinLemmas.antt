@@ -14,11 +14,11 @@ use Rattle.price_levels.specs.Arena.{order_at, places_of, holds, IsArena, AreLev
 use Rattle.price_levels.proofs.LevelLists.{IsLevelAt, Changes, found-holds, opened, replaced, level-is, none-there}
 use Rattle.price_levels.proofs.NodeLemmas.{Seen, within-nodes, with-seen}
 use Rattle.price_levels.proofs.ArenaLemmas.{taken-vacant, taken}
-use Rattle.price_levels.proofs.LeftLemmas.{total-fits}
+use Rattle.price_levels.proofs.LeftLemmas.{total-fits, orders-few, what-is-left, how-many, said-is}
 use Rattle.price_levels.proofs.Comings.{last-stands, come}
 use Rattle.price_levels.proofs.Totals.{few}
 use Rattle.price_levels.proofs.ShortenLemmas.{set-with}
-use Rattle.price_levels.proofs.Ends.{Searched, left-is, whole}
+use Rattle.price_levels.proofs.Ends.{Searched, whole}
 
 -- an order comes to the last of the free places: a search found where its level is or would be
 pub record Comes (nodes : List Node) (free : List ℕ) (levels : List Level) (place at : ℕ) (o : Order) (there : Bool)
@@ -65,7 +65,7 @@ module _ {nodes : List Node} {free : List ℕ} {levels : List Level} {place at :
         within-nodes nodes l.last last.order last.is
 
     abbrev longer : Level
-    longer = record { key = l.key; first = l.first; last = place; left = l.left + leaves o }
+    longer = record { key = l.key; first = l.first; last = place; left = l.left + leaves o; orders = l.orders + 1 }
 
     longer-changes : Changes levels (levels_with levels at (longer ∷ [])) (key_of o) (Some longer)
     longer-changes = replaced levels at (key_of o) l it.ordered.in_order level-at longer refl
@@ -75,14 +75,23 @@ module _ {nodes : List Node} {free : List ℕ} {levels : List Level} {place at :
         vacant-there.0 vacant-there.1 it.total it.later
         (sym (ap (option_map (λ (m : Level). m.last)) level-found)) longer-changes refl
         (sym (ap (option_map (λ (m : Level). m.first)) level-found))
-        (ap (λ n. n + leaves o) (sym (left-is levels (key_of o) l level-found)))
+        (ap (λ n. n + leaves o) (sym (said-is what-is-left levels (key_of o) l level-found)))
+        (ap (λ n. n + 1) (sym (said-is how-many levels (key_of o) l level-found)))
 
     pub join-fits : l.left + leaves o < 2 ^ 64
     join-fits =
         let fits = total-fits (nodes_with nodes (Some l.last) place o i) longer-come.bounds (key_of o) in
         let left = longer-come.left (key_of o) in
-        let is = left-is (levels_with levels at (longer ∷ [])) (key_of o) longer longer-changes.here in
+        let is = said-is what-is-left (levels_with levels at (longer ∷ [])) (key_of o) longer longer-changes.here in
         omega (arith, fits, left, is)
+
+    pub count-fits : l.orders + 1 < 2 ^ 64
+    count-fits =
+        let few = orders-few (key_of o) nodes in
+        let fits = it.ordered.bounds.fits in
+        let orders = it.ordered.orders (key_of o) in
+        let is = said-is how-many levels (key_of o) l level-found in
+        omega (arith, few, fits, orders, is)
 
     join-seen : Seen nodes (nodes_with nodes (Some l.last) place o i) place (Some o)
     join-seen = with-seen nodes (Some l.last) place o i join-last vacant-there.0
@@ -93,11 +102,13 @@ module _ {nodes : List Node} {free : List ℕ} {levels : List Level} {place at :
 
     pub join-levels : (nodes' : List Node) (levels' : List Level) (left : ℕ)
         → nodes' ≡ nodes_with nodes (Some l.last) place o i → left ≡ leaves o
-        → levels' ≡ slice_set levels at (record l { last = place; left = l.left + left }) → IsLevels nodes' free levels'
+        → levels' ≡ slice_set levels at (record l { last = place; left = l.left + left; orders = l.orders + 1 })
+        → IsLevels nodes' free levels'
     join-levels nodes' levels' left nodes_are left_is levels_are =
         whole nodes' (nodes_with nodes (Some l.last) place o i) free free levels' (levels_with levels at (longer ∷ []))
         nodes_are refl
-        (levels_are ∙ ap (λ x. slice_set levels at (record l { last = place; left = l.left + x })) left_is
+        (levels_are
+        ∙ ap (λ x. slice_set levels at (record l { last = place; left = l.left + x; orders = l.orders + 1 })) left_is
         ∙ set-with levels at longer level-at.within)
         (taken nodes free place it.arena (nodes_with nodes (Some l.last) place o i) o join-seen) longer-come
 
@@ -107,7 +118,7 @@ module _ {nodes : List Node} {free : List ℕ} {levels : List Level} {place at :
     is_none = it.holds_is ∙ no
 
     abbrev alone : Level
-    alone = record { key = key_of o; first = place; last = place; left = leaves o }
+    alone = record { key = key_of o; first = place; last = place; left = leaves o; orders = 1 }
 
     no-level : level_of (key_of o) levels ≡ None
     no-level = none-there levels at (key_of o) it.ordered.in_order it.search.before it.search.behind is_none
@@ -121,20 +132,23 @@ module _ {nodes : List Node} {free : List ℕ} {levels : List Level} {place at :
 
     pub open-levels : (nodes' : List Node) (levels' : List Level) (k : Key) (left : ℕ)
         → nodes' ≡ nodes_with nodes None place o i → k ≡ key_of o → left ≡ leaves o
-        → levels' ≡ insert levels at (record { key = k; first = place; last = place; left = left })
+        → levels' ≡ insert levels at (record { key = k; first = place; last = place; left = left; orders = 1 })
         → IsLevels nodes' free levels'
     open-levels nodes' levels' k left nodes_are k_is left_is levels_are =
         whole nodes' (nodes_with nodes None place o i) free free levels' (insert levels at alone) nodes_are refl
         (levels_are
-        ∙ ap (λ (j : Key). insert levels at (record { key = j; first = place; last = place; left = left })) k_is
-        ∙ ap (λ x. insert levels at (record { key = key_of o; first = place; last = place; left = x })) left_is)
+        ∙ ap (λ (j : Key). insert levels at
+        (record { key = j; first = place; last = place; left = left; orders = 1 })) k_is
+        ∙ ap (λ x. insert levels at
+        (record { key = key_of o; first = place; last = place; left = x; orders = 1 })) left_is)
         (taken nodes free place it.arena (nodes_with nodes None place o i) o open-seen)
         (come nodes levels (insert levels at alone) it.ordered place o i None alone vacant-there.0 vacant-there.1
         it.total
         it.later (sym (ap (option_map (λ (m : Level). m.last)) no-level))
         (opened levels at alone it.ordered.in_order it.search.before it.search.behind is_none) refl refl
         (sym (zero-add (leaves o)) ∙ ap (λ x. unwrap_or (option_map (λ (m : Level). m.left) x) 0 + leaves o)
-        (sym no-level)))
+        (sym no-level))
+        (ap (λ x. unwrap_or (option_map (λ (m : Level). m.orders) x) 0 + 1) (sym no-level)))
 
     -- there is room for one more level where there is for one more order
     pub open-room : length (standing (places_of nodes)) < length nodes → length levels < length nodes

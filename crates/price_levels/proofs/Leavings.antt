@@ -1,5 +1,5 @@
--- An order leaves the levels: the rings, the order of the levels and what they have left are right again.
-use Rattle.std.proofs.Common.{◌≡◌, ℕ, ◌-◌, ◌*◌, ◌^◌, ◌<◌, inl, inr, List, length, Option, Some, None, refl, ap, sym}
+-- An order leaves the levels: the rings, the order of the levels, and what these say of their orders are right again.
+use Rattle.std.proofs.Common.{◌≡◌, ℕ, ◌-◌, ◌*◌, ◌^◌, ◌<◌, List, length, Option, Some, None, refl, ap, sym}
 use Rattle.std.proofs.Common.{subst, ◌∙◌, arith}
 use Rattle.std.specs.Prelude.{◌≢◌, option_map, MatchOption, unwrap_or}
 use Rattle.venue_model.specs.declared.orders.Order.{Order}
@@ -9,16 +9,17 @@ use Rattle.price_levels.specs.declared.keys.Level.{Level}
 use Rattle.price_levels.specs.declared.nodes.Node.{Node}
 use Rattle.price_levels.specs.Keys.{key_of, level_of}
 use Rattle.price_levels.specs.Arena.{Point, At, End, leads_to, end_to, AreRings, key_at, node_at, order_at, first_of}
-use Rattle.price_levels.specs.Arena.{last_of, next_point, prev_point, places_of, left_of, total_left, AreLevels}
+use Rattle.price_levels.specs.Arena.{last_of, next_point, prev_point, places_of, left_of, orders_of, AreLevels}
 use Rattle.price_levels.specs.Arena.{nodes_without, IsWithinNodes}
-use Rattle.price_levels.proofs.KeyLemmas.{decide_key}
 use Rattle.price_levels.proofs.Rings.{Moves, Sets, rings-left, not-here, key-before, leads-on, leads-back}
 use Rattle.price_levels.proofs.RingLaws.{Stands, stands, first}
 use Rattle.price_levels.proofs.LevelLists.{Changes}
 use Rattle.price_levels.proofs.PointLemmas.{Turns, moves}
 use Rattle.price_levels.proofs.NodeLemmas.{Seen, seen-sets, within-nodes, without-seen, without-next, without-next-else}
 use Rattle.price_levels.proofs.NodeLemmas.{without-prev, without-prev-else}
-use Rattle.price_levels.proofs.LeftLemmas.{left-own, left-other, left-elsewhere, left-here, empty-left}
+use Rattle.price_levels.proofs.LeftLemmas.{Share, what-is-left, how-many, said_of, total_of, said-is, said-here}
+use Rattle.price_levels.proofs.LeftLemmas.{said-again}
+use Rattle.price_levels.proofs.LeftLemmas.{left-own, one-own, empty-given}
 
 module _ (nodes : List Node) (levels : List Level) (are : AreLevels nodes levels) (p : ℕ) (o : Order)
     (here : order_at nodes p ≡ Some o) where
@@ -86,7 +87,8 @@ module _ (nodes : List Node) (levels : List Level) (are : AreLevels nodes levels
       (l : Level). l.first) v ≡ first_of levels (key_of o)))
       (lasts : MatchOption next (option_map (λ (l : Level). l.last) v ≡ prev) (λ q. option_map (λ
       (l : Level). l.last) v ≡ last_of levels (key_of o)))
-      (lefts : MatchOption v ((prev ≡ None) × (next ≡ None)) (λ m. m.left ≡ left_of levels (key_of o) - leaves o)) where
+      (lefts : MatchOption v ((prev ≡ None) × (next ≡ None)) (λ m. m.left ≡ left_of levels (key_of o) - leaves o))
+      (counts : MatchOption v ((prev ≡ None) × (next ≡ None)) (λ m. m.orders ≡ orders_of levels (key_of o) - 1)) where
     abbrev k : Key
     k = key_of o
 
@@ -186,29 +188,25 @@ module _ (nodes : List Node) (levels : List Level) (are : AreLevels nodes levels
     rings' = rings-left (order_at nodes) next-at prev-at are.rings (order_at nodes') (next_point nodes' levels')
         (prev_point nodes' levels') p o here sets next-moves prev-moves
 
-    left-now : (x : Option Level) → level_of k levels' ≡ x → MatchOption x ((prev ≡ None) × (next ≡ None))
-        (λ m. m.left ≡ left_of levels k - leaves o) →
-        MatchOption prev (option_map (λ (l : Level). l.first) x ≡ next)
-        (λ q. option_map (λ (l : Level). l.first) x ≡ first_of levels k) →
-        left_of levels' k ≡ total_left k (places_of nodes')
-    left-now None is gone first =
-        ap (λ l. unwrap_or (option_map (λ (n : Level). n.left) l) 0) is
-        ∙ sym (empty-left nodes' (next_point nodes' levels') (prev_point nodes' levels') rings' k
-        (ap (λ l. end_to (option_map (λ
-        (m : Level). m.first) l) k) is))
-    left-now (Some m) is less first = left-here nodes nodes' levels levels' p (Some o) None k seen here are.left
-        changes.others
-        (λ i other. left-other i o (λ e. other (sym e))) (λ i other. refl) (leaves o) 0
-        (left-own k (Some o) o refl refl) refl
-        (let m_is = ap (λ l. unwrap_or (option_map (λ (n : Level). n.left) l) 0) is in omega (arith, m_is, less))
+    module _ (s : Share) (n : ℕ) (part : s.part k (Some o) ≡ n)
+        (said : (j : Key) → said_of s levels j ≡ total_of s j (places_of nodes)) where
+      not-here-now : (j : Key) → j ≢ k → s.part j (Some o) ≡ 0
+      not-here-now j other = s.other j o (λ e. other (sym e))
 
-    left-gone : (j : Key) → left_of levels' j ≡ total_left j (places_of nodes')
-    left-gone j = elim (decide_key j k) [
-      | inl is ↦ subst (λ i. left_of levels' i ≡ total_left i (places_of nodes')) (sym is)
-          (left-now v changes.here lefts firsts)
-      | inr other ↦ left-elsewhere nodes nodes' levels levels' p (Some o) None k seen here are.left changes.others
-          (λ i h. left-other i o (λ e. h (sym e))) (λ i h. refl) j other
-    ]
+      said-now : (x : Option Level) → level_of k levels' ≡ x → MatchOption x ((prev ≡ None) × (next ≡ None))
+          (λ m. s.told m ≡ said_of s levels k - n) → said_of s levels' k ≡ total_of s k (places_of nodes')
+      said-now None is gone =
+          ap (λ l. unwrap_or (option_map s.told l) 0) is
+          ∙ sym (empty-given s nodes' (next_point nodes' levels') (prev_point nodes' levels') rings' k
+          (ap (λ l. end_to (option_map (λ (m : Level). m.first) l) k) is))
+      said-now (Some m) is less = said-here s nodes nodes' levels levels' p (Some o) None k seen here said
+          changes.others not-here-now (λ j other. s.nothing j) n 0 part (s.nothing k)
+          (let m_is = said-is s levels' k m is in omega (arith, m_is, less))
+
+      said-gone : MatchOption v ((prev ≡ None) × (next ≡ None)) (λ m. s.told m ≡ said_of s levels k - n) → (j : Key)
+          → said_of s levels' j ≡ total_of s j (places_of nodes')
+      said-gone less = said-again s nodes nodes' levels levels' p (Some o) None k seen here said changes.others
+          not-here-now (λ j other. s.nothing j) (said-now v changes.here less)
 
     pub gone : AreLevels nodes' levels'
     gone = record {
@@ -218,5 +216,6 @@ module _ (nodes : List Node) (levels : List Level) (are : AreLevels nodes levels
       };
       rings = rings';
       in_order = changes.order;
-      left = left-gone;
+      left = said-gone what-is-left (leaves o) (left-own k (Some o) o refl refl) are.left lefts;
+      orders = said-gone how-many 1 (one-own k o refl) are.orders counts;
     }

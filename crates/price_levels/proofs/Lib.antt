@@ -30,3 +30,4 @@ mod FoundLemmas
 mod NamedLadders
 mod LadderEnds
 mod GapLemmas
+mod Depths

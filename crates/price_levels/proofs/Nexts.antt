@@ -35,7 +35,7 @@ module _ (nodes : List Node) (levels : List Level) (are : AreLevels nodes levels
   is-at q x is = order-is nodes q ∙ is
 
   -- one that came later into its level stands no nearer than its neighbour
-  no-nearer : (q r : ℕ) (x y : Order) → (node_at nodes p).next ≡ Some r → order_at nodes r ≡ Some y
+  pub no-nearer : (q r : ℕ) (x y : Order) → (node_at nodes p).next ≡ Some r → order_at nodes r ≡ Some y
       → order_at nodes q ≡ Some x →
       key_of x ≡ key_of o → o.stamp < x.stamp →
       y.stamp ≤ x.stamp
@@ -50,7 +50,7 @@ module _ (nodes : List Node) (levels : List Level) (are : AreLevels nodes levels
       omega (arith, stamp, least)
 
   -- without a neighbour none came later
-  none-later : (q : ℕ) (x : Order) → (node_at nodes p).next ≡ None → order_at nodes q ≡ Some x → key_of x ≡ key_of o
+  pub none-later : (q : ℕ) (x : Order) → (node_at nodes p).next ≡ None → order_at nodes q ≡ Some x → key_of x ≡ key_of o
       → o.stamp < x.stamp → ⊥
   none-later q x next at_q key later =
       let near = next-behind (order_at nodes) (next_point nodes levels) (prev_point nodes levels) are.rings p q o x here

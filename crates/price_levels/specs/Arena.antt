@@ -80,9 +80,22 @@ left_in k (Some o) = if same_key (key_of o) k then leaves o else 0
 abbrev pub total_left : Key → Places → ℕ
 total_left k places = sum_by (left_in k) places
 
+-- an order counts in the level of a key
+abbrev pub one_in : Key → Option Order → ℕ
+one_in k None = 0
+one_in k (Some o) = if same_key (key_of o) k then 1 else 0
+
+-- how many orders a level has
+abbrev pub total_orders : Key → Places → ℕ
+total_orders k places = sum_by (one_in k) places
+
 -- what the level of a key says of it
 abbrev pub left_of : List Level → Key → ℕ
 left_of levels k = unwrap_or (option_map (λ l. l.left) (level_of k levels)) 0
+
+-- how many orders the level of a key says that it has
+abbrev pub orders_of : List Level → Key → ℕ
+orders_of levels k = unwrap_or (option_map (λ l. l.orders) (level_of k levels)) 0
 
 -- a place among the nodes without an order counts 1, any other number 0
 abbrev pub vacancy : List Node → ℕ → ℕ
@@ -99,11 +112,13 @@ pub record InBounds (nodes : List Node) : Type 0 where
   pub fits : length nodes * 1000000 < 2 ^ 64
 
 -- the levels of the orders that stand: rings in the order of their stamps, in the order of their keys, with what is left
+-- and how many orders they are
 pub record AreLevels (nodes : List Node) (levels : List Level) : Type 0 where
   pub bounds : InBounds nodes
   pub rings : AreRings (order_at nodes) (next_point nodes levels) (prev_point nodes levels)
   pub in_order : InOrder levels
   pub left : (k : Key) → left_of levels k ≡ total_left k (places_of nodes)
+  pub orders : (k : Key) → orders_of levels k ≡ total_orders k (places_of nodes)
 
 pub record IsLevels (nodes : List Node) (free : List ℕ) (levels : List Level) : Type 0 where
   pub arena : IsArena nodes free
@@ -143,8 +158,12 @@ outmost (Some q) other p = p
 -- what is left of a level without one of its orders
 abbrev pub level_without : Level → Option ℕ → Option ℕ → ℕ → List Level
 level_without l None None quantity = []
-level_without l (Some p) next quantity = record l { last = outmost next (Some p) l.last; left = l.left - quantity } ∷ []
-level_without l None (Some q) quantity = record l { first = q; left = l.left - quantity } ∷ []
+level_without l (Some p) next quantity = record l {
+  last = outmost next (Some p) l.last;
+  left = l.left - quantity;
+  orders = l.orders - 1;
+} ∷ []
+level_without l None (Some q) quantity = record l { first = q; left = l.left - quantity; orders = l.orders - 1 } ∷ []
 
 -- the levels with one of them replaced
 abbrev pub levels_with : List Level → ℕ → List Level → List Level

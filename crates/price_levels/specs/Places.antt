@@ -1,9 +1,9 @@
 -- What contracts see of the levels: a list of places, each with an order or free; and what the calls say of it.
-use Rattle.std.specs.Prelude.{◌≡◌, ◌≢◌, ℕ, ◌+◌, ◌*◌, ◌^◌, ◌<◌, ◌≤◌, Bool, true, false, ◌&&◌, List, [], ◌∷◌, Option, Some, None, MatchOption, get_or, sum_by, filter, option_map, slice_set}
+use Rattle.std.specs.Prelude.{◌≡◌, ◌≢◌, ℕ, ◌+◌, ◌*◌, ◌^◌, ◌<◌, ◌≤◌, Bool, true, false, ◌&&◌, nat_eq, List, [], ◌∷◌, Option, Some, None, MatchOption, get_or, sum_by, filter, option_map, slice_set}
 use Rattle.std.specs.Str.{bytes_eq}
 use Rattle.venue_model.specs.declared.orders.Side.{Side}
 use Rattle.venue_model.specs.declared.orders.Order.{Order}
-use Rattle.venue_model.specs.Orders.{leaves, meets, ahead}
+use Rattle.venue_model.specs.Orders.{leaves, meets, same_side, ahead}
 use Rattle.venue_model.specs.Match.{filled}
 
 -- the places in their order: a free one holds None
@@ -111,3 +111,7 @@ crosses_at symbol side price o = bytes_eq symbol o.symbol && meets side price o.
 -- what all orders that it would cross have left
 abbrev pub crossing_leaves : List ℕ → Side → ℕ → Places → ℕ
 crossing_leaves symbol side price places = sum_by leaves (filter (crosses_at symbol side price) (standing places))
+
+-- an order of this symbol, side and price
+abbrev pub rests_at : List ℕ → Side → ℕ → Order → Bool
+rests_at symbol side price o = bytes_eq o.symbol symbol && (same_side o.side side && nat_eq o.price price)

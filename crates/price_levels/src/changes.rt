@@ -54,6 +54,7 @@ pub(crate) fn push(
         let longer = Level {
             last: place,
             left: level.left + order.leaves(),
+            orders: level.orders + 1,
             ..level
         };
         ladders.set(rung, longer);
@@ -65,6 +66,7 @@ pub(crate) fn push(
             first: place,
             last: place,
             left: order.leaves(),
+            orders: 1,
         };
         ladders.insert(rung, alone);
     }
@@ -98,26 +100,16 @@ fn shorten(
     ensures room { ladders.new.room ≡ ladders.old.room }
 {
     let level = ladders.level(rung);
-    let left = level.left.saturating_sub(quantity);
+    let shorter = Level {
+        left: level.left.saturating_sub(quantity),
+        orders: level.orders.saturating_sub(1),
+        ..level
+    };
     match (prev, next) {
         (None, None) => ladders.remove(rung),
-        (None, Some(first)) => ladders.set(
-            rung,
-            Level {
-                first,
-                left,
-                ..level
-            },
-        ),
-        (Some(last), None) => ladders.set(
-            rung,
-            Level {
-                last,
-                left,
-                ..level
-            },
-        ),
-        (Some(_), Some(_)) => ladders.set(rung, Level { left, ..level }),
+        (None, Some(first)) => ladders.set(rung, Level { first, ..shorter }),
+        (Some(last), None) => ladders.set(rung, Level { last, ..shorter }),
+        (Some(_), Some(_)) => ladders.set(rung, shorter),
     }
 }
 

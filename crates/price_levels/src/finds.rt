@@ -1,12 +1,14 @@
-//! What is found among the levels: the best order of a symbol and side, the next one, and what an order would cross.
+//! What is found among the levels: the best order of a symbol and side, the next one, what an order would cross, and
+//! what rests at one price.
 ghost use Rattle.std.specs.Prelude.{◌≡◌, ◌≢◌, ◌<◌, ◌^◌, None, MatchOption};
 ghost use Rattle.price_levels.specs.Places.{NoneOf, PricedBest, NoneBehind, NextBehind, crossing_leaves};
 ghost use Rattle.price_levels.specs.Keys.{key_with, key_crossed, same_key};
-ghost use Rattle.price_levels.specs.Arena.{AreLevels, crossed_left, of_side, first_in, holds, places_of, order_at};
+ghost use Rattle.price_levels.specs.Arena.{AreLevels, crossed_left, of_side, first_in, holds, places_of, order_at, total_left, total_orders};
 ghost use Rattle.price_levels.specs.Ladders.{NameLadders, all};
 
 use crate::keys::Level;
 use crate::ladders::{Ladders, Rung};
+use crate::levels::Depth;
 use crate::nodes::Node;
 use venue_model::{Order, Side, Symbol};
 
@@ -126,4 +128,31 @@ pub(crate) fn crossing_total(
 {
     let (from, _first) = ladders.search_side(symbol, side.opposite());
     ladders.crossed_left(from, symbol, side, price)
+}
+
+/// What rests in the level of a symbol, side and price.
+pub(crate) fn depth(
+    nodes: &Vec<Node>,
+    ladders: &Ladders,
+    symbol: &Symbol,
+    side: Side,
+    price: u64,
+) -> Depth
+    requires { AreLevels nodes.now.items (all ladders.now) }
+    ensures quantity { result.quantity ≡ total_left (key_with symbol.now side price) (places_of nodes.now.items) }
+    ensures orders { result.orders ≡ total_orders (key_with symbol.now side price) (places_of nodes.now.items) }
+{
+    let ladder = ladders.ladder_of(symbol, side);
+    let (rung, holds) = ladders.search_in(ladder, symbol, side, price);
+    if !holds {
+        return Depth {
+            quantity: 0,
+            orders: 0,
+        };
+    }
+    let level = ladders.level(rung);
+    Depth {
+        quantity: level.left,
+        orders: level.orders,
+    }
 }

@@ -21,13 +21,15 @@ pub(crate) struct Key {
     pub(crate) price: u64,
 }
 
-/// One price of one symbol and side: the places of its first and last order, and what all of them have left.
+/// One price of one symbol and side: the places of its first and last order, what all of its orders have left, and how
+/// many they are.
 #[derive(Clone, Copy)]
 pub(crate) struct Level {
     pub(crate) key: Key,
     pub(crate) first: usize,
     pub(crate) last: usize,
     pub(crate) left: u64,
+    pub(crate) orders: u64,
 }
 
 /// The level that an order rests in.

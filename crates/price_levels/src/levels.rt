@@ -1,9 +1,10 @@
 //! The levels: where orders rest, each found by its place. All room is made at the start.
-ghost use Rattle.std.specs.Prelude.{◌≡◌, ◌≢◌, ◌<◌, ◌≤◌, ◌+◌, ◌-◌, ◌*◌, ◌^◌, None, Some, length, get_or, slice_set, replicate, IfOk, MatchOption};
-ghost use Rattle.price_levels.specs.Places.{standing, ComesLater, StandsAt, NoneOf, BestOf, PricedBest, NoneBehind, NextBehind, HoldsAt, LeavesSome, CanAmend, reduced, renamed_to, changed, crossing_leaves};
+ghost use Rattle.std.specs.Prelude.{◌≡◌, ◌≢◌, ◌<◌, ◌≤◌, ◌+◌, ◌-◌, ◌*◌, ◌^◌, None, Some, length, filter, sum_by, get_or, slice_set, replicate, IfOk, MatchOption};
+ghost use Rattle.venue_model.specs.Orders.{leaves};
+ghost use Rattle.price_levels.specs.Places.{standing, rests_at, ComesLater, StandsAt, NoneOf, BestOf, PricedBest, NoneBehind, NextBehind, HoldsAt, LeavesSome, CanAmend, reduced, renamed_to, changed, crossing_leaves};
 
 use crate::changes::{change, push, take_out};
-use crate::finds::{after, best, crossing_total};
+use crate::finds::{after, best, crossing_total, depth};
 use crate::ladders::Ladders;
 use crate::nodes::{Node, VACANT};
 use crate::reads::{ReadCounter, Reads};
@@ -31,6 +32,15 @@ impl Place {
     {
         self.number
     }
+}
+
+/// What rests at one price of a symbol and side.
+#[derive(Clone, Copy, Debug, PartialEq, Eq)]
+pub struct Depth {
+    /// What its orders have left, in sum.
+    pub quantity: u64,
+    /// How many orders they are.
+    pub orders: u64,
 }
 
 /// Resting orders, linked within their price levels. Contracts see the list of places: what stands at each of them.
@@ -208,5 +218,13 @@ impl Levels {
         ensures { result ≡ crossing_leaves symbol.now side price self.now }
     {
         crossing_total(&self.nodes, &self.ladders, symbol, side, price)
+    }
+
+    /// What rests at this price of a symbol and side. It looks at no other level, and reads no order.
+    pub fn depth(&self, symbol: &Symbol, side: Side, price: u64) -> Depth
+        ensures quantity { result.quantity ≡ sum_by leaves (filter (rests_at symbol.now side price) (standing self.now)) }
+        ensures orders { result.orders ≡ length (filter (rests_at symbol.now side price) (standing self.now)) }
+    {
+        depth(&self.nodes, &self.ladders, symbol, side, price)
     }
 }

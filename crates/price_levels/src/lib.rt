@@ -11,5 +11,5 @@ mod levels;
 mod nodes;
 mod reads;
 
-pub use levels::{Levels, Place};
+pub use levels::{Depth, Levels, Place};
 pub use reads::{ReadCounter, Reads};

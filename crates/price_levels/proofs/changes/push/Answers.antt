@@ -2,7 +2,8 @@
 use Rattle.std.proofs.Common.{◌+◌, Some, None, rules, refl, sym, subst, arith}
 use Rattle.price_levels.specs.Ladders.{NameLadders, all, rung_number}
 use Rattle.price_levels.proofs.LadderEnds.{same-key}
-use Rattle.price_levels.proofs.JoinLemmas.{Comes, comes, vacant-there, join-last, join-fits, join-places, join-levels}
+use Rattle.price_levels.proofs.JoinLemmas.{Comes, comes, vacant-there, join-last, join-fits, count-fits, join-places}
+use Rattle.price_levels.proofs.JoinLemmas.{join-levels}
 use Rattle.price_levels.proofs.JoinLemmas.{open-room, open-places, open-levels}
 use Rattle.price_levels.proofs.NamedLadders.{with-named}
 use Rattle.price_levels.proofs.changes.push.Goals.{After-search_in-holds}
@@ -38,10 +39,17 @@ overflow_add-longer c =
     c.if-holds.true _ c.level-level.ensures in
     omega (arith, fits, c.leaves.ensures)
 
+pub overflow_add-longer-then-holds : goal.overflow_add-longer-then-holds
+overflow_add-longer-then-holds c =
+    let fits = count-fits (it (goal.at.overflow_add-longer-then-holds c).After-search_in-holds)
+    c.ladder_of-ladder.result c.if-holds.true _ c.level-level.ensures in
+    omega (arith, fits)
+
 pub set-requires-clause-key : goal.set-requires-clause-key
 set-requires-clause-key c =
     let old = c.level-level.result in
-    let longer = record old { last = c.unwrap-place.result; left = old.left + c.leaves.result } in
+    let longer = record old { last = c.unwrap-place.result; left = old.left + c.leaves.result; orders = old.orders + 1 }
+    in
     same-key _ _ old longer (c.search_in-holds.ensures.on c.if-holds.true) c.level-level.ensures refl
 
 pub insert-requires-clause-room : goal.insert-requires-clause-room
