@@ -1,13 +1,14 @@
-# Completion of the words of gikvand, venued and venue-replay, for bash. As a package has it, it is loaded with the first of
-# these words; else: source contrib/gikvand.bash. tests/package.py compares it with what the programs take.
+# Completion of the words of gikvand, venued, venue-replay, venue-events and gikvand-edge, for bash. As a package has it, it is loaded
+# with the first of these words; else: source contrib/gikvand.bash. tests/package compares it with what the programs take.
 # shellcheck shell=bash
 
 _gikvand_members=(C1 C2 C3 C4 C5 C6 C7 C8)
 declare -gA _gikvand_options=(
-    [verify]="--symbols"
-    [reports]="--after --symbols --csv --json"
-    [trades]="--after --symbols --csv --json"
+    [verify]="--symbols --edge"
+    [reports]="--after --symbols --edge --csv --json"
+    [trades]="--after --symbols --edge --csv --json"
     [follow]="--once"
+    [audit]="--check"
     [why]="--symbols"
     [watch]="--prometheus --quick --symbols"
     [board]="--port --symbols"
@@ -74,7 +75,7 @@ _gikvand_place() {
     case $command:$# in
         trade:*) _gikvand_request "$begun" "$journal" "$@" ;;
         demo:*) ;;
-        *:0 | follow:1) _gikvand_files "$begun" ;;
+        *:0 | follow:1 | audit:1) _gikvand_files "$begun" ;;
         reports:1) _gikvand_of "$begun" "${_gikvand_members[@]}" ;;
         verify:*)
             compopt -o nospace 2>/dev/null
@@ -97,14 +98,15 @@ _gikvand() {
     for ((at = 2; at < ${#words[@]} - 1; at++)); do
         case ${words[at]} in
             --journal) journal=${words[++at]} ;;
-            --symbols | --after | --port | --member) ((at += 1)) ;;
+            --journal=*) journal=${words[at]#*=} ;;
+            --symbols | --after | --port | --member | --edge) ((at += 1)) ;;
             -*) ;;
             *) given+=("${words[at]}") ;;
         esac
     done
     case $before:$begun in
-        --journal:*) _gikvand_files "$begun" ;;
-        --member:*) _gikvand_of "$begun" 1 2 3 4 5 6 7 8 ;;
+        --journal:* | --edge:* | *:--journal=* | *:--edge=*) _gikvand_files "${begun#--*=}" ;;
+        --member:* | *:--member=*) _gikvand_of "${begun#--*=}" 1 2 3 4 5 6 7 8 ;;
         --symbols:* | --after:* | --port:*) ;;
         *:-*) _gikvand_of "$begun" "${_gikvand_options[$command]-}" --help ;;
         *:*=*) _gikvand_files "${begun#*=}" ;;
@@ -140,6 +142,40 @@ _venue_replay() {
     esac
 }
 
+_venue_events() {
+    local words
+    COMPREPLY=()
+    _gikvand_words
+    local begun=${words[-1]}
+    case ${#words[@]}:${words[3]-} in
+        2:*) _gikvand_files "$begun" ;;
+        3:*) _gikvand_of "$begun" once follow ;;
+        4:-*) _gikvand_of "$begun" --after ;;
+        5:--after) ;;
+        *:--after) _gikvand_symbols "$begun" "${words[1]}" "${words[@]:5:${#words[@]}-6}" ;;
+        *) _gikvand_symbols "$begun" "${words[1]}" "${words[@]:3:${#words[@]}-4}" ;;
+    esac
+}
+
+_gikvand_edge() {
+    local words options="--all --member"
+    COMPREPLY=()
+    _gikvand_words
+    local begun=${words[-1]} given=("${words[@]:1:${#words[@]}-2}")
+    if [[ ${given[0]-} == --check ]]; then
+        given=("${given[@]:1}")
+    else
+        options+=" --check --version"
+    fi
+    case ${#given[@]}:${given[0]-}:$begun in
+        0::-*) _gikvand_of "$begun" "$options" ;;
+        1:--member:*) _gikvand_of "$begun" "${_gikvand_members[@]}" ;;
+        0::* | 1:--all:* | 2:--member:*) _gikvand_files "$begun" ;;
+    esac
+}
+
 complete -F _gikvand gikvand
 complete -F _venued venued
 complete -F _venue_replay venue-replay
+complete -F _venue_events venue-events
+complete -F _gikvand_edge gikvand-edge

@@ -3,12 +3,15 @@
     gikvand day JOURNAL [SYMBOL...] >day.svg
 
 The symbols are those of the journal, all of them and in their order; where they are left out, those that JOURNAL.symbols
-keeps. Each has a row of two charts on one price axis. On the left, over the places of the venue's outputs (ExecID, 17),
-stand the best prices as each command left them, and each trade, pointing up where the order that came in bought and down
-where it sold, and hollow where that was a market order. On the right stands the depth. Prices far from all trades and best
-prices are left out there, and counted below. It reads by venue-replay, and may be run while venued serves.
+keeps. Each has a row of two charts on one price axis. On the left, over the places of the venue's outputs (ExecID, 17) and
+the times of their messages, stand the best prices as each command left them, and each trade, pointing up where the order that
+came in bought and down where it sold, and hollow where that was a market order. Below stands how much was traded. Few prices
+far from all others don't stretch the axis: such trades stand at its edge, and a line says how many they are. On the right stands
+the depth. Prices far from all trades and best prices are left out there, and counted. It reads by venue-events, and may be run
+while venued serves.
 """
 import argparse
+import bisect
 import collections
 import dataclasses
 import math
@@ -16,13 +19,19 @@ import os
 from xml.sax.saxutils import escape
 
 from gikvand import symbols
-from gikvand.merged import reports
-from gikvand.programs import Replay, Trouble
+from gikvand.events import Events
+from gikvand.files import shown
+from gikvand.fix import fields_of
+from gikvand.programs import Trouble
 
 BUY, SELL = "1", "2"
 COLOURS = {BUY: "#0072b2", SELL: "#d55e00"}  # Told apart with any colour vision, and by their lightness.
 TRADE, TEXT, LINE, FAINT = "#1a1a1a", "#333333", "#888888", "#e4e4e4"
-WIDTH, TOP, ROW, LEFT, GAP, CHART = 1100, 96, 360, 70, 70, 640
+WIDTH, TOP, ROW, LEFT, GAP, CHART = 1100, 96, 440, 96, 84, 600
+PRICES, VOLUME = 240, 48  # The heights of both charts of the left side.
+BARS = 60                 # Bars of what was traded.
+FAR = 3                   # Prices that lie so many times further out than the middle half is wide are far from all others;
+A_LITTLE, FEW = 0.02, 10  # but not those as near as such a part of the price, or as so many ticks.
 DEPTH_LEFT = LEFT + CHART + GAP
 DEPTH = WIDTH - DEPTH_LEFT - 30
 
@@ -33,37 +42,30 @@ class Trade:
     price: int
     quantity: int
     side: str  # Of the order that came in.
-    is_market: bool = False  # Whether that was a market order.
+    is_market: bool  # Whether that was a market order.
 
 
 class Day:
     """The day of one symbol: its trades, the best price of each side as it changed, and the depth at the end."""
 
     def __init__(self):
-        self.resting, self.trades, self.depth = {}, [], collections.Counter()
-        self.orders = {BUY: collections.Counter(), SELL: collections.Counter()}
-        self.best = {BUY: [], SELL: []}
+        self.trades, self.depth, self.best = [], {BUY: {}, SELL: {}}, {BUY: [], SELL: []}
 
-    def take(self, place, report):
-        """Takes a report in. Of a trade's two reports the second is the incoming order's, and stands for the trade."""
-        order, side = report["37"], report["54"]
-        if previous := self.resting.pop(order, None):
-            self.orders[side] -= collections.Counter([previous])
-        is_market = "44" not in report  # It has no price, and never rests.
-        if report["151"] != "0" and not is_market:
-            self.resting[order] = int(report["44"])
-            self.orders[side][self.resting[order]] += 1
-        if report["150"] == "F":
-            previous = self.trades[-1] if self.trades else None
-            if previous and previous.side == "" and previous.place == place - 1:
-                previous.place, previous.side, previous.is_market = place, side, is_market
-            else:
-                self.trades.append(Trade(place, int(report["31"]), int(report["32"]), ""))
+    def trade(self, report):
+        """Takes a trade in by the report to the order that came in, which is the second of its two."""
+        self.trades.append(Trade(int(report["17"]), int(report["31"]), int(report["32"]), report["54"], "44" not in report))
+
+    def change(self, level):
+        """Takes in what rests at a price now."""
+        if level.quantity:
+            self.depth[level.side][level.price] = level.quantity
+        else:
+            self.depth[level.side].pop(level.price, None)
 
     def settle(self, place):
         """Notes the best prices behind a command whose last output has this place."""
         for side, best in ((BUY, max), (SELL, min)):
-            price = best(self.orders[side], default=None)
+            price = best(self.depth[side], default=None)
             if (self.best[side][-1][1] if self.best[side] else None) != price:
                 self.best[side].append((place, price))
 
@@ -72,12 +74,24 @@ class Day:
         best = [price for side in self.best.values() for _, price in side if price is not None]
         return [*best, *(trade.price for trade in self.trades)]
 
+    def span(self):
+        """The lowest and the highest of these prices that aren't far from all others."""
+        found = sorted(self.prices())
+        first, middle, last = (found[(len(found) - 1) * at // 4] for at in (1, 2, 3))
+        room = max(FAR * (last - first), middle * A_LITTLE, FEW)
+        near = [it for it in found if first - room <= it <= last + room]
+        return near[0], near[-1]
+
 
 class Axis:
     """A range of numbers on a range of the picture."""
 
     def __init__(self, low, high, at, length):
         self.low, self.high, self.start, self.length = low, max(high, low + 1), at, length
+
+    def within(self, number):
+        """The number, or the last whole one of the range on that side."""
+        return min(max(number, math.ceil(self.low)), math.floor(self.high))
 
     def at(self, number):
         return self.start + self.length * (number - self.low) / (self.high - self.low)
@@ -90,27 +104,20 @@ class Axis:
         return range(math.ceil(self.low / step) * step, math.floor(self.high) + 1, step)
 
 
-def begins(report):
-    """Whether a report is the first of its command: it isn't a fill, nor an end that the order's own terms made."""
-    return not (report["150"] == "F" or report["150"] == "4" and "41" not in report)
-
-
 def days(journal, traded):
-    """The day of each symbol, and the counts of commands and outputs, up to one moment."""
-    found, last = {symbol: Day() for symbol in traded}, None
-    book = Replay(journal, "book", traded)
-    for line in book:
-        symbol, side, price, left = line.split()[:4]
-        found[symbol].depth[side, int(price)] += int(left)
-    for place, _, report in reports(journal, traded, most=book.outputs):
-        if last and begins(report):
-            last[1].settle(last[0])
-        if report["55"] in found:
-            last = (place, found[report["55"]])
-            last[1].take(place, report)
-    if last:
-        last[1].settle(last[0])
-    return found, (book.commands, book.outputs)
+    """The day of each symbol, the counts of commands and outputs, up to one moment, and the places at which the time went on."""
+    found, times, events = {symbol: Day() for symbol in traded}, [], Events(journal, traded)
+    for event in events:
+        told = [fields_of(it.text.decode()) for it in event.reports if it.text.startswith(b"35=8|")]
+        if told and (not times or times[-1][1] != told[0]["52"]):
+            times.append((int(told[0]["17"]), told[0]["52"]))
+        for report in [it for it in told if it["150"] == "F"][1::2]:
+            found[report["55"]].trade(report)
+        for level in event.levels:
+            found[level.symbol].change(level)
+        for symbol in {it.symbol for it in event.levels}:
+            found[symbol].settle(int(told[-1]["17"]))
+    return found, (events.commands, events.outputs), times
 
 
 def text(x, y, words, size=12, anchor="start", more=""):
@@ -138,69 +145,107 @@ def steps(changes, end, across, up, colour):
         if price is None:
             pen = False
             continue
-        parts.append(f"{'L' if pen else 'M'}{across.at(place):.1f},{up.at(price):.1f}H{across.at(until):.1f}")
+        parts.append(f"{'L' if pen else 'M'}{across.at(place):.1f},{up.at(up.within(price)):.1f}H{across.at(until):.1f}")
         pen = True
     return f'<path d="{"".join(parts)}" fill="none" stroke="{colour}" stroke-width="2"/>' if parts else ""
 
 
-def frame(across, up, what, about):
-    """A chart's ground: a grid, both axes with numbers, and what the lower one counts."""
+def frame(across, up):
+    """A chart's ground: a grid, and the upright axis with its numbers."""
     left, right, bottom, top = across.start, across.start + across.length, up.start, up.start + up.length
     drawn = []
     for tick in up.ticks(8):
         y = up.at(tick)
         drawn += [line(left, y, right, y, FAINT), line(left - 5, y, left, y)]
         drawn.append(text(left - 9, y + 4, f"{tick:,}", 11, "end"))
+    return [*drawn, line(left, bottom, right, bottom), line(left, top, left, bottom)]
+
+
+def foot(across, bottom, what, about, named=None):
+    """A lower axis with its numbers, and what it counts; below a number stands the name that it has, too."""
+    drawn = [line(across.start, bottom, across.start + across.length, bottom)]
     for tick in across.ticks(about):
         x = across.at(tick)
         drawn += [line(x, bottom, x, bottom + 5), text(x, bottom + 18, f"{tick:,}", 11, "middle")]
-    drawn += [line(left, bottom, right, bottom), line(left, top, left, bottom)]
-    return [*drawn, text((left + right) / 2, bottom + 36, what, 12, "middle")]
+        if named and (name := named(tick)):
+            drawn.append(text(x, bottom + 32, name, 11, "middle"))
+    return [*drawn, text(across.start + across.length / 2, bottom + (50 if named else 36), what, 12, "middle")]
 
 
-def left_chart(day, outputs, up):
-    """Best prices and trades over the places of outputs."""
+def volume(day, across, top):
+    """How much was traded, over the same places."""
+    sums, width = collections.Counter(), across.high / BARS
+    for it in day.trades:
+        sums[min(BARS - 1, int(it.place / width))] += it.quantity
+    most = max(sums.values(), default=1)
+    drawn = [text(across.start - 9, top + 10, f"at most {most:,}" if sums else "", 11, "end")]
+    for at, quantity in sorted(sums.items()):
+        height = max(1.0, (VOLUME - 4) * quantity / most)
+        x, end = across.at(at * width), across.at((at + 1) * width)
+        drawn.append(f'<rect class="volume" x="{x + 0.5:.1f}" y="{top + VOLUME - height:.1f}" width="{end - x - 1:.1f}" '
+                     f'height="{height:.1f}" fill="{LINE}"><title>{quantity:,} traded</title></rect>')
+    return [*drawn, line(across.start, top, across.start, top + VOLUME)]
+
+
+def left_chart(day, outputs, up, times):
+    """Best prices and trades over the places of outputs, and what was traded."""
     end = outputs + 1
-    across = Axis(0, end, LEFT, CHART)
-    drawn = frame(across, up, "place among all outputs of the venue (ExecID, 17)", 8)
+    across, top = Axis(0, end, LEFT, CHART), up.start + 10
+    places = [place for place, _ in times]
+    def time_at(place):
+        at = bisect.bisect_right(places, place) - 1
+        return times[at][1][len("20250102-"):] if at >= 0 else ""
+    drawn = [*frame(across, up), *volume(day, across, top),
+             *foot(across, top + VOLUME, "place among all outputs of the venue (ExecID, 17), and the time of its message", 8,
+                   time_at)]
     middle = up.start + up.length / 2
     drawn.append(text(18, middle, "price in ticks", 12, "middle", f'transform="rotate(-90 18 {middle:.1f})"'))
     for side in (BUY, SELL):
         drawn.append(steps(day.best[side], end, across, up, COLOURS[side]))
     size = 4 if len(day.trades) < 300 else 3 if len(day.trades) < 2000 else 2
-    return drawn + [marker(across.at(it.place), up.at(it.price), it.side, size, it.is_market) for it in day.trades]
+    drawn += [marker(across.at(it.place), up.at(up.within(it.price)), it.side, size, it.is_market) for it in day.trades]
+    if far := [it.price for it in day.trades if it.price != up.within(it.price)]:
+        words = f"{plural(len(far), 'trade')} at the edge: the prices are {min(far):,} to {max(far):,}"
+        drawn.append(text(LEFT + CHART, up.start + up.length - 8, words, 11, "end"))
+    return drawn
+
+
+def plural(count, noun):
+    return f"{count:,} {noun}{'' if count == 1 else 's'}"
 
 
 def right_chart(day, up):
     """What rests at the end, by price."""
-    shown = {key: left for key, left in day.depth.items() if up.low <= key[1] <= up.high}
+    depth = {(side, price): left for side, levels in day.depth.items() for price, left in levels.items()}
+    shown = {key: left for key, left in depth.items() if up.low <= key[1] <= up.high}
     across = Axis(0, 1.04 * max(shown.values(), default=1), DEPTH_LEFT, DEPTH)
-    drawn = frame(across, up, "quantity that rests at the end", 3)
+    drawn = [*frame(across, up), *foot(across, up.start, "quantity that rests at the end", 3)]
     thick = max(1.5, min(12, 0.8 * abs(up.at(1) - up.at(0))))
     for (side, price), left in sorted(shown.items()):
         box = f'x="{DEPTH_LEFT}" y="{up.at(price) - thick / 2:.1f}" height="{thick:.1f}"'
         drawn.append(f'<rect {box} width="{across.at(left) - DEPTH_LEFT:.1f}" fill="{COLOURS[side]}"/>')
-    if further := {key: left for key, left in day.depth.items() if key not in shown}:
-        words = f"{len(further)} prices further off aren't shown: {sum(further.values()):,} rest there"
+    if further := {key: left for key, left in depth.items() if key not in shown}:
+        count, rest = len(further), sum(further.values())
+        words = f"{plural(count, 'price')} further off {'is' if count == 1 else 'are'}n't shown: {rest:,} rest there"
         drawn.append(text(DEPTH_LEFT + DEPTH / 2, up.start + 52, words, 11, "middle"))
     return drawn
 
 
-def row(symbol, day, outputs, top):
+def row(symbol, day, outputs, top, times):
     """The two charts of a symbol."""
     if not day.prices():
         return [text(LEFT, top + 20, f"{symbol}: no order rested, and none was filled", 15)]
     traded = sum(it.quantity for it in day.trades)
-    words = f"{symbol}: {len(day.trades):,} trades, {traded:,} traded" if day.trades else f"{symbol}: no trades"
+    words = f"{symbol}: {plural(len(day.trades), 'trade')} of {plural(traded, 'unit')}" if day.trades else f"{symbol}: no trades"
     if day.trades:
         words += f", the last at {day.trades[-1].price:,}"
     if by_market := sum(it.is_market for it in day.trades):
         words += f"; {by_market:,} by market orders"
-    low, high = min(day.prices()), max(day.prices())
+    low, high = day.span()
     room = max(2, math.ceil(0.15 * (high - low)))
-    up = Axis(max(0, low - room) - 0.5, high + room + 0.5, top + ROW - 80, -(ROW - 120))
+    up = Axis(max(0, low - room) - 0.5, high + room + 0.5, top + 50 + PRICES, -PRICES)
     title = text(LEFT, top + 20, words, 15, more='font-weight="bold"')
-    return [title, *left_chart(day, outputs, up), *right_chart(day, up)]
+    return [title, *left_chart(day, outputs, up, times), *right_chart(day, up)]
 
 
 def legend():
@@ -209,10 +254,10 @@ def legend():
     for side, words in ((BUY, "best bid; buys that rest"), (SELL, "best offer; sells that rest")):
         drawn += [f'<line x1="{x}" y1="{y - 4}" x2="{x + 26}" y2="{y - 4}" stroke="{COLOURS[side]}" stroke-width="3"/>',
                   text(x + 33, y, words)]
-        x += 215
+        x += 205
     for side, words in ((BUY, "trade, by a buy that came in"), (SELL, "trade, by a sell that came in")):
         drawn += [marker(x + 8, y - 4, side, 5), text(x + 20, y, words)]
-        x += 215
+        x += 205
     for at, side in enumerate((BUY, SELL)):
         drawn.append(marker(x + 8 + 14 * at, y - 4, side, 5, True))
     return [*drawn, text(x + 34, y, "by a market order")]
@@ -220,15 +265,15 @@ def legend():
 
 def picture(journal, traded):
     """The whole picture, part by part."""
-    found, (commands, outputs) = days(journal, traded)
+    found, (commands, outputs), times = days(journal, traded)
     height = TOP + ROW * len(traded)
     head = f'<svg xmlns="http://www.w3.org/2000/svg" width="{WIDTH}" height="{height}" viewBox="0 0 {WIDTH} {height}"'
-    title = f"The day in {os.path.basename(journal)}: {commands:,} commands, {outputs:,} outputs"
+    title = f"The day in {shown(os.path.basename(journal))}: {commands:,} commands, {outputs:,} outputs"
     yield f'{head} font-family="DejaVu Sans, Helvetica, Arial, sans-serif" fill="{TEXT}">'
     yield from (f"<title>{escape(title)}</title>", '<rect width="100%" height="100%" fill="white"/>')
     yield from (text(LEFT, 36, title, 20, more='font-weight="bold"'), *legend())
     for place, symbol in enumerate(traded):
-        yield from filter(None, row(symbol, found[symbol], outputs, TOP + ROW * place))
+        yield from filter(None, row(symbol, found[symbol], outputs, TOP + ROW * place, times))
     yield "</svg>"
 
 

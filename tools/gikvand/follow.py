@@ -12,13 +12,12 @@ to another one. Else its header and its last megabytes are, by which a copy of a
 of it is compared between looks. Where it differs then, it has got what came meanwhile.
 
 It prints how many entries the copy has, and by how many bytes it is behind: once it has caught up and is compared, every ten
-seconds while something comes, and at its end. The status is 0 at an end by a signal too, and 2 where it can't go on: where the
-copy isn't a beginning, or can't be written, or the journal was replaced, became shorter or is damaged. The copy is then as whole
-as at any other moment.
+seconds while something comes, and at its end. Each line begins with the time of day. The status is 0 at an end by a signal too,
+and 2 where it can't go on: where the copy isn't a beginning, can't be written, or isn't there any more; or where the journal was
+replaced, written over, became shorter or is damaged. A copy that is there is then as whole as at any other moment.
 """
 import argparse
 import contextlib
-import fcntl
 import os
 import signal
 import time
@@ -26,16 +25,17 @@ from collections.abc import Iterator
 from typing import BinaryIO
 
 from gikvand import locks, mends, symbols
+from gikvand.files import is_named, make, need_regular, opened, write_all, writing
 from gikvand.journals import CLOSED, OPEN, Block, Damaged, NotAJournal, Reader, exactly, header
-from gikvand.words import Trouble, some
+from gikvand.words import Trouble, some, stamped, time_of_day
 
 ENDS = {signal.SIGTERM, signal.SIGINT}
 A_RUN = 1 << 20   # About so many bytes are written between two syncs, where so many wait.
 A_TAIL = 2 << 20  # So many last bytes of a copy are compared first: mostly more than a run leaves behind a gate.
 PAUSE = 0.05      # Seconds between two looks for what has come,
 A_PIECE = 0.02    # and between two while the copy is compared.
-EVERY = 10        # Seconds between two lines.
-PRIVATE = 0o600
+EVERY = 10        # Seconds between two lines, and between two looks whether the journal was written over.
+A_LOOK = 1 << 12  # So many last bytes are looked at then.
 
 
 def add_words(parser: argparse.ArgumentParser) -> None:
@@ -57,43 +57,6 @@ def signals_held() -> Iterator[None]:
 def has_signal(seconds: float) -> bool:
     """Whether a signal has come that ends it, or comes within this time."""
     return signal.sigtimedwait(ENDS, seconds) is not None
-
-
-def sync_folder(path: str) -> None:
-    folder = os.open(os.path.dirname(os.path.abspath(path)), os.O_RDONLY)
-    try:
-        os.fsync(folder)
-    finally:
-        os.close(folder)
-
-
-def write_all(fd: int, data: bytes, at: int) -> None:
-    while data:
-        count = os.pwrite(fd, data, at)
-        data, at = data[count:], at + count
-
-
-@contextlib.contextmanager
-def writing(path: str, stands: str = "") -> Iterator[None]:
-    """Says which file can't be written, and what stands there."""
-    try:
-        yield
-    except OSError as why:
-        raise Trouble(f"{path} can't be written: {why.strerror}{stands}") from why
-
-
-def make(path: str, data: bytes) -> None:
-    """Makes a file of these bytes, which has its name once they are on the device."""
-    new = f"{path}.new"
-    with writing(path):
-        fd = os.open(new, os.O_WRONLY | os.O_CREAT | os.O_TRUNC, PRIVATE)
-        try:
-            write_all(fd, data, 0)
-            os.fsync(fd)
-        finally:
-            os.close(fd)
-        os.rename(new, path)
-        sync_folder(path)
 
 
 def common(one: bytes, other: bytes) -> int:
@@ -122,7 +85,7 @@ class Source:
 
     def __init__(self, path: str, another: str = "another journal wants another copy") -> None:
         self.path, self.another = path, another
-        self.file = open(path, "rb", buffering=0)  # A buffer would show gates as they were.
+        self.file = opened(path, buffering=0)  # A buffer would show gates as they were.
         try:
             self.reader = Reader(self.file)
         except NotAJournal:
@@ -163,14 +126,18 @@ class Source:
 
     def check(self) -> None:
         """Stops where the name has another file now, or the file has lost what was read of it."""
-        try:
-            is_same = os.path.samestat(os.stat(self.path), os.fstat(self.file.fileno()))
-        except FileNotFoundError:
-            is_same = False
-        if not is_same:
+        if not is_named(self.path, self.file.fileno()):
             raise Trouble(f"{self.path} isn't the file any more that it was: {self.another}")
         if self.size() <= self.reader.gate:
             raise Trouble(f"{self.path} has become shorter than what was read of it")
+
+    def look_back(self, copy: "Copy") -> None:
+        """Stops where the journal hasn't any more what was read of it: its header, and its last bytes."""
+        for start in (0, max(0, copy.gate - A_LOOK)):
+            end = min(copy.gate, start + A_LOOK)
+            ours = os.pread(copy.fd, end - start, start)
+            if os.pread(self.file.fileno(), end - start, start) != ours:
+                raise Trouble(f"{self.path} or {copy.path} was written over: they differ before the byte {end}")
 
 
 class Copy:
@@ -182,14 +149,17 @@ class Copy:
             raise Trouble(f"{path} is the journal itself")
         if not os.path.lexists(path):
             make(path, header(source.reader.version, source.reader.cut) + CLOSED)
+        need_regular(path, os.stat(path).st_mode)
         self.file = open(path, "r+b", buffering=0)
         self.fd = self.file.fileno()
-        try:
-            fcntl.flock(self.file, fcntl.LOCK_EX | fcntl.LOCK_NB)
-        except BlockingIOError:
-            pid = locks.holder(path)
-            raise Trouble(f"{path} is in use by {locks.name_of(pid) if pid else 'another process'}") from None
+        locks.take(self.fd, path)
         self.gate = self.first_gate(source)
+
+    def check(self) -> None:
+        """Stops where the name has another file now, or none."""
+        if not is_named(self.path, self.fd):
+            raise Trouble(f"{self.path} isn't the file any more that it was: what came since isn't in the one of that name. Begin "
+                          "a new copy")
 
     def first_gate(self, source: Source) -> int:
         """The offset behind its header. Stops where that isn't the journal's."""
@@ -289,12 +259,28 @@ class Lines:
 
     def say(self, more: str = "") -> None:
         self.said_at, self.last = time.monotonic(), self.line()
-        print(f"{self.last}{more}", flush=True)
+        print(stamped(f"{self.last}{more}"), flush=True)
 
     def say_in_time(self) -> None:
-        """A line where ten seconds have gone by, and another one is due."""
-        if time.monotonic() - self.said_at >= EVERY and self.line() != self.last:
-            self.say()
+        """A line where ten seconds have gone by, and another one is due. The journal is looked at once more before it."""
+        if time.monotonic() - self.said_at >= EVERY:
+            self.source.look_back(self.copy)
+            if self.line() != self.last:
+                return self.say()
+            self.said_at = time.monotonic()
+
+
+def come_since(source: Source, copy: Copy, comparison: Comparison) -> bytes:
+    """What has come, where the journal is still the one that was read. What looks like damage may be another journal."""
+    try:
+        blocks = source.blocks()
+    except Trouble:
+        if comparison.is_done:
+            source.look_back(copy)
+        raise
+    if blocks and comparison.is_done:
+        source.look_back(copy)
+    return blocks
 
 
 def ship(source: Source, copy: Copy, comparison: Comparison, end: int | None) -> None:
@@ -302,19 +288,22 @@ def ship(source: Source, copy: Copy, comparison: Comparison, end: int | None) ->
     lines, has_caught_up = Lines(copy, source), False
     while True:
         source.check()
-        if blocks := source.blocks():
+        copy.check()
+        if blocks := come_since(source, copy, comparison):
             copy.add(blocks)
         if not comparison.is_done:
             comparison.go_on(A_PIECE if len(blocks) < A_RUN else 0)
             continue
         is_end = end is not None and (not blocks or copy.gate > end)
         if is_end or not blocks and not has_caught_up:
+            source.look_back(copy)
             copy.cut_off()
             lines.say()
             has_caught_up = True
         if is_end:
             return
         if has_signal(0 if blocks else PAUSE):
+            source.look_back(copy)
             return lines.say(", ended by a signal")
         lines.say_in_time()
 
@@ -347,6 +336,8 @@ def run(given: argparse.Namespace) -> int:
             comparison = begin(source, copy, not given.once)
             keep_symbols(given.journal, given.copy)
             ship(source, copy, comparison, end)
+        except Trouble as why:
+            raise Trouble(why if given.once else f"{why} (at {time_of_day()})") from None
         except Ended:
-            print(f"{given.copy}: ended by a signal, while it was compared")
+            print(stamped(f"{given.copy}: ended by a signal, while it was compared"))
     return 0

@@ -1,8 +1,11 @@
-"""A member's own log of FIX: the venue's messages in it, whatever stands between them, and whether the venue told them so."""
+"""A member's own log of FIX: the venue's messages in it, whatever stands between them, and whether the venue told them so. Or what
+`gikvand reports` has printed, and the log of a member behind the edge."""
+import itertools
 import re
 from collections.abc import Iterable, Iterator
 from typing import BinaryIO
 
+from gikvand.edge import Edge, as_compared, printed_as_compared
 from gikvand.fix import REPORTS, fields_of, printed, value
 from gikvand.rules import sealed
 
@@ -10,15 +13,19 @@ from gikvand.rules import sealed
 MESSAGE = re.compile(rb"8=FIX\.4\.4(\x01|\||\^A)9=\d+\1(?:(?!8=FIX).)*?\1(?:10=\d{3})(?!\d)", re.DOTALL)
 LONGEST = 4096        # Of a message in a log, in bytes.
 PIECE = 1 << 20       # So many bytes are read at once.
+PRINTED = re.compile(rb"35=[389]\|52=[^\n]*\|")  # A line as `gikvand reports` prints it.
 HEADER = re.compile(r"8=[^|]*\|9=[^|]*\|(35=[^|]*\|)49=VENUE\|56=C\d\|34=[^|]*\|(52=[^|]*\|)(.*)10=\d{3}\|")
 
 
-def messages(file: BinaryIO) -> Iterator[bytes]:
-    """The messages of a log, with the byte 01 behind each field."""
-    rest = b""
-    while piece := file.read(PIECE):
-        data, end = rest + piece, 0
+def messages(file: BinaryIO, rest: bytes = b"") -> Iterator[bytes]:
+    """The messages of a log, with the byte 01 behind each field. Its beginning may have been read already."""
+    is_end = False
+    while not is_end:
+        piece = file.read(PIECE)
+        is_end, data, end = not piece, rest + piece, 0
         for found in MESSAGE.finditer(data):
+            if not is_end and found.end() == len(data):
+                break  # The next byte may be a further digit.
             end = found.end()
             yield found[0].replace(found[1], b"\x01") + b"\x01"
         rest = data[max(end, len(data) - LONGEST):]
@@ -30,12 +37,32 @@ def is_whole(message: bytes) -> bool:
     return sealed(body) == message
 
 
-def reports(file: BinaryIO, member: str) -> Iterator[tuple[str, bool]]:
-    """The venue's reports to this member in a log, as venue-replay prints them, and whether each is whole."""
-    for message in messages(file):
+Logged = tuple[str, bool, bool]  # A report, whether it is whole, and whether it may be there twice, as it was sent again.
+
+
+def reports(file: BinaryIO, member: str, edge: Edge | None = None) -> Iterator[Logged]:
+    """The venue's reports to this member in a log, as venue-replay prints them."""
+    if PRINTED.match(first := file.readline(LONGEST)):
+        for line in itertools.chain([first], file):
+            if found := PRINTED.fullmatch(line.strip()):
+                text = found[0].decode("ascii", "replace")
+                yield printed_as_compared(text) if edge else text, True, False
+        return
+    if edge:
+        yield from of_the_edge(file, int(member[1:]), edge, first)
+        return
+    for message in messages(file, first):
         head = HEADER.fullmatch(text := printed(message))
         if head and value(text, "56") == member and value(text, "35") in REPORTS:
-            yield f"{head[1]}{head[2]}{head[3]}", is_whole(message)
+            yield f"{head[1]}{head[2]}{head[3]}", is_whole(message), False
+
+
+def of_the_edge(file: BinaryIO, member: int, edge: Edge, first: bytes) -> Iterator[Logged]:
+    """The same of a member behind the edge, in the form in which that gives them to compare. What was missed is sent again."""
+    for message in messages(file, first):
+        told = fields_of(printed(message))
+        if edge.is_to(member, told):
+            yield as_compared(told), is_whole(message), "Y" in (told.get("43"), told.get("97"))
 
 
 def place_of(report: str) -> int | None:
@@ -73,13 +100,18 @@ class Compared:
 
     def __init__(self, told: Iterable[str]) -> None:
         self.told, self.last = Told(told), 0
-        self.found = self.missed = 0
+        self.found = self.missed = self.logged = 0
         self.waiting: list[str] = []  # Reports of the log that have no places, behind the last one that has.
+        self.known: set[str] = set()  # Those that have none and may come, sent again: the log has had them, or misses them.
 
-    def compare(self, logged: Iterable[tuple[str, bool]]) -> Iterator[str]:
+    def compare(self, logged: Iterable[Logged]) -> Iterator[str]:
         """What is wrong with the log, line by line."""
-        for report, whole in logged:
-            place = place_of(report)
+        for report, whole, is_again in logged:
+            self.logged, place = self.logged + 1, place_of(report)
+            if is_again and (report in self.known if place is None else place <= self.last):
+                continue
+            if place is None:
+                self.known.add(report)
             if not whole:
                 yield f"the log has another text than its length and CheckSum say: {report}"
             elif place is None:
@@ -101,6 +133,7 @@ class Compared:
             else:
                 yield f"the venue didn't tell it, or not there: {report}"
         self.waiting = []
+        self.known.update(without)
         self.found, self.missed = self.found + met, self.missed + count + len(without) - met
 
     def meet(self, place: int, report: str) -> Iterator[str]:

@@ -3,13 +3,17 @@ import argparse
 import importlib
 import os
 import sys
+from collections.abc import Callable
+from typing import TextIO
 
-from gikvand.words import Trouble
+from gikvand.files import Output
+from gikvand.words import Trouble, text_of
 
 COMMANDS = {"verify": "says whether a journal, or a copy of one, is whole and unchanged",
             "reports": "shows what a member was told, as to one who was away",
             "trades": "lists the trades, each once with both of its sides",
             "follow": "ships a journal to a copy, also while it is in use",
+            "audit": "keeps a log of when each block came, and of all bytes before it",
             "why": "says why a journal isn't opened: which cause fault 41 has, which block fault 42",
             "watch": "looks at a venue once: its process, journal, disk and members",
             "board": "shows a journal as a page for a browser, also while it is in use",
@@ -34,39 +38,98 @@ def version() -> str:
 
 def stop(line: str) -> int:
     """The status of what couldn't be done, with a line that says why."""
-    print(line, file=sys.stderr)
+    try:
+        print(line, file=sys.stderr, flush=True)
+    except OSError:
+        forget(sys.stderr)
     return NOT_DONE
+
+
+def forget(output: TextIO) -> None:
+    """What this output holds can't be written: else Python would say that once more at its end."""
+    if isinstance(output, Output):
+        output.forget()
+
+
+def ended(name: str, work: Callable[[], int], about: dict[str, str]) -> int:
+    """Does this work of the command of this name, and answers the status, however that ends. A fault of the system that has no
+    file's name in it is one of the journal, where there is one."""
+    try:
+        try:
+            return work()
+        finally:
+            sys.stdout.flush()  # Behind the help of a command, too, which ends by an exit of its own.
+    except Trouble as why:
+        return stop(f"{name}: {why}")
+    except BrokenPipeError:
+        forget(sys.stdout)
+        return NOT_DONE
+    except OSError as why:
+        forget(sys.stdout)
+        file = why.filename or about.get("journal")
+        return stop(f"{name}: {f'{file}: ' if file else ''}{why.strerror or why}")
+    except KeyboardInterrupt:
+        return stop(f"{name}: interrupted")
 
 
 def run(name: str, words: list[str]) -> int:
     """Runs a command, and answers the status."""
-    command = importlib.import_module(f"gikvand.{name}")
-    parser = argparse.ArgumentParser(prog=f"gikvand {name}", description=command.__doc__,
-                                     formatter_class=argparse.RawDescriptionHelpFormatter)
-    command.add_words(parser)
-    try:
-        status = command.run(parser.parse_args(words))
-        sys.stdout.flush()
-        return status
-    except Trouble as why:
-        return stop(f"gikvand {name}: {why}")
-    except BrokenPipeError:
-        os.dup2(os.open(os.devnull, os.O_WRONLY), sys.stdout.fileno())  # Else Python says it once more at its end.
-        return NOT_DONE
-    except OSError as why:
-        return stop(f"gikvand {name}: {f'{why.filename}: ' if why.filename else ''}{why.strerror or why}")
-    except KeyboardInterrupt:
-        return stop(f"gikvand {name}: interrupted")
+    about = {}
+    def work() -> int:
+        command = importlib.import_module(f"gikvand.{name}")
+        parser = argparse.ArgumentParser(prog=f"gikvand {name}", description=text_of(command),
+                                         formatter_class=argparse.RawDescriptionHelpFormatter)
+        command.add_words(parser)
+        given = parser.parse_args(words)
+        about.update((it, value) for it, value in vars(given).items() if it == "journal" and value)
+        return command.run(given)
+    return ended(f"gikvand {name}", work, about)
 
 
-def main() -> int:
-    name, *words = sys.argv[1:] or [""]
-    if name in ("-h", "--help", "help"):
-        print(usage())
-        return DONE
-    if name == "--version":
-        print(version())
-        return DONE
+def say(text: str) -> int:
+    print(text)
+    return DONE
+
+
+def chosen(name: str, words: list[str]) -> int:
+    """Does what the first word of the command line asks, and answers the status."""
+    if name == "help" and words[:1] and words[0] in COMMANDS:
+        name, words = words[0], ["--help"]
+    if name in ("-h", "--help", "help", "--version"):
+        if words:
+            return stop(f"gikvand: {name} takes no word like {words[0]!r}")
+        return ended("gikvand", lambda: say(version() if name == "--version" else usage()), {})
     if name not in COMMANDS:
         return stop(f"gikvand: {name!r} is no command; gikvand --help lists them" if name else usage())
     return run(name, words)
+
+
+def is_open(fd: int) -> bool:
+    try:
+        os.fstat(fd)
+    except OSError:
+        return False
+    return True
+
+
+def has_output() -> bool:
+    """Whether there is a standard output. A descriptor that is closed would be the next file's: it gets /dev/null."""
+    found = is_open(1)
+    for fd in (0, 1, 2):
+        if not is_open(fd):
+            os.open(os.devnull, os.O_RDWR)  # The lowest that is free.
+    if sys.stdin is None:
+        sys.stdin = open(0, encoding="utf-8", closefd=False)
+    for name, fd in (("stdout", 1), ("stderr", 2)):
+        was = getattr(sys, name)
+        how = {"encoding": was.encoding, "line_buffering": was.line_buffering, "write_through": was.write_through} if was else {}
+        inside = was.detach() if was else open(fd, "wb", closefd=False)
+        setattr(sys, name, Output(inside, errors="backslashreplace", **how))
+    return found
+
+
+def main() -> int:
+    if not has_output():
+        return stop("gikvand: standard output is closed")
+    name, *words = sys.argv[1:] or [""]
+    return chosen(name, words)

@@ -23,8 +23,8 @@ def of_damage(journal: str, why: Damaged) -> str:
 
 def of_pending(blocks: int) -> str:
     """What a person does about whole blocks behind a closed gate."""
-    kinds = ("A copy that only appends, as of rsync --append and tail -F, never takes the gates that were opened later: copy "
-             "it anew, as by gikvand follow")
+    kinds = ("A copy by gikvand follow goes on by the same words, as where its disk was full. One that only appends, as of "
+             "rsync --append and tail -F, never takes the gates that were opened later: copy it anew")
     if blocks > 1:
         return kinds
     return f"A crash leaves that, in front of its last gate, and nobody was told of these. Or is it a copy? {kinds}"

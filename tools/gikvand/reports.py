@@ -2,20 +2,22 @@
 
     gikvand reports JOURNAL C1                     each report as FIX, with a bar behind each field
     gikvand reports JOURNAL C1 --after 17 --csv    what came behind the report with ExecID 17, as a table
+    gikvand reports JOURNAL C1 --edge edge.cfg     with the names and decimals of a member behind gikvand-edge
 
 Who was away, or whose connection was ended, gets nothing later: this is how it learns what it missed. Reports that refuse a
 cancel or a replace, or reject a message, have no ExecID, so of these all are shown that stand behind the last report up to
 that ExecID: the member may know the first of them. An ExecID behind the journal's end is refused, since then the journal is an
-older copy. It reads by venue-replay, and the journal may be in use.
+older copy. It reads by venue-events, and the journal may be in use.
 """
 import argparse
 import re
 from collections.abc import Iterable, Iterator
 
-from gikvand import symbols, tables
+from gikvand import edge, symbols, tables
+from gikvand.events import Events
 from gikvand.fix import COUNTED, NAMES, fields_of
 from gikvand.logs import place_of
-from gikvand.programs import Replay, Trouble
+from gikvand.programs import Trouble
 from gikvand.tables import Row
 
 
@@ -36,11 +38,12 @@ def add_words(parser: argparse.ArgumentParser) -> None:
     parser.add_argument("member", metavar="Cn", type=member_of, help="the member, C1 to C8")
     parser.add_argument("--after", metavar="EXECID", type=exec_id, default=0, help="only what came behind this ExecID (17)")
     symbols.add_option(parser)
+    edge.add_option(parser)
     tables.add_options(parser)
 
 
-def behind(lines: Iterable[str], place: int) -> Iterator[str]:
-    """The reports behind the last one whose place is no greater."""
+def behind(told: Events, lines: Iterable[str], place: int) -> Iterator[str]:
+    """The reports behind the last one whose place is no greater. Stops where the journal ends before that place."""
     held: list[str] = []  # Those without a place, behind that one as far as is known.
     is_behind = False
     for line in lines:
@@ -55,19 +58,34 @@ def behind(lines: Iterable[str], place: int) -> Iterator[str]:
             yield line
         else:
             held.append(line)
+    need_place_of(told.journal, told.outputs, place)
     yield from held
+
+
+def need_place_of(journal: str, outputs: int, place: int) -> None:
+    """Stops where a journal with so many outputs ends before this place."""
+    if outputs < place:
+        raise Trouble(f"the journal {journal} ends with the ExecID {outputs}: is it an older copy?")
+
+
+def number_of(text: str) -> int | str:
+    """What counts something. A price by the edge has decimals, and stays the text that its member knows."""
+    return int(text) if text.isdecimal() else text
 
 
 def row_of(report: str) -> Row:
     """A report by the names of its fields."""
-    return {NAMES[tag]: int(value) if tag in COUNTED else value for tag, value in fields_of(report).items()}
+    return {NAMES[tag]: number_of(text) if tag in COUNTED else text for tag, text in fields_of(report).items()}
 
 
 def run(given: argparse.Namespace) -> int:
-    told = Replay(given.journal, given.member, symbols.needed(given.journal, given.symbols))
+    traded, behind_edge = symbols.needed(given.journal, given.symbols), edge.of(given.edge)
+    told = Events(given.journal, traded)
+    lines: Iterable[str] = told.told_to(given.member)
+    if behind_edge:
+        lines = behind_edge.reports(int(given.member[1:]), lines)
+    symbols.warn_of_strangers("reports", given.journal, traded)
     write = tables.writer(given, list(NAMES.values()), row_of, str)
-    for report in behind(told, given.after):
+    for report in behind(told, lines, given.after):
         write(report)
-    if told.outputs < given.after:
-        raise Trouble(f"the journal {given.journal} ends with the ExecID {told.outputs}: is it an older copy?")
     return 0

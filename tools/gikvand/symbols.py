@@ -1,11 +1,17 @@
 """The symbols of a journal. The journal doesn't hold them, so the file JOURNAL.symbols keeps them, as a line `ABC XYZ`."""
 import argparse
 import os
+import re
+import sys
 
+from gikvand import files
+from gikvand.journals import Damaged, NotAJournal, Reader
 from gikvand.rules import SYMBOL
-from gikvand.words import Trouble
+from gikvand.words import Trouble, some
 
 MOST = 8
+MODE = 0o666  # Of the file, but for what the user's mask keeps: it holds nothing that the journal's readers don't know.
+OF_AN_ORDER = re.compile(rb"\x0135=D\x01.*?\x0155=([A-Z0-9]{1,8})\x01")
 
 
 def place_of(journal: str) -> str:
@@ -61,11 +67,8 @@ def needed(journal: str, given: list[str] | None) -> list[str]:
 
 def keep(journal: str, words: list[str]) -> None:
     """Writes the symbols beside a journal, unless they stand there."""
-    if kept(journal) == words:
-        return
-    with open(f"{place_of(journal)}.new", "w", encoding="ascii") as file:
-        file.write(f"{' '.join(words)}\n")
-    os.replace(file.name, place_of(journal))
+    if kept(journal) != words:
+        files.make(place_of(journal), f"{' '.join(words)}\n".encode(), MODE)
 
 
 def chosen(journal: str, given: list[str] | None, default: list[str]) -> list[str]:
@@ -73,3 +76,31 @@ def chosen(journal: str, given: list[str] | None, default: list[str]) -> list[st
     aren't those that are kept are refused. Where the journal is missing, what is kept was another's."""
     found = known(journal, given) if os.path.exists(journal) else given
     return found or default
+
+
+def strangers(journal: str, known_ones: list[str]) -> str | None:
+    """What is odd about a journal's orders, in words, where not one of them is for one of these symbols; else None. It reads
+    up to the first that is, or to the end of what is whole."""
+    names, count, found = {it.encode() for it in known_ones}, 0, set()
+    with files.opened(journal) as file:
+        try:
+            for block in Reader(file):
+                for entry in block.entries:
+                    if order := OF_AN_ORDER.search(entry.message):
+                        if order[1] in names:
+                            return None
+                        count += 1
+                        found.add(order[1].decode())
+        except (NotAJournal, Damaged):
+            pass
+    if not found:
+        return None
+    shown = " ".join(sorted(found)[:MOST]) + " .." * (len(found) > MOST)
+    return (f"none of {some(count, 'order')} in {journal} is for {' '.join(known_ones)}, but for {shown}: are its symbols "
+            "others?")
+
+
+def warn_of_strangers(command: str, journal: str, known_ones: list[str]) -> None:
+    """Says on standard error where no order of a journal is for one of its symbols."""
+    if odd := strangers(journal, known_ones):
+        print(f"gikvand {command}: {odd}", file=sys.stderr)

@@ -22,24 +22,31 @@ the venue still writes each report that is due. The status is 0, 1 where a reque
 venue to ask.
 
 The symbols of a journal are kept beside it, in JOURNAL.symbols, from its first start on, and a start with others is
-refused, since the same messages would lead to another book. With --port the journal is read only where --journal names it. Without it
-ClOrdIDs begin at the time in milliseconds, and only the orders of this session are known: the others rest, but can't be
-listed, cancelled or replaced.
+refused, since the same messages would lead to another book. With --port the journal is read only where --journal names it, and it
+has to be there. Without it ClOrdIDs begin at the time in milliseconds, and only the orders of this session are known: the others
+rest, but can't be listed, cancelled or replaced.
+
+At a terminal a line is edited with the keys of readline, and the arrow up brings the lines of before. Reports that come meanwhile
+stand above the line.
 """
 import argparse
 import dataclasses
 import datetime
 import os
 import select
+import signal
 import socket
 import subprocess
 import sys
+import threading
 import time
+from collections.abc import Iterator
 
-from gikvand import symbols
+from gikvand import files, symbols
 from gikvand.fix import fields_of, framed, parted, printed
 from gikvand.ports import HOST, port_of
 from gikvand.programs import REPLAY, VENUED, WHERE, Replay, Trouble, need
+from gikvand.words import text_of
 
 OWN_JOURNAL, OWN_SYMBOLS = "trade.journal", ["ABC"]
 TERMS = {"ioc": "3", "fok": "4"}
@@ -51,6 +58,7 @@ REQUEST_REFUSED = {"1": "no such order rests", "2": "the total isn't above what 
 TAGS = {"38": "quantity", "44": "price", "55": "symbol"}
 FAULTS = {"5": "out of its range", "6": "not written as it must be"}
 NO_MARKET_ORDERS = "the venue takes no market orders: its journal is an old one, of version 1"
+PROMPT = "> "
 PATIENCE, PAUSE = 10, 0.05  # Seconds to wait for an answer, and for what else may come behind it.
 
 
@@ -240,7 +248,7 @@ class Trader:
             if words == ["orders"]:
                 print("\n".join(self.orders.resting()))
             elif words == ["help"]:
-                print(__doc__.split("\n\n")[3])
+                print(text_of(sys.modules[__name__]).split("\n\n")[3])
             elif words:
                 self.request(words)
         except ValueError as why:
@@ -362,6 +370,72 @@ def lines(trader, prompt):
         print(prompt, end="", flush=True)
 
 
+class Over(Exception):
+    """The session ended while a line was edited."""
+
+
+class Meanwhile(threading.Thread):
+    """Shows what comes while a line is edited, and begins the line anew below it."""
+
+    def __init__(self, trader, prompt, edited):
+        super().__init__(daemon=True)
+        self.trader, self.prompt, self.edited, self.may = trader, prompt, edited, threading.Lock()
+        self.is_needed, self.is_edited = True, False
+
+    def run(self):
+        session = self.trader.session
+        while self.is_needed and not session.is_over:
+            if not select.select([session.venue.ready], [], [], PAUSE)[0]:
+                continue
+            with self.may:  # Else it is an answer, for which the request waits.
+                if self.is_needed and not session.is_over and select.select([session.venue.ready], [], [], 0)[0]:
+                    print(flush=True)
+                    self.trader.show(session.messages(0))
+                    print(f"{self.prompt}{self.edited()}", end="", flush=True)
+                    if session.is_over:
+                        signal.pthread_kill(threading.main_thread().ident, signal.SIGUSR1)
+
+
+def edited_line(trader, prompt, meanwhile) -> str | None:
+    """A line, or None at the end of the input or of the session, which ends a line that is edited, and nothing else."""
+    try:
+        try:
+            meanwhile.is_edited = True  # In front of the look: who is told of an end behind it is edited.
+            return None if trader.session.is_over else input(prompt)
+        finally:
+            meanwhile.is_edited = False
+    except (EOFError, Over):
+        return None
+
+
+def edited_lines(trader, prompt) -> Iterator[str]:
+    """The lines of a terminal, edited with the keys of readline. Reports that come meanwhile are shown."""
+    import readline  # (here, since no other command wants it)
+
+    meanwhile = Meanwhile(trader, prompt, readline.get_line_buffer)
+    def is_over(*_):
+        if meanwhile.is_edited:
+            raise Over
+    signal.signal(signal.SIGUSR1, is_over)
+    meanwhile.start()
+    try:
+        while (line := edited_line(trader, prompt, meanwhile)) is not None:
+            with meanwhile.may:
+                yield line
+        print()
+    finally:
+        with meanwhile.may:
+            meanwhile.is_needed = False  # What comes now is for who asked for these lines.
+
+
+def has_readline() -> bool:
+    """Whether lines can be edited here."""
+    try:
+        return sys.stdin.isatty() and sys.stdout.isatty() and bool(__import__("readline"))
+    except ImportError:
+        return False
+
+
 def own_venue(given):
     """The trader of C1 at a venued of its own, which serves the journal."""
     if given.member != 1:
@@ -380,6 +454,7 @@ def listening_venue(given):
     """The trader of a member at a venue that listens: gateway K has the port PORT + K - 1."""
     member = f"C{given.member}"
     if given.journal:
+        files.need_journal(given.journal)
         orders = recorded(given.journal, member, symbols.known(given.journal, given.symbols) or OWN_SYMBOLS)
     else:
         orders = Orders(time.time_ns() // 1_000_000, " that this session knows of")
@@ -387,6 +462,13 @@ def listening_venue(given):
     trader = Trader(Session(Connection(port), member, given.fix), orders)
     print(f"The member {member}, at port {port}.", flush=True)
     return trader
+
+
+def asked(trader) -> Iterator[str]:
+    """The lines of standard input: of a terminal, or of a file or a pipe."""
+    if has_readline():
+        return edited_lines(trader, PROMPT)
+    return lines(trader, PROMPT if sys.stdin.isatty() else "")
 
 
 def add_words(parser: argparse.ArgumentParser) -> None:
@@ -405,8 +487,7 @@ def run(given: argparse.Namespace) -> int:
     try:
         trader = (listening_venue if given.port else own_venue)(given)
         trader.log_on()
-        prompt = "> " if sys.stdin.isatty() else ""
-        for line in [" ".join(given.words)] if given.words else lines(trader, prompt):
+        for line in [" ".join(given.words)] if given.words else asked(trader):
             if not trader.do(line):
                 break
         return trader.end()

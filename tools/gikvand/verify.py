@@ -2,11 +2,14 @@
 
     gikvand verify JOURNAL                      the journal alone
     gikvand verify JOURNAL C1=c1.log C2=c2.log  and whether the reports in members' logs are those that it tells
+    gikvand verify JOURNAL C1=c1.log --edge edge.cfg
+                                                the same of members behind gikvand-edge, whose settings these are
 
 It looks at the header and at each block; at each entry, which has to be a message of its member with the right length and
 CheckSum, as every message that a session publishes; at the bytes behind the last gate; and at the snapshots, by venue-replay.
-A log is any file in which FIX messages stand, with the byte 01, a bar or ^A behind each field: each report in it has to be told
-so by the journal, in that order. What the member missed is counted. For snapshots and logs the symbols have to be known.
+A log is any file in which FIX messages stand, with the byte 01, a bar or ^A behind each field, or what gikvand reports printed.
+Each report in it has to be told so by the journal, in that order. What the member missed is counted; a log without a single one
+of its reports is a finding. For snapshots and logs the symbols have to be known.
 
 The file is only read, and may be in use. The status is 0 where nothing is wrong, 1 where something was found, and 2 where it
 couldn't be looked at.
@@ -17,13 +20,13 @@ import re
 from collections.abc import Iterator
 from typing import BinaryIO, NamedTuple
 
-from gikvand import locks, mends, symbols
+from gikvand import edge, files, locks, mends, symbols
 from gikvand.glance import is_published
 from gikvand.journals import HEAD, Block, Damaged, Entry, NotAJournal, Reader, exactly
 from gikvand.logs import Compared, reports
 from gikvand.programs import Replay, false_snapshot
 from gikvand.rules import NEEDED, fields, has_header, next_frame
-from gikvand.words import some
+from gikvand.words import Trouble, some
 
 SHOWN = 10  # So many findings of a kind are shown, and the others counted.
 
@@ -43,8 +46,10 @@ def log_of(word: str) -> Log:
 
 def add_words(parser: argparse.ArgumentParser) -> None:
     parser.add_argument("journal", metavar="JOURNAL", help="the journal's file")
-    parser.add_argument("logs", metavar="Cn=FILE", nargs="*", type=log_of, help="a member, and a log of what it was told")
+    parser.add_argument("logs", metavar="Cn=FILE", nargs="*", default=[], type=log_of,
+                        help="a member, and a log of what it was told")
     symbols.add_option(parser)
+    edge.add_option(parser)
 
 
 def fault_of(entry: Entry) -> str | None:
@@ -173,33 +178,41 @@ def look_at_snapshots(given: argparse.Namespace, journal: Journal, report: Repor
         report.wrong(f"snapshots: a false one at {false}", f"    {mends.FALSE}")
 
 
-def look_at_log(given: argparse.Namespace, log: Log, report: Report) -> None:
-    """Looks at a member's log."""
-    told = Replay(given.journal, log.member, symbols.needed(given.journal, given.symbols))
-    with open(log.path, "rb") as file:
+def look_at_log(given: argparse.Namespace, log: Log, behind: edge.Edge | None, report: Report) -> None:
+    """Looks at a member's log. One that has none of its reports is another's, or of a form that isn't read."""
+    replay = Replay(given.journal, log.member, symbols.needed(given.journal, given.symbols))
+    told = behind.logged(int(log.member[1:]), replay) if behind else replay
+    with files.opened(log.path) as file:
         compared = Compared(told)
-        report.each(f"{log.path}: {line}" for line in compared.compare(reports(file, log.member)))
+        report.each(f"{log.path}: {line}" for line in compared.compare(reports(file, log.member, behind)))
     print(f"{log.member}: {some(compared.found, 'report')} of {log.path} as the journal tells them, which has "
           f"{compared.missed} more")
+    if not compared.logged and compared.missed:
+        report.wrong(f"{log.path}: it has no report of the venue to {log.member}",
+                     "    Is it another member's log? For a member behind gikvand-edge give --edge, with the edge's settings")
 
 
 def need_files(given: argparse.Namespace) -> None:
     """Stops before anything is looked at where a log, or what it takes to read one, isn't there."""
     (symbols.needed if given.logs else symbols.known)(given.journal, given.symbols)
     for log in given.logs:
-        with open(log.path, "rb"):
-            pass
+        files.opened(log.path).close()
 
 
 def run(given: argparse.Namespace) -> int:
     report = Report()
-    with open(given.journal, "rb") as file:
+    if why := files.fault_of_name(given.journal):
+        raise Trouble(why)
+    with files.opened(given.journal) as file:
         need_files(given)
+        behind = edge.of(given.edge)
         journal = look_at_blocks(given.journal, file, report)
     if journal and not journal.damage:
         look_at_snapshots(given, journal, report)
         for log in given.logs:
-            look_at_log(given, log, report)
+            look_at_log(given, log, behind, report)
+        if (known := symbols.known(given.journal, given.symbols)) and (odd := symbols.strangers(given.journal, known)):
+            print(f"symbols: {odd}")
     elif given.logs:
         print("no log is looked at")
     print(f"{given.journal}: {some(report.count, 'finding') if report.count else 'nothing is wrong'}")

@@ -6,7 +6,8 @@
 
 The process is the venued that has the journal's lock. A member's row says how many connections its port has, how many wait
 there to be let in, and how many bytes the served one hasn't taken. Commands and outputs are counted by venue-replay, which
-reads the whole journal, some seconds for a million entries: --quick leaves them out, and so do symbols that aren't known.
+reads the whole journal, some seconds for a million entries: --quick leaves them out, and so do symbols that aren't known. Where
+the journal can't be read, as one that is damaged, they are left out too, and a line says why (journal_readable is 0).
 
 The status is 0 where a venue serves, 1 where none does, and 2 where it can't be looked at.
 """
@@ -16,10 +17,10 @@ import time
 from collections.abc import Iterator
 from typing import NamedTuple
 
-from gikvand import locks, symbols
+from gikvand import files, locks, symbols
 from gikvand.ports import MOST_GATEWAYS, port_of
 from gikvand.programs import Replay
-from gikvand.words import some
+from gikvand.words import Trouble, size, some, while_of
 
 ESTABLISHED, LISTENS = "01", "0A"
 TICK = os.sysconf("SC_CLK_TCK")
@@ -61,6 +62,7 @@ class Seen(NamedTuple):
     age: float
     room: int
     counts: tuple[int, int] | None
+    fault: str  # Why they can't be counted, if that is so.
     members: list[Member]
 
 
@@ -121,40 +123,53 @@ def members_at(ports: range) -> Iterator[Member]:
                          max((it.came for it in taken), default=0))
 
 
-def counts_of(given: argparse.Namespace) -> tuple[int, int] | None:
-    """Commands and outputs, where they are asked for and the symbols are known."""
-    found = None if given.quick else symbols.known(given.journal, given.symbols)
-    if not found:
-        return None
-    book = Replay(given.journal, "book", found)
-    for _ in book:
-        pass
-    return book.commands, book.outputs
+def counts_of(given: argparse.Namespace) -> tuple[tuple[int, int] | None, str]:
+    """Commands and outputs, where they are asked for and the symbols are known; and why they can't be counted, if that is so."""
+    if given.quick:
+        return None, ""
+    try:
+        kept = symbols.kept(given.journal)
+    except Trouble as why:
+        return None, str(why)
+    if not (found := symbols.known(given.journal, given.symbols) if kept else given.symbols):
+        return None, ""
+    try:
+        book = Replay(given.journal, "book", found)
+        for _ in book:
+            pass
+    except Trouble as why:
+        return None, str(why)
+    except OSError as why:
+        return None, f"the journal {given.journal} can't be read: {why.strerror}"
+    return (book.commands, book.outputs), ""
 
 
 def look(given: argparse.Namespace) -> Seen:
     it = os.stat(given.journal)
+    files.need_regular(given.journal, it.st_mode)
     pid = locks.holder(given.journal)
     process = process_of(pid) if pid and locks.name_of(pid).startswith("venued") else None
     disk = os.statvfs(given.journal)
     members = list(members_at(ports_of(given, process))) if process else []
     return Seen(given.journal, process, it.st_size, max(0.0, time.time() - it.st_mtime), disk.f_bavail * disk.f_frsize,
-                counts_of(given), members)
+                *counts_of(given), members)
 
 
 def in_words(seen: Seen) -> Iterator[str]:
     it = seen.process
     if it:
-        yield (f"{locks.name_of(it.pid)} serves {seen.journal} for {it.seconds:.0f} s, with {some(it.threads, 'thread')} and "
+        yield (f"{locks.name_of(it.pid)} serves {seen.journal} for {while_of(it.seconds)}, with {some(it.threads, 'thread')} and "
                f"{it.memory / 1e6:.1f} MB")
     else:
         yield f"nobody serves {seen.journal}"
-    yield f"the journal has {some(seen.size, 'byte')}, the newest {seen.age:.0f} s old, and {some(seen.room, 'byte')} are free"
+    yield f"the journal has {size(seen.size)}, the newest block is {while_of(seen.age)} old, and {size(seen.room)} are free"
+    if seen.fault:
+        yield f"commands and outputs can't be counted: {seen.fault}"
     if seen.counts:
         yield f"{some(seen.counts[0], 'command')}, {some(seen.counts[1], 'output')}"
     for member in seen.members:
         yield (f"{member.name} at {member.port}: {some(member.connections, 'connection')}, {member.waiting} waiting, "
-               f"{some(member.unsent, 'byte')} not taken, {member.unread} not read")
+               f"{size(member.unsent)} not taken, {size(member.unread)} not read")
 
 
 def figures(seen: Seen) -> Iterator[tuple[str, str, str, list[tuple[str, float]]]]:
@@ -168,6 +183,8 @@ def figures(seen: Seen) -> Iterator[tuple[str, str, str, list[tuple[str, float]]
     yield "journal_bytes", "gauge", "The journal's length.", [("", seen.size)]
     yield "newest_block_age_seconds", "gauge", "The time since the journal was written to.", [("", round(seen.age, 2))]
     yield "disk_free_bytes", "gauge", "What may still be written on the journal's disk.", [("", seen.room)]
+    if seen.counts or seen.fault:
+        yield "journal_readable", "gauge", "Whether commands and outputs could be counted.", [("", int(not seen.fault))]
     if seen.counts:
         yield "commands_total", "counter", "The commands in the journal.", [("", seen.counts[0])]
         yield "outputs_total", "counter", "What they led to.", [("", seen.counts[1])]

@@ -10,6 +10,7 @@ It changes nothing and takes no lock. Snapshots are compared where the symbols a
 The status is 0 where it finds nothing that stands in the way, 1 where something does, and 2 where it can't look.
 """
 import argparse
+import errno
 import os
 import pwd
 import resource
@@ -18,7 +19,7 @@ import stat
 from collections.abc import Iterator
 from typing import NamedTuple
 
-from gikvand import locks, mends, symbols
+from gikvand import files, locks, mends, symbols
 from gikvand.journals import Damaged, NotAJournal, Reader, empty
 from gikvand.programs import false_snapshot
 from gikvand.words import some
@@ -63,10 +64,22 @@ def refusal(path: str, flags: int) -> str | None:
     return None
 
 
+def is_loop(path: str) -> bool:
+    """Whether a link leads back to itself."""
+    try:
+        os.stat(path)
+    except OSError as why:
+        return why.errno == errno.ELOOP
+    return False
+
+
 def of_the_name(path: str) -> Iterator[Cause]:
-    """What is wrong with a name under which there is no file."""
-    if os.path.islink(path) and not os.path.exists(path):
-        yield device(f"{path} is a link to nothing", "give the name of the file itself, and not of a link")
+    """What is wrong with a name, or with one under which there is no file."""
+    if why := files.fault_of_name(path):
+        yield Cause("the usage line", why, "give the file another name")
+    elif os.path.islink(path) and not os.path.exists(path):
+        where = "that leads to itself" if is_loop(path) else "to nothing"
+        yield device(f"{path} is a link {where}", "give the name of the file itself, and not of a link")
     elif os.path.isdir(path):
         yield device(f"{path} is a folder", "give the name of a file in it")
     elif os.path.exists(path) and not os.path.isfile(path):
@@ -101,9 +114,12 @@ def of_rights(path: str) -> Iterator[Cause]:
 
 
 def of_the_lock(path: str) -> Iterator[Cause]:
-    if (pid := locks.holder(path)) is not None:
-        yield device(f"{locks.name_of(pid)} has it, and one process alone may", f"let it serve, or stop it first: touch "
-                     f"{shlex.quote(path)}.stop stops a venue that listens")
+    if (pid := locks.holder(path)) is None:
+        return
+    mend = f"let it serve, or stop it first: touch {shlex.quote(path)}.stop stops a venue that listens"
+    if locks.command_of(pid):
+        mend = f"let it go on, or end it first: kill {pid}"
+    yield device(f"{locks.name_of(pid)} has it, and one process alone may", mend)
 
 
 def of_the_disk(path: str) -> Iterator[Cause]:
@@ -126,7 +142,7 @@ def of_the_machine() -> Iterator[Cause]:
 def of_the_bytes(path: str, given: list[str] | None) -> Iterator[Cause]:
     """What is wrong with the file's contents, or with reading them."""
     snapshots, blocks = 0, 0
-    with open(path, "rb") as file:
+    with files.opened(path) as file:
         try:
             reader = Reader(file)
             for blocks, block in enumerate(reader, 1):

@@ -1,4 +1,7 @@
-"""Counts in words, as the commands print them, and what went wrong."""
+"""Counts and times in words, as the commands print them, what a module says of itself, and what went wrong."""
+import ast
+import datetime
+import types
 
 
 class Trouble(Exception):
@@ -10,3 +13,37 @@ def some(count: int, noun: str) -> str:
     if count == 1:
         return f"1 {noun}"
     return f"{count} {noun[:-1]}ies" if noun.endswith("y") else f"{count} {noun}s"
+
+
+def size(count: int) -> str:
+    """So many bytes, as `133009 bytes` and `52.4 GB`."""
+    if count < 1_000_000:
+        return some(count, "byte")
+    unit, name = next((unit, name) for unit, name in ((10 ** 12, "TB"), (10 ** 9, "GB"), (10 ** 6, "MB")) if count >= unit)
+    return f"{count / unit:.1f} {name}"
+
+
+def while_of(seconds: float) -> str:
+    """So long, as `2 s`, `5 min`, `3 h` and `2 days`."""
+    for unit, most, name in ((1, 120, "s"), (60, 120, "min"), (3600, 48, "h")):
+        if seconds < most * unit:
+            return f"{seconds / unit:.0f} {name}"
+    return f"{seconds / 86400:.0f} days"
+
+
+def time_of_day() -> str:
+    """The time by this machine's clock, in UTC."""
+    return datetime.datetime.now(datetime.timezone.utc).strftime("%Y-%m-%d %H:%M:%SZ")
+
+
+def stamped(line: str) -> str:
+    """A line of a command that goes on, behind the time of day."""
+    return f"{time_of_day()} {line}"
+
+
+def text_of(module: types.ModuleType) -> str:
+    """What a module says of itself, also where Python has dropped that (PYTHONOPTIMIZE=2)."""
+    if module.__doc__:
+        return module.__doc__
+    with open(str(module.__file__), encoding="utf-8") as file:
+        return ast.get_docstring(ast.parse(file.read()), clean=False) or ""

@@ -1,0 +1,272 @@
+"""Tests of `--edge`: logs, reports and trades of members behind gikvand-edge, whose settings and records are made here
+by the words of docs/EDGE.md and of edge/src/record.cpp."""
+import contextlib
+import csv
+import itertools
+import json
+import os
+import re
+import sqlite3
+import threading
+from unittest import mock
+
+import pytest
+
+from checks import ROOT
+from gikvand import edge
+from gikvand.fix import fields_of
+from gikvand.rules import sealed
+from made_journals import JOURNAL, contents, each_version, gikvand, made, put
+from test_reports import as_printed
+from venues import Trouble, value
+
+pytestmark = [pytest.mark.slow, pytest.mark.edge, pytest.mark.usefixtures("programs")]
+
+SETTINGS = "edge.cfg"
+STEPS = {"ABC": 100, "XYZ": 4}  # Steps of a price in one, by 0.01 and 0.25.
+
+
+def schema() -> str:
+    """The tables of a record, as edge/src/record.cpp makes them."""
+    with open(os.path.join(ROOT, "edge/src/record.cpp"), encoding="utf-8") as file:
+        texts = dict(re.findall(r"const char \*const (\w+) =\n(.*?\");\n\n", file.read(), re.DOTALL))
+    return "".join("".join(re.findall('"([^"]*)"', texts[name])) + ";" for name in ("TURNS", "TABLES", "SWITCHES"))
+
+
+def settings(**more: str) -> str:
+    """The settings of an edge for C1 and C2; C2's record lies in a folder of its own."""
+    lines = ["# of a test", "[DEFAULT]", "SenderCompID = GIKVAND", "EdgePath=edge", "Symbols=ABC:0.01 XYZ:0.25",
+             *(f"{name}={text}" for name, text in more.items()),
+             "[SESSION]", "TargetCompID=DESK-A", "Member=C1", "", "[SESSION]", "targetcompid=DESK-B", "Member=C2", "EdgePath=other"]
+    return put(SETTINGS, "".join(f"{it}\n" for it in lines).encode())
+
+
+def record(folder: str, member: int, rows: list[tuple[int, str, str]], first: int = 1) -> None:
+    """A member's record with these names, which is in use: what was written last stands in the log beside it, and the last name
+    in the row of a turn."""
+    os.makedirs(folder, exist_ok=True)
+    path = os.path.join(folder, f"C{member}.db")
+    for end in ("", "-wal", "-shm"):
+        if os.path.exists(path + end):
+            os.remove(path + end)
+    with contextlib.closing(sqlite3.connect(path)) as it:
+        it.execute("PRAGMA journal_mode = WAL")
+        it.executescript(schema())
+        it.execute("UPDATE session SET first = ?", (first,))
+        it.executemany("INSERT INTO names VALUES (?, ?, ?, 0)", rows[:-1])
+        did = b"m7 3 a1 " + b"".join(b"%b%d %d %b" % (kind.encode(), number, len(name), name.encode())
+                                     for number, kind, name in rows[-1:])
+        it.execute("INSERT INTO turns VALUES (1, 0, 1, 1, 0, 0, 0, 0, 0, ?)", (did,))
+        it.commit()
+
+
+NAMES = {1: {1: "ORD-1", 2: "cut/2", 3: "new 3", 77: "never", 78: "nor this"}, 2: {1: "b1", 2: "b2"}}
+
+
+def edges() -> str:
+    """An edge for the day of made_journals: of C2 the last name is lost, and C1 had a probe of the edge's own."""
+    record("edge/C1", 1, [(at, "r", name) for at, name in NAMES[1].items()] + [(9, "x", "refused")])
+    record("other", 2, [(at, "r", name) for at, name in NAMES[2].items()])
+    return settings()
+
+
+def name_of(member: int, number: str) -> str:
+    return NAMES[member].get(int(number), f"edge-lost-{number}")
+
+
+def told(member: int, report: str) -> dict[str, str]:
+    """A report as the edge tells it, by docs/EDGE.md."""
+    it = fields_of(as_printed(report))
+    for tag in ("11", "41"):
+        if tag in it:
+            it[tag] = name_of(member, it[tag])
+    for tag in ("44", "31", "6"):
+        if tag in it:
+            it[tag] = f"{int(it[tag]) / STEPS[it['55']]:.2f}"
+    it["60"] = it.pop("52")
+    return it
+
+
+def sent(number: int, to: str, report: dict[str, str], more: str = "") -> str:
+    """A message of the edge: the header as QuickFIX writes it, and the fields in the order of their tags."""
+    body = "".join(f"{tag}={text}|" for tag, text in sorted(report.items(), key=lambda it: int(it[0])) if tag != "35")
+    head = f"35={report['35']}|34={number}|{more}49=GIKVAND|52=20261126-20:57:09.093|56={to}|"
+    return sealed(f"{head}{body}".replace("|", "\x01").encode()).decode().replace("\x01", "|")
+
+
+def log_of(member: int, reports: list[str], more: str = "", first: int = 2) -> list[str]:
+    return [sent(number, f"DESK-{'AB'[member - 1]}", told(member, it), more) for number, it in enumerate(reports, first)]
+
+
+def logged(lines: list[str], name: str = "c1.log") -> str:
+    """A log of an engine, with heartbeats, and what the edge refused by itself, between them."""
+    beat = sent(99, "DESK-A", {"35": "0"})
+    refusal = sent(98, "DESK-A", {"35": "8", "17": "E17.1", "11": "x", "58": "edge: too many"})
+    text = "".join(f"20261126-20:57:09.093 : {it}\n" for line in lines for it in (line, beat, refusal))
+    return put(name, text.replace("|", "\x01").encode())
+
+
+def told_by_edge(heard: list[str]) -> list[str]:
+    """What of these the edge tells: rejected messages it told itself."""
+    return [it for it in heard if value(it, "35") in ("8", "9")]
+
+
+def test_logs_behind_the_edge() -> None:
+    """A log of a member behind the edge is read: whole, with a gap, sent again, also late, and in the order of any engine's fields."""
+    for it in each_version():
+        edges()
+        for member in (1, 2):
+            heard = told_by_edge(it.heard[member])
+            lines = log_of(member, heard)
+            whole = f"C{member}: {len(heard)} reports of c1.log as the journal tells them, which has 0 more"
+            words = ["verify", JOURNAL, f"C{member}=c1.log", "--edge", SETTINGS]
+            put("c1.log", "".join(f"{line}\n" for line in gikvand("reports", JOURNAL, f"C{member}", "--edge", SETTINGS)[1]).encode())
+            status, out, err = gikvand(*words)
+            assert (it.version, member, "as reports prints it", status, out[-2], err) == (
+                it.version, member, "as reports prints it", 0, whole, [])
+            again = log_of(member, heard, "43=Y|")
+            for name, log in (("whole", lines), ("again", [*lines, *again]),
+                              ("all by a resend", again), ("of a new day", log_of(member, heard, "97=Y|", 1)),
+                              ("the rest by a resend", [*lines[:2], *again])):
+                logged(log)
+                status, out, err = gikvand(*words)
+                assert (it.version, member, name, status, out[-2], err) == (it.version, member, name, 0, whole, [])
+            for at in range(len(lines)):
+                logged(lines[:at] + lines[at + 1:])
+                assert ((gikvand(*words)[1][-2]) == (f"C{member}: {len(heard) - 1} reports of c1.log as the journal tells them, which "
+                                               "has 1 more"))
+                logged(lines[:at] + lines[at + 1:] + again[at:at + 1])
+                assert (it.version, member, at, gikvand(*words)[0]) == (it.version, member, at, 0)  # (as behind a kill, by a resend)
+
+
+def test_wrong_logs_behind_the_edge() -> None:
+    """A price, a name, a quantity or a time that is another one is found, and so is a report twice that wasn't sent again."""
+    it = made(3)
+    put(JOURNAL, it.data)
+    put(f"{JOURNAL}.symbols", b"ABC XYZ\n")
+    edges()
+    heard = told_by_edge(it.heard[1])
+    words = ["verify", JOURNAL, "C1=c1.log", "--edge", SETTINGS]
+    for at in range(len(heard)):
+        for tag, text in (("44", "0.51"), ("31", "0.49"), ("6", "0.1"), ("11", "ORD-9"), ("32", "1"), ("60", "20250102-09:30:01"),
+                          ("41", "none"), ("102", "6"), ("17", "400")):
+            report = told(1, heard[at])
+            if tag in report:
+                lines = log_of(1, heard)
+                lines[at] = sent(2 + at, "DESK-A", {**report, tag: text})
+                logged(lines)
+                assert (at, tag, gikvand(*words)[0]) == (at, tag, 1)
+        lines = log_of(1, heard)
+        if (report := told(1, heard[at]))["35"] == "9":
+            logged([*lines[:at], *lines[at + 1:], sent(99, "DESK-A", {**report, "102": "6"}, "43=Y|")])
+            assert (at, "another one sent again", gikvand(*words)[0]) == (at, "another one sent again", 1)
+        logged(lines[:at + 1] + lines[at:])
+        assert (at, "twice", gikvand(*words)[0]) == (at, "twice", 1)
+        logged([*lines[:at], lines[at].replace("|151=", "|0151=").replace("|102=", "|0102="), *lines[at + 1:]])
+        assert (at, "another sum", gikvand(*words)[0]) == (at, "another sum", 1)
+    for name, more in (("C2", []), ("C1", [SETTINGS])):
+        logged(log_of(1, heard))
+        status, out, _ = gikvand("verify", JOURNAL, f"{name}=c1.log", *(["--edge", SETTINGS] if not more else []))
+        assert (name, status, any("it has no report of the venue to" in line for line in out)) == (name, 1, True)
+
+
+def test_reports_and_trades_behind_the_edge() -> None:
+    """Reports and trades have the member's names, decimals and CompIDs; who isn't behind the edge stays as it is."""
+    for it in each_version():
+        edges()
+        for member in (1, 2):
+            wanted = [told(member, line) for line in told_by_edge(it.heard[member])]
+            status, out, err = gikvand("reports", JOURNAL, f"C{member}", "--edge", SETTINGS)
+            came = [fields_of(line) for line in out]
+            for row in came:
+                row["60"] = row.pop("52")
+            assert (status, err, came) == (0, [], wanted)
+            rows = [json.loads(line) for line in gikvand("reports", JOURNAL, f"C{member}", "--json", "--edge", SETTINGS)[1]]
+            assert [row.get("Price") for row in rows] == [row.get("44") for row in wanted]
+            assert [row.get("OrderQty") for row in rows] == [int(row["38"]) if "38" in row else None for row in wanted]
+        rows = list(csv.DictReader(gikvand("trades", JOURNAL, "--csv", "--edge", SETTINGS)[1]))
+        assert [(row["Buyer"], row["BuyerClOrdID"], row["Seller"], row["SellerClOrdID"], row["Price"]) for row in rows][0] == (
+            "DESK-B", "b1", "DESK-A", "ORD-1", "0.50")
+        assert rows[-1]["BuyerClOrdID"] == "edge-lost-3"
+        out = gikvand("reports", JOURNAL, "C3", "--edge", SETTINGS)
+        assert out == (2, [], [f"gikvand reports: {SETTINGS} has no session of C3"])
+
+
+def test_probes_of_the_edge() -> None:
+    """What the edge asked for by itself is told to nobody, and who is of before the edge's first number has its own name."""
+    it = made(3)
+    put(JOURNAL, it.data)
+    put(f"{JOURNAL}.symbols", b"ABC XYZ\n")
+    record("edge/C1", 1, [(2, "p", "edge-probe"), (3, "r", "third")], first=2)
+    settings()
+    out = gikvand("reports", JOURNAL, "C1", "--edge", SETTINGS)[1]
+    assert ([line for line in out if line.startswith("35=9|")], value(out[0], "11"), value(out[-1], "11")) == ([], "1", "third")
+    os.remove("edge/C1/C1.db")
+    assert value(gikvand("reports", JOURNAL, "C1", "--edge", SETTINGS)[1][0], "11") == "1"
+
+
+def write_on(over: threading.Event) -> None:
+    """Adds name after name to a record, each by a commit of its own."""
+    with contextlib.closing(sqlite3.connect("edge/C1/C1.db")) as it:
+        it.execute("PRAGMA locking_mode = EXCLUSIVE")
+        for at in itertools.count(2000):
+            if over.is_set():
+                return
+            it.execute("INSERT INTO names VALUES (?, 'r', 'more', 0)", (at,))
+            it.commit()
+
+
+def test_records_in_use() -> None:
+    """A record that is written to meanwhile is read as it stood at a moment, and one whose log begins anew each time is told."""
+    edges()
+    with contextlib.closing(sqlite3.connect("edge/C1/C1.db")) as it:
+        it.execute("PRAGMA locking_mode = EXCLUSIVE")
+        it.execute("PRAGMA wal_autocheckpoint = 0")
+        it.execute("INSERT INTO names VALUES (1000, 'r', 'late', 0)")
+        it.commit()
+        before = contents("edge/C1/C1.db")
+        assert edge.Edge(SETTINGS).member(1).name_of("1000") == "late"
+        assert contents("edge/C1/C1.db") == before
+    over = threading.Event()
+    writer = threading.Thread(target=write_on, args=(over,))
+    writer.start()
+    try:
+        assert {edge.Edge(SETTINGS).member(1).name_of("1000") for _ in range(50)} == {"late"}
+    finally:
+        over.set()
+        writer.join()
+    counts = iter(range(10 ** 6))
+    with mock.patch.object(edge, "log_of", lambda _: next(counts)):
+        try:
+            edge.Edge(SETTINGS).member(1)
+        except Trouble as why:
+            assert str(why) == "edge/C1/C1.db is written to all the time: ask once more"
+        else:
+            raise Trouble("a record whose log begins anew each time was read")
+
+
+def test_steps_of_prices() -> None:
+    """Prices have as many decimals as their step, as the edge writes them (edge/src/ticks.cpp)."""
+    for step, steps, price in (("0.01", 5025, "50.25"), ("0.01", 1, "0.01"), ("0.25", 3, "0.75"), ("1", 7, "7"), ("0.50", 3, "1.50"),
+                               ("5", 1000000, "5000000"), (".001", 12, "0.012"), ("10.0", 3, "30.0"), ("0.01", 0, "0.00")):
+        assert (step, steps, edge.Step(step).price_of(steps)) == (step, steps, price)
+
+
+@pytest.mark.usefixtures("journal")
+def test_wrong_words_of_the_edge() -> None:
+    record("edge/C1", 1, [])
+    put("empty.cfg", b"")
+    put("none.cfg", b"[DEFAULT]\nSymbols=ABC:0.01\n[SESSION]\nMember=C1\nEdgePath=e\nSenderCompID=E\n")
+    put("steps.cfg", contents(settings()).replace(b"ABC:0.01", b"ABC:0"))
+    put("path.cfg", contents(SETTINGS).replace(b"EdgePath=edge", b""))
+    os.makedirs("broken/C1")
+    put("broken/C1/C1.db", b"no record")
+    put("broken.cfg", contents(SETTINGS).replace(b"EdgePath=edge", b"EdgePath=broken"))
+    for name, line in (("missing.cfg", "missing.cfg: No such file or directory"),
+                       ("empty.cfg", "empty.cfg has no [SESSION]: are these the settings of gikvand-edge?"),
+                       ("none.cfg", "none.cfg has no TargetCompID"),
+                       ("steps.cfg", "steps.cfg has Symbols that aren't of SYMBOL:STEP, as ABC:0.01: ABC:0"),
+                       ("path.cfg", "path.cfg has no EdgePath"),
+                       ("broken.cfg", "broken/C1/C1.db isn't a member's record of gikvand-edge: file is not a database")):
+        status, out, err = gikvand("reports", JOURNAL, "C1", "--edge", name)
+        assert (name, status, out, err) == (name, 2, [], [f"gikvand reports: {line}"])

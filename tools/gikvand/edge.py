@@ -1,0 +1,225 @@
+"""What a member behind `gikvand-edge` knows a report by: the names that it gave its requests in the place of the venue's numbers,
+decimals in the place of steps, and both CompIDs. All of it stands in the edge's settings and in the records of its members, of
+which a copy is read, so the edge may be in use."""
+import argparse
+import contextlib
+import os
+import re
+import shutil
+import sqlite3
+import tempfile
+from collections.abc import Iterable, Iterator
+from typing import NamedTuple
+
+from gikvand.fix import fields_of, value
+from gikvand.journals import MEMBERS
+from gikvand.words import Trouble
+
+NAMES, PRICES = ("11", "41"), ("44", "31", "6")  # Tags of what is translated.
+OF_A_SESSION = {"8", "9", "10", "34", "43", "49", "52", "56", "97", "122"}  # Tags that a report gets by being sent,
+NOT_COMPARED = OF_A_SESSION | {"29"}        # and that of a setting which the journal doesn't know.
+BY_EDGE, PROBE = "edge: ", "p"              # So begins the text of what the edge itself says; the kind of its own requests.
+REFUSED, MESSAGE = "x", "m"                 # The kind of a name that the edge refused; what is no name in the row of a turn.
+PART = re.compile(rb"(.)(\d+) (\d+) ", re.DOTALL)  # Of a turn's row: what it is, its number, and how many bytes follow.
+TRIES = 20                                  # Looks at a record that is written to meanwhile.
+A_HEAD = 32                                 # Bytes of what a log of SQLite begins with: two of its words are others in each log.
+
+Settings = dict[str, str]
+
+
+def add_option(parser: argparse.ArgumentParser) -> None:
+    parser.add_argument("--edge", metavar="FILE", help="the settings of gikvand-edge, for members behind it: their names, "
+                        "decimals and CompIDs")
+
+
+def sections(path: str) -> list[tuple[str, Settings]]:
+    """The sections of a file of settings, as QuickFIX reads it: names are the same in capitals."""
+    found: list[tuple[str, Settings]] = []
+    with open(path, encoding="utf-8", errors="surrogateescape") as file:
+        for line in map(str.strip, file):
+            if head := re.fullmatch(r"\[(\w+)\]", line):
+                found.append((head[1].upper(), {}))
+            elif line and not line.startswith("#") and found and "=" in line:
+                name, _, text = line.partition("=")
+                found[-1][1][name.strip().upper()] = text.strip()
+    return found
+
+
+class Step:
+    """The step of a symbol's prices, as 0.01, and how many decimals it has."""
+
+    def __init__(self, text: str) -> None:
+        if not re.fullmatch(r"(?=.*[1-9])\d{1,9}(\.\d{0,9})?|(?=.*[1-9])\.\d{1,9}", text):
+            raise ValueError(text)
+        whole, _, part = text.partition(".")
+        self.decimals, self.mantissa = len(part), int(whole + part)
+
+    def price_of(self, steps: int) -> str:
+        digits = str(steps * self.mantissa).zfill(self.decimals + 1)
+        return f"{digits[:-self.decimals]}.{digits[-self.decimals:]}" if self.decimals else digits
+
+
+class Member(NamedTuple):
+    """A member behind the edge: its CompID and that of the edge, and the names by their numbers, with the kinds of these; behind
+    `first` a number without one has a name by the edge."""
+    comp_id: str
+    edge_id: str
+    names: dict[int, str]
+    kinds: dict[int, str]
+    first: int
+
+    def name_of(self, number: str) -> str:
+        at = int(number)
+        return self.names.get(at) or f"{'edge-lost-' if self.first and at >= self.first else ''}{number}"
+
+
+def log_of(path: str) -> bytes:
+    """How the log of a record begins: otherwise once its pages are in the record and it has begun anew. SQLite's format."""
+    with contextlib.suppress(FileNotFoundError), open(f"{path}-wal", "rb") as file:
+        return file.read(A_HEAD)
+    return b""
+
+
+def copied(path: str, folder: str) -> str:
+    """A copy of a record, in this folder, as it stood at one moment. What the log has stands in front of the record's own pages,
+    and each part of it has a sum: so what is written meanwhile is there or not, as long as the log doesn't begin anew."""
+    copy = os.path.join(folder, "copy.db")
+    for _ in range(TRIES):
+        before = log_of(path)
+        for end in ("", "-wal"):
+            with contextlib.suppress(FileNotFoundError):
+                os.remove(copy + end)
+            if end == "" or os.path.exists(path + end):
+                shutil.copyfile(path + end, copy + end)
+        if log_of(path) == before:
+            return copy
+    raise Trouble(f"{path} is written to all the time: ask once more")
+
+
+def parts_of(row: bytes) -> Iterator[tuple[int, str, str]]:
+    """Names out of the row of a turn, with numbers and kinds, as a record's table of names gets them later."""
+    at = 0
+    while at < len(row):
+        if not (head := PART.match(row, at)) or head.end() + int(head[3]) > len(row):
+            raise ValueError("a turn can't be read")
+        at = head.end() + int(head[3])
+        if (kind := head[1].decode("latin-1")) != MESSAGE:
+            yield int(head[2]), kind, row[head.end():at].decode("utf-8", "surrogateescape")
+
+
+def record_of(path: str) -> tuple[dict[int, str], dict[int, str], int]:
+    """Names and kinds by their numbers, and the first number, out of a member's record. A member that never came has none."""
+    if not os.path.exists(path):
+        return {}, {}, 0
+    try:
+        with tempfile.TemporaryDirectory(prefix="edge-") as folder:
+            with contextlib.closing(sqlite3.connect(copied(path, folder))) as record:
+                rows = record.execute("SELECT number, kind, name FROM names").fetchall()
+                if record.execute("SELECT 1 FROM sqlite_master WHERE name = 'turns'").fetchone():
+                    for turn, in record.execute("SELECT did FROM turns ORDER BY turn"):
+                        rows += parts_of(turn)
+                first = record.execute("SELECT first FROM session").fetchone()[0]
+    except (sqlite3.Error, TypeError, ValueError) as why:
+        raise Trouble(f"{path} isn't a member's record of gikvand-edge: {why}") from why
+    names = [it for it in rows if it[1] != REFUSED]
+    return {number: name for number, _, name in names}, {number: kind for number, kind, _ in names}, first
+
+
+class Edge:
+    """The settings of an edge, and what they say of its members."""
+
+    def __init__(self, path: str) -> None:
+        self.path, parts = path, sections(path)
+        common = next((it for head, it in parts if head == "DEFAULT"), {})
+        self.common, self.sessions = common, [{**common, **it} for head, it in parts if head == "SESSION"]
+        if not self.sessions:
+            raise Trouble(f"{path} has no [SESSION]: are these the settings of gikvand-edge?")
+        self.steps = dict(map(self.step_of, self.need(self.sessions[0], "Symbols").split()))
+        self.known: dict[int, Member] = {}
+
+    def need(self, session: Settings, name: str) -> str:
+        if not (text := session.get(name.upper())):
+            raise Trouble(f"{self.path} has no {name}")
+        return text
+
+    def step_of(self, word: str) -> tuple[str, Step]:
+        symbol, _, step = word.partition(":")
+        try:
+            return symbol, Step(step)
+        except ValueError:
+            raise Trouble(f"{self.path} has Symbols that aren't of SYMBOL:STEP, as ABC:0.01: {word}") from None
+
+    def has(self, member: int) -> bool:
+        return any(it.get("MEMBER") == f"C{member}" for it in self.sessions)
+
+    def member(self, number: int) -> Member:
+        """A member, by its session and its record."""
+        if number not in self.known:
+            session = next((it for it in self.sessions if it.get("MEMBER") == f"C{number}"), None)
+            if session is None:
+                raise Trouble(f"{self.path} has no session of C{number}")
+            folder = self.need(session, "EdgePath")
+            if folder == self.common.get("EDGEPATH"):
+                folder = os.path.join(folder, f"C{number}")  # One of [DEFAULT] is for all.
+            names, kinds, first = record_of(os.path.join(folder, f"C{number}.db"))
+            self.known[number] = Member(self.need(session, "TargetCompID"), self.need(session, "SenderCompID"), names, kinds, first)
+        return self.known[number]
+
+    def price_of(self, symbol: str, steps: str) -> str:
+        step = self.steps.get(symbol)
+        return step.price_of(int(steps)) if step else steps
+
+    def told(self, number: int, report: dict[str, str]) -> dict[str, str]:
+        """A report of the venue as its member knows it."""
+        member = self.member(number)
+        return {tag: member.name_of(text) if tag in NAMES else self.price_of(report.get("55", ""), text) if tag in PRICES else text
+                for tag, text in report.items()}
+
+    def is_for_member(self, number: int, report: dict[str, str]) -> bool:
+        """Whether the edge tells its member of this report: not of what it asked for by itself, nor of rejected messages."""
+        if report["35"] == "9":
+            return self.member(number).kinds.get(int(report["11"])) != PROBE
+        return report["35"] == "8"
+
+    def reports(self, number: int, lines: Iterable[str]) -> Iterator[str]:
+        """The venue's reports to a member as it knows them."""
+        for line in lines:
+            report = fields_of(line)
+            if self.is_for_member(number, report):
+                yield text_of(self.told(number, report))
+
+    def logged(self, number: int, lines: Iterable[str]) -> Iterator[str]:
+        """The same in the form in which a log is compared: that of the engine, whatever the order of its fields."""
+        return map(printed_as_compared, self.reports(number, lines))
+
+    def is_to(self, number: int, message: dict[str, str]) -> bool:
+        """Whether a message in a log is a report of the venue that the edge told this member."""
+        member = self.member(number)
+        if (message.get("49"), message.get("56")) != (member.edge_id, member.comp_id):
+            return False
+        return message.get("35") in ("8", "9") and not message.get("58", "").startswith(BY_EDGE)
+
+
+def text_of(fields: dict[str, str]) -> str:
+    return "".join(f"{tag}={text}|" for tag, text in fields.items())
+
+
+def as_compared(fields: dict[str, str]) -> str:
+    """A report with the fields that are compared, in the order of their tags behind its type."""
+    rest = sorted((int(tag), text) for tag, text in fields.items() if tag not in NOT_COMPARED and tag != "35" and tag.isdecimal())
+    return f"35={fields['35']}|" + "".join(f"{tag}={text}|" for tag, text in rest)
+
+
+def printed_as_compared(line: str) -> str:
+    """The same of a report as `gikvand reports` prints it: an engine has its time as TransactTime (60)."""
+    return as_compared({**fields_of(line), "60": value(line, "52") or ""})
+
+
+def of(path: str | None) -> Edge | None:
+    """The edge whose settings these are, where there is one."""
+    return Edge(path) if path else None
+
+
+def ids_of(it: Edge) -> dict[str, str]:
+    """The members' CompIDs by their names at the venue."""
+    return {f"C{number}": it.member(number).comp_id for number in MEMBERS if it.has(number)}
