@@ -161,10 +161,11 @@ def named_on(lines: list[str]) -> typing.Iterator[tuple[str, list[str]]]:
 
 
 def exporting() -> list[Crate]:
-    """The crates that a program stands on, benchmarks left out, in the order of their layers: tests are none of these."""
+    """The crates that a program or a library for C stands on, benchmarks left out, in the order of their layers: tests
+    are none of these."""
     listed = crates.listed()
     programs = [it for it in listed if it not in BENCHMARKS and os.path.isfile(f"{ROOT}/crates/{it}/src/main.rt")]
-    below = {it for name in programs for it in crates.below(name, listed)}
+    below = {it for name in [*programs, *crates.for_c()] for it in crates.below(name, listed)}
     return [Crate(it) for it in listed if it in below]
 
 

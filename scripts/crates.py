@@ -3,6 +3,7 @@ import os
 import subprocess
 
 ROOT = os.path.dirname(os.path.dirname(os.path.abspath(__file__)))
+BYTES = 3_000_000_000  # What a process that proves a crate may take of memory.
 
 
 def kit():
@@ -10,15 +11,35 @@ def kit():
     return os.path.dirname(subprocess.run(["rt", "doc"], stdout=subprocess.PIPE, text=True, check=True).stdout.strip())
 
 
-def listed():
-    """The crates in the order of crates.txt, each with what it stands on: names of crates, and of the kit's libraries."""
-    found = {}
+def room():
+    """How many processes that prove a crate there is memory for."""
+    free = os.sysconf("SC_AVPHYS_PAGES") * os.sysconf("SC_PAGE_SIZE")
+    try:
+        with open("/proc/meminfo", encoding="utf-8") as file:
+            free = next(int(it.split()[1]) * 1024 for it in file if it.startswith("MemAvailable:"))
+    except (OSError, StopIteration):
+        pass
+    return max(1, free // BYTES)
+
+
+def lines():
+    """The lines of crates.txt: a crate's name, what else is said of it, and what it stands on."""
     with open(f"{ROOT}/crates.txt", encoding="utf-8") as file:
         for line in file:
             head, colon, names = line.partition("#")[0].partition(":")
             if colon:
-                found[head.split()[0]] = names.split()
-    return found
+                name, *said = head.split()
+                yield name, said, names.split()
+
+
+def listed():
+    """The crates in the order of crates.txt, each with what it stands on: names of crates, and of the kit's libraries."""
+    return {name: names for name, _, names in lines()}
+
+
+def for_c():
+    """The crates that are made into libraries for C."""
+    return [name for name, said, _ in lines() if "staticlib" in said]
 
 
 def below(crate, crates):

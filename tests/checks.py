@@ -1,13 +1,14 @@
-"""What tests of programs and pages share: a program that is run to its end, a text of the repository, what has to come, and
-how many came. Not a test."""
+"""What tests of programs and pages share: a program that is run to its end, a text of the repository, how many passed, and what can be
+had here. Not a test."""
+import functools
 import os
 import subprocess
 import sys
 
 import with_scripts  # (in front of what stands there, and of what an older Python can't read)
-from gikvand.programs import Trouble
 
 ROOT = os.path.dirname(os.path.dirname(os.path.abspath(__file__)))
+EDGE = os.path.abspath(os.environ.get("GIKVAND_EDGE", os.path.join(ROOT, "edge/out/gikvand-edge")))
 LONG = 300  # Seconds for a program.
 
 
@@ -28,12 +29,6 @@ class Check:
         """Prints the last line of a test, and ends with its status."""
         print(f"{self.passed} passed, {self.failed} failed")
         sys.exit(1 if self.failed else 0)
-
-
-def expect(came: object, wanted: object) -> None:
-    """Fails the test where something else came."""
-    if came != wanted:
-        raise Trouble(f"expected {wanted!r} came {came!r}")
 
 
 def ran(*words: object, given: str = "", folder: str | None = None, **environment: str) -> tuple[int, str, str]:
@@ -58,3 +53,16 @@ def text_of(name: str) -> str:
 def contents(path: str) -> bytes:
     with open(path, "rb") as file:
         return file.read()
+
+
+def is_edge_built() -> bool:
+    return os.access(EDGE, os.X_OK)
+
+
+@functools.cache
+def can_have_places() -> bool:
+    """Whether the system's folders can be others for a program here. Where they can't a line says so."""
+    has = ran("unshare", "-rm", "sh", "-c", "mount -t tmpfs none /run")[0] == 0
+    if not has:
+        print("contrib/debian isn't tried: no folder of the system can be another one here")
+    return has

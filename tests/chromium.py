@@ -1,5 +1,5 @@
 """A Chromium without a window, told what to do over two pipes by the protocol of its DevTools. Not a test:
-tests/board.py imports it."""
+tests/test_board_page.py imports it."""
 import base64
 import collections
 import contextlib

@@ -28,10 +28,10 @@ sys.path[:0] = [TOOLS, os.path.join(ROOT, "dev")]
 import with_scripts  # (in front of what stands there, and of what an older Python can't read)
 import gikvand as package  # (in front of what puts another path first)
 import journals
-from follow_tests import Follower, await_copy
-from made_journals import JOURNAL, contents, expect, gikvand, put
+from made_journals import JOURNAL, contents, gikvand, put
+from running_tools import Follower, await_copy
 from traders import Member, request
-from venues import Client, Trouble, Venue, free_port, in_a_folder, main_of, message
+from venues import Client, Trouble, Venue, expect, free_port, in_a_folder, main_of, message
 
 MEMBERS = 4
 A_BURST = 0.02     # Seconds between two bursts of a member.

@@ -44,7 +44,7 @@ SYMBOLS = ["A", "BB", "CCC", "DDDD", "EEEEE", "F6", "G77", "H888"]
 
 # How many instructions each run has.
 COUNTS = {
-    "session": 23_208_000,
+    "session": 22_858_000,
     "one_symbol": 25_408_000,
     "eight_symbols": 27_488_000,
     "deep_sells": 20_349_000,

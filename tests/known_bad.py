@@ -7,15 +7,18 @@ to refuse every one.
 `wrong_rules`: each rule of tests/rules.py and tests/book_rules.py, turned off or turned round (tests/wrong_rules.py), differs
 from the right ones at a session of tests/corners.py. `wrong_answers`: the bytes that are due in a session, with one byte, one
 message, their order, a number or a price changed. `wrong_lines`: the same of what venue-replay prints. `wrong_venues` and
-`wrong_replays`: tests/members.py, tests/hostile_bytes.py, tests/refused_memory.py, tests/worked_journals.py and
+`wrong_replays`: tests/test_members.py, tests/hostile_bytes.py, tests/refused_memory.py, tests/test_worked_journals.py and
 tests/journals_by_chance.py, with programs in the place of the built ones that do as these do, but for one thing
 (tests/wrong_program.py). `wrong_tools`:
-tests/tools.py, tests/board.py and tests/follow_load.py, with commands of gikvand that are wrong in one thing
-(tests/wrong_tools.py). `wrong_packages`: tests/package.py, with pages, words for bash, services and packages that are
-(tests/wrong_package.py).
+tests/tools, tests/test_board_page.py and tests/follow_load.py, with commands of gikvand that are wrong in one thing
+(tests/wrong_tools.py). `wrong_packages`: tests/package, with pages, words for bash, services and packages that are
+(tests/wrong_package.py), and `wrong_edge_packages` the same of the edge's, once that is built. `wrong_scripts`: tests/test_users.py,
+test_pin.py, dictionary.py, promises.py, test_plays.py, test_ci.py and test_conftest.py, with scripts, pages, plays and a check that are
+(tests/wrong_scripts.py). `taken_ones`: what this itself says of tools that are right and of tests that there aren't: that they
+weren't refused.
 
-What isn't refused has a line. The last line is `N passed, M failed`, and the status is 1 where one failed. Build both
-programs first, by scripts/build; others are taken by the environment's VENUED and VENUE_REPLAY.
+What isn't refused has a line. The last line is `N passed, M failed`, and the status is 1 where one failed. Build the
+programs first, by scripts/build; others are taken by the environment's VENUED, VENUE_REPLAY, VENUE_EVENTS and GIKVAND_EDGE.
 """
 import concurrent.futures
 import os
@@ -32,7 +35,9 @@ ROOT = os.path.dirname(os.path.dirname(os.path.abspath(__file__)))
 sys.path.insert(0, os.path.join(ROOT, "dev"))
 
 import with_scripts  # (in front of what stands there, and of what an older Python can't read)
+import checks
 import corners
+import debian
 import hostile_bytes
 import refusals
 import refused_memory
@@ -42,13 +47,16 @@ from corners import LOGON, SYMBOLS, Corner, all_corners, buy, cut, market, sell,
 from hostile_bytes import kept_difference
 from replay_rules import line_of
 from rules import Judged, sealed, told
-from venues import LATE, REPLAY, VENUED, Trouble, need_programs
+from venues import EVENTS, LATE, REPLAY, VENUED, Trouble, need_programs
 from wrong_package import WRONG as WRONG_PACKAGES
 from wrong_rules import WRONG
+from wrong_scripts import WRONG as WRONG_SCRIPTS
 from wrong_tools import WRONG as WRONG_TOOLS
 
 TESTS = os.path.dirname(os.path.abspath(__file__))
 TOGETHER = os.cpu_count() or 1
+PROGRAMS = {"VENUED": os.path.abspath(VENUED), "VENUE_REPLAY": os.path.abspath(REPLAY), "VENUE_EVENTS": os.path.abspath(EVENTS),
+            "GIKVAND_EDGE": checks.EDGE}
 A_DAY = [LOGON, sell(1, 5, 50), ("1", "112=hi|"), buy(2, 3, 50), buy(3, 4, 51), cut(4, 3), market(5, 2, 1), buy(6, 1, 49),
          ("0", "")]
 LONG = 180  # Seconds for a test with a wrong program, which may have to wait for what never comes.
@@ -195,13 +203,22 @@ def refuses(words: list[str], program: str, wrong: str) -> tuple[str, str | None
         return refused(words, wrong, {which: put_in_place(folder, wrong, program)})
 
 
+def command_of(words: list[str]) -> list[str]:
+    """How a test of ours is run: a program, or a module or folder of tests, which pytest runs."""
+    path = os.path.join(TESTS, words[0])
+    if not os.path.isdir(path) and not os.path.basename(path).startswith("test_"):
+        return [sys.executable, path, *words[1:]]
+    named = [word for it in words[1:] for word in ("--named", it)]
+    return [debian.python_with_pytest(), "-m", "pytest", "-q", "-x", "-p", "no:cacheprovider", "-p", "no:xdist", path, *named]
+
+
 def refused(words: list[str], wrong: str, settings: dict[str, str]) -> tuple[str, str | None]:
     """Runs a test of ours with these settings, by which something is wrong: its name, and why that is no refusal, or None."""
     name = f"{' '.join(words)} with {wrong or 'nothing wrong'}"
     environment = {**os.environ, **settings, "VENUE_PATIENCE": "10" if wrong else "30"}
     try:
-        it = subprocess.run([sys.executable, os.path.join(TESTS, words[0]), *words[1:]], env=environment, timeout=LONG,
-                            stdout=subprocess.PIPE, stderr=subprocess.STDOUT, text=True)
+        it = subprocess.run(command_of(words), env=environment, timeout=LONG, stdout=subprocess.PIPE, stderr=subprocess.STDOUT,
+                            text=True)
     except subprocess.TimeoutExpired:
         return name, f"hasn't ended within {LONG} seconds"
     counted = re.fullmatch(r"(\d+) passed, (\d+) failed", (it.stdout.splitlines() or [""])[-1])
@@ -234,7 +251,7 @@ def all_refuse(runs: list[tuple], refuses: Callable = refuses) -> tuple[int, lis
 def wrong_venues() -> tuple[int, list[str]]:
     """Venues that do wrong by a member over TCP, or over standard input and output."""
     venued = os.path.abspath(VENUED)
-    runs = [(["members.py", test], venued, wrong) for test, wrong in wrong_program.OVER_TCP]
+    runs = [(["test_members.py", test], venued, wrong) for test, wrong in wrong_program.OVER_TCP]
     runs += [(["../dev/play", "first_acknowledgement", "logout"], venued, wrong)
              for wrong in ("", *wrong_program.OVER_STREAMS)]
     sessions = ["hostile_bytes.py", "mutated", "--messages", "1", "--seed", "1", "--together", "1"]
@@ -294,36 +311,71 @@ def put_in_place(folder: str, wrong: str, program: str) -> str:
 
 def wrong_replays() -> tuple[int, list[str]]:
     """Programs in the place of venue-replay that do wrong."""
-    tests = [["worked_journals.py", "entries_behind", "which_fault", "old_journal"],
+    tests = [["test_worked_journals.py", "entries_behind", "which_fault", "old_journal"],
              ["journals_by_chance.py", "--seed", "1", "--only", "56", "--together", "1"]]
     return all_refuse([(it, os.path.abspath(REPLAY), wrong) for it in tests for wrong in wrong_program.REPLAYS])
 
 
 def refuses_tool(wrong: str) -> tuple[str, str | None]:
     """Runs tests of the commands of gikvand, or of a page, with this wrong one: its name, and why that is no refusal, or None."""
-    programs = {"VENUED": os.path.abspath(VENUED), "VENUE_REPLAY": os.path.abspath(REPLAY)}
     it = WRONG_TOOLS[wrong]
     with tempfile.TemporaryDirectory(prefix="known-bad-") as folder:
-        settings = {**programs, "TOOLS": it.put(os.path.join(ROOT, "tools"), folder)}
+        settings = {**PROGRAMS, "TOOLS": it.put(os.path.join(ROOT, "tools"), folder)}
         return refused([it.script, *it.tests.split()], wrong, settings)
 
 
 def wrong_tools() -> tuple[int, list[str]]:
-    """Commands of gikvand that are wrong in one thing. (That the right ones pass is what tests/tools.py and board.py say.)"""
+    """Commands of gikvand that are wrong in one thing. (That the right ones pass is what tests/tools and test_board_page.py say.)"""
     return all_refuse([(wrong,) for wrong, it in WRONG_TOOLS.items() if it.can_be_seen()], refuses_tool)
 
 
 def refuses_package(wrong: str) -> tuple[str, str | None]:
     """Runs tests of the package in a copy of what it takes that is wrong so: its name, and why that is no refusal, or None."""
-    programs = {"VENUED": os.path.abspath(VENUED), "VENUE_REPLAY": os.path.abspath(REPLAY)}
     it = WRONG_PACKAGES[wrong]
     with tempfile.TemporaryDirectory(prefix="known-bad-") as folder:
-        return refused([it.put(ROOT, folder), *it.tests.split()], wrong, programs)
+        return refused([it.put(ROOT, folder), *it.tests.split()], wrong, PROGRAMS)
 
 
 def wrong_packages() -> tuple[int, list[str]]:
-    """Packages that are wrong in one thing. (That the right one passes is what tests/package.py says.)"""
-    return all_refuse([(wrong,) for wrong, it in WRONG_PACKAGES.items() if it.can_be_seen()], refuses_package)
+    """Packages that are wrong in one thing. (That the right one passes is what tests/package says.)"""
+    wrongs = [wrong for wrong, it in WRONG_PACKAGES.items() if not it.is_of_the_edge() and it.can_be_seen()]
+    return all_refuse([(wrong,) for wrong in wrongs], refuses_package)
+
+
+def wrong_edge_packages() -> tuple[int, list[str]]:
+    """The same of the edge, where that is built."""
+    wrongs = [wrong for wrong, it in WRONG_PACKAGES.items() if it.is_of_the_edge() and it.can_be_seen()]
+    return all_refuse([(wrong,) for wrong in wrongs], refuses_package)
+
+
+def refuses_script(wrong: str) -> tuple[str, str | None]:
+    """Runs a test with a script, a page, a play or a full check that is wrong so: its name, and why that is no refusal, or None."""
+    with tempfile.TemporaryDirectory(prefix="known-bad-") as folder:
+        words, settings = WRONG_SCRIPTS[wrong].put(ROOT, folder)
+        return refused(words, wrong, {**PROGRAMS, **settings})
+
+
+def wrong_scripts() -> tuple[int, list[str]]:
+    """Scripts, pages, plays and full checks that are wrong in one thing."""
+    return all_refuse([(wrong,) for wrong in WRONG_SCRIPTS], refuses_script)
+
+
+def taken_ones() -> tuple[int, list[str]]:
+    """What is right, a test that there isn't, and one that fails without its last line: none of that is a refusal."""
+    cases = [("a tool that is right", ["tools", "headers"], "said '1 passed, 0 failed'"),
+             ("a test that there isn't", ["tools", "no_test_of_this_name"], "ended with status 5 behind '0 passed, 0 failed'"),
+             ("a test without a last line", ["checks.py"], "ended without its last line"),
+             ("", ["tools", "no_test_of_this_name"], "ended with status 5 behind '0 passed, 0 failed'"),
+             ("", ["tools", "headers"], None)]
+    faults = []
+    for name, words, why in cases:
+        came = refused(words, name, PROGRAMS)[1]
+        if (came or "").startswith(why or "taken") != bool(why) or why is None and came:
+            faults.append(f"{name or 'nothing wrong'}: expected {why} came {came}")
+    count, found = all_refuse([(words, name) for name, words, why in cases[:1]], lambda words, name: refused(words, name, PROGRAMS))
+    if (count, len(found)) != (1, 1):
+        faults.append(f"a tool that is right counts as refused: {found}")
+    return len(cases) + 1, faults
 
 
 def main() -> None:
@@ -334,7 +386,8 @@ def main() -> None:
         need_programs()
     except Trouble as why:
         sys.exit(f"known_bad: {why}")
-    tests = [wrong_rules, wrong_answers, wrong_lines, wrong_venues, wrong_replays, wrong_tools, wrong_packages]
+    tests = [wrong_rules, wrong_answers, wrong_lines, wrong_venues, wrong_replays, wrong_tools, wrong_packages, wrong_edge_packages,
+             wrong_scripts, taken_ones]
     chosen = [it for it in tests if not sys.argv[1:] or any(word in it.__name__ for word in sys.argv[1:])]
     failed = 0
     for test in chosen:

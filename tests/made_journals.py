@@ -1,12 +1,16 @@
-"""Journals that venued makes for tests of the commands of gikvand, and the commands called on them. Not a test: tests/tools.py
-and its modules import it, once the package is on the path."""
+"""Journals that venued makes for tests of the commands of gikvand, and the commands called on them. Not a test: those of
+tests/tools import it."""
+import codecs
 import contextlib
+import datetime
 import functools
 import io
 import os
+import re
 import subprocess
 import sys
 import tempfile
+import time
 from collections.abc import Iterator
 from typing import NamedTuple
 
@@ -18,6 +22,7 @@ TOOLS = os.path.dirname(os.path.dirname(os.path.abspath(tools.__file__)))
 SYMBOLS = ("ABC", "XYZ")
 JOURNAL = "venue.journal"
 NOBODY = 65534
+LONG_AGO = 600  # Seconds that a line may be old, on a machine that stands still at times.
 
 
 def cancel(name: int, was: int, side: int, quantity: int) -> str:
@@ -49,12 +54,6 @@ class Made(NamedTuple):
         return [it.offset for it in journals.Reader(io.BytesIO(self.data))]
 
 
-def expect(came: object, wanted: object) -> None:
-    """Fails the test where something else came."""
-    if came != wanted:
-        raise Trouble(f"expected {wanted!r} came {came!r}")
-
-
 def gikvand(*words: object) -> tuple[int, list[str], list[str]]:
     """Runs a command, in this process: its status, and the lines of both of its outputs."""
     out, err = io.StringIO(), io.StringIO()
@@ -64,6 +63,26 @@ def gikvand(*words: object) -> tuple[int, list[str], list[str]]:
         except SystemExit as ended:
             status = ended.code
     return status, out.getvalue().splitlines(), err.getvalue().splitlines()
+
+
+STAMP = re.compile(r"\d{4}-\d\d-\d\d \d\d:\d\d:\d\dZ")
+
+
+def untimed(line: str) -> str:
+    """A line of a command that goes on, without the time of day in front of it, or at its end, which is that of now."""
+    found = STAMP.match(line) or re.search(rf"{STAMP.pattern}(?=\)$)", line)
+    if not found:
+        raise Trouble(f"no time of day in: {line}")
+    told = datetime.datetime.fromisoformat(found[0].replace("Z", "+00:00"))
+    if abs(told.timestamp() - time.time()) > LONG_AGO:
+        raise Trouble(f"the time of day is {time.time()}, and not that of: {line}")
+    return line[found.end() + 1:] if found.start() == 0 else line.replace(f" (at {found[0]})", "")
+
+
+def followed(*words: object) -> tuple[int, list[str], list[str]]:
+    """Runs `gikvand follow`, as `gikvand` does, and takes the times of day away: where it goes on, its last words have one, too."""
+    status, out, err = gikvand("follow", *words)
+    return status, [untimed(it) for it in out], [untimed(it) if " (at " in it else it for it in err]
 
 
 def put(name: str, data: bytes) -> str:
@@ -136,6 +155,7 @@ def called(*words: str) -> tuple[int, list[str], list[str]]:
 def as_nobody() -> Iterator[None]:
     """Lets this process be a user without rights, where it is root."""
     was = os.geteuid()
+    codecs.lookup("latin-1")  # A Python below /root gives nobody no further modules.
     if was == 0:
         os.seteuid(NOBODY)
     try:

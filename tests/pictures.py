@@ -16,7 +16,9 @@ class Picture:
                       if it.tag == f"{space}text"]
         self.lines = [it for it in every if it.tag == f"{space}line"]
         self.paths = [(it.get("d"), it.get("stroke")) for it in every if it.tag == f"{space}path"]
-        self.bars = [it for it in every if it.tag == f"{space}rect" and it.get("x")]
+        boxes = [it for it in every if it.tag == f"{space}rect" and it.get("x")]
+        self.bars = [it for it in boxes if it.get("class") != "volume"]
+        self.volumes = [it for it in boxes if it.get("class") == "volume"]
         self.marks = [(it.get("points"), it.get("fill"), it.get("stroke")) for it in every if it.tag == f"{space}polygon"]
 
     def said(self) -> list[str]:

@@ -1,19 +1,21 @@
 // Refuses calls of the system to a program that it is loaded into by LD_PRELOAD. tests/refusals.py builds and sets it:
 //
-//   REFUSE       which calls are counted: memory, threads, device, rests, options, which set how a connection is kept, or
-//                look, for the stop file
+//   REFUSE       which calls are counted: memory, threads, device, rests, parks, options, which set how a connection is
+//                kept, or look, for the stop file
 //   REFUSE_AT    the number of the call that is refused, from 1
 //   REFUSE_HOW   once: that call fails; on: and so do all behind it; short: it moves half of its bytes;
 //                before: the program is killed in its place; after: the program is killed behind it;
 //                swap: if it is a flock, an empty file takes the name of the one that is to be locked before it;
 //                note: no call is refused, and all of the device are written down
+//   REFUSE_SCRIPTS  where it is set, a shell or Python is one of the programs, and not only what runs one
 //   REFUSE_TOLD  a file that is made where the call came, with its name; or those that are written down, one a line: its
 //                name, the file's, and the flags, the operation, the bytes that moved or the other name
 //
-// A shell or Python, which runs a script in the program's place, is refused nothing, and the program behind it is.
+// A shell or Python, which runs a script in the program's place, is refused nothing, and the program behind it is. Where
+// REFUSE_SCRIPTS is set scripts are the programs whose calls are noted.
 //
-// Requests for memory are answered with none; a thread by EAGAIN; what a thread rests with by EMFILE; an option by
-// EINVAL; the calls of the journal's device and a look by EIO.
+// Requests for memory are answered with none; a thread by EAGAIN; what a thread rests with by EMFILE; a park by
+// EBADF; an option by EINVAL; the calls of the journal's device and a look by EIO.
 //
 // It also notes what a program does at the connections that it has accepted:
 //
@@ -21,7 +23,7 @@
 //                descriptor, and how many bytes it moved, or what it set
 //   SLEPT        a file that gets a line for each rest of a thread: the thread, and `nap` with how many microseconds it asked
 //                for, or `park` with how many milliseconds; before it `yield` with how often it let others run since its last
-//                rest, if it did
+//                rest, if it did, and `away` with how often it was away for long then
 //   ENDED        a file that gets a line for each park of a thread that has ended, each connection that it has accepted
 //                and each write at one, in their order: the thread, and `rest` with how many events ended it, `accept` with
 //                the descriptor, or `write` with how many bytes went (-1 for all in a row that moved none)
@@ -29,15 +31,12 @@
 // And where LATE is set, at these connections two of three writes move nothing, as to a client that is slow to read;
 // where SMALL is set, the system holds about so many bytes, or twice that, for a client that hasn't taken them.
 #define _GNU_SOURCE
-#include <dlfcn.h>
 #include <errno.h>
-#include <fcntl.h>
 #include <limits.h>
 #include <pthread.h>
 #include <signal.h>
 #include <netinet/in.h>
 #include <netinet/tcp.h>
-#include <stdarg.h>
 #include <stdatomic.h>
 #include <stdio.h>
 #include <stdlib.h>
@@ -51,6 +50,8 @@
 #include <sys/syscall.h>
 #include <time.h>
 #include <unistd.h>
+
+#include "calls.h"
 
 extern void *__libc_malloc(size_t), *__libc_calloc(size_t, size_t), *__libc_realloc(void *, size_t);
 extern void *__libc_memalign(size_t, size_t);
@@ -77,7 +78,9 @@ __attribute__((constructor)) static void begin(void) {
     ended = getenv("ENDED");
     late = getenv("LATE");
     small = getenv("SMALL");
-    if (!group || !at || !word || !told || is_interpreter(program_invocation_short_name))
+    if (!group || !at || !word || !told)
+        return;
+    if (is_interpreter(program_invocation_short_name) && !getenv("REFUSE_SCRIPTS"))
         return;
     refused_at = atol(at);
     for (int i = 0; i < PASSES; i++)
@@ -175,16 +178,10 @@ static void end(enum how what) {
         syscall(SYS_kill, syscall(SYS_getpid), SIGKILL);
 }
 
-// Finds the function that this one stands before.
-#define REAL(result, name, ...) \
-    static result (*real)(__VA_ARGS__); \
-    if (!real) \
-        real = (result(*)(__VA_ARGS__))dlsym(RTLD_NEXT, #name)
-
-// Does the call, or what is to be done in its place, and what is noted of it. `whole` and `half` are the words of the whole call and of
-// its half.
+// Does the call of this name, or what is to be done in its place, and what is noted of it. `whole` and `half` are the words
+// of the whole call and of its half.
 #define DEVICE(name, whole, half, noted) \
-    enum how what = decided("device", #name); \
+    enum how what = decided("device", name); \
     if (fails(what)) { \
         errno = EIO; \
         return -1; \
@@ -226,23 +223,16 @@ int pthread_create(pthread_t *thread, const pthread_attr_t *attributes, void *(*
 // The flags of an open that are noted.
 #define SHOWN (O_ACCMODE | O_CREAT | O_EXCL | O_TRUNC | O_APPEND)
 
-#define OPENS(name) \
-    int name(const char *path, int flags, ...) { \
-        REAL(int, name, const char *, int, ...); \
-        va_list more; \
-        va_start(more, flags); \
-        mode_t mode = flags & O_CREAT ? va_arg(more, mode_t) : 0; \
-        va_end(more); \
-        DEVICE(name, (path, flags, mode), (path, flags, mode), note_number("open", got, path, flags & SHOWN)); \
-    }
-OPENS(open)
-OPENS(open64)
+static int opens(const char *name, open_call *real, const char *path, int flags, mode_t mode) {
+    DEVICE(name, (path, flags, mode), (path, flags, mode), note_number("open", got, path, flags & SHOWN));
+}
+OPENS(opens)
 
 int flock(int file, int operation) {
     REAL(int, flock, int, int);
     if (how == SWAP && atomic_load(&calls) + 1 == refused_at && !strcmp(group, "device"))
         swap(file);
-    DEVICE(flock, (file, operation), (file, operation), note_number("flock", file, NULL, operation));
+    DEVICE("flock", (file, operation), (file, operation), note_number("flock", file, NULL, operation));
 }
 
 int statx(int folder, const char *path, int flags, unsigned mask, struct statx *out) {
@@ -250,13 +240,14 @@ int statx(int folder, const char *path, int flags, unsigned mask, struct statx *
     const char *end_of_name = path ? strrchr(path, '.') : NULL;
     if (end_of_name && !strcmp(end_of_name, ".stop"))  // The stop file is no part of the journal.
         return fails(decided("look", "statx")) ? (errno = EIO, -1) : real(folder, path, flags, mask, out);
-    DEVICE(statx, (folder, path, flags, mask, out), (folder, path, flags, mask, out), note("statx", folder, path, flags & AT_EMPTY_PATH ? "file" : "name"));
+    DEVICE("statx", (folder, path, flags, mask, out), (folder, path, flags, mask, out),
+           note("statx", folder, path, flags & AT_EMPTY_PATH ? "file" : "name"));
 }
 
 #define WRITES(name) \
     ssize_t name(int file, const void *data, size_t size, off_t at) { \
         REAL(ssize_t, name, int, const void *, size_t, off_t); \
-        DEVICE(name, (file, data, size, at), (file, data, (size + 1) / 2, at), note_number("pwrite", file, NULL, got)); \
+        DEVICE(#name, (file, data, size, at), (file, data, (size + 1) / 2, at), note_number("pwrite", file, NULL, got)); \
     }
 WRITES(pwrite)
 WRITES(pwrite64)
@@ -264,7 +255,7 @@ WRITES(pwrite64)
 #define READS(name) \
     ssize_t name(int file, void *data, size_t size, off_t at) { \
         REAL(ssize_t, name, int, void *, size_t, off_t); \
-        DEVICE(name, (file, data, size, at), (file, data, (size + 1) / 2, at), note_number("pread", file, NULL, got)); \
+        DEVICE(#name, (file, data, size, at), (file, data, (size + 1) / 2, at), note_number("pread", file, NULL, got)); \
     }
 READS(pread)
 READS(pread64)
@@ -272,19 +263,38 @@ READS(pread64)
 #define SYNCS(name) \
     int name(int file) { \
         REAL(int, name, int); \
-        DEVICE(name, (file), (file), note(#name, file, NULL, "")); \
+        DEVICE(#name, (file), (file), note(#name, file, NULL, "")); \
     }
 SYNCS(fsync)
 SYNCS(fdatasync)
 
-int ftruncate(int file, off_t size) {
-    REAL(int, ftruncate, int, off_t);
-    DEVICE(ftruncate, (file, size), (file, size), note_number("ftruncate", file, NULL, size));
-}
+#define CUTS(name) \
+    int name(int file, off_t size) { \
+        REAL(int, name, int, off_t); \
+        DEVICE("ftruncate", (file, size), (file, size), note_number("ftruncate", file, NULL, size)); \
+    }
+CUTS(ftruncate)
+CUTS(ftruncate64)
 
 int rename(const char *from, const char *to) {
     REAL(int, rename, const char *, const char *);
-    DEVICE(rename, (from, to), (from, to), note("rename", -1, from, to));
+    DEVICE("rename", (from, to), (from, to), note("rename", -1, from, to));
+}
+
+int renameat2(int at, const char *from, int to_at, const char *to, unsigned flags) {
+    REAL(int, renameat2, int, const char *, int, const char *, unsigned);
+    DEVICE("renameat2", (at, from, to_at, to, flags), (at, from, to_at, to, flags), note("rename", -1, from, to));
+}
+
+// What a file's rights become.
+int fchmod(int file, mode_t mode) {
+    REAL(int, fchmod, int, mode_t);
+    DEVICE("fchmod", (file, mode), (file, mode), note_number("mode", file, NULL, mode));
+}
+
+int chmod(const char *path, mode_t mode) {
+    REAL(int, chmod, const char *, mode_t);
+    DEVICE("chmod", (path, mode), (path, mode), note_number("mode", -1, path, mode));
 }
 
 int accept4(int listener, struct sockaddr *from, socklen_t *size, int flags) {
@@ -345,8 +355,9 @@ int close(int file) {
     return real(file);
 }
 
-// How often this thread has let others run since its last rest.
-static _Thread_local long yields;
+// How often this thread has let others run since its last rest, and was away for longer than A_MOMENT then, in nanoseconds.
+#define A_MOMENT 1000000
+static _Thread_local long yields, aways;
 
 // Notes how this thread rests, and how often it let others run before.
 static void note_rest(const char *how_it_rests, long how_long) {
@@ -356,8 +367,12 @@ static void note_rest(const char *how_it_rests, long how_long) {
     if (yields) {
         snprintf(line, sizeof line, "%ld yield %ld\n", syscall(SYS_gettid), yields);
         add(slept, line);
-        yields = 0;
     }
+    if (aways) {
+        snprintf(line, sizeof line, "%ld away %ld\n", syscall(SYS_gettid), aways);
+        add(slept, line);
+    }
+    yields = aways = 0;
     snprintf(line, sizeof line, "%ld %s %ld\n", syscall(SYS_gettid), how_it_rests, how_long);
     add(slept, line);
 }
@@ -371,7 +386,7 @@ int nanosleep(const struct timespec *asked, struct timespec *left) {
 int epoll_wait(int file, struct epoll_event *events, int most, int longest) {
     REAL(int, epoll_wait, int, struct epoll_event *, int, int);
     note_rest("park", longest);
-    int came = real(file, events, most, longest);
+    int came = fails(decided("parks", "epoll_wait")) ? (errno = EBADF, -1) : real(file, events, most, longest);
     note_ended("rest", came);
     return came;
 }
@@ -386,10 +401,19 @@ int eventfd(unsigned count, int flags) {
     return fails(decided("rests", "eventfd")) ? (errno = EMFILE, -1) : real(count, flags);
 }
 
+static long long nanoseconds(void) {
+    struct timespec now;
+    clock_gettime(CLOCK_MONOTONIC, &now);
+    return now.tv_sec * 1000000000LL + now.tv_nsec;
+}
+
 int sched_yield(void) {
     REAL(int, sched_yield, void);
+    long long begun = nanoseconds();
+    int status = real();
     ++yields;
-    return real();
+    aways += nanoseconds() - begun > A_MOMENT;
+    return status;
 }
 
 // Whether a write at this descriptor is one that moves nothing.

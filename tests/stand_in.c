@@ -1,4 +1,4 @@
-// Stands in for a program that starts on a journal, so that tests/long_journal.py is shown wrong ones:
+// Stands in for a program that starts on a journal, so that tests/test_long_journal.py is shown wrong ones:
 //
 //   stand_in WRONG ANSWER JOURNAL
 //

@@ -1,14 +1,22 @@
-"""Wrong pages, words for bash, services and packages, each of which tests/package.py has to refuse. Not a test: tests/known_bad.py
+"""Wrong pages, words for bash, services and packages, each of which tests/package has to refuse. Not a test: tests/known_bad.py
 imports it. A wrong one is a text of a file, standing there once, that is another one."""
 import os
 import shutil
 from typing import NamedTuple
 
-TAKEN = ("CHANGELOG.md", "LICENSE", "VERSION", "contrib", "dev", "docs", "examples", "scripts", "tests", "tools")
+import checks
+
+TAKEN = ("CHANGELOG.md", "LICENSE", "VERSION", "contrib", "dev", "docs", "edge", "examples", "pyproject.toml", "scripts", "tests", "tools")
+NOT_TAKEN = shutil.ignore_patterns("__pycache__", "out", "out-*")
 
 
+# What a test needs; those of a package need dpkg-deb.
 NEEDED = {"lint_of_the_pages": "mandoc", "lint_of_the_package": "lintian", "services": "systemd-analyze",
-          "the_user_of": "systemd-sysusers"}  # What a test needs; those of a package need dpkg-deb.
+          "the_user_of": "systemd-sysusers", "calls_of_the_step": "cc", "calls_of_the_package": "cc",
+          "lint_of_the_edge_pages": "mandoc", "lint_of_the_edge_package": "lintian", "services_of_the_edge": "systemd-analyze",
+          "users_of_the_edge": "systemd-sysusers"}
+# Tests for which the system's folders have to be others.
+IN_OTHER_PLACES = {"as_it_is", "behind_it", "edge_example", "edge_as_it_is_installed", "edge_as_it_is_removed"}
 
 
 class Wrong(NamedTuple):
@@ -20,14 +28,20 @@ class Wrong(NamedTuple):
 
     def can_be_seen(self) -> bool:
         """Whether what the tests need is here."""
-        return all(shutil.which(it) for it in ("dpkg-deb", "strip", NEEDED.get(self.tests, "strip")))
+        has_programs = all(shutil.which(it) for it in ("dpkg-deb", "strip", NEEDED.get(self.tests, "strip")))
+        has_edge = not self.is_of_the_edge() or checks.is_edge_built()
+        return has_programs and has_edge and (self.tests not in IN_OTHER_PLACES or checks.can_have_places())
+
+    def is_of_the_edge(self) -> bool:
+        """Whether it is of the edge's package, which is there once the edge is built."""
+        return "edge" in self.tests
 
     def put(self, root: str, folder: str) -> str:
-        """Makes a copy of what tests/package.py needs in this folder that is wrong so, and gives the test's path there."""
+        """Makes a copy of what tests/package needs in this folder that is wrong so, and gives the test's path there."""
         for name in TAKEN:
             path = os.path.join(root, name)
             if os.path.isdir(path):
-                shutil.copytree(path, os.path.join(folder, name), ignore=shutil.ignore_patterns("__pycache__"))
+                shutil.copytree(path, os.path.join(folder, name), ignore=NOT_TAKEN)
             else:
                 shutil.copy(path, folder)
         with open(os.path.join(folder, self.file), encoding="utf-8") as file:
@@ -36,13 +50,16 @@ class Wrong(NamedTuple):
             raise ValueError(f"{self.old!r} stands {text.count(self.old)} times in {self.file}")
         with open(os.path.join(folder, self.file), "w", encoding="utf-8") as file:
             file.write(text.replace(self.old, self.new))
-        return os.path.join(folder, "tests/package.py")
+        return os.path.join(folder, "tests/package")
 
 
 VENUED, REPLAY, GIKVAND, JOURNAL = (f"contrib/man/{it}" for it in ("venued.8", "venue-replay.1", "gikvand.1", "venue.journal.5"))
 SERVICE, SERVICES = "contrib/venued.service", "contrib/venued@.service"
 STEP, SERVE, SETTINGS, STANDBY = (f"contrib/standby/{it}" for it in ("before-start", "serve", "volume-settings", "venued@.conf"))
 SCRIPT, COMPLETION = "scripts/package", "contrib/gikvand.bash"
+EDGE_PAGE, EDGE_SETTINGS, EDGE_LIST = "contrib/man/gikvand-edge.8", "docs/EDGE.md", "scripts/settings_page.py"
+EDGE_SERVICE, EDGE_USERS, DROP_IN = (f"contrib/edge/{it}" for it in ("gikvand-edge@.service", "gikvand-edge.sysusers", "venued-edge.conf"))
+EDGE_CONTROL, EDGE_POSTINST, EDGE_PRERM, EDGE_POSTRM = (f"contrib/edge/debian/{it}" for it in ("control", "postinst", "prerm", "postrm"))
 WRONG = {
     "words in another order": Wrong(VENUED, ".Ar PORT JOURNAL GATEWAYS", ".Ar JOURNAL PORT GATEWAYS", "usages"),
     "a word too few": Wrong(REPLAY, " Ns | Ns Cm check\n", "\n", "usages"),
@@ -71,7 +88,9 @@ WRONG = {
                                 "services"),
     "a key that there isn't": Wrong(SERVICES, "RestartSec=5", "RestartSeconds=5", "services"),
     "one folder for all": Wrong(SERVICES, "WorkingDirectory=/var/lib/venued/%i", "WorkingDirectory=/var/lib/venued", "settings_of"),
+    "a share as any other has": Wrong(SERVICE, "CPUWeight=1000\n", "", "settings_of"),
     "a limit of starts": Wrong(SERVICE, "StartLimitIntervalSec=0", "StartLimitIntervalSec=300", "settings_of"),
+    "a journal in one word": Wrong(COMPLETION, "            --journal=*) journal=${words[at]#*=} ;;\n", "", "completed"),
     "a user who may log in": Wrong("contrib/venued.sysusers", "/var/lib/venued\n", "/var/lib/venued /bin/bash\n", "the_user_of"),
     "programs with their symbols": Wrong(SCRIPT, 'ran("strip", "--strip-unneeded", "--remove-section=.comment", "-o", '
                                          'self.path(name), program)', "shutil.copyfile(program, self.path(name))", "files_of"),
@@ -98,4 +117,60 @@ WRONG = {
     "a standby that gives up": Wrong(STANDBY, "Restart=on-failure\n", "", "unit_of_a_standby"),
     "a standby's key that there isn't": Wrong(STANDBY, "RestartSec=500ms", "RestartSeconds=1", "services"),
     "a script that isn't found": Wrong(SCRIPT, '"../share/gikvand/scripts/gikvand"', '"../share/gikvand/gikvand"', "a_venue_of"),
+    "a step that doesn't wait": Wrong(STEP, "    os.fsync(fd)\n", "", "calls_of_the_step"),
+    "two kilobytes alone": Wrong(STEP, "LAST = 2 << 20", "LAST = 2 << 10", "calls_of_the_step"),
+    "a lock that others share": Wrong(STEP, "fcntl.LOCK_EX | fcntl.LOCK_NB", "fcntl.LOCK_SH | fcntl.LOCK_NB", "step_beside"),
+    "the end of a gigabyte": Wrong(STEP, "size = os.fstat(fd).st_size", "size = min(os.fstat(fd).st_size, 1 << 30)", "step_of_a_long"),
+    "a touch that hangs for ever": Wrong(SERVE, 'read -r -t "$LONGEST"', "read -r", "a_touch"),
+    "a user that isn't made": Wrong("contrib/debian/postinst", "    systemd-sysusers venued.conf\n", "", "as_it_is"),
+    "an upgrade that stops": Wrong("contrib/debian/prerm", 'if [ "$1" = remove ] && [ -d', "if [ -d", "as_it_is"),
+    "a purge of the journals": Wrong("contrib/debian/postrm", 'echo "gikvand: the journals in /var/lib/venued stay, and the user venued"',
+                                     "rm -rf /var/lib/venued", "behind_it"),
+    "an older library": Wrong(SCRIPT, "max(versions)", "min(versions)", "versions_of_the_library"),
+    "a package in place": Wrong(SCRIPT, 'make(name, contents(os.path.join(folder, "made.deb")), 0o666)',
+                                'shutil.copyfile(os.path.join(folder, "made.deb"), name)', "calls_of_the_package"),
+    "a Python of the path": Wrong(SCRIPT, 'SYSTEMS_PYTHON + contents("scripts/gikvand").partition(b"\\n")[2], PROGRAM',
+                                  'contents("scripts/gikvand"), PROGRAM', "python_of"),
+    "a release that isn't one": Wrong(SCRIPT, '"+unreleased" * has_more(found)', '""', "versions_of_the_package"),
+    "a form of the edge too few": Wrong(EDGE_PAGE, ".Op Fl -check\n", "", "edge_usage"),
+    "a word of the edge told otherwise": Wrong(EDGE_PAGE, "looks at the settings, and serves nobody", "serves all", "edge_words"),
+    "a status of the edge too many": Wrong(EDGE_PAGE, ".It 1\nA line on standard error says why it", ".It 2\nNobody knows.\n.It 1\n"
+                                           "A line on standard error says why it", "edge_statuses"),
+    "a setting too few": Wrong(EDGE_SETTINGS, "| `LastCapacity` |", "| LastCapacity |", "edge_settings"),
+    "a list without its settings": Wrong(EDGE_LIST, "listed(edge))", '"")', "edge_settings"),
+    "values that aren't told": Wrong(EDGE_LIST, '*prose(f"{value[0].upper()}{value[1:]}."), ', "", "edge_settings"),
+    "a default that is another one": Wrong(EDGE_SETTINGS, "| 20000 |", "| 10000 |", "edge_defaults"),
+    "an example with a name that isn't known": Wrong("contrib/edge/examples/C1.cfg", "SocketAcceptPort=", "AcceptPort=",
+                                                     "edge_example"),
+    "an example of a stunnel for anybody": Wrong("edge/stunnel/member.conf", "verifyPeer = yes", "verifyPeer = no", "edge_example"),
+    "an edge without its dictionary": Wrong(SCRIPT, '    "edge/FIX44-edge.xml": f"{EDGE_SHARE}/FIX44-edge.xml",\n', "", "edge_example"),
+    "several venues that stay closed": Wrong(SCRIPT, 'for it in ("venued", "venued@")]', 'for it in ("venued",)]', "files_of_the_edge"),
+    "a page of the edge too few": Wrong(SCRIPT, 'EDGE_PAGES = ("gikvand-edge.8", "gikvand-edge.cfg.5")',
+                                        'EDGE_PAGES = ("gikvand-edge.8",)', "files_of_the_edge"),
+    "the venue in the place of the edge": Wrong(SCRIPT, "OF_THE_EDGE if given.edge else VENUE", "VENUE", "files_of_the_edge"),
+    "an edge of any release": Wrong(EDGE_CONTROL, "gikvand (= @VERSION@)", "gikvand", "needs_of_the_edge"),
+    "a library too few": Wrong(SCRIPT, "for it in sorted(names))", "for it in sorted(names)[1:])", "needs_of_the_edge"),
+    "a release of the edge alone": Wrong(EDGE_CONTROL, "Source: gikvand\n", "", "changelog_of_the_edge"),
+    "times of now, of the edge": Wrong(SCRIPT, "        tree.settle(time)\n", "", "same_bytes_of_the_edge"),
+    "an edge that isn't looked for": Wrong(SCRIPT, "    if not os.access(program, os.X_OK):\n", "    if False:\n", "unbuilt_edge"),
+    "settings without an end": Wrong(EDGE_LIST, '*items, ".El", ""', '*items, ""', "lint_of_the_edge_pages"),
+    "sentences in one line": Wrong(EDGE_LIST, "SENTENCE.split(words.strip())", "[words.strip()] if words.strip() else []",
+                                   "lint_of_the_edge_pages"),
+    "an edge without a licence": Wrong(SCRIPT, '    "LICENSE": f"{EDGE_DOC}/copyright",\n', "", "lint_of_the_edge_package"),
+    "an edge with rights of root": Wrong(EDGE_SERVICE, "CapabilityBoundingSet=\n", "", "services_of_the_edge"),
+    "a venue's key that there isn't": Wrong(DROP_IN, "\nUMask=0027", "\nUMasks=0027", "services_of_the_edge"),
+    "an edge's user who may log in": Wrong(EDGE_USERS, "/var/lib/gikvand-edge/C3\n", "/var/lib/gikvand-edge/C3 /bin/bash\n",
+                                           "users_of_the_edge"),
+    "a journal of before that stays closed": Wrong(DROP_IN, "chmod g+r ", "chmod u+r ", "edge_reads"),
+    "a journal that edges may write": Wrong(DROP_IN, "chmod g+r ", "chmod g+rw ", "edge_reads"),
+    "a folder that stays closed": Wrong(DROP_IN, "\nStateDirectoryMode=0750", "", "edge_reads"),
+    "edges without users": Wrong(EDGE_POSTINST, "    systemd-sysusers gikvand-edge.conf\n", "", "edge_as_it_is_installed"),
+    "an upgrade that stops edges": Wrong(EDGE_PRERM, 'if [ "$1" = remove ] && [ -d', "if [ -d", "edge_as_it_is_removed"),
+    "edges that run on without their program": Wrong(EDGE_PRERM, "    deb-systemd-invoke stop 'gikvand-edge@*.service' >/dev/null\n",
+                                                     "    true\n", "edge_as_it_is_removed"),
+    "a purge of the records": Wrong(EDGE_POSTRM, 'echo "gikvand-edge: the records in /var/lib/gikvand-edge stay, the settings, and the '
+                                    'users gikvand-edge-C1 to C8"', "rm -rf /var/lib/gikvand-edge", "edge_as_it_is_removed"),
+    "a word of the edge that isn't completed": Wrong(COMPLETION, '" --check --version"', '" --check"', "edge_words_completed"),
+    "files where members stand": Wrong(COMPLETION, '        1:--member:*) _gikvand_of "$begun" "${_gikvand_members[@]}" ;;\n', "",
+                                       "edge_words_completed"),
 }

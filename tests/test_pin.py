@@ -1,26 +1,20 @@
-#!/usr/bin/env python3
 """Tests of scripts/pin: which thread it takes for which, where it puts them, and its line for each wrong word.
 
-    tests/pin.py [NAME...]      the tests whose names have one of these words in them; without one all
-
 It is run on a venue, whose threads it asks the system about, and on a program that stands in for one, whose threads have the names
-that they are given; a placement that is another one has to be seen. Each test that fails has a line that says what came; the last line is `N
-passed, M failed`, and the status is 1 where one failed. Build venued first, by scripts/build; another is taken by the
-environment's VENUED.
+that they are given; a placement that is another one has to be seen.
 """
-import importlib.machinery
-import importlib.util
 import os
 import subprocess
 import sys
 import tempfile
-from types import ModuleType
 
-ROOT = os.path.dirname(os.path.dirname(os.path.abspath(__file__)))
-sys.path.insert(0, os.path.join(ROOT, "dev"))
+import pytest
 
-import with_scripts  # (in front of what stands there, and of what an older Python can't read)
-from venues import PATIENCE, Trouble, main_of, started
+from checks import ROOT
+from script_modules import loaded
+from venues import PATIENCE, Trouble, started
+
+pytestmark = [pytest.mark.quick, pytest.mark.usefixtures("programs")]
 
 PIN = os.path.join(ROOT, "scripts/pin")
 CORES = sorted(os.sched_getaffinity(0))
@@ -45,19 +39,6 @@ def pinned(*words: object) -> tuple[int, list[str], str]:
     return it.returncode, it.stdout.splitlines(), it.stderr.strip()
 
 
-def expect(came: object, wanted: object) -> None:
-    if came != wanted:
-        raise Trouble(f"expected {wanted!r} came {came!r}")
-
-
-def loaded() -> ModuleType:
-    """The script's own functions."""
-    loader = importlib.machinery.SourceFileLoader("pin", PIN)
-    module = importlib.util.module_from_spec(importlib.util.spec_from_loader("pin", loader))
-    loader.exec_module(module)
-    return module
-
-
 def is_where(lines: list[str]) -> bool:
     """Whether each thread may run where these lines say it may."""
     return all(os.sched_getaffinity(int(line.split()[0])) == {int(it) for it in line.split()[-1].split(",")} for line in lines)
@@ -80,52 +61,58 @@ class Running:
         self.process.communicate()
 
 
-def threads_with_names() -> None:
+def test_threads_with_names() -> None:
     """Each is known by its name, whatever their order is."""
     with Running(*NAMES) as pid:
         cores = CORES[:2]
         status, lines, err = pinned(pid, "--cores", ",".join(map(str, cores)))
-        expect((status, err), (0, ""))
+        assert (status, err) == (0, "")
         roles = {role: f"core {core}" for role, core in (line.split(" ", 1)[1].split(", core ") for line in lines[1:])}
         first, last = cores[0], cores[-1]
         stages = {"unmarshaller": first, "processor": last, "marshaller": first, "journaller": last}
         gateways = dict.fromkeys(("gateway1", "gateway2", "gateway3"), last)
-        expect(roles, {it: f"core {core}" for it, core in {**stages, **gateways}.items()})
-        expect(is_where(lines), True)
+        assert roles == {it: f"core {core}" for it, core in {**stages, **gateways}.items()}
+        assert is_where(lines) == True
         if len(cores) > 1:
             os.sched_setaffinity(int(lines[1].split()[0]), {first} if lines[1].endswith(f" {last}") else {last})
-            expect(is_where(lines), False)
+            assert is_where(lines) == False
         status, lines, err = pinned(pid, "--free")
-        expect((status, err, [line.split(", core")[1].split()[-1] for line in lines]), (0, "", [",".join(map(str, CORES))] * 8))
-        expect(is_where(lines), True)
+        assert (status, err, [line.split(", core")[1].split()[-1] for line in lines]) == (0, "", [",".join(map(str, CORES))] * 8)
+        assert is_where(lines) == True
 
 
-def threads_of_a_venue() -> None:
+def test_threads_of_a_venue() -> None:
     """A venue has a thread for each stage and each gateway, and the watch."""
     with tempfile.TemporaryDirectory(prefix="pin-") as folder:
         venue = started(os.path.join(folder, "venue.journal"), GATEWAYS)
         pid = venue.process.pid
+        tids = sorted(map(int, os.listdir(f"/proc/{pid}/task")))
+        for at, tid in enumerate(tids):  # (somewhere, so that a move shows)
+            os.sched_setaffinity(tid, {CORES[-1 - at % len(CORES)]})
+        before = [os.sched_getaffinity(tid) for tid in tids]
+        assert pinned(pid, "--show")[::2] == (0, "")
+        assert [os.sched_getaffinity(tid) for tid in tids] == before
         for words in (["--show"], [], ["--free"]):
             status, lines, err = pinned(pid, *words)
-            expect((status, err, is_where(lines)), (0, "", True))
-            expect(sorted(line.split(" ", 1)[1].split(", ")[0] for line in lines), sorted(["watch", *NAMES]))
-        expect(venue.stop(), (0, 0))
+            assert (status, err, is_where(lines)) == (0, "", True)
+            assert sorted(line.split(" ", 1)[1].split(", ")[0] for line in lines) == sorted(["watch", *NAMES])
+        assert venue.stop() == (0, 0)
 
 
-def where_they_are_put() -> None:
+def test_where_they_are_put() -> None:
     """The stages have the first cores, and the gateways what is left, or the last ones back to the second."""
-    module = loaded()
+    module = loaded("scripts/pin")
     threads = [module.Thread(at, role) for at, role in enumerate(["watch", *NAMES])]
     tid = {it.role: it.tid for it in threads}
     for cores, wanted in (([7], "7777777"), ([0, 1], "0101111"), ([0, 1, 2, 3], "0123321"), ([0, 1, 2, 3, 4, 5], "0123454"),
                           ([9, 8, 7, 6, 5, 4, 3, 2], "9876543")):
         found = module.places(threads, cores)
         order = ["unmarshaller", "processor", "marshaller", "journaller", "gateway1", "gateway2", "gateway3"]
-        expect("".join(str(core) for it in order for core in found[tid[it]]), wanted)
-        expect(found[tid["watch"]], set(cores))
+        assert "".join(str(core) for it in order for core in found[tid[it]]) == wanted
+        assert found[tid["watch"]] == set(cores)
 
 
-def wrong_words() -> None:
+def test_wrong_words() -> None:
     with tempfile.TemporaryDirectory(prefix="pin-") as folder, Running("one") as few, Running(*NAMES, *["more"] * 8) as many, \
             Running(*NAMES[1:], NAMES[1]) as twice:
         pid = started(os.path.join(folder, "venue.journal"), 1).process.pid
@@ -147,13 +134,6 @@ def wrong_words() -> None:
                 ([pid, "--cores", "1,"], "a core is a number, and not ''"),
                 ([pid, "--cores", "4096"], f"core 4096 isn't one of {usable}"),
                 ([pid, "--cores", f"{CORES[0]},{CORES[0]}"], f"core {CORES[0]} stands twice")):
-            expect((words, *pinned(*words)), (words, 1, [], f"pin: {line}"))
-        expect(pinned()[0], 2)
-        expect(pinned(pid, "--show", "--free")[0], 2)
-
-
-TESTS = (threads_with_names, threads_of_a_venue, where_they_are_put, wrong_words)
-
-
-if __name__ == "__main__":
-    sys.exit(main_of("pin", __doc__, TESTS))
+            assert (words, *pinned(*words)) == (words, 1, [], f"pin: {line}")
+        assert pinned()[0] == 2
+        assert pinned(pid, "--show", "--free")[0] == 2

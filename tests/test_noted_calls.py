@@ -1,29 +1,30 @@
-#!/usr/bin/env python3
 """Looks at the calls that the built venue makes at its members' connections, and at the stop file.
-
-    tests/noted_calls.py [NAME...]      the tests whose names have one of these words in them; without one all
 
 Each connection is set not to wait, to send at once and to be ended where its client has vanished, before a byte is read
 of it; one that can't be set so is let go. Bytes are read and written many in a call; a client whose session has ended
 is told so by a half close, behind the last byte that it is told and however late it takes that one, and its connection
 is closed once it has closed its side. A look for the stop file that fails stops nothing, and the next one is made. A
-worker that finds nothing parks, each time no longer than it is to, and is woken for an order that comes, for a client
-that comes, and for one that takes what it is told late; the watch sleeps between its looks. One that can't have what it
-parks with sleeps for short in its place, and the venue serves. The calls are noted, and some refused, by
-tests/refusals.c, which cc compiles into a folder of its own; without cc nothing is tried, and a line says so. The last
-line is `N passed, M failed`, and the status is 1 where one failed. Build both programs first, by scripts/build; others
-are taken by the environment's VENUED and VENUE_REPLAY.
+worker that finds nothing parks, each time no longer than it is to, and is woken for an order that comes, for a fill that
+another member brings about, for room in the output ring, for a client that comes, and for one that takes what it is told
+late; the watch sleeps between its looks. One that can't have what it parks with, or whose parks fail, sleeps for short in
+its place, and the venue serves. The calls are noted, and some refused, by
+tests/refusals.c, which cc compiles into a folder of its own; without cc its tests are skipped. What each test has come to
+is printed, as pytest shows it by -rP.
 """
 import collections
+import itertools
 import os
 import socket
-import sys
 import tempfile
 import time
 from collections.abc import Callable
 
-from refusals import Refusal, Sweeps, run_tests
-from venues import COUNTS, PATIENCE, Client, Trouble, Venue, free_port, message, order, value
+import pytest
+
+from refusals import Refusal, Sweeps
+from venues import COUNTS, PATIENCE, Client, Late, Trouble, Venue, free_port, in_some_try, message, order, value
+
+pytestmark = [pytest.mark.quick, pytest.mark.usefixtures("programs")]
 
 MANY = 300            # Orders that are sent in one go,
 MOST_READS = 60       # and in how many reads they come at most: one would do, and the system may cut them.
@@ -38,6 +39,12 @@ WORKERS = 6           # Four stages, and two gateways.
 ORDERS = 20           # So many orders are sent, each behind a silence of so many seconds;
 A_SILENCE = 0.2
 SOON = 0.02           # and most of them are answered as soon: far sooner than a worker that isn't woken looks again.
+NAPPED = 0.06         # Where none can park, an order waits for five of these naps, which a busy machine makes longer.
+MEMBERS = 8           # Each of so many members rests,
+FILLS = 11            # and hears of so many fills, each behind such a silence.
+RESTING = 4_096       # Orders that one order fills, and that don't fit into the output ring together;
+SWEEPS = 7            # and how often.
+A_WHILE = 1.0         # For so many seconds workers that can't park are looked at.
 # What is set at a connection: all is sent at once; a silent client is asked behind half a minute and then each ten
 # seconds, and is gone behind a minute (docs/OPERATING.md).
 SET = {("nodelay", 1), ("is_asked", 1), ("first_asked", 30), ("asked_again", 10), ("unheard", 60_000)}
@@ -102,14 +109,14 @@ def check_left(calls: list[Call]) -> None:
         raise Trouble(f"expected {wanted} behind the last write came {behind}")
 
 
-def connections_of_clients(sweeps: Sweeps) -> str:
+def test_connections_of_clients(sweeps: Sweeps) -> None:
     """A client that trades and logs out, one that is refused and sends more, and one of another member."""
-    return clients_who_leave(sweeps)
+    print(clients_who_leave(sweeps))
 
 
-def last_words_that_wait(sweeps: Sweeps) -> str:
+def test_last_words_that_wait(sweeps: Sweeps) -> None:
     """The same where two of three writes move nothing: what a client is told last goes out before its side is shut."""
-    return clients_who_leave(sweeps, LATE="1")
+    print(clients_who_leave(sweeps, LATE="1"))
 
 
 def clients_who_leave(sweeps: Sweeps, **more: str) -> str:
@@ -158,7 +165,7 @@ def is_let_go(port: int) -> bool:
         client.close()
 
 
-def options_refused(sweeps: Sweeps) -> str:
+def test_options_refused(sweeps: Sweeps) -> None:
     """A client whose connection can't be set as it is to be is let go, and the next one is served."""
     refused = []
     for at in range(1, len(SET) + 1):
@@ -172,10 +179,10 @@ def options_refused(sweeps: Sweeps) -> str:
             venue.stop()
     if {*refused} != {name for name, _ in SET}:
         raise Trouble(f"expected each option of {SET} refused came {refused}")
-    return ", ".join(refused)
+    print(", ".join(refused))
 
 
-def many_bytes_in_a_call(sweeps: Sweeps) -> str:
+def test_many_bytes_in_a_call(sweeps: Sweeps) -> None:
     """Orders that are sent in one go are read in a few calls, and no report is written in pieces."""
 
     def use(venue: Venue) -> None:
@@ -192,10 +199,10 @@ def many_bytes_in_a_call(sweeps: Sweeps) -> str:
         raise Trouble(f"expected at most {MOST_READS} reads of {sum(reads)} bytes came {len(reads)}")
     if len(writes) > MOST_WRITES:
         raise Trouble(f"expected at most {MOST_WRITES} writes of {1 + MANY} messages came {len(writes)}")
-    return f"{sum(reads)} bytes in {len(reads)} reads, {sum(writes)} in {len(writes)} writes"
+    print(f"{sum(reads)} bytes in {len(reads)} reads, {sum(writes)} in {len(writes)} writes")
 
 
-def looks_that_fail(sweeps: Sweeps) -> str:
+def test_looks_that_fail(sweeps: Sweeps) -> None:
     """A look for the stop file that fails, one of them or all, has seen none: the venue serves on. Where later ones don't
     fail, it stops as it is told to; the file stays."""
     for how, at in (("once", 1), ("once", LOOKS), ("on", 1)):
@@ -216,12 +223,12 @@ def looks_that_fail(sweeps: Sweeps) -> str:
                 venue.kill()
             elif venue.stop() != (1, 1) or not os.path.exists(f"{venue.journal}.stop"):
                 raise Trouble("expected a stop, and the stop file left where it is")
-    return "one look, or all"
+    print("one look, or all")
 
 
 def rests(path: str) -> dict[str, dict[int, list[int]]]:
-    """Of each kind of rest the threads that rested so, and how long each time."""
-    found: dict[str, dict[int, list[int]]] = {"nap": {}, "park": {}, "yield": {}}
+    """Of each kind of rest the threads that rested so, and how long each time; and how often they let others run, and were away."""
+    found: dict[str, dict[int, list[int]]] = {"nap": {}, "park": {}, "yield": {}, "away": {}}
     if os.path.exists(path):
         with open(path, encoding="ascii") as file:
             for thread, kind, long in (line.split() for line in file if line.endswith("\n")):
@@ -230,9 +237,7 @@ def rests(path: str) -> dict[str, dict[int, list[int]]]:
 
 
 def rests_of_an_idle_venue(sweeps: Sweeps) -> str:
-    """Nobody comes to a venue of two members: each of its six workers lets others run for a while, and from then on parks, for a
-    tenth of a second each time, and the watch sleeps. No thread lets others run between two of its rests. (One that rests while
-    others haven't begun is woken as the last one has.)"""
+    """What the rests of a venue come to, to which nobody comes. One whose threads were kept away by other programs is told by Late."""
     with tempfile.TemporaryDirectory(dir=sweeps.folder) as folder:
         path = os.path.join(folder, "slept")
         venue = venue_of(folder, 2, {"LD_PRELOAD": sweeps.library, "SLEPT": path})
@@ -246,41 +251,114 @@ def rests_of_an_idle_venue(sweeps: Sweeps) -> str:
         venue.stop()
     if len(found["park"]) != WORKERS or [set(them) for them in found["nap"].values()] != [{A_LOOK}]:
         raise Trouble(f"expected {WORKERS} workers that park, and a watch came {found}")
-    for thread, them in found["yield"].items():
-        if max(them) > MOST_YIELDS or len(them) > 2 or them != before["yield"].get(thread):
-            raise Trouble(f"expected at most {MOST_YIELDS} turns that let others run, and all before a rest came {them[:5]}")
     for thread, them in found["park"].items():
         if set(them) != {PARKS}:
             raise Trouble(f"expected a worker to park for {PARKS} milliseconds came {them[:5]}")
         if not 0 < len(them) - len(before["park"][thread]) <= most:
             raise Trouble(f"expected at most {most:.0f} rests came {len(them) - len(before['park'][thread])}")
-    return f"{sum(map(len, found['park'].values()))} rests of {WORKERS} threads"
+    for thread, them in found["yield"].items():
+        is_more = len(them) > WORKERS or them != before["yield"].get(thread)
+        if max(them) > MOST_YIELDS or is_more and not found["away"]:
+            raise Late(f"expected at most {MOST_YIELDS} turns that let others run, and all before a rest came {them[:5]}")
+    is_beside = ", beside programs that kept them away" if found["away"] else ""
+    return f"{sum(map(len, found['park'].values()))} rests of {WORKERS} threads{is_beside}"
 
 
-def check_woken(venue: Venue) -> float:
-    """Sends orders behind silences, most of which have to be answered soon: the median."""
-    client, took = Client(venue.port, 1).log_on(), []
-    for name in range(1, ORDERS + 1):
+def test_rests_of_an_idle_venue(sweeps: Sweeps) -> None:
+    """Nobody comes to a venue of two members: each of its six workers lets others run for a while, and from then on parks, for a
+    tenth of a second each time, and the watch sleeps. No thread lets others run between two of its rests. (One that rests while
+    others haven't begun may be woken as each of these has. Where a thread was away for long as it let another program run, all of
+    them park at once for a while, and let others run later.)"""
+    print(in_some_try(lambda _: rests_of_an_idle_venue(sweeps), "rests_of_an_idle_venue"))
+
+
+def median_of_tries(took: list[float], what: str, soon: float = SOON) -> float:
+    """Their median, which has to be so soon."""
+    median = sorted(took)[len(took) // 2]
+    if median > soon:
+        raise Late(f"expected {what} within {soon} seconds came it within {median:.3f}")
+    return median
+
+
+def check_woken(venue: Venue, soon: float = SOON) -> float:
+    """Sends orders behind silences, most of which have to be answered so soon in some try: the median."""
+    client, names = Client(venue.port, 1).log_on(), itertools.count(1)
+    def answered() -> float:
         time.sleep(A_SILENCE)
         begun = time.monotonic()
-        client.send("D", order(name, 1, 10, 50))
+        client.send("D", order(next(names), 1, 10, 50))
         if value(client.next() or "nothing", "150") != "0":
             raise Trouble("expected an acknowledgement")
-        took.append(time.monotonic() - begun)
-    median = sorted(took)[ORDERS // 2]
-    if median > SOON:
-        raise Trouble(f"expected an answer within {SOON} seconds came it within {median:.3f}")
+        return time.monotonic() - begun
+    median = in_some_try(lambda _: median_of_tries([answered() for _ in range(ORDERS)], "an answer", soon), "check_woken")
     client.close()
     return median
 
 
-def workers_are_woken(sweeps: Sweeps) -> str:
+def test_workers_are_woken(sweeps: Sweeps) -> None:
     """An order that comes while all workers rest is answered soon: each of them is woken."""
     with tempfile.TemporaryDirectory(dir=sweeps.folder) as folder:
         venue = venue_of(folder, 2, {})
         median = check_woken(venue)
         venue.stop()
-    return f"{ORDERS} orders, half of them within {1000 * median:.1f} ms"
+    print(f"{ORDERS} orders, half of them within {1000 * median:.1f} ms")
+
+
+def told_of_fill(resting: Client, other: Client, name: int) -> float:
+    """One member's order rests, and all workers do; then another one's fills it: how long until the first is told."""
+    resting.send("D", order(2 * name, 2, 10, 50))
+    if value(resting.next() or "nothing", "150") != "0":
+        raise Trouble("expected an acknowledgement")
+    time.sleep(A_SILENCE)
+    begun = time.monotonic()
+    other.send("D", order(2 * name + 1, 1, 10, 50))
+    told, took = resting.next(), time.monotonic() - begun
+    if [value(it or "nothing", "150") for it in (told, other.next(), other.next())] != ["F", "0", "F"]:
+        raise Trouble(f"expected a fill came {told}")
+    return took
+
+
+def test_each_member_is_woken(sweeps: Sweeps) -> None:
+    """Eight members rest, and an order of one fills that of another: who is told of it is woken, whichever of them it is."""
+    with tempfile.TemporaryDirectory(dir=sweeps.folder) as folder:
+        venue = venue_of(folder, MEMBERS, {})
+        clients, names = [Client(venue.port, member).log_on() for member in range(1, MEMBERS + 1)], itertools.count(1)
+        def told(at: int) -> float:
+            took = [told_of_fill(clients[at], clients[at - 1], next(names)) for _ in range(FILLS)]
+            return median_of_tries(took, f"a fill told to member {at + 1}")
+        worst = max(in_some_try(lambda _, at=at: told(at), "each_member_is_woken") for at in range(MEMBERS))
+        venue.stop()
+    print(f"{MEMBERS} members, half of the fills of each within {1000 * worst:.1f} ms")
+
+
+def swept(resting: Client, other: Client, name: int) -> float:
+    """One order fills a whole book of another member's, while all workers rest: how long until that one is told first."""
+    numbers = range(resting.number + 1, resting.number + RESTING + 1)
+    resting.send_bytes(b"".join(message(resting.member, number, "D", order(number, 2, 1, 50)) for number in numbers))
+    resting.number += RESTING
+    for _ in numbers:
+        resting.next()
+    time.sleep(A_SILENCE)
+    begun = time.monotonic()
+    other.send("D", order(name, 1, RESTING, 50, more="59=3|"))
+    told, took = resting.next(), time.monotonic() - begun
+    found = [value(it or "nothing", "150") for it in (told, *(resting.next() for _ in range(RESTING - 1)))]
+    if found != RESTING * ["F"] or [value(other.next() or "nothing", "150") for _ in range(RESTING + 1)] != ["0", *found]:
+        raise Trouble(f"expected {RESTING} fills came {told}")
+    return took
+
+
+def test_sweep_wakes_all(sweeps: Sweeps) -> None:
+    """An order has more outputs than the output ring has room for, and comes while all workers rest: those that make room there are
+    woken though the order isn't worked off."""
+    with tempfile.TemporaryDirectory(dir=sweeps.folder) as folder:
+        venue = venue_of(folder, 2, {})
+        resting, other = (Client(venue.port, member).log_on() for member in (1, 2))
+        names = itertools.count(1)
+        median = in_some_try(lambda _: median_of_tries([swept(resting, other, next(names)) for _ in range(SWEEPS)],
+                                                       "the first of many fills"), "sweep_wakes_all")
+        venue.stop()
+    print(f"{SWEEPS} orders that fill {RESTING} each, half of them told of within {1000 * median:.1f} ms")
 
 
 def done(path: str) -> dict[int, list[tuple[str, int]]]:
@@ -321,7 +399,7 @@ def check_most(count: int, what: str) -> str:
     return f"{count} of {TRIES} rests ended by {what}"
 
 
-def clients_end_rests(sweeps: Sweeps) -> str:
+def test_clients_end_rests(sweeps: Sweeps) -> None:
     """A client that comes while all workers rest is let in behind a rest that it has ended: it doesn't wait for the next
     look. (One that comes just as a worker looks has ended none.)"""
     count = 0
@@ -335,7 +413,7 @@ def clients_end_rests(sweeps: Sweeps) -> str:
             behind = [them[before.get(thread, 0):] for thread, them in done(path).items()]
             count += any(is_ended_before(them, "accept") for them in behind if "accept" in dict(them))
         venue.stop()
-    return check_most(count, "clients")
+    print(check_most(count, "clients"))
 
 
 def fill(client: Client, path: str) -> int:
@@ -355,7 +433,7 @@ def fill(client: Client, path: str) -> int:
     raise Trouble(f"expected a connection that is full came none within {MOST_BATCHES} batches")
 
 
-def readers_end_rests(sweeps: Sweeps) -> str:
+def test_readers_end_rests(sweeps: Sweeps) -> None:
     """What a client is told and doesn't take waits; as it takes some, the rest ends, and more goes out at once."""
     count = 0
     with tempfile.TemporaryDirectory(dir=sweeps.folder) as folder:
@@ -371,10 +449,10 @@ def readers_end_rests(sweeps: Sweeps) -> str:
                 taken += 1
             count += is_ended_before(done(path)[thread][size:], "write")
         venue.stop()
-    return check_most(count, "readers")
+    print(check_most(count, "readers"))
 
 
-def rests_refused(sweeps: Sweeps) -> str:
+def test_rests_refused(sweeps: Sweeps) -> None:
     """Where the system gives no descriptors to rest with, to one of them or to all, those threads sleep for short in its place, and
     the venue serves as ever."""
     for how, at in [("once", at) for at in range(1, 2 * WORKERS + 1)] + [("on", 1)]:
@@ -385,7 +463,7 @@ def rests_refused(sweeps: Sweeps) -> str:
             if refusal.came() not in ("epoll_create1", "eventfd"):
                 raise Trouble(f"expected a rest refused came {refusal.came()}")
             if how == "on":
-                check_woken(venue)
+                check_woken(venue, NAPPED)
             client = Client(venue.port, 2).log_on()
             client.send("D", order(1, 1, 10, 50))
             if value(client.next() or "nothing", "150") != "0":
@@ -397,13 +475,22 @@ def rests_refused(sweeps: Sweeps) -> str:
             if A_NAP not in naps:
                 raise Trouble(f"expected naps of {A_NAP} microseconds came {naps}")
             venue.stop()
-    return "each descriptor but the copy that a port keeps, or all"
+    print("each descriptor but the copy that a port keeps, or all")
 
 
-if __name__ == "__main__":
-    if set(sys.argv[1:]) & {"-h", "--help"}:
-        sys.exit(print(__doc__.strip()))
-    tests = [connections_of_clients, last_words_that_wait, many_bytes_in_a_call, looks_that_fail, options_refused,
-             rests_of_an_idle_venue, workers_are_woken, clients_end_rests, readers_end_rests, rests_refused]
-    chosen = [it for it in tests if not sys.argv[1:] or any(word in it.__name__ for word in sys.argv[1:])]
-    run_tests("noted_calls", chosen)
+def test_parks_that_fail(sweeps: Sweeps) -> None:
+    """Where the system fails each park, a thread sleeps for short behind it, and the venue serves as ever."""
+    with tempfile.TemporaryDirectory(dir=sweeps.folder) as folder:
+        path = os.path.join(folder, "slept")
+        venue = venue_of(folder, 2, {**Refusal(sweeps.library, folder, "parks", 1, "on").set, "SLEPT": path})
+        check_woken(venue, NAPPED)
+        time.sleep(A_WHILE)
+        venue.stop()
+        found = rests(path)
+    for thread, parks in found["park"].items():
+        naps = found["nap"].get(thread, []).count(A_NAP)
+        if not len(parks) - 1 <= naps <= len(parks):
+            raise Trouble(f"expected a nap of {A_NAP} microseconds behind each of {len(parks)} parks came {naps}")
+    if len(found["park"]) != WORKERS:
+        raise Trouble(f"expected {WORKERS} workers that park came {len(found['park'])}")
+    print(f"{sum(map(len, found['park'].values()))} parks of {WORKERS} threads, each with a nap")

@@ -1,7 +1,4 @@
-#!/usr/bin/env python3
 """Starts the built programs on a journal of 100,000 entries: no start takes more memory for it, or reads it twice.
-
-    tests/long_journal.py
 
 What memory a program takes at least, as its address space is limited, is found on a journal of 5,000 entries. On the
 long one it has no more, and a megabyte: so what grows with the entries is refused, be it eleven bytes for each. What it
@@ -12,26 +9,27 @@ reads of the file is counted, by tests/refusals.c, and is not a tenth more than 
 
 A stop file that is made while a start reads the long journal stops the venue as soon as it is ready. Programs that keep
 what they read, read twice, or have no memory for a long journal, by tests/stand_in.c, have to be refused. Without cc
-nothing is tried, and a line says so. The last line is `N passed, M failed`, and the status is 1 where one failed. It
-takes some seconds. Build both programs first, by scripts/build; others are taken by the environment's VENUED and
-VENUE_REPLAY.
+its tests are skipped. All take some seconds.
 """
 import functools
 import os
 import subprocess
-import sys
 import time
 from collections.abc import Callable
 from typing import NamedTuple
 
-from refusals import LOGON, Refusal, compiled, contents, greatest, orders, put, run_tests, standard
+import pytest
+
 import journals
 from book_rules import Book, Order
 from journals import Entry
+from refusals import LOGON, Refusal, compiled, contents, greatest, orders, put, standard
 from replay_rules import counts, line_of
 from rules import Judged, told
 from snapshot_rules import snapshot
 from venues import PATIENCE, REPLAY, Trouble, Venue, free_port, message, order
+
+pytestmark = [pytest.mark.quick, pytest.mark.usefixtures("programs")]
 
 SHORT, LONG = 5_000, 100_000  # How many entries the journals have.
 RESTING = 3                   # How many of these, the last ones, rest.
@@ -135,19 +133,19 @@ def no_input(_count):
     return b""
 
 
-def first_start(sweeps):
+def test_first_start(sweeps):
     """`venued -`, which adds a snapshot before it serves."""
     said = Run(standard, journal_of, session, answers).check(sweeps)
     came = contents(os.path.join(sweeps.folder, "venue.journal"))
     wanted = with_snapshot(LONG)
     if came[:len(wanted) - 1] != wanted[:-1]:
         raise Trouble("expected the entries and a snapshot of them came other bytes")
-    return said
+    print(said)
 
 
-def second_start(sweeps):
+def test_second_start(sweeps):
     """`venued -` behind that snapshot."""
-    return Run(standard, with_snapshot, session, answers).check(sweeps)
+    print(Run(standard, with_snapshot, session, answers).check(sweeps))
 
 
 def all_true(_count):
@@ -155,14 +153,14 @@ def all_true(_count):
     return b"snapshots true\n"
 
 
-def snapshots_checked(sweeps):
+def test_snapshots_checked(sweeps):
     """`venue-replay` with `check`."""
-    return Run(lambda it: [REPLAY, it, "check", "ABC"], with_snapshot, no_input, all_true).check(sweeps)
+    print(Run(lambda it: [REPLAY, it, "check", "ABC"], with_snapshot, no_input, all_true).check(sweeps))
 
 
-def book_shown(sweeps):
+def test_book_shown(sweeps):
     """`venue-replay` with `book`."""
-    return Run(lambda it: [REPLAY, it, "book", "ABC"], with_snapshot, no_input, book_lines).check(sweeps)
+    print(Run(lambda it: [REPLAY, it, "book", "ABC"], with_snapshot, no_input, book_lines).check(sweeps))
 
 
 def await_reading(venue):
@@ -175,7 +173,7 @@ def await_reading(venue):
     raise Trouble(f"venued doesn't read its journal within {PATIENCE} seconds")
 
 
-def stop_at_the_start(sweeps):
+def test_stop_at_the_start(sweeps):
     """A venue that is told to stop while it reads its journal."""
     path = os.path.join(sweeps.folder, "venue.journal")
     put(path, journal_of(LONG))
@@ -188,10 +186,10 @@ def stop_at_the_start(sweeps):
         raise Trouble(f"status {status} of a venue that was stopped")
     if len(set(counts)) != 1:
         raise Trouble(f"expected the same counts came {counts}")
-    return f"it was ready, and stopped with {counts[1][0]} commands"
+    print(f"it was ready, and stopped with {counts[1][0]} commands")
 
 
-def wrong_programs(sweeps):
+def test_wrong_programs(sweeps):
     """Of programs that stand in for these, each with a fault or none, those with one are refused."""
     program, answer = os.path.join(sweeps.folder, "stand_in"), os.path.join(sweeps.folder, "answer")
     compiled("tests/stand_in.c", program)
@@ -205,11 +203,4 @@ def wrong_programs(sweeps):
             seen[wrong] = "read" if "bytes read" in str(why) else "memory"
     if seen != {"none": "passed", "keeps": "memory", "twice": "read", "most": "memory"}:
         raise Trouble(f"expected three of four refused came {seen}")
-    return "one that keeps what it reads, one that reads twice, and one without memory for a long journal are seen"
-
-
-if __name__ == "__main__":
-    if set(sys.argv[1:]) & {"-h", "--help"}:
-        sys.exit(print(__doc__.strip()))
-    run_tests("long_journal", [first_start, second_start, snapshots_checked, book_shown, stop_at_the_start,
-                               wrong_programs])
+    print("one that keeps what it reads, one that reads twice, and one without memory for a long journal are seen")

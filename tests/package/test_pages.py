@@ -1,5 +1,4 @@
-"""Tests of the man pages: what they say, beside docs/OPERATING.md, the programs, and the commands of gikvand. Not a
-test by itself: tests/package.py runs them."""
+"""Tests of the man pages: what they say, beside docs/OPERATING.md, the programs, and the commands of gikvand."""
 import argparse
 import ast
 import functools
@@ -9,13 +8,17 @@ import re
 import socket
 import tempfile
 
-from checks import ROOT, expect, ran, text_of
+import pytest
+
+from checks import ROOT, ran, text_of
 from gikvand import journals
 from gikvand import main as tools
 from mdoc import Page, items_in, literal
-from venues import HOST, REPLAY, VENUED
+from venues import EVENTS, HOST, REPLAY, VENUED
 
-PAGES = ("venued.8", "venue-replay.1", "gikvand.1", "venue.journal.5")
+pytestmark = [pytest.mark.quick, pytest.mark.usefixtures("programs")]
+
+PAGES = ("venued.8", "venue-replay.1", "venue-events.1", "gikvand.1", "venue.journal.5")
 OTHERS = "|".join(re.escape(" ".join(it.rsplit(".", 1))) for it in PAGES)
 NO_FINDING = re.compile(rf".*STYLE: referenced manual not found: Xr ({OTHERS})\b.*")
 
@@ -27,7 +30,7 @@ def page(name: str) -> Page:
 
 def plain(text: str) -> str:
     """A text of either page without marks, so that both can be compared."""
-    return re.sub(r"[`.,;:]|\(\d\)$|(?<=venued)\(8\)|(?<=venue-replay)\(1\)", "", text).strip().lower()
+    return re.sub(r"[`.,;:]|\(\d\)$|(?<=venued)\(8\)|(?<=venue-replay)\(1\)|(?<=venue-events)\(1\)", "", text).strip().lower()
 
 
 def rows(section: str, head: str) -> list[list[str]]:
@@ -42,59 +45,60 @@ def any_place(line: str) -> str:
     return re.sub(r"(at|on) \d+$", r"\1 N", line)
 
 
-def usages() -> None:
+def test_usages() -> None:
     """The forms of the command line are those of OPERATING.md, and the programs print them."""
     block = re.split(r"^## Commands$", text_of("docs/OPERATING.md"), flags=re.MULTILINE)[1].strip().split("\n\n")[0]
-    expect([it for name in PAGES[:2] for it in page(name).synopsis()], [line.strip() for line in block.splitlines()])
-    for name, program, forms in ((PAGES[0], VENUED, 1), (PAGES[1], REPLAY, 2)):
+    assert [it for name in PAGES[:3] for it in page(name).synopsis()] == [line.strip() for line in block.splitlines()]
+    for name, program, forms in ((PAGES[0], VENUED, 1), (PAGES[1], REPLAY, 2), (PAGES[2], EVENTS, 1)):
         for words in ([], ["--help"], ["--version"], ["x"]):
             line = f"usage: {' or '.join(page(name).synopsis()[:forms])}"
-            expect((words, *ran(program, *words)), (words, 1, "", f"{line}\n"))
-            expect(line in page(name).items("DIAGNOSTICS"), True)
-    expect(page("gikvand.1").synopsis()[0], tools.usage().splitlines()[0].removeprefix("usage: "))
+            assert (words, *ran(program, *words)) == (words, 1, "", f"{line}\n")
+            assert line in page(name).items("DIAGNOSTICS")
+    assert page("gikvand.1").synopsis()[0] == tools.usage().splitlines()[0].removeprefix("usage: ")
 
 
-def words_of_the_programs() -> None:
+def test_words_of_the_programs() -> None:
     """Each word is told as OPERATING.md tells it, and no other stands there."""
     wanted = {plain(head): plain(what) for head, what in rows("Commands", "| word | what it is |")}
     found: dict[str, str] = {}
-    for name in PAGES[:2]:
+    for name in PAGES[:3]:
         for head, what in page(name).items("DESCRIPTION").items():
             head = plain(head.replace(" ...", "..."))
-            expect((name, head, plain(what)[:len(wanted.get(head, "-"))]), (name, head, wanted.get(head)))
+            assert (name, head, plain(what)[:len(wanted.get(head, "-"))]) == (name, head, wanted.get(head))
             found[head] = what
-    expect(sorted(found), sorted(wanted))
+    assert sorted(found) == sorted(wanted)
 
 
-def statuses() -> None:
-    for name, head in ((PAGES[0], "| status | of `venued` |"), (PAGES[1], "| status | of `venue-replay` |")):
+def test_statuses() -> None:
+    for name, head in zip(PAGES, ("| status | of `venued` |", "| status | of `venue-replay` |", "| status | of `venue-events` |")):
         wanted = {status.split(",")[0]: plain(what) for status, what in rows("Exit statuses", head)}
         said = page(name).items("EXIT STATUS")
-        expect({status: plain(what)[:len(wanted.get(status, ""))] for status, what in said.items()}, wanted)
+        assert {status: plain(what)[:len(wanted.get(status, ""))] for status, what in said.items()} == wanted
     told = re.search(r"go by the status: (.*?)\. ", text_of("docs/OPERATING.md").replace("\n", " "))[1]
     found = re.findall(r"(\d), ([^;]*)", told)
     said = page("gikvand.1").items("EXIT STATUS")
-    expect([(status, what[:len(it)]) for (status, it), what in zip(found, map(plain, said.values()))],
-           [(status, plain(it)) for status, it in found])
-    expect([int(it) for it in said], [tools.DONE, tools.FOUND, tools.NOT_DONE])
+    assert [(status, what[:len(it)]) for (status, it), what in zip(found, map(plain, said.values()))] == (
+        [(status, plain(it)) for status, it in found])
+    assert [int(it) for it in said] == [tools.DONE, tools.FOUND, tools.NOT_DONE]
 
 
-def lines_on_standard_error() -> None:
+def test_lines_on_standard_error() -> None:
     """The pages have the lines of OPERATING.md, each with its status, and no others."""
     text = text_of("docs/OPERATING.md")
     said = {any_place(line): what for line, what in page(PAGES[0]).items("DIAGNOSTICS").items()}
     part = re.split(r"^## Lines on standard error$", text, flags=re.MULTILINE)[1]
     listed = re.findall(r"^- `((?:usage|venued): [^`]*)`", part, re.MULTILINE)
-    expect(sorted(said), sorted(map(any_place, listed)))
+    assert sorted(said) == sorted(map(any_place, listed))
     told = {line.strip("`"): status for cells, status, _ in rows("Runbook", "| line | status |")
             for line in re.sub(r"`, `(\d)", r"`, `venued: journal fault \1", cells).split("`, `")}
     for line, what in said.items():
         status = told["usage: .." if line.startswith("usage") else next(it for it in told if any_place(it) == line)]
-        expect((line, what.split(":")[0]), (line, f"Status {status}"))
-    named = {any_place(it.replace("\n", " ")) for it in re.findall(r"`(venue-replay: [^`]*)`", text)}
-    replays = {any_place(it) for it in page(PAGES[1]).items("DIAGNOSTICS") if not it.startswith("usage")}
-    both = {it.replace("venued", "venue-replay", 1) for it in said}
-    expect((named - replays, replays - named - both), (set(), set()))
+        assert (line, what.split(":")[0]) == (line, f"Status {status}")
+    for place, program in ((1, "venue-replay"), (2, "venue-events")):
+        named = {any_place(it.replace("\n", " ")) for it in re.findall(rf"`({program}: [^`]*)`", text)}
+        its = {any_place(it) for it in page(PAGES[place]).items("DIAGNOSTICS") if not it.startswith("usage")}
+        both = {it.replace("venued", program, 1) for it in said}
+        assert (named - its, its - named - both) == (set(), set())
 
 
 def line_of(it: ast.Call) -> list[str]:
@@ -104,26 +108,26 @@ def line_of(it: ast.Call) -> list[str]:
     return [it.value for it in parts if isinstance(it, ast.Constant)]
 
 
-def the_runbook() -> None:
-    """The runbook has each line of venue-replay and of the commands of gikvand, and each figure of `watch` that may
+def test_the_runbook() -> None:
+    """The runbook has each line of venue-replay, of venue-events and of the commands of gikvand, and each figure of `watch` that may
     wake somebody."""
     text = text_of("docs/OPERATING.md")
     part = re.split(r"^## ", re.split(r"^## Runbook$", text, flags=re.MULTILINE)[1], flags=re.MULTILINE)[0]
-    for line in page(PAGES[1]).items("DIAGNOSTICS"):
+    for line in (it for name in PAGES[1:3] for it in page(name).items("DIAGNOSTICS")):
         named = re.sub(r".* fault 46", "`46`", re.sub(r" at \d+$", " at N", line))
-        expect((line, line.startswith("usage") or named in part), (line, True))
+        assert (line, line.startswith("usage") or named in part) == (line, True)
     figures = rows("Who is there: `watch`", "| figure (each begins with `gikvand_`)")
     woken = re.findall(r"`(\w+)`", " ".join(cells[0] for cells in figures if cells[1] != "for graphs"))
-    expect([it for it in woken if f"`{it}`" not in part], [])
+    assert [it for it in woken if f"`{it}`" not in part] == []
     modules = [it for it in os.listdir(os.path.join(ROOT, "tools/gikvand")) if it.endswith(".py") and it != "demo.py"]
     for name in modules:
         for it in ast.walk(ast.parse(text_of(f"tools/gikvand/{name}"))):
             if isinstance(it, ast.Call) and getattr(it.func, "id", "") == "Trouble":
                 found = [re.split("[:;.]", words)[0].strip() for words in line_of(it) if len(words) > 7]
-                expect((name, found, not found or any(words and words in part for words in found)), (name, found, True))
+                assert (name, found, not found or any(words and words in part for words in found)) == (name, found, True)
 
 
-def lines_of_the_programs() -> None:
+def test_lines_of_the_programs() -> None:
     """The programs say what the pages have."""
     with tempfile.TemporaryDirectory(prefix="lines-") as folder, socket.create_server((HOST, 0)) as taken:
         port = str(taken.getsockname()[1])
@@ -139,11 +143,14 @@ def lines_of_the_programs() -> None:
                 (REPLAY, ["cut", "C1", "ABC"], "venue-replay: journal fault 42 at 16"),
                 (REPLAY, ["none", "check", "ABC"], "venue-replay: journal fault 43"),
                 (REPLAY, ["old", "snapshot", "ABC"], "venue-replay: journal fault 45"),
-                (REPLAY, ["old", "carry", "none"], "venue-replay: NEW exists")):
+                (REPLAY, ["old", "carry", "none"], "venue-replay: NEW exists"),
+                (EVENTS, ["missing", "once", "ABC"], "venue-events: journal fault 41"),
+                (EVENTS, ["cut", "once", "ABC"], "venue-events: journal fault 42 at 16"),
+                (EVENTS, ["none", "once", "ABC"], "venue-events: journal fault 43")):
             status, out, err = ran(program, *words, folder=folder)
-            expect((words, status, out, err), (words, 1, "", f"{line}\n"))
-            shown = page(PAGES[0] if program == VENUED else PAGES[1]).items("DIAGNOSTICS")
-            expect(any_place(line) in map(any_place, shown), True)
+            assert (words, status, out, err) == (words, 1, "", f"{line}\n")
+            shown = page(dict(zip((VENUED, REPLAY, EVENTS), PAGES))[program]).items("DIAGNOSTICS")
+            assert any_place(line) in map(any_place, shown)
 
 
 def parser_of(name: str) -> argparse.ArgumentParser:
@@ -158,42 +165,39 @@ def option_of(it: argparse.Action) -> str:
     return " ".join([*it.option_strings, *([it.metavar or it.dest.upper()] if it.nargs is None else [])])
 
 
-def commands_of_gikvand() -> None:
+def test_commands_of_gikvand() -> None:
     """Each command has its heading, as its own usage line says, and its options, as its own help tells them."""
     parts = page("gikvand.1").parts("COMMANDS")
-    expect([it.split()[0] for it in parts], list(tools.COMMANDS))
+    assert [it.split()[0] for it in parts] == list(tools.COMMANDS)
     for head, lines in parts.items():
         parser = parser_of(head.split()[0])
         usage = " ".join(parser.format_usage().split()).removeprefix("usage: ").replace("[-h] ", "").removesuffix(" [-h]")
-        expect(head, usage)
+        assert head == usage
         options = {option_of(it): it.help for it in parser._actions if it.option_strings}
         said = items_in(lines)
-        expect(set(said) - set(options), set())
+        assert set(said) - set(options) == set()
         for option in options.keys() - {"-h --help", "--symbols ABC,XYZ"} | said.keys():
-            expect((head, plain(said.get(option, ""))[:len(plain(options[option]))]), (head, plain(options[option])))
+            assert (head, plain(said.get(option, ""))[:len(plain(options[option]))]) == (head, plain(options[option]))
     words = importlib.import_module("gikvand.trade").__doc__.split("\n\n")[3]
     requests = [line.strip().split("  ")[0] for line in words.splitlines()]
-    expect(literal(parts[next(it for it in parts if it.startswith("trade "))]), requests)
+    assert literal(parts[next(it for it in parts if it.startswith("trade "))]) == requests
 
 
-def the_page_of_the_journal() -> None:
+def test_the_page_of_the_journal() -> None:
     """Its examples are journals, and its numbers those by which the tools read and write one."""
     it = page("venue.journal.5")
     empty, one = (bytes.fromhex(line) for line in literal(it.sections["EXAMPLES"]))
-    expect(empty, journals.empty())
-    expect(one, journals.header(1) + journals.block_of(1, [journals.Entry(1, b"AB")]) + journals.CLOSED)
+    assert empty == journals.empty()
+    assert one == journals.header(1) + journals.block_of(1, [journals.Entry(1, b"AB")]) + journals.CLOSED
     text = "\n".join(it.sections["DESCRIPTION"])
     for what in (journals.MAGIC.hex(" "), journals.MAGIC.decode(), f"1 to {journals.MEMBERS[-1]} Ta its gateway", "at most 2^48",
                  f"1 to {journals.LENGTHS[-1]} Ta its length", f"1 to {journals.MOST_IN_A_BLOCK} records", "1, 2 or 3"):
-        expect((what, what in text), (what, True))
+        assert (what, what in text) == (what, True)
 
 
-def lint_of_the_pages() -> None:
+@pytest.mark.debian("mandoc")
+def test_lint_of_the_pages() -> None:
     """mandoc has nothing to say of them, but that the other ones aren't among the system's."""
     for name in PAGES:
         _, out, err = ran("mandoc", "-Tlint", os.path.join(ROOT, "contrib/man", name))
-        expect((name, [line for line in out.splitlines() if not NO_FINDING.fullmatch(line)], err), (name, [], ""))
-
-
-TESTS = [usages, words_of_the_programs, statuses, lines_on_standard_error, the_runbook, lines_of_the_programs, commands_of_gikvand,
-         the_page_of_the_journal]
+        assert (name, [line for line in out.splitlines() if not NO_FINDING.fullmatch(line)], err) == (name, [], "")

@@ -1,32 +1,34 @@
-#!/usr/bin/env python3
 """Tests of the scripts that users hold in their hands: scripts/trade, demo, day, first-order and build.
-
-    tests/users.py [NAME...]      the tests whose names have one of these words in them; without one all
 
 Members trade by words, the demo is shown, a day is drawn, over the built programs; scripts/build runs with commands in the
 place of the checker that succeed and fail. What is expected was worked out from the scripts' own words, README.md and
-docs/PROFILE.md: the lines that are printed, the numbers in the picture, read by its own axes, and the statuses. Each test
-has a folder of its own. One that fails has a line that says what came; the last line is `N passed, M failed`, and the status
-is 1 where one failed. Build both programs first, by scripts/build; others are taken by the environment's VENUED and
-VENUE_REPLAY.
+docs/PROFILE.md: the lines that are printed, the numbers in the picture, read by its own axes, and the statuses.
 """
+import io
 import os
+import pty
 import re
+import select
 import shutil
 import subprocess
 import sys
+import time
+from unittest import mock
 
-ROOT = os.path.dirname(os.path.dirname(os.path.abspath(__file__)))
-sys.path.insert(0, os.path.join(ROOT, "dev"))
+import pytest
 
-import with_scripts  # (in front of what stands there, and of what an older Python can't read)
+import crates
 import journals
+from checks import ROOT
 from journals import Entry
 from pictures import Picture, row_of
-from venues import HOST, REPLAY, TIME, VENUED, Trouble, free_port, in_a_folder, main_of, market_order, message, order
-from venues import started
+from script_modules import loaded
+from venues import EVENTS, HOST, PATIENCE, REPLAY, TIME, VENUED, Trouble, await_that, free_port, market_order
+from venues import message, order, started
 
-PROGRAMS = {"VENUED": os.path.abspath(VENUED), "VENUE_REPLAY": os.path.abspath(REPLAY)}
+pytestmark = [pytest.mark.quick, pytest.mark.usefixtures("programs")]
+
+PROGRAMS = {"VENUED": os.path.abspath(VENUED), "VENUE_REPLAY": os.path.abspath(REPLAY), "VENUE_EVENTS": os.path.abspath(EVENTS)}
 LONG = 120  # Seconds for a script.
 JOURNAL = "venue.journal"
 BUILT = "isn't built: scripts/build proves and builds it"
@@ -41,12 +43,6 @@ def ran(words: list[str], given: str = "", **environment: str) -> tuple[int, lis
     it = subprocess.run(words, input=given, env={**os.environ, **PROGRAMS, **environment}, capture_output=True, text=True,
                         timeout=LONG)
     return it.returncode, it.stdout.splitlines(), it.stderr.splitlines()
-
-
-def expect(came: object, wanted: object) -> None:
-    """Fails the test where something else came."""
-    if came != wanted:
-        raise Trouble(f"expected {wanted!r} came {came!r}")
 
 
 def expect_lines(came: list[str], wanted: list[str]) -> None:
@@ -64,18 +60,18 @@ def expect_trade(words: str, status: int, lines: list[str], given: str = "") -> 
     """What scripts/trade prints to these words, and nothing on standard error."""
     came, out, err = trade(*words.split(), given=given)
     expect_lines(out, lines)
-    expect((words, came, err), (words, status, []))
+    assert (words, came, err) == (words, status, [])
 
 
-def first_steps_of_the_readme() -> None:
+def test_first_steps_of_the_readme() -> None:
     """The commands of README.md print what stands there."""
     with open(os.path.join(ROOT, "README.md"), encoding="utf-8") as file:
         lines = [it[4:].rstrip("\n") for it in file if it.startswith("    ")]
     at = lines.index("$ scripts/trade buy 100 ABC 50")
-    expect(lines[at + 3], "$ scripts/trade sell 30 ABC 49")
+    assert lines[at + 3] == "$ scripts/trade sell 30 ABC 49"
     expect_trade("buy 100 ABC 50", 0, lines[at + 1:at + 3])
     expect_trade("sell 30 ABC 49", 0, lines[at + 4:at + 8])
-    expect(sorted(os.listdir()), ["trade.journal", "trade.journal.symbols"])
+    assert sorted(os.listdir()) == ["trade.journal", "trade.journal.symbols"]
 
 
 # What a member says, and what it is told. Where the answer isn't the venue's there is nothing under way before it.
@@ -139,7 +135,7 @@ def said(day: list[tuple[str, list[str]]]) -> str:
     return "".join(f"{words}\n" for words, _ in day)
 
 
-def a_day_by_words() -> None:
+def test_a_day_by_words() -> None:
     """A day of one member, and its end by `quit`, behind which nothing is read."""
     expect_trade(f"--journal {JOURNAL} --symbols ABC,XYZ", 0, [f"The new journal {JOURNAL}, for ABC XYZ.", *told(A_DAY)],
                  said(A_DAY) + "quit\nbuy 1 ABC 1\n")
@@ -147,7 +143,7 @@ def a_day_by_words() -> None:
                  [f"The journal {JOURNAL}, for ABC XYZ.", "no order rests"])
 
 
-def what_trade_refuses() -> None:
+def test_what_trade_refuses() -> None:
     """What isn't sent, is rejected or refused has its line, and makes the status 1."""
     head = f"The new journal {JOURNAL}, for ABC."
     expect_trade(f"--journal {JOURNAL}", 1, [head, *told(REFUSALS)], said(REFUSALS))
@@ -156,21 +152,116 @@ def what_trade_refuses() -> None:
         expect_trade(f"--journal {JOURNAL} {words}", 1, [head.replace("new ", ""), line])
 
 
-def market_orders_of_an_old_journal() -> None:
+def test_requests_that_are_refused() -> None:
+    """A request that is refused makes the status 1, also where it is the only one: by a report, a cancel reject, or a Reject."""
+    head = f"The journal {JOURNAL}, for ABC."
+    expect_trade(f"--journal {JOURNAL} buy 5 ABC 50", 0, [f"The new journal {JOURNAL}, for ABC.",
+                                                         "order 1 accepted: buy 5 ABC at 50 (ClOrdID 1)"])
+    expect_trade(f"--journal {JOURNAL} sell 2 ABC 50 ioc", 0,
+                 [head, "order 2 accepted: sell 2 ABC at 50 (ClOrdID 2)", "order 1 filled 2 at 50, 3 left",
+                  "order 2 filled 2 at 50, nothing left"])
+    expect_trade(f"--journal {JOURNAL} replace 1 2 50", 1, [head, "replace refused: the total isn't above what has been filled"])
+    expect_trade(f"--journal {JOURNAL} cancel 2", 1, [head, "cancel refused: no such order rests"])
+    expect_trade(f"--journal {JOURNAL} buy 1 QQQ 5", 1, [head, "order refused: the venue doesn't trade its symbol"])
+
+
+def test_bytes_of_all_kinds() -> None:
+    """A line that is no UTF-8 isn't sent, and one without its end is: nothing of what stands there is lost."""
+    words = [script("trade"), "--journal", JOURNAL]
+    it = subprocess.run(words, input=b"\xff\xfe 1\nbuy \xe9 ABC 50\nbuy 5 ABC 50", capture_output=True, timeout=LONG,
+                        env={**os.environ, **PROGRAMS})
+    assert (it.returncode, it.stderr) == (1, b"")
+    assert [line.split(b":")[0] for line in it.stdout.splitlines()[1:]] == [b"not sent", b"not sent", b"order 1 accepted"]
+    it = subprocess.run(["sh", "-c", 'exec "$@" <&-', "sh", *words], capture_output=True, timeout=LONG, env={**os.environ, **PROGRAMS})
+    assert (it.returncode, it.stdout, it.stderr) == (0, f"The journal {JOURNAL}, for ABC.\n".encode(), b"")
+
+
+def test_venues_that_end() -> None:
+    """A venue that ends with a fault behind its answers leaves a line, and the status 1: the journal has to be looked at."""
+    put("venued", f"#!/bin/sh\n{PROGRAMS['VENUED']} \"$@\"\nexit 2\n")
+    status, out, err = trade("--journal", JOURNAL, "buy", "5", "ABC", "50", VENUED=os.path.abspath("venued"))
+    assert (status, out[1:], err) == (1, ["order 1 accepted: buy 5 ABC at 50 (ClOrdID 1)",
+                                        "venued ended with status 2 (docs/OPERATING.md says what that means)"], [])
+
+
+def test_answers_in_their_order() -> None:
+    """All that a request leads to is shown before the next one is read: by a pipe, line by line."""
+    with subprocess.Popen([script("trade"), "--journal", JOURNAL], stdin=subprocess.PIPE, stdout=subprocess.PIPE, text=True,
+                          env={**os.environ, **PROGRAMS}) as it:
+        def said(line: str, count: int) -> list[str]:
+            it.stdin.write(f"{line}\n")
+            it.stdin.flush()
+            return [it.stdout.readline().rstrip("\n").split(":")[0].split(",")[0] for _ in range(count)]
+        assert it.stdout.readline() == f"The new journal {JOURNAL}, for ABC.\n"
+        assert said("sell 3 ABC 50", 1) == ["order 1 accepted"]
+        assert said("buy 2 ABC 50", 3) == ["order 2 accepted", "order 1 filled 2 at 50", "order 2 filled 2 at 50"]
+        assert said("orders", 1) == ["order 1"]
+        it.stdin.close()
+        assert it.wait(LONG) == 0
+
+
+def test_a_terminal() -> None:
+    """At a terminal the arrow up brings the line of before, and what comes meanwhile stands above the line that is edited."""
+    venue = started(JOURNAL, 2)
+    us, theirs = pty.openpty()
+    words = [script("trade"), "--port", str(venue.port), "--journal", JOURNAL, "--symbols", "ABC"]
+    process = subprocess.Popen(words, stdin=theirs, stdout=theirs, stderr=theirs, start_new_session=True,
+                               env={**os.environ, **PROGRAMS, "TERM": "dumb", "INPUTRC": "/dev/null"})
+    os.close(theirs)
+    seen = ""
+    def awaits(text: str) -> None:
+        nonlocal seen
+        end = time.monotonic() + PATIENCE
+        while text not in seen:
+            if time.monotonic() > end:
+                raise Trouble(f"expected {text!r} came {seen!r}")
+            if select.select([us], [], [], 0.1)[0]:
+                try:
+                    seen += os.read(us, 4096).decode("utf-8", "replace")
+                except OSError:
+                    raise Trouble(f"expected {text!r} came {seen!r}, and its end") from None
+        seen = seen[seen.index(text) + len(text):]
+    try:
+        awaits("> ")
+        os.write(us, b"sell 5 ABC 50\r")
+        awaits("order 1 accepted: sell 5 ABC at 50 (ClOrdID 1)")
+        awaits("> ")
+        os.write(us, b"\x1b[A\x1b[A\r")
+        awaits("order 2 accepted: sell 5 ABC at 50 (ClOrdID 2)")
+        awaits("> ")
+        os.write(us, b"orde")
+        awaits("orde")
+        assert trade("--port", str(venue.port), "--member", "2", "--journal", JOURNAL, "--symbols", "ABC", "buy", "5", "ABC",
+                     "50")[0] == 0
+        awaits("order 1 filled 5 at 50, nothing left")
+        awaits("> orde")
+        os.write(us, b"rs\r")
+        awaits("order 2: sell 5 ABC at 50, 5 left")
+        awaits("> ")
+        venue.stop()
+        assert process.wait(PATIENCE) == 1
+        awaits("the venue closed the connection")
+    finally:
+        process.kill()
+        process.wait()
+        os.close(us)
+
+
+def test_market_orders_of_an_old_journal() -> None:
     with open(JOURNAL, "wb") as file:
         file.write(journals.empty(1))
     expect_trade(f"--journal {JOURNAL} buy 1 ABC market", 1, [f"The journal {JOURNAL}, for ABC.",
                  "rejected: the venue takes no market orders: its journal is an old one, of version 1"])
 
 
-def help_in_a_session() -> None:
+def test_help_in_a_session() -> None:
     """`help` lists all words."""
     status, out, _ = trade("--journal", JOURNAL, given="help\n")
-    expect(status, 0)
-    expect([it.split()[0] for it in out[1:]], ["buy", "sell", "buy", "sell", "cancel", "replace", "orders", "quit"])
+    assert status == 0
+    assert [it.split()[0] for it in out[1:]] == ["buy", "sell", "buy", "sell", "cancel", "replace", "orders", "quit"]
 
 
-def what_is_sent() -> None:
+def test_what_is_sent() -> None:
     """With --fix the messages are shown: what was said stands in them."""
     days = {"sell 8 ABC market": "35=D|49=C1|55=ABC|54=2|38=8|40=1|",
             "buy 5 ABC 70": "35=D|55=ABC|54=1|38=5|40=2|44=70|",
@@ -181,50 +272,52 @@ def what_is_sent() -> None:
             "cancel 2": "35=F|41=6|54=1|38=6|55=ABC|"}
     _, out, _ = trade("--journal", JOURNAL, "--fix", given="".join(f"{it}\n" for it in days))
     sent = [it[2:] for it in out if it.startswith("> ")]
-    expect(len(sent), 1 + len(days))
+    assert len(sent) == 1 + len(days)
     for number, (line, wanted) in enumerate(zip(sent, ["35=A|34=1|98=0|108=0|141=Y|", *days.values()]), 1):
         fields = line.strip("|").split("|")
         if missing := [it for it in [*wanted.strip("|").split("|"), f"34={number}"] if it not in fields]:
             raise Trouble(f"expected {missing} in what is sent came {line}")
         more = {it.split("=")[0] for it in fields} & {"44", "59"} - {it.split("=")[0] for it in wanted.strip("|").split("|")}
-        expect((line, more), (line, set()))
+        assert (line, more) == (line, set())
     heard = [it for it in out if it.startswith("< 8=FIX.4.4|")]
-    expect(len([it for it in heard if "|35=A|" in it]), 1)
-    expect(len([it for it in heard if "|150=5|" in it and "|44=73|" in it]), 1)
+    assert len([it for it in heard if "|35=A|" in it]) == 1
+    assert len([it for it in heard if "|150=5|" in it and "|44=73|" in it]) == 1
 
 
-def wrong_words_of_trade() -> None:
+def test_wrong_words_of_trade() -> None:
     for words in (["--port", "0"], ["--port", "65529"], ["--port", "x"], ["--member", "9"], ["--member", "0"], ["--wrong"]):
         status, out, err = trade(*words)
-        expect((words, status, out, bool(err)), (words, 2, [], True))
-    expect(trade("--member", "2", "buy", "1", "ABC", "1"),
-           (2, [], ["gikvand trade: without --port only the member 1 is served"]))
-    expect(os.listdir(), [])
+        assert (words, status, out, bool(err)) == (words, 2, [], True)
+    assert trade("--member", "2", "buy", "1", "ABC", "1") == (
+        2, [], ["gikvand trade: without --port only the member 1 is served"])
+    assert os.listdir() == []
 
 
-def venues_that_cannot_be_had() -> None:
+def test_venues_that_cannot_be_had() -> None:
     """Where there is no venue, or it doesn't start, the status is 2, and a line says why."""
     port = free_port(1)
-    expect(trade("--port", str(port), "orders"),
-           (2, [], [f"gikvand trade: no venue answers at {HOST}, port {port}: Connection refused"]))
+    assert trade("--port", str(port), "orders") == (
+        2, [], [f"gikvand trade: no venue answers at {HOST}, port {port}: Connection refused"])
     with open("none.journal", "wb") as file:
         file.write(b"no journal")
     status, out, err = trade("--journal", "none.journal", "orders")
-    expect((status, out), (2, []))
-    expect(err, ["gikvand trade: the journal none.journal can't be read: venue-replay: journal fault 43 (docs/OPERATING.md "
-                 "says what that means)"])
+    assert (status, out) == (2, [])
+    assert err == ["gikvand trade: the journal none.journal can't be read: venue-replay: journal fault 43 (docs/OPERATING.md "
+                 "says what that means)"]
     venue = started(JOURNAL, 1)
     status, out, err = trade("--journal", JOURNAL, "buy", "1", "ABC", "1")
-    expect((status, out), (2, [f"The journal {JOURNAL}, for ABC."]))
-    expect(err, ["venued: journal fault 41",
-                 "gikvand trade: venued ended with status 1 (docs/OPERATING.md says what that means)"])
-    expect(venue.stop(), (0, 0))
+    assert (status, out) == (2, [f"The journal {JOURNAL}, for ABC."])
+    assert err == ["venued: journal fault 41",
+                 "gikvand trade: venued ended with status 1 (docs/OPERATING.md says what that means)"]
+    assert venue.stop() == (0, 0)
+    assert trade("--port", str(port), "--journal", "typo", "orders") == (
+        2, [], ["gikvand trade: typo: No such file or directory"])
     for name in ("VENUED", "VENUE_REPLAY"):
         status, out, err = trade("orders", **{name: os.path.abspath("missing")})
-        expect((name, status, out, [it.endswith(BUILT) for it in err]), (name, 2, [], [True]))
+        assert (name, status, out, [it.endswith(BUILT) for it in err]) == (name, 2, [], [True])
 
 
-def members_over_tcp() -> None:
+def test_members_over_tcp() -> None:
     """Two members of one venue: each has its own port, name and orders."""
     venue = started(JOURNAL, 2, ("ABC", "XYZ"))
     port = str(venue.port)
@@ -240,14 +333,14 @@ def members_over_tcp() -> None:
     expect_trade(f"{common} --member 2 replace 1 9 49", 0,
                  [f"The member C2, at port {venue.port + 1}.", "order 1 replaced: sell 9 XYZ at 49, 5 left (ClOrdID 2)"])
     status, out, err = trade("--port", port, "sell", "3", "XYZ", "60")
-    expect((status, len(out), err), (0, 2, []))
+    assert (status, len(out), err) == (0, 2, [])
     name = re.fullmatch(r"order 4 accepted: sell 3 XYZ at 60 \(ClOrdID (\d+)\)", out[1])
     if not name or int(name[1]) < 1_700_000_000_000:
         raise Trouble(f"expected a ClOrdID by the time came {out[1]}")
     status, out, _ = trade("--port", port, "cancel", "4")
-    expect((status, out[1]), (1, "not sent: there is no order 4 of yours that this session knows of; 'orders' lists those "
-                                 "that rest"))
-    expect(venue.stop(), (4, 6))
+    assert (status, out[1]) == (1, "not sent: there is no order 4 of yours that this session knows of; 'orders' lists those "
+                                 "that rest")
+    assert venue.stop() == (4, 6)
 
 
 REPORT = "35=8|52=T|37={}|17={}|150={}|39={}|11={}|55=ABC|54={}|38={}|{}151={}|14={}|6={}|"
@@ -307,28 +400,55 @@ All reports to C2, as FIX
     commands 3 outputs 7"""
 
 
-def the_demo() -> None:
+def test_the_demo() -> None:
     """All that the demo shows, but for its port and the times, and nothing of it left behind."""
     status, out, err = ran([script("demo")], TMPDIR=os.getcwd())
     text = re.sub(r"(?m)\|52=\d{8}-\d\d:\d\d:\d\d\|", "|52=T|", "\n".join(out))
     shown = os.path.basename(PROGRAMS["VENUE_REPLAY"]).replace("_", "-")
     expect_lines(re.sub(r"venued \d+ demo", "venued PORT demo", text).splitlines(),
                  DEMO.replace("    venue-replay ", f"    {shown} ").splitlines())
-    expect((status, err, os.listdir()), (0, [], []))
+    assert (status, err, os.listdir()) == (0, [], [])
 
 
-def demos_that_fail() -> None:
+def test_demos_that_fail() -> None:
     """A venue that isn't there, can't start, or ends with another status: a line, and status 2. So with wrong words."""
-    expect(ran([script("demo"), "x"])[:2], (2, []))
+    assert ran([script("demo"), "x"])[:2] == (2, [])
     status, out, err = ran([script("demo")], VENUED=os.path.abspath("missing"))
-    expect((status, out, [it.endswith(BUILT) for it in err]), (2, [], [True]))
+    assert (status, out, [it.endswith(BUILT) for it in err]) == (2, [], [True])
     put("venued", "#!/bin/sh\necho 'venued: no memory' >&2\nexit 1\n")
     status, out, err = ran([script("demo")], VENUED=os.path.abspath("venued"))
-    expect((status, out), (2, []))
-    expect(err, ["gikvand demo: venued isn't ready; it said: venued: no memory (docs/OPERATING.md says what that means)"])
+    assert (status, out) == (2, [])
+    assert err == ["gikvand demo: venued isn't ready; it said: venued: no memory (docs/OPERATING.md says what that means)"]
     put("venued", f"#!/bin/sh\n{PROGRAMS['VENUED']} \"$@\"\nexit 3\n")
     status, out, err = ran([script("demo")], VENUED=os.path.abspath("venued"))
-    expect((status, err), (2, ["gikvand demo: venued ended with status 3"]))
+    assert (status, err) == (2, ["gikvand demo: venued ended with status 3"])
+
+
+def processes_in(folder: str) -> list[int]:
+    """The processes that have this folder, or one in it, as theirs."""
+    found = []
+    for pid in filter(str.isdecimal, os.listdir("/proc")):
+        try:
+            where = os.readlink(f"/proc/{pid}/cwd")
+        except OSError:
+            continue
+        if where.removesuffix(" (deleted)").startswith(f"{folder}/"):
+            found.append(int(pid))
+    return found
+
+
+def test_demos_that_are_ended() -> None:
+    """SIGTERM ends the demo with all that it has started, and nothing of it is left behind."""
+    with subprocess.Popen([script("demo")], stdout=subprocess.PIPE, stderr=subprocess.PIPE, text=True,
+                          env={**os.environ, **PROGRAMS, "TMPDIR": os.getcwd(), "PYTHONUNBUFFERED": "1"}) as it:
+        while "ready" not in (line := it.stdout.readline()):
+            assert (line != "", it.poll()) == (True, None)
+        assert len(processes_in(os.getcwd())) > 0
+        it.terminate()
+        it.stdout.read()
+        assert (it.wait(LONG), it.stderr.read()) == (1, "gikvand demo: ended by a signal\n")
+    await_that("nothing of the demo runs", lambda: not processes_in(os.getcwd()))
+    assert os.listdir() == []
 
 
 def contents(name: str) -> bytes:
@@ -361,7 +481,7 @@ DRAWN = [(1, "D", order(1, 2, 10, 52)),                     # 1
          (1, "D", order(5, 1, 1, 50, "QQQ"))]               # 18, refused
 
 
-def a_day_drawn() -> None:
+def test_a_day_drawn() -> None:
     """The trades, best prices and depth of a day, by the picture of it. A trade stands at the place of its second report,
     and points where the order that came in went; a best price holds from its command's last report on."""
     numbers = {1: 1, 2: 1}
@@ -372,30 +492,45 @@ def a_day_drawn() -> None:
     with open("my.journal", "wb") as file:
         file.write(journals.header(3) + journals.in_blocks(3, entries, 3) + journals.CLOSED)
     status, out, err = ran([script("day"), "my.journal", "ABC", "XYZ", "NIX"])
-    expect((status, err), (0, []))
+    assert (status, err) == (0, [])
     picture = Picture("\n".join(out))
-    expect(picture.title, "The day in my.journal: 10 commands, 18 outputs")
-    expect([it for it in picture.said() if ": " in it or "aren't shown" in it],
-           [picture.title, "ABC: 3 trades, 11 traded, the last at 48; 2 by market orders",
-            "XYZ: 1 trades, 2 traded, the last at 900", "1 prices further off aren't shown: 7 rest there",
+    assert picture.title == "The day in my.journal: 10 commands, 18 outputs"
+    assert (
+        [it for it in picture.said() if ": " in it or "n't shown" in it]
+        == [picture.title, "ABC: 3 trades of 11 units, the last at 48; 2 by market orders",
+            "XYZ: 1 trade of 2 units, the last at 900", "1 price further off isn't shown: 7 rest there",
             "NIX: no order rested, and none was filled"])
-    expect(row_of(picture, "ABC"),
-           {"best": {"buy": [(2, 48, 3), (3, 49, 11), (11, 48, 19)], "sell": [(1, 52, 12), (12, 51, 19)]},
+    assert row_of(picture, "ABC") == {"best": {"buy": [(2, 48, 3), (3, 49, 11), (11, 48, 19)], "sell": [(1, 52, 12), (12, 51, 19)]},
             "trades": [(6, 52, "buy", "buy", False), (9, 49, "sell", "sell", True), (11, 48, "sell", "sell", True)],
-            "depth": {("buy", 48): 8, ("sell", 51): 6}})
-    expect(row_of(picture, "XYZ"), {"best": {"sell": [(13, 900, 19)]}, "trades": [(16, 900, "buy", "buy", False)],
-                                    "depth": {("sell", 900): 1}})
+            "depth": {("buy", 48): 8, ("sell", 51): 6}}
+    assert row_of(picture, "XYZ") == {"best": {"sell": [(13, 900, 19)]}, "trades": [(16, 900, "buy", "buy", False)],
+                                    "depth": {("sell", 900): 1}}
 
 
-def days_that_cannot_be_drawn() -> None:
-    expect(ran([script("day")])[:2], (2, []))
-    expect(ran([script("day"), "my.journal"]), (2, [], ["gikvand day: the symbols of my.journal aren't known: name them, or write "
+def test_a_day_of_leftovers() -> None:
+    """What an order that may not rest has left is no best price, not for a moment; and a name may have any letters."""
+    entries = [Entry(1, message(1, 2, "D", order(1, 2, 5, 50))), Entry(2, message(2, 2, "D", order(1, 1, 9, 60, more="59=3|"))),
+               Entry(1, message(1, 3, "D", order(2, 2, 4, 55)))]
+    name = "a&b <c> \"d\".journal"
+    with open(name, "wb") as file:
+        file.write(journals.header(3) + journals.in_blocks(3, entries, 1) + journals.CLOSED)
+    status, out, err = ran([script("day"), name, "ABC"])
+    assert (status, err) == (0, [])
+    picture = Picture("\n".join(out))
+    assert picture.title == f"The day in {name}: 3 commands, 6 outputs"
+    assert row_of(picture, "ABC") == {"best": {"sell": [(1, 50, 5), (6, 55, 7)]}, "trades": [(4, 50, "buy", "buy", False)],
+                                    "depth": {("sell", 55): 4}}
+
+
+def test_days_that_cannot_be_drawn() -> None:
+    assert ran([script("day")])[:2] == (2, [])
+    assert (
+        ran([script("day"), "my.journal"])
+        == (2, [], ["gikvand day: the symbols of my.journal aren't known: name them, or write "
                                                        "them into my.journal.symbols"]))
-    expect(ran([script("day"), "missing", "ABC"]),
-           (2, [], ["gikvand day: the journal missing can't be read: venue-replay: journal fault 41 (docs/OPERATING.md says "
-                    "what that means)"]))
-    status, out, err = ran([script("day"), "missing", "ABC"], VENUE_REPLAY=os.path.abspath("missing"))
-    expect((status, out, [it.endswith(BUILT) for it in err]), (2, [], [True]))
+    assert ran([script("day"), "missing", "ABC"]) == (2, [], ["gikvand day: missing: No such file or directory"])
+    status, out, err = ran([script("day"), "missing", "ABC"], VENUE_EVENTS=os.path.abspath("missing"))
+    assert (status, out, [it.endswith(BUILT) for it in err]) == (2, [], [True])
 
 
 ANSWERS = ["8=FIX.4.4|9=63|35=A|49=VENUE|56=C1|34=1|52=20250102-09:30:00|98=0|108=0|141=Y|10=026|",
@@ -404,7 +539,7 @@ ANSWERS = ["8=FIX.4.4|9=63|35=A|49=VENUE|56=C1|34=1|52=20250102-09:30:00|98=0|10
 PATH = "/usr/bin:/bin"
 
 
-def the_first_order() -> None:
+def test_the_first_order() -> None:
     """By the program that is built, else by a trial run, else by nothing; its folder of work is gone each time."""
     for name in ("scripts/first-order", "examples/first_order.fix"):
         os.makedirs(os.path.dirname(name), exist_ok=True)
@@ -413,27 +548,27 @@ def the_first_order() -> None:
     os.makedirs("work")
     call, work = [os.path.abspath("scripts/first-order")], {"TMPDIR": os.path.abspath("work"), "PATH": PATH}
     status, out, err = ran(call, **work)
-    expect((status, out), (1, []))
-    expect(err, ["first-order: there is no rt on the path, and no built program: README.md says what is needed"])
+    assert (status, out) == (1, [])
+    assert err == ["first-order: there is no rt on the path, and no built program: README.md says what is needed"]
     data = "\\n".join(it.replace("|", "\\001") for it in ANSWERS).replace("\\n", "")
     put("kit/rt", f"#!/bin/sh\necho \"$@\" >{os.getcwd()}/asked\ncat >{os.getcwd()}/given\nprintf '{data}'\necho hello >&2\n")
     trial = {**work, "PATH": f"{os.path.abspath('kit')}:{PATH}"}
     status, out, err = ran(call, **trial)
-    expect((status, out[1:], err), (0, ANSWERS, []))
-    expect("not proved" in out[0], True)
-    expect(contents("asked"), b"try -- - first.journal 1 ABC\n")
-    expect(contents("given"), contents("examples/first_order.fix"))
+    assert (status, out[1:], err) == (0, ANSWERS, [])
+    assert "not proved" in out[0]
+    assert contents("asked") == b"try -- - first.journal 1 ABC\n"
+    assert contents("given") == contents("examples/first_order.fix")
     put("kit/rt", "#!/bin/sh\necho 'error: no' >&2\nexit 3\n")
     status, out, err = ran(call, **trial)
-    expect((status, err), (1, ["error: no", "first-order: the trial run failed; what rt said stands above"]))
-    expect([it for it in out if it.startswith("8=")], [])
+    assert (status, err) == (1, ["error: no", "first-order: the trial run failed; what rt said stands above"])
+    assert [it for it in out if it.startswith("8=")] == []
     put("crates/venued/out/venued", f"#!/bin/sh\nexec {PROGRAMS['VENUED']} \"$@\"\n")
-    expect(ran(call, **trial), (0, ["By crates/venued/out/venued, the proved program as it was built last:", *ANSWERS], []))
+    assert ran(call, **trial) == (0, ["By crates/venued/out/venued, the proved program as it was built last:", *ANSWERS], [])
     put("crates/venued/out/venued", "#!/bin/sh\necho 'venued: no memory' >&2\nexit 1\n")
     status, out, err = ran(call, **work)
-    expect((status, err), (1, ["venued: no memory"]))
-    expect((ran([*call, "x"], **work)[0], ran([*call, "--help"], **work)[0]), (1, 0))
-    expect(os.listdir("work"), [])
+    assert (status, err) == (1, ["venued: no memory"])
+    assert (ran([*call, "x"], **work)[0], ran([*call, "--help"], **work)[0]) == (1, 0)
+    assert os.listdir("work") == []
 
 
 CHECKER = """#!/bin/sh
@@ -452,6 +587,7 @@ case "$rule" in
     killed | once) kill -9 $$ ;;
     open) echo "logic=unproved goals=3 functions=7"; exit 0 ;;
     silent) exit 0 ;;
+    slow) exec sleep 600 ;;
 esac
 mkdir -p out/rlib
 case "$command" in
@@ -460,18 +596,19 @@ case "$command" in
     "rt run") [ "$rule" = nothing ] || {{ touch "out/$crate.stamp"; touch "out/$crate"; chmod +x "out/$crate"; }} ;;
 esac
 """
-CRATES = {"low": "", "wide": "", "middle": "low", "venued": "low middle", "venue_replay": "low", "other": "low"}
+CRATES = {"low": "", "wide": "", "middle": "low", "venued": "low middle", "venue_replay": "low", "venue_events": "low",
+          "other": "low"}
 NEEDED = [it for it in CRATES if it != "other"]
 
 
-def build(fails: str = "", **crates: str) -> tuple[int, list[str], list[str], list[str]]:
+def build(fails: str = "", **others: str) -> tuple[int, list[str], list[str], list[str]]:
     """Runs scripts/build in a small repository, where these commands fail: how it ended, and which commands it gave."""
     shutil.rmtree("repository", ignore_errors=True)
     here = os.path.abspath("repository")
     for name in ("build", "crates.py", "needs_python.py"):
         os.makedirs("repository/scripts", exist_ok=True)
         shutil.copy(script(name), "repository/scripts")
-    put("repository/crates.txt", "".join(f"{name}: {below}\n" for name, below in {**CRATES, **crates}.items()), 0o644)
+    put("repository/crates.txt", "".join(f"{name}: {below}\n" for name, below in {**CRATES, **others}.items()), 0o644)
     for name in CRATES:
         put(f"repository/crates/{name}/src/{'main' if name.startswith('venue') else 'lib'}.rt", "//\n", 0o644)
     for name in ("rt", "rattle"):
@@ -496,26 +633,55 @@ def proved(out: list[str]) -> list[str]:
     return sorted(it.split()[3] for it in out if re.search(r"^ *\d+ of \d+ .*\d+ functions proved", it))
 
 
-def a_build() -> None:
-    """Each crate that the programs stand on is proved, once those below it are, and both programs are built at the end. A
+def test_a_build() -> None:
+    """Each crate that the programs stand on is proved, once those below it are, and the programs are built at the end. A
     second run proves nothing again."""
     status, out, err, asked = build(venued="low middle wide")
-    expect((status, err, proved(out)), (0, [], sorted(NEEDED)))
+    assert (status, err, proved(out)) == (0, [], sorted(NEEDED))
     for name in NEEDED:
-        expect((name, f"{name} rattle check" in asked or f"{name} rt lib" in asked), (name, True))
+        assert (name, f"{name} rattle check" in asked or f"{name} rt lib" in asked) == (name, True)
     for name in ("low", "middle", "wide"):
-        expect((name, asked.count(f"{name} rt lib")), (name, 1))
-    for name in ("venued", "venue_replay"):
-        expect((name, asked.count(f"{name} rattle check"), asked.count(f"{name} rt run")), (name, 1, 1))
-    expect([it for it in asked if it.startswith("other")], [])
-    expect(asked.index("low rt lib") < asked.index("middle rt lib") < asked.index("venued rattle check"), True)
-    programs = "The programs are crates/venued/out/venued and crates/venue_replay/out/venue_replay"
-    expect(any(it.startswith(programs) for it in out), True)
+        assert (name, asked.count(f"{name} rt lib")) == (name, 1)
+    for name in ("venued", "venue_replay", "venue_events"):
+        assert (name, asked.count(f"{name} rattle check"), asked.count(f"{name} rt run")) == (name, 1, 1)
+    assert [it for it in asked if it.startswith("other")] == []
+    assert asked.index("low rt lib") < asked.index("middle rt lib") < asked.index("venued rattle check")
+    assert any(it.startswith("The programs are venued, venue_replay and venue_events") for it in out)
     status, out, err, asked = again()
-    expect((status, err, proved(out), [it for it in asked if "check" in it]), (0, [], [], []))
+    assert (status, err, proved(out), [it for it in asked if "check" in it]) == (0, [], [], [])
+    for part in ("src/lib.rt", "specs/Low.antt", "proofs/deep/Answers.antt"):
+        path = put(f"repository/crates/low/{part}", "// changed\n", 0o644)
+        os.utime(path, (time.time() + 60,) * 2)
+        status, out, err, asked = again()
+        os.utime(path, (0, 0))
+        assert (part, status, proved(out)) == (part, 0, ["low", "middle", "venue_events", "venue_replay", "venued"])
+        assert (part, "wide rattle check" in asked, "venued rattle check" in asked) == (part, False, True)
 
 
-def builds_that_fail() -> None:
+def test_crates_below_others() -> None:
+    """Each crate comes behind those that it stands on, and each once."""
+    listed = {"top": ["left", "right", "std"], "left": ["low"], "right": ["middle"], "middle": ["low"], "low": [], "other": ["low"]}
+    found = crates.below("top", listed)
+    assert (sorted(found), found.index("low") < found.index("left"),
+            found.index("low") < found.index("middle") < found.index("right")) == (["left", "low", "middle", "right"], True, True)
+
+
+def test_room_for_proofs() -> None:
+    """As many crates are proved at once as memory has 3 GB for each, by what the system says is available, and one at least."""
+    module = loaded("scripts/build")
+    for kilobytes, count in ((900_000, 1), (3_000_000, 1), (5_900_000, 2), (24_000_000, 8)):
+        text = f"MemTotal: 99000000 kB\nMemFree: 1 kB\nMemAvailable:   {kilobytes} kB\n"
+        with mock.patch("builtins.open", lambda *_, text=text, **__: io.StringIO(text)):
+            assert (kilobytes, module.room()) == (kilobytes, count)
+
+
+def test_builds_that_end_others() -> None:
+    """Where a crate isn't proved those that are proved beside it end with the script."""
+    build("wide rattle check:fails\nlow rt lib:slow\nlow rattle check:slow", venued="low middle wide")
+    await_that("nothing of the build runs", lambda: not processes_in(os.path.abspath("repository")))
+
+
+def test_builds_that_fail() -> None:
     """Whichever command fails, nothing is said to be proved that isn't, nothing is said to be built, and the status is 1."""
     for fails, crate in (("low rattle check:fails", "low"), ("low rt lib:fails", "low"), ("low rt lib:silent", "low"),
                          ("middle rattle check:fails\nmiddle rt lib:fails", "middle"),
@@ -524,8 +690,8 @@ def builds_that_fail() -> None:
                          ("venue_replay rattle check:open", "venue_replay"), ("venue_replay rt run:fails", "venue_replay"),
                          ("venue_replay rt run:nothing", "venue_replay")):
         status, out, err, asked = build(fails, venued="low middle wide")
-        expect((fails, status), (fails, 1))
-        expect((fails, [it for it in out if "The programs are" in it]), (fails, []))
+        assert (fails, status) == (fails, 1)
+        assert (fails, [it for it in out if "The programs are" in it]) == (fails, [])
         if not err or not err[-1].startswith(f"build: {crate} isn't proved or built"):
             raise Trouble(f"{fails}: expected a line on {crate} came {err}")
         unproved = {crate, *(it for it in NEEDED if crate in {**CRATES, "venued": "low middle wide"}[it].split())}
@@ -534,28 +700,18 @@ def builds_that_fail() -> None:
         if ":fails" in fails and "error: not proved: a goal is open in" not in "\n".join(err):
             raise Trouble(f"{fails}: expected what the checker said came {err}")
         if "rt run" not in fails:
-            expect((fails, [it for it in asked if it.endswith("rt run") and crate not in it]), (fails, []))
+            assert (fails, [it for it in asked if it.endswith("rt run") and crate not in it]) == (fails, [])
 
 
-def builds_that_go_on() -> None:
+def test_builds_that_go_on() -> None:
     """A check that was killed, as for memory, is tried once more by one process."""
     status, out, err, asked = build("venued rattle check:once", venued="low middle wide")
-    expect((status, err, proved(out), asked.count("venued rattle check")), (0, [], sorted(NEEDED), 2))
+    assert (status, err, proved(out), asked.count("venued rattle check")) == (0, [], sorted(NEEDED), 2)
 
 
-def builds_without_a_checker() -> None:
+def test_builds_without_a_checker() -> None:
     build()
     status, out, err = ran([sys.executable, os.path.abspath("repository/scripts/build")], PATH=PATH)
-    expect((status, out, err), (1, [], ["build: there is no rt on the path: README.md says what is needed"]))
+    assert (status, out, err) == (1, [], ["build: there is no rt on the path: README.md says what is needed"])
     status, out, _ = ran([sys.executable, os.path.abspath("repository/scripts/build"), "--jobs", "0"], PATH=PATH)
-    expect((status, out), (2, []))
-
-
-TESTS = [first_steps_of_the_readme, a_day_by_words, what_trade_refuses, market_orders_of_an_old_journal, help_in_a_session,
-         what_is_sent, wrong_words_of_trade, venues_that_cannot_be_had, members_over_tcp, the_demo, demos_that_fail,
-         a_day_drawn, days_that_cannot_be_drawn, the_first_order, a_build, builds_that_fail, builds_that_go_on,
-         builds_without_a_checker]
-
-
-if __name__ == "__main__":
-    sys.exit(main_of("users", __doc__, [in_a_folder(it) for it in TESTS]))
+    assert (status, out) == (2, [])

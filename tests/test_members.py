@@ -1,29 +1,22 @@
-#!/usr/bin/env python3
-"""Tests of the venue that listens: the built programs, with members over TCP.
-
-    tests/members.py [NAME...]      the tests whose names have one of these words in them; without one all
-
-Each test has a folder and free ports of its own. One that fails has a line that says what came; the last line is
-`N passed, M failed`, and the status is 1 where one failed. All take about a minute, most of it without work. Build both
-programs first, by scripts/build; others are taken by the environment's VENUED and VENUE_REPLAY.
-"""
+"""Tests of the venue that listens: the built programs, with members over TCP. Each test has free ports of its own. All take about a
+minute, most of it without work."""
 import os
 import re
 import socket
 import struct
 import subprocess
-import sys
 import threading
 import time
 
-ROOT = os.path.dirname(os.path.dirname(os.path.abspath(__file__)))
-sys.path.insert(0, os.path.join(ROOT, "dev"))
+import pytest
 
-import with_scripts  # (in front of what stands there, and of what an older Python can't read)
 import journals
+from checks import ROOT
 from traders import Member, check_told, narrow_client, sip
-from venues import HOST, PATIENCE, VENUED, Client, Late, Trouble, Venue, framed, free_port, in_a_folder, in_some_try
-from venues import main_of, market_order, message, order, replay, started, value
+from venues import HOST, PATIENCE, VENUED, Client, Late, Trouble, Venue, framed, free_port, in_some_try
+from venues import market_order, message, order, replay, started, value
+
+pytestmark = [pytest.mark.slow, pytest.mark.usefixtures("programs")]
 
 UNPRINTED = re.compile(r"\|(?:8|9|34|49|56|10)=[^|]*(?=\|)")
 DAYS = ["first_trade", "time_priority", "sweep_two_levels", "fill_or_kill", "replace_and_place_in_queue",
@@ -46,12 +39,6 @@ ACCEPTED = ("8=FIX.4.4|9=114|35=8|49=VENUE|56=C1|34=2|52=20250102-09:30:00|37=1|
 BAD_LOGON = "8=FIX.4.4|9=59|35=5|49=VENUE|56=C1|34=1|52=20250102-09:30:00|58=bad logon|10=017|"
 
 
-def expect(came, wanted):
-    """Fails the test where something else came."""
-    if came != wanted:
-        raise Trouble(f"expected {wanted!r} came {came!r}")
-
-
 def coded(text):
     """The bytes of a message that is written with bars."""
     return text.replace("|", "\x01").encode()
@@ -60,7 +47,7 @@ def coded(text):
 def hears(client, *wanted):
     """The next messages are these."""
     for text in wanted:
-        expect(client.next(), text)
+        assert client.next() == text
 
 
 def hears_reports(client, *wanted):
@@ -100,7 +87,7 @@ def trades_once(venue, member, name):
     return client
 
 
-def the_worked_example():
+def test_the_worked_example():
     """One member trades and logs out, another one comes and trades with its order, and the venue stops."""
     venue = started(JOURNAL, 2)
     first = Client(venue.port, 1)
@@ -111,15 +98,15 @@ def the_worked_example():
     second = Client(venue.port, 2).log_on()
     second.send("D", order(1, 2, 30, 50))
     hears_reports(second, "34=2|37=2|17=2|150=0|39=0|11=1|151=30|", "34=3|37=2|17=4|150=F|39=2|32=30|31=50|151=0|14=30|")
-    expect(second.is_quiet(0.1), True)
-    expect(venue.stop(), (2, 4))
+    assert second.is_quiet(0.1) == True
+    assert venue.stop() == (2, 4)
     lines, counts = replay(JOURNAL, "C1")
-    expect([value(line, "17") for line in lines], ["1", "3"])
-    expect(counts, (2, 4))
-    expect(replay(JOURNAL, "book"), (["ABC 1 50 70 1 C1 1"], (2, 4)))
+    assert [value(line, "17") for line in lines] == ["1", "3"]
+    assert counts == (2, 4)
+    assert replay(JOURNAL, "book") == (["ABC 1 50 70 1 C1 1"], (2, 4))
 
 
-def trades_of_eight():
+def test_trades_of_eight():
     """Eight members trade with one another, and each hears its own reports alone, numbered without a gap."""
     venue = started(JOURNAL, 8)
     clients = [Client(venue.port, member).log_on() for member in range(1, 9)]
@@ -130,12 +117,12 @@ def trades_of_eight():
             hears_reports(client, "34=3|150=F|39=2|")
             hears_reports(clients[client.member - 2], "34=3|150=F|39=2|")
     for client in clients:
-        expect(client.is_quiet(0), True)
-        expect(len(replay(JOURNAL, f"C{client.member}")[0]), 2)
-    expect(venue.stop(), (8, 16))
+        assert client.is_quiet(0) == True
+        assert len(replay(JOURNAL, f"C{client.member}")[0]) == 2
+    assert venue.stop() == (8, 16)
 
 
-def two_slow_of_eight():
+def test_two_slow_of_eight():
     """Of eight members one takes none of its reports, and one takes few: the six others lose none, and don't wait for them."""
     in_some_try(lambda number: six_beside_two_slow_ones(f"{number}.journal"), "two_slow_of_eight")
 
@@ -163,7 +150,7 @@ def six_beside_two_slow_ones(journal):
     for it in traders:
         told = it.reports()
         check_told(it, told, kept[it.member])
-        expect(len(told), len(kept[it.member]))
+        assert len(told) == len(kept[it.member])
     if silence > 1:
         raise Late(f"expected an answer within a second came none for {silence:.1f} s")
 
@@ -197,7 +184,7 @@ def played(name):
     return days
 
 
-def worked_days():
+def test_worked_days():
     """The worked days of several members: over TCP each one is told what the played files say of it, and no more."""
     for name in DAYS:
         for journal, (sent, told) in played(name).items():
@@ -214,13 +201,13 @@ def worked_days():
                 reports = told.get(f"C{member}", [counts])[:-1]
                 while len(heard[member]) < len(reports):
                     heard[member].append(client.next() or "nothing")
-                expect([UNPRINTED.sub("", f"|{it}")[1:] for it in heard[member]], reports)
-                expect([value(it, "34") for it in heard[member]], [str(2 + at) for at in range(len(reports))])
-            expect("commands {} outputs {}".format(*venue.stop()), counts)
+                assert [UNPRINTED.sub("", f"|{it}")[1:] for it in heard[member]] == reports
+                assert [value(it, "34") for it in heard[member]] == [str(2 + at) for at in range(len(reports))]
+            assert "commands {} outputs {}".format(*venue.stop()) == counts
             for client in clients.values():
                 hears(client, None)
             for what, lines in told.items():
-                expect(replay(journal, what)[0], lines[:-1])
+                assert replay(journal, what)[0] == lines[:-1]
 
 
 def example(words):
@@ -232,10 +219,10 @@ def example(words):
     return rest.partition("```text\n")[2].partition("```")[0].splitlines()
 
 
-def market_orders_of_the_profile():
+def test_market_orders_of_the_profile():
     """The examples of PROFILE.md on market orders, byte by byte: the reports of each, behind sells of C1."""
     sent = coded("".join(example("A market order:")))
-    expect(sent, message(1, 2, "D", market_order(1, 1, 100)))
+    assert sent == message(1, 2, "D", market_order(1, 1, 100))
     sells = [order(1, 2, 5, 50), order(2, 2, 5, 60)]
     for words, sells, member, body in (
             ("A market order that finds nothing", [], 1, market_order(1, 1, 100)),
@@ -251,11 +238,11 @@ def market_orders_of_the_profile():
         lines = example(words)
         for line in lines:
             hears(clients[int(value(line, "56")[1:])], line)
-        expect(all(it.is_quiet(0) for it in clients.values()), True)
-        expect(venue.stop(), (len(sells) + 1, len(sells) + len(lines)))
+        assert all(it.is_quiet(0) for it in clients.values())
+        assert venue.stop() == (len(sells) + 1, len(sells) + len(lines))
 
 
-def rejected_market_orders_of_the_profile():
+def test_rejected_market_orders_of_the_profile():
     """The examples of PROFILE.md on market orders that are rejected: for a price, and all on a journal of version 1."""
     for words, empty in (("2, Price isn't defined for a market order", None), ("On a journal of version 1", OLD_EMPTY)):
         journal = f"{words.split()[0]}.journal"
@@ -266,10 +253,10 @@ def rejected_market_orders_of_the_profile():
         sent, answer = example(words)
         client.send_bytes(coded(LOGON + sent))
         hears(client, WELCOME, answer)
-        expect(venue.stop(), (1, 1))
+        assert venue.stop() == (1, 1)
 
 
-def an_old_journal():
+def test_an_old_journal():
     """A journal of version 1 goes on as version 1, over stops and kills, and its members have no market orders. A missing
     one is made with version 3."""
     write(JOURNAL, OLD_EMPTY)
@@ -280,23 +267,23 @@ def an_old_journal():
     clients[1].send("D", market_order(1, 1, 4))
     hears_reports(clients[1], "35=3|34=2|45=2|371=44|372=D|373=1|")
     venue.kill()
-    expect(contents(JOURNAL)[:8], OLD_EMPTY[:8])
+    assert contents(JOURNAL)[:8] == OLD_EMPTY[:8]
     venue = Venue(venue.port, JOURNAL, 2)
-    expect(venue.ready(), (2, 2))
+    assert venue.ready() == (2, 2)
     client = Client(venue.port, 2).log_on()
     client.send("D", market_order(1, 1, 4, more="59=3|"))
     hears_reports(client, "35=3|34=2|45=2|371=44|372=D|373=1|")
     client.send("D", order(1, 1, 4, 50, more="59=3|"))
     hears_reports(client, "34=3|17=4|150=0|44=50|", "34=4|17=6|150=F|39=2|")
-    expect(venue.stop(), (4, 6))
-    expect(contents(JOURNAL)[:8], OLD_EMPTY[:8])
-    expect(replay(JOURNAL, "book"), (["ABC 2 50 6 1 C1 1"], (4, 6)))
+    assert venue.stop() == (4, 6)
+    assert contents(JOURNAL)[:8] == OLD_EMPTY[:8]
+    assert replay(JOURNAL, "book") == (["ABC 2 50 6 1 C1 1"], (4, 6))
     venue = started("new.journal", 1)
-    expect(contents("new.journal"), EMPTY)
-    expect(venue.stop(), (0, 0))
+    assert contents("new.journal") == EMPTY
+    assert venue.stop() == (0, 0)
 
 
-def a_full_book():
+def test_a_full_book():
     """4,096 orders of one member rest; the next is refused, and another member's trade makes room. A market order is
     accepted whether there is room or not."""
     venue = started(JOURNAL, 2)
@@ -315,10 +302,10 @@ def a_full_book():
     hears_reports(first, "34=4101|37=4100|17=4102|150=0|", "34=4102|37=4100|17=4103|150=4|39=4|14=0|")
     second.send("D", market_order(2, 2, 1, more="59=4|"))
     hears_reports(second, "34=4|37=4101|17=4104|150=0|", "34=5|37=4101|17=4106|150=F|39=2|32=1|31=1|")
-    expect(venue.stop(), (4101, 4106))
+    assert venue.stop() == (4101, 4106)
 
 
-def a_report_without_a_session():
+def test_a_report_without_a_session():
     """What is reported to a member while it has no session isn't sent later."""
     venue = started(JOURNAL, 2)
     first = trades_once(venue, 1, 1)
@@ -332,33 +319,33 @@ def a_report_without_a_session():
     again = Client(venue.port, 1).log_on()
     second.send("D", order(2, 1, 4, 50))
     hears_reports(again, "34=2|17=6|150=F|151=2|")
-    expect(venue.stop(), (3, 7))
+    assert venue.stop() == (3, 7)
 
 
-def one_at_a_time():
+def test_one_at_a_time():
     """A second connection to a port isn't served beside the first, and is served after it."""
     venue = started(JOURNAL, 1)
     first = trades_once(venue, 1, 1)
     second = Client(venue.port, 1)
     second.send("A", "98=0|108=0|141=Y|")
     second.send("D", order(2, 2, 10, 50))
-    expect(second.is_quiet(0.3), True)
+    assert second.is_quiet(0.3) == True
     first.send("D", order(3, 2, 10, 50))
     hears_reports(first, "34=3|17=2|11=3|")
-    expect(second.is_quiet(0), True)
+    assert second.is_quiet(0) == True
     first.close()
     hears_reports(second, "35=A|34=1|", "34=2|17=3|150=8|103=6|")
-    expect(venue.stop(), (3, 3))
+    assert venue.stop() == (3, 3)
 
 
-def no_other_member():
+def test_no_other_member():
     """A member is no other one: its port takes its own CompID alone."""
     venue = started(JOURNAL, 2)
     client = Client(venue.port, 2)
     client.send_bytes(coded(LOGON))
     hears_reports(client, "35=5|34=1|58=wrong party|")
     hears(client, None)
-    expect(venue.stop(), (0, 0))
+    assert venue.stop() == (0, 0)
 
 
 def reset(client):
@@ -387,7 +374,7 @@ def reset_with_reports_due(client):
     reset(client)
 
 
-def vanishing_clients():
+def test_vanishing_clients():
     """A client that vanishes, in whatever way, leaves the gateway to the next one."""
     for vanish in (reset, half_closed, Client.close, reset_in_a_message, reset_with_reports_due):
         journal = f"{vanish.__name__}.journal"
@@ -398,10 +385,10 @@ def vanishing_clients():
         while value(again.next() or "nothing", "11") != "100":
             pass  # A report of the session before, whose order the venue had only now worked on.
         trades_once(venue, 2, 1)
-        expect(venue.stop(), replay(journal, "book")[1])
+        assert venue.stop() == replay(journal, "book")[1]
 
 
-def half_closed_behind_an_order():
+def test_half_closed_behind_an_order():
     """The order of a client that closes its side behind it counts. Its report may come, or the session's end before."""
     venue = started(JOURNAL, 1)
     client = Client(venue.port, 1)
@@ -409,27 +396,27 @@ def half_closed_behind_an_order():
     client.socket.shutdown(socket.SHUT_WR)
     hears(client, WELCOME)
     if last := client.next():
-        expect(last, ACCEPTED)
+        assert last == ACCEPTED
         hears(client, None)
     client.close()
     again = Client(venue.port, 1).log_on()
     again.send("D", order(2, 2, 10, 50))
     while value(again.next() or "nothing", "17") != "4":
         pass  # Its own acknowledgement, both fills, and maybe the first report.
-    expect(venue.stop(), (2, 4))
+    assert venue.stop() == (2, 4)
 
 
-def in_single_bytes():
+def test_in_single_bytes():
     """It doesn't matter how the bytes come."""
     venue = started(JOURNAL, 1)
     client = Client(venue.port, 1)
     for byte in coded(LOGON + ORDER):
         client.send_bytes(bytes([byte]))
     hears(client, WELCOME, ACCEPTED)
-    expect(venue.stop(), (1, 1))
+    assert venue.stop() == (1, 1)
 
 
-def a_wrong_logon():
+def test_a_wrong_logon():
     """A wrong Logon is answered, and the Logout reaches the client though it sent much more behind it."""
     venue = started(JOURNAL, 1)
     for more in (b"", b"x" * 50_000):
@@ -439,7 +426,7 @@ def a_wrong_logon():
         hears(client, BAD_LOGON, None)
         client.close()
     trades_once(venue, 1, 1)
-    expect(venue.stop(), (1, 1))
+    assert venue.stop() == (1, 1)
 
 
 def in_time(begun, what):
@@ -448,7 +435,7 @@ def in_time(begun, what):
         raise Trouble(f"expected {what} within {SOON} seconds came it after {seconds:.1f}")
 
 
-def a_client_that_stays():
+def test_a_client_that_stays():
     """A client that keeps its connection behind the Logout hears the end soon. It is let go after some seconds, and the next
     one is served; where it closes, that one is served soon."""
     venue = started(JOURNAL, 1)
@@ -467,10 +454,10 @@ def a_client_that_stays():
     client.close()
     Client(venue.port, 1).log_on()
     in_time(begun, "the next client served")
-    expect(venue.stop(), (0, 0))
+    assert venue.stop() == (0, 0)
 
 
-def a_client_that_sends_on():
+def test_a_client_that_sends_on():
     """A client that is refused, and goes on sending meanwhile, gets the last Logout and the end, and no reset."""
     venue = started(JOURNAL, 1)
     begun, client = time.monotonic(), Client(venue.port, 1)
@@ -483,22 +470,22 @@ def a_client_that_sends_on():
     in_time(begun, "the end of the bytes")
     client.close()
     trades_once(venue, 1, 1)
-    expect(venue.stop(), (1, 1))
+    assert venue.stop() == (1, 1)
 
 
-def each_count_of_gateways():
+def test_each_count_of_gateways():
     """As many gateways as the words say listen at ports in a row, each for its member, and nothing at the next port."""
     for gateways in range(1, 9):
         port = free_port(gateways + 1)
         venue = Venue(port, f"{gateways}.journal", gateways)
-        expect(venue.ready(), (0, 0))
+        assert venue.ready() == (0, 0)
         clients = [Client(port, member).log_on() for member in range(1, gateways + 1)]
         try:
             socket.create_connection((HOST, port + gateways), PATIENCE).close()
             raise Trouble(f"expected {gateways} ports came one more")
         except ConnectionRefusedError:
             pass
-        expect(venue.stop(), (0, 0))
+        assert venue.stop() == (0, 0)
         for client in clients:
             hears(client, None)
 
@@ -519,7 +506,7 @@ def rests(venue):
         raise Late(f"expected at most {MOST_IDLE:.0%} of a core while it idles came {taken:.0%}")
 
 
-def an_idle_venue():
+def test_an_idle_venue():
     """A venue in which nothing happens, with a member that is connected and one that isn't, leaves the processor to others
     once its workers rest, and still answers."""
     venue = started(JOURNAL, 2)
@@ -527,10 +514,10 @@ def an_idle_venue():
     in_some_try(lambda _: rests(venue), "an_idle_venue")
     client.send("D", order(2, 2, 10, 50))
     hears_reports(client, "17=2|150=0|")
-    expect(venue.stop(), (2, 2))
+    assert venue.stop() == (2, 2)
 
 
-def a_taken_port():
+def test_a_taken_port():
     """Where a port is taken the venue says so, and the journal stays as it is."""
     write(JOURNAL, EMPTY)
     port = free_port(3)
@@ -538,11 +525,11 @@ def a_taken_port():
         with socket.socket() as other:
             other.bind((HOST, port + taken))
             other.listen()
-            expect(ran(str(port), JOURNAL, "3", "ABC"), (1, "", f"venued: cannot listen on {port + taken}\n"))
-        expect(contents(JOURNAL), EMPTY)
+            assert ran(str(port), JOURNAL, "3", "ABC") == (1, "", f"venued: cannot listen on {port + taken}\n")
+        assert contents(JOURNAL) == EMPTY
     venue = Venue(port, JOURNAL, 3)
-    expect(venue.ready(), (0, 0))
-    expect(venue.stop(), (0, 0))
+    assert venue.ready() == (0, 0)
+    assert venue.stop() == (0, 0)
 
 
 def own_addresses():
@@ -557,7 +544,7 @@ def own_addresses():
     return sorted(addresses - {HOST})
 
 
-def the_local_host_alone():
+def test_the_local_host_alone():
     """The ports are those of 127.0.0.1, and no other address of the machine takes a connection there."""
     venue = started(JOURNAL, 2)
     for port in (venue.port, venue.port + 1):
@@ -568,73 +555,73 @@ def the_local_host_alone():
             except ConnectionRefusedError:
                 pass
     Client(venue.port, 1).log_on()
-    expect(venue.stop(), (0, 0))
+    assert venue.stop() == (0, 0)
 
 
-def the_ports_of_another_venue():
+def test_the_ports_of_another_venue():
     """A second venue on another journal doesn't get the ports of the first, which serves on."""
     venue = started(JOURNAL, 2)
     client = trades_once(venue, 2, 1)
     port = venue.port + 1
-    expect(ran(str(port), "other.journal", "1", "ABC"), (1, "", f"venued: cannot listen on {port}\n"))
+    assert ran(str(port), "other.journal", "1", "ABC") == (1, "", f"venued: cannot listen on {port}\n")
     client.send("D", order(2, 2, 10, 50))
     hears_reports(client, "17=2|150=0|")
-    expect(venue.stop(), (2, 2))
+    assert venue.stop() == (2, 2)
 
 
-def one_venue_a_journal():
+def test_one_venue_a_journal():
     """A second venue on the same journal ends at once, and harms nothing."""
     venue = started(JOURNAL, 1)
     client = trades_once(venue, 1, 1)
     before = contents(JOURNAL)
-    expect(ran(str(free_port(1)), JOURNAL, "1", "ABC"), (1, "", "venued: journal fault 41\n"))
-    expect(contents(JOURNAL), before)
+    assert ran(str(free_port(1)), JOURNAL, "1", "ABC") == (1, "", "venued: journal fault 41\n")
+    assert contents(JOURNAL) == before
     client.send("D", order(2, 2, 10, 50))
     hears_reports(client, "17=2|150=0|")
-    expect(venue.stop(), (2, 2))
+    assert venue.stop() == (2, 2)
 
 
-def a_stop_file_of_before():
+def test_a_stop_file_of_before():
     """A stop file that lies there at the start is removed, and stops nothing."""
     with open(f"{JOURNAL}.stop", "w", encoding="ascii"):
         pass
     venue = started(JOURNAL, 1)
-    expect(os.path.exists(f"{JOURNAL}.stop"), False)
+    assert os.path.exists(f"{JOURNAL}.stop") == False
     trades_once(venue, 1, 1)
-    expect(venue.stop(), (1, 1))
+    assert venue.stop() == (1, 1)
 
 
-def start_after_stop():
+def test_start_after_stop():
     """After a stop, and after a kill, the venue goes on at the same ports with the counts of its journal."""
     venue = started(JOURNAL, 2)
     trades_once(venue, 1, 1)
-    expect(venue.stop(), (1, 1))
+    assert venue.stop() == (1, 1)
     venue = Venue(venue.port, JOURNAL, 2)
-    expect(venue.ready(), (1, 1))
-    expect(os.path.exists(f"{JOURNAL}.stop"), False)
+    assert venue.ready() == (1, 1)
+    assert os.path.exists(f"{JOURNAL}.stop") == False
     client = Client(venue.port, 2).log_on()
     client.send("D", order(1, 1, 4, 50))
     hears_reports(client, "34=2|37=2|17=2|150=0|", "34=3|37=2|17=4|150=F|")
     venue.kill()
     venue = Venue(venue.port, JOURNAL, 1)
-    expect(venue.ready(), (2, 4))
+    assert venue.ready() == (2, 4)
     client = Client(venue.port, 1).log_on()
     client.send("D", order(1, 2, 10, 50))
     hears_reports(client, "34=2|37=3|17=5|150=8|103=6|")
-    expect(venue.stop(), (3, 5))
+    assert venue.stop() == (3, 5)
 
 
-def a_stop_with_members():
+def test_a_stop_with_members():
     """The members' connections end with the venue, without a Logout. The stop file stays."""
     venue = started(JOURNAL, 2)
     clients = [trades_once(venue, member, 1) for member in (1, 2)]
-    expect(venue.stop(), (2, 2))
-    expect(os.path.exists(f"{JOURNAL}.stop"), True)
+    assert venue.stop() == (2, 2)
+    assert os.path.exists(f"{JOURNAL}.stop")
     for client in clients:
         hears(client, None)
 
 
-def a_stop_while_members_send():
+def test_a_stop_while_members_send():
     """A stop waits neither for a member who never pauses nor for one who reads no report: both are cut off. The next start
     carries out what stood in the journal by then and not in the book."""
     venue = started(JOURNAL, 2)
@@ -658,32 +645,19 @@ def a_stop_while_members_send():
     in_time(begun, "the stop")
     for flood in floods:
         flood.join()
-    expect(sent_all, [])
+    assert sent_all == []
     whole = replay(JOURNAL, "book")[1]
     if whole < counts:
         raise Trouble(f"expected at least {counts} in the journal came {whole}")
-    expect(Venue(venue.port, JOURNAL, 1).ready(), whole)
+    assert Venue(venue.port, JOURNAL, 1).ready() == whole
 
 
-def wrong_words():
+def test_wrong_words():
     """Wrong words are answered by the usage line, and make no journal."""
     free = str(free_port(1))
     wrong = [(port, JOURNAL, "1", "ABC") for port in ("0", "65529", "65536", "+9001", "09001", "-1", "", "x", "9001 ")]
     wrong += [(free, JOURNAL, gateways, "ABC") for gateways in ("0", "9", "01", "+1", "", "-", "257")]
     wrong += [("-", JOURNAL, "2", "ABC"), (free, "", "1", "ABC"), (free, JOURNAL, "1"), (free, JOURNAL, "1", "abc"), ()]
     for words in wrong:
-        expect((words, *ran(*words)), (words, 1, "", f"{USAGE}\n"))
-    expect(os.listdir(), [])
-
-
-TESTS = [the_worked_example, worked_days, market_orders_of_the_profile, rejected_market_orders_of_the_profile,
-         an_old_journal, a_full_book, trades_of_eight, two_slow_of_eight, a_report_without_a_session, one_at_a_time,
-         no_other_member, vanishing_clients, half_closed_behind_an_order, in_single_bytes, a_wrong_logon,
-         a_client_that_stays, a_client_that_sends_on, each_count_of_gateways, an_idle_venue, a_taken_port,
-         the_local_host_alone, the_ports_of_another_venue, one_venue_a_journal,
-         a_stop_file_of_before, start_after_stop, a_stop_with_members, a_stop_while_members_send,
-         wrong_words]
-
-
-if __name__ == "__main__":
-    sys.exit(main_of("members", __doc__, [in_a_folder(it) for it in TESTS]))
+        assert (words, *ran(*words)) == (words, 1, "", f"{USAGE}\n")
+    assert os.listdir() == []

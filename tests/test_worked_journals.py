@@ -1,28 +1,25 @@
-#!/usr/bin/env python3
 """Checks journals and snapshots by worked examples, byte for byte: the rules in plain Python, and venue-replay.
-
-    tests/worked_journals.py [NAME...]        both; the tests whose names have one of these words in them, or all
-    tests/worked_journals.py --rules-alone    no program is run
 
 The bytes that are expected stand here as literals: empty journals, blocks, a journal with a snapshot and what a crash may
 leave of it, an old journal carried over, each way in which a journal can be damaged, and each way in which bytes are no
 snapshot, beside the nearest that are one. Whatever the rules say of a journal, venue-replay has to do: its status, its
-output, and the files then. The last line is `N passed, M failed`, and the status is 1 where one failed. Build the program
-first, by scripts/build; another is taken by the environment's VENUE_REPLAY.
+output, and the files then. With `--rules-alone` no program is run.
 """
-import argparse
-import sys
 import tempfile
 from collections.abc import Iterator
 
-from replay_rules import USAGE, WRONG_WORDS, Outcome, Replayer  # (first: it finds the scripts' modules)
+import pytest
+
 import journals
 from book_rules import Book
 from journals import Damaged, Entry, NotAJournal, Snapshot
-from replay_program import FOLDERS, Program, is_built, not_built
+from replay_program import FOLDERS, Program
+from replay_rules import USAGE, WRONG_WORDS, Outcome, Replayer
 from rules import read_order, sealed, shown
 from snapshot_rules import BadSnapshot, restore
 from venues import Trouble, framed, message, order
+
+pytestmark = pytest.mark.quick
 
 BUY = framed("35=D|49=C1|56=VENUE|34=2|52=20250102-09:30:00|11=1|55=ABC|54=1|60=20250102-09:30:00|38=100|40=2|44=50|")
 SELL = message(2, 2, "D", order(1, 2, 30, 50))
@@ -43,12 +40,18 @@ def of(text: str) -> bytes:
     return bytes.fromhex(text)
 
 
-def expect(came: object, wanted: object) -> None:
-    if came != wanted:
-        raise Trouble(f"expected {wanted!r} came {came!r}")
-
-
 programs: list[Program] = []  # The one that is run beside the rules, if one is.
+
+
+@pytest.fixture(autouse=True)
+def beside(request: pytest.FixtureRequest) -> Iterator[None]:
+    """The program that does as the rules say, in a folder of its own."""
+    with tempfile.TemporaryDirectory(prefix="journals-", dir=FOLDERS) as folder:
+        if not request.config.getoption("--rules-alone"):
+            request.getfixturevalue("programs")
+            programs.append(Program(folder))
+        yield
+        programs.clear()
 
 
 def run(files: dict[str, bytes], *words: str) -> Outcome:
@@ -57,7 +60,7 @@ def run(files: dict[str, bytes], *words: str) -> Outcome:
     outcome = Replayer(files).run(list(words))
     for program in programs:
         program.put(before)
-        expect((words, program.run(list(words)), program.files()), (words, outcome, files))
+        assert (words, program.run(list(words)), program.files()) == (words, outcome, files)
     return outcome
 
 
@@ -70,7 +73,7 @@ def ran(data: bytes, *words: str) -> tuple[Outcome, bytes]:
 def said(data: bytes, *words: str) -> list[str]:
     """The lines of words that have to succeed and to change nothing."""
     outcome, after = ran(data, *words)
-    expect((outcome.status, outcome.err, after), (0, "", data))
+    assert (outcome.status, outcome.err, after) == (0, "", data)
     return outcome.out.splitlines()
 
 
@@ -78,69 +81,69 @@ def refused(line: str) -> Outcome:
     return Outcome(1, "", f"venue-replay: {line}\n")
 
 
-def empty_journals() -> None:
-    expect(journals.empty(1), of("564e4a4c 00000001 00"))
-    expect(journals.empty(2), of("564e4a4c 00000002 00"))
-    expect(journals.empty(3), of("564e4a4c 00000003 0000000000000000 00"))
-    expect(len(journals.empty(3)), 17)
-    expect(journals.empty(3, 2 ** 48), of("564e4a4c 00000003 0001000000000000 00"))
+def test_empty_journals() -> None:
+    assert journals.empty(1) == of("564e4a4c 00000001 00")
+    assert journals.empty(2) == of("564e4a4c 00000002 00")
+    assert journals.empty(3) == of("564e4a4c 00000003 0000000000000000 00")
+    assert len(journals.empty(3)) == 17
+    assert journals.empty(3, 2 ** 48) == of("564e4a4c 00000003 0001000000000000 00")
     for version, cut in ((1, 2 ** 48), (2, 0), (3, 0)):
         journal = journals.read(journals.empty(version))
-        expect((journal.version, journal.cut, journal.entries, journal.snapshots), (version, cut, [], []))
+        assert (journal.version, journal.cut, journal.entries, journal.snapshots) == (version, cut, [], [])
 
 
-def blocks() -> None:
+def test_blocks() -> None:
     entry = Entry(1, b"AB")
     one = of("564e4a4c 00000001 01 00000005 01 0002 4142 00")
-    expect(journals.added(journals.empty(1), 8, journals.block_of(1, [entry])), one)
+    assert journals.added(journals.empty(1), 8, journals.block_of(1, [entry])) == one
     five = of("564e4a4c 00000001 01 00000019 0100024142 0100024142 0100024142 0100024142 0100024142 00")
-    expect((journals.added(journals.empty(1), 8, journals.block_of(1, [entry] * 5)), len(five)), (five, 39))
-    expect(journals.read(five).entries, [entry] * 5)
+    assert (journals.added(journals.empty(1), 8, journals.block_of(1, [entry] * 5)), len(five)) == (five, 39)
+    assert journals.read(five).entries == [entry] * 5
     third = of(f"{HEADER} 01 00000006 01 01 0002 4142 00")
-    expect(journals.added(journals.empty(3), 16, journals.block_of(3, [entry])), third)
-    expect(journals.added(third + b"\7\7", 27, journals.block_of(3, [entry])), third[:-1] + third[16:])
-    expect(journals.read(third + b"\1\1").gate, 27)
+    assert journals.added(journals.empty(3), 16, journals.block_of(3, [entry])) == third
+    assert journals.added(third + b"\7\7", 27, journals.block_of(3, [entry])) == third[:-1] + third[16:]
+    assert journals.read(third + b"\1\1").gate == 27
 
 
-def snapshot_of_one_order() -> None:
-    expect((len(BUY), len(of(WITH_BUY)), len(of(WITH_SNAPSHOT))), (125, 151, 286))
+def test_snapshot_of_one_order() -> None:
+    assert (len(BUY), len(of(WITH_BUY)), len(of(WITH_SNAPSHOT))) == (125, 151, 286)
     entries = [Entry(1, BUY)]
-    expect(journals.added(journals.empty(3), 16, journals.block_of(3, entries)), of(WITH_BUY))
-    expect(ran(of(WITH_BUY), "snapshot", "ABC"), (Outcome(0, "snapshot at 150\n", ""), of(WITH_SNAPSHOT)))
+    assert journals.added(journals.empty(3), 16, journals.block_of(3, entries)) == of(WITH_BUY)
+    assert ran(of(WITH_BUY), "snapshot", "ABC") == (Outcome(0, "snapshot at 150\n", ""), of(WITH_SNAPSHOT))
     journal = journals.read(of(WITH_SNAPSHOT))
-    expect((journal.gate, journal.snapshots), (285, [Snapshot(150, 1, of(SNAPSHOT))]))
-    expect(said(of(WITH_SNAPSHOT), "check", "ABC"), ["snapshots true"])
-    expect(said(of(WITH_SNAPSHOT), "book", "ABC"), ["ABC 1 50 100 1 C1 1", "commands 1 outputs 1"])
+    assert (journal.gate, journal.snapshots) == (285, [Snapshot(150, 1, of(SNAPSHOT))])
+    assert said(of(WITH_SNAPSHOT), "check", "ABC") == ["snapshots true"]
+    assert said(of(WITH_SNAPSHOT), "book", "ABC") == ["ABC 1 50 100 1 C1 1", "commands 1 outputs 1"]
 
 
-def snapshot_of_nothing() -> None:
+def test_snapshot_of_nothing() -> None:
     wanted = of(f"{HEADER} 01 00000053 02 {10 * '0000000000000000'} 0000 00")
-    expect(ran(journals.empty(3), "snapshot", "ABC"), (Outcome(0, "snapshot at 16\n", ""), wanted))
-    expect(said(wanted, "book", "ABC"), ["commands 0 outputs 0"])
+    assert ran(journals.empty(3), "snapshot", "ABC") == (Outcome(0, "snapshot at 16\n", ""), wanted)
+    assert said(wanted, "book", "ABC") == ["commands 0 outputs 0"]
 
 
-def entries_behind_a_snapshot() -> None:
+def test_entries_behind_a_snapshot() -> None:
     """From the snapshot on one entry is applied, and the whole journal leads to the same."""
     data = journals.added(of(WITH_SNAPSHOT), 285, journals.block_of(3, [Entry(2, SELL)]))
-    expect(said(data, "book", "ABC"), ["ABC 1 50 70 1 C1 1", "commands 2 outputs 4"])
+    assert said(data, "book", "ABC") == ["ABC 1 50 70 1 C1 1", "commands 2 outputs 4"]
     replayer, journal = Replayer({}), journals.read(data)
     book = replayer.restore(journal.snapshots[0], journal, ("ABC",))
     told = replayer.apply_all(book, replayer.entries_behind(journal, journal.snapshots[0]))
-    expect([shown(it.body).split("|")[:3] for it in told],
-           [["37=2", "17=2", "150=0"], ["37=1", "17=3", "150=F"], ["37=2", "17=4", "150=F"]])
-    expect(vars(book)["greatest"], {**dict.fromkeys(range(1, 9), 0), 1: 1, 2: 1})
-    expect(said(data, "C1", "ABC")[-1], "commands 2 outputs 4")
-    expect([len(said(data, f"C{it}", "ABC")) for it in (1, 2, 3)], [3, 3, 1])
+    assert [shown(it.body).split("|")[:3] for it in told] == (
+        [["37=2", "17=2", "150=0"], ["37=1", "17=3", "150=F"], ["37=2", "17=4", "150=F"]])
+    assert vars(book)["greatest"] == {**dict.fromkeys(range(1, 9), 0), 1: 1, 2: 1}
+    assert said(data, "C1", "ABC")[-1] == "commands 2 outputs 4"
+    assert [len(said(data, f"C{it}", "ABC")) for it in (1, 2, 3)] == [3, 3, 1]
 
 
-def only_what_follows_is_applied() -> None:
+def test_only_what_follows_is_applied() -> None:
     """A snapshot says that nothing rests, that nobody has a ClOrdID, and that one message came: the buy before it is
     applied no more, so the sell behind it rests. It is the one message that is applied."""
     nothing = of(f"{COUNTS[:16]} {9 * '0000000000000000'} 0000")
     data = of(WITH_BUY)[:150] + journals.snapshot_block(nothing) + journals.block_of(3, [Entry(2, SELL)]) + b"\0"
-    expect(said(data, "book", "ABC"), ["ABC 2 50 30 2 C2 1", "commands 2 outputs 1"])
-    expect(said(data, "C2", "ABC")[-1], "commands 2 outputs 4")
-    expect(ran(data, "check", "ABC")[0], refused("false snapshot at 150"))
+    assert said(data, "book", "ABC") == ["ABC 2 50 30 2 C2 1", "commands 2 outputs 1"]
+    assert said(data, "C2", "ABC")[-1] == "commands 2 outputs 4"
+    assert ran(data, "check", "ABC")[0] == refused("false snapshot at 150")
 
 
 def crashes(old: bytes, gate: int, block: bytes) -> Iterator[bytes]:
@@ -155,44 +158,44 @@ def crashes(old: bytes, gate: int, block: bytes) -> Iterator[bytes]:
         yield old[:gate] + bytes([byte]) + new
 
 
-def crash_in_a_snapshot() -> None:
+def test_crash_in_a_snapshot() -> None:
     with_it = 0
     for data in crashes(of(WITH_BUY), 150, of(WITH_SNAPSHOT)[150:285]):
-        expect(said(data, "book", "ABC"), ["ABC 1 50 100 1 C1 1", "commands 1 outputs 1"])
-        expect(said(data, "check", "ABC"), ["snapshots true"])
+        assert said(data, "book", "ABC") == ["ABC 1 50 100 1 C1 1", "commands 1 outputs 1"]
+        assert said(data, "check", "ABC") == ["snapshots true"]
         with_it += len(journals.read(data).snapshots)
-    expect(with_it, 1)
+    assert with_it == 1
 
 
-def old_journal_carried() -> None:
+def test_old_journal_carried() -> None:
     """A market order that an old journal refused stays refused, and the next one is read as one."""
     old = of(f"564e4a4c 00000001 01 00000079 01 0076 {MARKET.hex()} 00")
     new = of(f"564e4a4c 00000003 0000000000000001 01 0000007a 01 01 0076 {MARKET.hex()} 00")
     files = {"OLD": old}
-    expect(run(files, "OLD", "carry", "NEW"), Outcome(0, "carried 1 commands\n", ""))
-    expect(files, {"OLD": old, "NEW": new})
+    assert run(files, "OLD", "carry", "NEW") == Outcome(0, "carried 1 commands\n", "")
+    assert files == {"OLD": old, "NEW": new}
     rejected = "35=3|52=20250102-09:30:00|45=2|371=44|372=D|373=1|"
     for data in (old, new):
-        expect(said(data, "C1", "ABC"), [rejected, "commands 1 outputs 1"])
+        assert said(data, "C1", "ABC") == [rejected, "commands 1 outputs 1"]
     behind = journals.added(new, len(new) - 1, journals.block_of(3, [Entry(1, MARKET)]))
-    expect([it.split("|")[2:5] for it in said(behind, "C1", "ABC")[1:-1]],
-           [["37=2", "17=2", "150=0"], ["37=2", "17=3", "150=4"]])
-    expect(run(files, "OLD", "carry", "NEW"), refused("NEW exists"))
-    expect(run(files, "NEW", "carry", "OTHER"), refused("journal fault 45"))
-    expect(run(files, "OLD", "snapshot", "ABC"), refused("journal fault 45"))
-    expect(files, {"OLD": old, "NEW": new})
+    assert [it.split("|")[2:5] for it in said(behind, "C1", "ABC")[1:-1]] == (
+        [["37=2", "17=2", "150=0"], ["37=2", "17=3", "150=4"]])
+    assert run(files, "OLD", "carry", "NEW") == refused("NEW exists")
+    assert run(files, "NEW", "carry", "OTHER") == refused("journal fault 45")
+    assert run(files, "OLD", "snapshot", "ABC") == refused("journal fault 45")
+    assert files == {"OLD": old, "NEW": new}
 
 
-def second_version_carried() -> None:
+def test_second_version_carried() -> None:
     """All market orders of a journal of version 2 are read as such, so the cut is 0. Blocks are full but for the last."""
     count = 4096 + 2
     files = {"OLD": journals.header(2) + journals.in_blocks(2, [Entry(8, b"x")] * count, 3) + journals.CLOSED}
-    expect(run(files, "OLD", "carry", "NEW"), Outcome(0, "carried 4098 commands\n", ""))
+    assert run(files, "OLD", "carry", "NEW") == Outcome(0, "carried 4098 commands\n", "")
     full, rest = 4096 * "08000178", 2 * "08000178"
-    expect(files["NEW"], of(f"{HEADER} 01 00004001 01 {full} 01 00000009 01 {rest} 00"))
+    assert files["NEW"] == of(f"{HEADER} 01 00004001 01 {full} 01 00000009 01 {rest} 00")
 
 
-def which_fault_comes_first() -> None:
+def test_which_fault_comes_first() -> None:
     """A journal that can't be opened, then the new file, then what the journal holds: its version, and last damage. A
     snapshot is asked of a journal that is open, so there damage comes first."""
     broken = {"FIRST": of("564e4a4c 00000001"), "THIRD": of(HEADER), "NEW": b"", "NONE": b"x", "WHOLE": journals.empty(3)}
@@ -203,30 +206,30 @@ def which_fault_comes_first() -> None:
                         (["WHOLE", "carry", "OTHER"], "journal fault 45"),
                         (["FIRST", "snapshot", "ABC"], "journal fault 42 at 8")):
         files = dict(broken)
-        expect((words, run(files, *words), files), (words, refused(line), broken))
+        assert (words, run(files, *words), files) == (words, refused(line), broken)
     behind = of(WITH_SNAPSHOT.replace(ROW, ROW.replace("00000032", "00000000"))[:-2])
-    expect(ran(behind, "book", "ABC")[0], refused("journal fault 42 at 285"))
+    assert ran(behind, "book", "ABC")[0] == refused("journal fault 42 at 285")
 
 
-def false_snapshot() -> None:
-    expect(ran(of(OF_51), "check", "ABC")[0], refused("false snapshot at 150"))
-    expect(said(of(OF_51), "book", "ABC"), ["ABC 1 51 100 1 C1 1", "commands 1 outputs 1"])
+def test_false_snapshot() -> None:
+    assert ran(of(OF_51), "check", "ABC")[0] == refused("false snapshot at 150")
+    assert said(of(OF_51), "book", "ABC") == ["ABC 1 51 100 1 C1 1", "commands 1 outputs 1"]
     told = "35=8|52=20250102-09:30:00|37=1|17=1|150=0|39=0|11=1|55=ABC|54=1|38=100|44=50|151=100|14=0|6=0|"
-    expect(said(of(OF_51), "C1", "ABC"), [told, "commands 1 outputs 1"])
+    assert said(of(OF_51), "C1", "ABC") == [told, "commands 1 outputs 1"]
     again, after = ran(of(OF_51), "snapshot", "ABC")
-    expect((again, after[-136:]), (Outcome(0, "snapshot at 285\n", ""), of(WITH_SNAPSHOT)[-136:]))
-    expect(said(after, "book", "ABC"), ["ABC 1 50 100 1 C1 1", "commands 1 outputs 1"])
-    expect(ran(after, "check", "ABC")[0], refused("false snapshot at 150"))
+    assert (again, after[-136:]) == (Outcome(0, "snapshot at 285\n", ""), of(WITH_SNAPSHOT)[-136:])
+    assert said(after, "book", "ABC") == ["ABC 1 50 100 1 C1 1", "commands 1 outputs 1"]
+    assert ran(after, "check", "ABC")[0] == refused("false snapshot at 150")
 
 
-def snapshot_that_is_none() -> None:
+def test_snapshot_that_is_none() -> None:
     """Its block is damaged for who needs its book, and nobody else needs it."""
     data = of(WITH_SNAPSHOT.replace(ROW, ROW.replace("00000032", "00000000")))
-    expect(ran(data, "book", "ABC")[0], refused("journal fault 42 at 150"))
-    expect(ran(data, "check", "ABC")[0], refused("false snapshot at 150"))
-    expect(said(data, "C1", "ABC")[-1], "commands 1 outputs 1")
+    assert ran(data, "book", "ABC")[0] == refused("journal fault 42 at 150")
+    assert ran(data, "check", "ABC")[0] == refused("false snapshot at 150")
+    assert said(data, "C1", "ABC")[-1] == "commands 1 outputs 1"
     behind = ran(data, "snapshot", "ABC")[1]
-    expect(said(behind, "book", "ABC")[0], "ABC 1 50 100 1 C1 1")
+    assert said(behind, "book", "ABC")[0] == "ABC 1 50 100 1 C1 1"
 
 
 NO_JOURNALS = ["", "564e4a", "564e4a4c 000000", "564e4a4c 00000000 00", "564e4a4c 00000004 00", "564e4a4c 02000000 00",
@@ -248,21 +251,21 @@ WHOLE = ["00", "02", "ff", f"01 00000144 01 01 0140 {320 * '41'} 00", f"01 00004
          f"01 000000b1 02 {SHORT_SNAPSHOT[:-1]}2 {94 * 'ff'} 00"]
 
 
-def damage() -> None:
+def test_damage() -> None:
     for text in NO_JOURNALS:
         try:
             raise Trouble(f"expected no journal in {text!r} came {journals.read(of(text))}")
         except NotAJournal:
-            expect(ran(of(text), "check", "ABC")[0], refused("journal fault 43"))
+            assert ran(of(text), "check", "ABC")[0] == refused("journal fault 43")
     for text, offset in DAMAGED:
         try:
             raise Trouble(f"expected damage at {offset} in {text[:60]!r} came {journals.read(of(HEADER + text))}")
         except Damaged as why:
-            expect((text[:60], why.offset), (text[:60], offset))
-            expect(ran(of(HEADER + text), "check", "ABC")[0], refused(f"journal fault 42 at {offset}"))
+            assert (text[:60], why.offset) == (text[:60], offset)
+            assert ran(of(HEADER + text), "check", "ABC")[0] == refused(f"journal fault 42 at {offset}")
     for text in WHOLE:
         journals.read(of(HEADER + text))
-    expect(run({}, "JOURNAL", "book", "ABC"), refused("journal fault 41"))
+    assert run({}, "JOURNAL", "book", "ABC") == refused("journal fault 41")
 
 
 def row(**changed: str) -> str:
@@ -338,17 +341,17 @@ PAIRS = [  # What is refused, the nearest bytes that are a snapshot, and the nea
     ("name twice", spelled(BUY_5, row(symbol="01", client="02")), spelled(BUY_5, SELL_6, row(symbol="01")))]
 
 
-def snapshots() -> None:
+def test_snapshots() -> None:
     for reason, good, bad in PAIRS:
         book = restore(good, ("ABC", "XYZ"), 0)
-        expect((reason, replayed(book)), (reason, good))
+        assert (reason, replayed(book)) == (reason, good)
         try:
             raise Trouble(f"expected a refusal for its {reason} came {vars(restore(bad, ('ABC', 'XYZ'), 0))}")
         except BadSnapshot as why:
-            expect(str(why), reason)
+            assert str(why) == reason
         if reason != "commands":  # (no journal has so many entries)
-            expect((reason, behind_nine(good).err), (reason, ""))
-            expect((reason, behind_nine(bad)), (reason, refused(f"journal fault 42 at {len(NINE)}")))
+            assert (reason, behind_nine(good).err) == (reason, "")
+            assert (reason, behind_nine(bad)) == (reason, refused(f"journal fault 42 at {len(NINE)}"))
 
 
 NINE = journals.header(3) + journals.block_of(3, [Entry(1, b"x")] * 9)
@@ -364,58 +367,24 @@ def replayed(book: Book) -> bytes:
     return Replayer({}).snapshot(book)
 
 
-def crossed_books_go_on() -> None:
+def test_crossed_books_go_on() -> None:
     """What isn't refused is a book, also where no history leads to it: both sides cross, numbers and stamps are the same."""
     book = restore(spelled(BUY_5, row(name="0000000000000006", side="02", price="0000002f")), ("ABC",), 0)
     told = book.take(2, message(2, 2, "D", order(8, 2, 1, 48)))
-    expect([shown(it.body).split("|")[:3] for it in told],
-           [["37=10", "17=21", "150=0"], ["37=3", "17=22", "150=F"], ["37=10", "17=23", "150=F"]])
+    assert [shown(it.body).split("|")[:3] for it in told] == (
+        [["37=10", "17=21", "150=0"], ["37=3", "17=22", "150=F"], ["37=10", "17=23", "150=F"]])
 
 
-def wrong_words() -> None:
+def test_wrong_words() -> None:
     for words in WRONG_WORDS:
-        expect((words, run({}, *words)), (words, Outcome(1, "", f"{USAGE}\n")))
+        assert (words, run({}, *words)) == (words, Outcome(1, "", f"{USAGE}\n"))
 
 
-def entries_that_are_no_orders() -> None:
+def test_entries_that_are_no_orders() -> None:
     """They count, and say nothing: another type, two messages, a message cut short, a header out of its order."""
     logon = message(1, 1, "A", "98=0|108=0|141=Y|")
     swapped = sealed(b"35=D\x0156=VENUE\x0149=C1\x0134=2\x0152=20250102-09:30:00\x0111=1\x01")
     for data in (logon, BUY + BUY, BUY[:-1], swapped, b"x"):
-        expect(read_order(data), None)
-        expect(Book().take(1, data), [])
-    expect(read_order(BUY)[:2], (b"D", b"20250102-09:30:00"))
-
-
-TESTS = [empty_journals, blocks, snapshot_of_one_order, snapshot_of_nothing, entries_behind_a_snapshot,
-         only_what_follows_is_applied, crash_in_a_snapshot, old_journal_carried, second_version_carried,
-         which_fault_comes_first, false_snapshot, snapshot_that_is_none, damage, snapshots, crossed_books_go_on,
-         wrong_words, entries_that_are_no_orders]
-
-
-def passes(test) -> bool:
-    try:
-        test()
-    except Trouble as why:
-        print(f"{test.__name__}: {why}")
-        return False
-    return True
-
-
-def main() -> None:
-    parser = argparse.ArgumentParser(description=__doc__, formatter_class=argparse.RawDescriptionHelpFormatter)
-    parser.add_argument("names", nargs="*", metavar="NAME", help="which tests; all, if left out")
-    parser.add_argument("--rules-alone", action="store_true", help="run no program")
-    given = parser.parse_args()
-    chosen = [it for it in TESTS if not given.names or any(word in it.__name__ for word in given.names)]
-    if not given.rules_alone and not is_built():
-        sys.exit(f"worked_journals: {not_built()}")
-    with tempfile.TemporaryDirectory(prefix="journals-", dir=FOLDERS) as folder:
-        programs.extend([] if given.rules_alone else [Program(folder)])
-        failed = sum(not passes(it) for it in chosen)
-    print(f"{len(chosen) - failed} passed, {failed} failed")
-    sys.exit(1 if failed else 0)
-
-
-if __name__ == "__main__":
-    main()
+        assert read_order(data) == None
+        assert Book().take(1, data) == []
+    assert read_order(BUY)[:2] == (b"D", b"20250102-09:30:00")

@@ -1,29 +1,20 @@
-#!/usr/bin/env python3
-"""Tests of how long a connection may hold a member's port: the built venue, with a member at each of eight ports at once.
-
-    tests/held_ports.py [NAME...]      the tests whose names have one of these words in them; without one all
+"""Tests of how long a connection may hold a member's port: the built venue, with members at some of its eight ports.
 
 Who says nothing, or half a message, is let go ten seconds later where another connection waits at the port, and only then; who
 is logged on is kept, unless his machine vanishes without a word, as the last two do, over whose connections the system here lets
-nothing come in any more. They want a minute and a quarter, in which nothing is done. The last line is `N passed, M failed`, and
-the status is 1 where one failed. Build both programs first, by scripts/build; others are taken by the environment's VENUED and
-VENUE_REPLAY.
+nothing come in any more. They want a minute and a quarter, in which nothing is done: scripts/check runs them at once.
 """
 import ctypes
-import os
 import socket
 import struct
-import sys
-import tempfile
-import threading
 import time
 from collections.abc import Callable
 
-ROOT = os.path.dirname(os.path.dirname(os.path.abspath(__file__)))
-sys.path.insert(0, os.path.join(ROOT, "dev"))
+import pytest
 
-import with_scripts  # (in front of what stands there, and of what an older Python can't read)
-from venues import Client, Trouble, kill_all, main_of, message, order, started, value
+from venues import Client, Trouble, Venue, message, order, value
+
+pytestmark = pytest.mark.slow
 
 LOGON = "98=0|108=0|141=Y|"
 GATEWAYS = 8
@@ -33,6 +24,12 @@ KEPT = 14.0                       # and for which one is watched that is kept.
 VANISHED = 55.0, 75.0             # Seconds behind which a connection whose other end has vanished is ended.
 SO_ATTACH_FILTER = 26
 DROP_ALL = struct.pack("HBBI", 6, 0, 0, 0)  # A filter of one step, which lets no byte of a packet through.
+
+
+@pytest.fixture
+def port(venue: Callable[..., Venue]) -> int:
+    """The first port of a venue."""
+    return venue(GATEWAYS).port
 
 
 def knocks(port: int, member: int) -> Client:
@@ -62,7 +59,7 @@ def is_over(client: Client) -> None:
         pass
 
 
-def says_nothing(port: int) -> None:
+def test_says_nothing(port: int) -> None:
     """Kept while nobody waits, and let go as soon as somebody does."""
     client = Client(port, 1)
     if not client.is_quiet(KEPT):
@@ -72,7 +69,7 @@ def says_nothing(port: int) -> None:
     is_over(client)
 
 
-def half_a_logon(port: int) -> None:
+def test_half_a_logon(port: int) -> None:
     """Let go behind ten seconds, though it has begun to speak."""
     begun, client = time.monotonic(), Client(port, 2)
     client.send_bytes(message(2, 1, "A", LOGON)[:40])
@@ -80,7 +77,7 @@ def half_a_logon(port: int) -> None:
     is_over(client)
 
 
-def a_byte_now_and_then(port: int) -> None:
+def test_a_byte_now_and_then(port: int) -> None:
     """Let go all the same."""
     begun, client, waits = time.monotonic(), Client(port, 3), knocks(port, 3)
     for byte in message(3, 1, "A", LOGON)[:10]:
@@ -90,7 +87,7 @@ def a_byte_now_and_then(port: int) -> None:
     is_over(client)
 
 
-def half_an_order(port: int) -> None:
+def test_half_an_order(port: int) -> None:
     """A member that stops in the middle of an order is let go; the order never was one."""
     client = Client(port, 4).log_on()
     time.sleep(2)
@@ -100,7 +97,7 @@ def half_an_order(port: int) -> None:
     is_over(client)
 
 
-def logged_on_and_silent(port: int) -> None:
+def test_logged_on_and_silent(port: int) -> None:
     """Kept, though another one waits, until it leaves by itself."""
     client = Client(port, 5).log_on()
     waits = knocks(port, 5)
@@ -118,7 +115,7 @@ def vanish(client: Client) -> None:
     client.socket.setsockopt(socket.SOL_SOCKET, SO_ATTACH_FILTER, program)
 
 
-def vanished_in_silence(port: int) -> None:
+def test_vanished_in_silence(port: int) -> None:
     """A silent member whose machine is gone: the system asks for it, and ends its connection within a minute."""
     client = Client(port, 6).log_on()
     time.sleep(1)
@@ -127,7 +124,7 @@ def vanished_in_silence(port: int) -> None:
     answered(knocks(port, 6), begun, *VANISHED)
 
 
-def vanished_while_told(port: int) -> None:
+def test_vanished_while_told(port: int) -> None:
     """And so one that doesn't take its reports."""
     client, partner = Client(port, 7).log_on(), Client(port, PARTNER).log_on()
     client.send("D", order(1, 2, 10, 50))
@@ -136,37 +133,3 @@ def vanished_while_told(port: int) -> None:
     vanish(client)
     partner.send("D", order(1, 1, 1, 50))
     answered(knocks(port, 7), begun, *VANISHED)
-
-
-TESTS = [says_nothing, half_a_logon, a_byte_now_and_then, half_an_order, logged_on_and_silent, vanished_in_silence,
-         vanished_while_told]
-
-
-def passes(test: Callable[[int], None], port: int, faults: list[str]) -> None:
-    """Runs a test, and adds what went wrong to these lines."""
-    try:
-        test(port)
-    except Exception as why:  # (one of a thread would end that alone)
-        faults.append(f"{test.__name__}: {why}")
-
-
-def side_by_side(chosen: list[Callable[[int], None]]) -> int:
-    """Tries these tests at once, at one venue, and prints which fail and how many: the status, 1 where one failed."""
-    faults: list[str] = []
-    with tempfile.TemporaryDirectory() as folder:
-        try:
-            venue = started(os.path.join(folder, "venue.journal"), GATEWAYS)
-            threads = [threading.Thread(target=passes, args=(it, venue.port, faults)) for it in chosen]
-            for thread in threads:
-                thread.start()
-            for thread in threads:
-                thread.join()
-        finally:
-            kill_all()
-    print(*faults, sep="\n", end="\n" if faults else "")
-    print(f"{len(chosen) - len(faults)} passed, {len(faults)} failed")
-    return 1 if faults else 0
-
-
-if __name__ == "__main__":
-    sys.exit(main_of("held_ports", __doc__, TESTS, side_by_side))

@@ -1,7 +1,4 @@
-#!/usr/bin/env python3
 """Lets each call to the journal's device fail, or kills the program at it, and looks at what the file holds then.
-
-    tests/failing_device.py
 
 The calls are those that open, lock, read, write, sync, cut and rename files. A session of some orders is played again and
 again: the first call fails, then the second, and so on until none is left; alone, or with all that come behind it. Or it
@@ -18,22 +15,24 @@ The same for a venue that listens. Where venue-replay only reads it says `venue-
 Where it adds a snapshot the journal has its entries behind that, and the snapshot or not. Where it carries a journal over
 that one stays as it was, and under the new name there is nothing, or the whole new journal.
 
-Calls are refused by tests/refusals.c, which cc compiles into a folder of its own; without cc nothing is tried, and a
-line says so. A killed program leaves what it wrote: that an unsynced write may be lost is a matter of the proofs. The
-last line is `N passed, M failed`, and the status is 1 where one failed. It takes some ten seconds. Build both programs
-first, by scripts/build; others are taken by the environment's VENUED and VENUE_REPLAY.
+Calls are refused by tests/refusals.c, which cc compiles into a folder of its own; without cc its tests are skipped. A
+killed program leaves what it wrote: that an unsynced write may be lost is a matter of the proofs. What each test has
+come to is printed, as pytest shows it by -rP. All take some ten seconds.
 """
 import collections
 import fcntl
 import os
 import signal
-import sys
 
-from refusals import FRESH, LOGON, Refusal, answered, answers, by_rules, check_history, contents, journal_of, listens, orders
-from refusals import put, ran, run_tests, standard
+import pytest
+
 import journals
 from journals import Entry
+from refusals import FRESH, LOGON, Refusal, answered, answers, by_rules, check_history, contents, journal_of, listens, orders
+from refusals import put, ran, standard
 from venues import REPLAY, Client, Trouble, printed
+
+pytestmark = [pytest.mark.slow, pytest.mark.usefixtures("programs")]
 
 ORDERS = 4
 A_THOUSAND = 1_000  # Orders behind which the next start writes a snapshot.
@@ -126,7 +125,7 @@ def check_session(refusal, before):
     return came[0]
 
 
-def standard_session(sweeps):
+def test_standard_session(sweeps):
     """`venued -`, on a missing journal, and on one of each version with an order in it."""
     statuses = collections.Counter()
     for before in (None, *(journal_of(orders(1, 1), it) for it in journals.VERSIONS)):
@@ -134,10 +133,10 @@ def standard_session(sweeps):
             sweeps.sweep(lambda it: statuses.update([check_session(it, before)]), "device", how)
     if not all(statuses[it] for it in (0, 1, 2, KILLED)):
         raise Trouble(f"expected ends of all kinds came {dict(statuses)}")
-    return f"{sweeps.said()}; {statuses[1]} times not begun, {statuses[2]} times failed, {statuses[KILLED]} times killed"
+    print(f"{sweeps.said()}; {statuses[1]} times not begun, {statuses[2]} times failed, {statuses[KILLED]} times killed")
 
 
-def snapshot_at_the_start(sweeps):
+def test_snapshot_at_the_start(sweeps):
     """`venued -` on a journal of a thousand orders, of which it writes a snapshot before it serves."""
     whole = orders(1, A_THOUSAND)
     before = journals.header(3) + journals.in_blocks(3, [Entry(1, it) for it in whole], A_THOUSAND) + journals.CLOSED
@@ -157,10 +156,10 @@ def snapshot_at_the_start(sweeps):
         sweeps.sweep(check, "device", how)
     if set(found) != {1} or not all(statuses[it] for it in (0, 1, 2, KILLED)):
         raise Trouble(f"expected one snapshot at last, and ends of all kinds, came {dict(found)} {dict(statuses)}")
-    return f"{sweeps.said()}; {statuses[1]} times not begun, {statuses[2]} times failed, {statuses[KILLED]} times killed"
+    print(f"{sweeps.said()}; {statuses[1]} times not begun, {statuses[2]} times failed, {statuses[KILLED]} times killed")
 
 
-def first_sync(sweeps):
+def test_first_sync(sweeps):
     """Where the first sync of the first append fails, the Logon's answer alone was written, and the status is 2."""
     found = []
 
@@ -174,7 +173,7 @@ def first_sync(sweeps):
     wanted = (2, answers(1, 1)[0], FAILED[1])
     if not found or found[0][0] != wanted:
         raise Trouble(f"expected {wanted} came {found[:1]}")
-    return f"{printed(wanted[1])} and status 2"
+    print(f"{printed(wanted[1])} and status 2")
 
 
 def heard(port):
@@ -214,16 +213,16 @@ def check_listening(refusal, before):
     return venue.process.returncode
 
 
-def listening(sweeps):
+def test_listening(sweeps):
     """A venue that listens: its journal fails while it serves, and it ends by itself, with the line and status 2."""
     statuses = collections.Counter()
     sweeps.sweep(lambda it: statuses.update([check_listening(it, journal_of(orders(1, 1)))]), "device", "once")
     if not statuses[1] or not statuses[2]:
         raise Trouble(f"expected ends of both kinds came {dict(statuses)}")
-    return f"{sweeps.said()}; {statuses[1]} times not begun, {statuses[2]} times failed"
+    print(f"{sweeps.said()}; {statuses[1]} times not begun, {statuses[2]} times failed")
 
 
-def replays(sweeps):
+def test_replays(sweeps):
     """`venue-replay` that reads: where a call fails it prints no report. A read of half the bytes is none that fails."""
     before = by_rules(journal_of(orders(1, ORDERS), journals.WITH_SNAPSHOTS), "snapshot", "ABC")[1]["J"]
 
@@ -238,7 +237,7 @@ def replays(sweeps):
     for what in ("C1", "book", "check"):
         for how in ("once", "on", "short"):
             sweeps.sweep(lambda it: check(it, what), "device", how)
-    return sweeps.said()
+    print(sweeps.said())
 
 
 def check_changed(refusal, came, wanted):
@@ -264,7 +263,7 @@ def check_same_entries(journal, before):
     return len(kept.snapshots) - len(was.snapshots)
 
 
-def added_snapshots(sweeps):
+def test_added_snapshots(sweeps):
     """`venue-replay` that adds a snapshot: it is in the journal, or isn't, and the next one is added behind."""
     before = journal_of(orders(1, ORDERS), journals.WITH_SNAPSHOTS)
     wanted, ends = by_rules(before, "snapshot", "ABC")[0], collections.Counter()
@@ -283,7 +282,7 @@ def added_snapshots(sweeps):
 
     for how in ("once", "on", "short", "before", "after"):
         sweeps.sweep(check, "device", how)
-    return said_of(sweeps, ends, [("done", 1), ("failed", 0), ("failed", 1), ("killed", 0), ("killed", 1)])
+    print(said_of(sweeps, ends, [("done", 1), ("failed", 0), ("failed", 1), ("killed", 0), ("killed", 1)]))
 
 
 def said_of(sweeps, ends, wanted):
@@ -293,7 +292,7 @@ def said_of(sweeps, ends, wanted):
     return f"{sweeps.said()}; " + ", ".join(f"{ends[it]} {it[0]} with {it[1]}" for it in wanted)
 
 
-def carried_over(sweeps):
+def test_carried_over(sweeps):
     """`venue-replay` that carries over: the old journal stays, and there is a whole new one, or none. Then it is done."""
     ends = collections.Counter()
 
@@ -316,10 +315,10 @@ def carried_over(sweeps):
     for version in (1, 2):
         for how in ("once", "on", "short", "before", "after"):
             sweeps.sweep(lambda it: check(it, journal_of(orders(1, ORDERS), version)), "device", how)
-    return said_of(sweeps, ends, [("done", 1), ("failed", 0), ("failed", 1), ("killed", 0), ("killed", 1)])
+    print(said_of(sweeps, ends, [("done", 1), ("failed", 0), ("failed", 1), ("killed", 0), ("killed", 1)]))
 
 
-def anothers_file(sweeps):
+def test_anothers_file(sweeps):
     """A file of somebody's where the new one would be made: it stays as it is, whichever call is refused, and the old one too."""
     whose = b"somebody's file, which is longer than a new journal"
 
@@ -335,7 +334,7 @@ def anothers_file(sweeps):
 
     before = journal_of(orders(1, ORDERS), 1)
     sweeps.sweep(check, "device", "once")
-    return sweeps.said()
+    print(sweeps.said())
 
 
 def shown(noting, call):
@@ -371,7 +370,7 @@ def listened(noting):
     venue.stop()
 
 
-def calls_asked(sweeps):
+def test_calls_asked(sweeps):
     """Which calls the programs make: none is left out of the locks, the syncs of files and folders, and the renames."""
     noting = Refusal(sweeps.library, sweeps.folder, "device", 0, "note")
     whole, block = orders(1, 1)[0], journals.block_of(journals.MADE, [Entry(1, orders(1, 1)[0])])
@@ -392,10 +391,10 @@ def calls_asked(sweeps):
     wanted = ["open J to read", *for_new(["statx J name", "open J.new to make anew", *LOCKED]), "fdatasync J"]
     wanted += ["pwrite N.new 17", "fdatasync N.new", *appended(block, "N.new"), *for_new(NAMED)]
     count += check_asked(noting, "a journal carried over", wanted)
-    return f"{count} calls, in their order"
+    print(f"{count} calls, in their order")
 
 
-def lock_raced(sweeps):
+def test_lock_raced(sweeps):
     """Another process puts its own file in the place of the new one before that is locked: this one has then locked a
     file without a name. It says so, gives no journal that name, and leaves the other's file where it is."""
     found = collections.Counter()
@@ -415,11 +414,4 @@ def lock_raced(sweeps):
     sweeps.sweep(lambda it: check(it, lambda name: [REPLAY, name, "carry", f"{name}.3"], b"", ".3", UNREAD), "device", "swap")
     if found != {"": 1, ".3": 1}:
         raise Trouble(f"expected a lock of each new file came {dict(found)}")
-    return "2 locks, of a new journal and of one that is carried over"
-
-
-if __name__ == "__main__":
-    if set(sys.argv[1:]) & {"-h", "--help"}:
-        sys.exit(print(__doc__.strip()))
-    run_tests("failing_device", [standard_session, snapshot_at_the_start, first_sync, listening, replays, added_snapshots,
-                                 carried_over, anothers_file, calls_asked, lock_raced])
+    print("2 locks, of a new journal and of one that is carried over")

@@ -1,4 +1,4 @@
-"""Tests of the completion of words, as bash runs contrib/gikvand.bash. Not a test by itself: tests/package.py runs them."""
+"""Tests of the completion of words, as bash runs contrib/gikvand.bash."""
 import os
 import pty
 import select
@@ -7,10 +7,14 @@ import subprocess
 import tempfile
 import time
 
-from checks import ROOT, expect, ran
+import pytest
+
+from checks import ROOT, ran
 from gikvand import main as tools
-from page_tests import parser_of
+from test_pages import parser_of
 from venues import PATIENCE
+
+pytestmark = [pytest.mark.quick, pytest.mark.usefixtures("programs")]
 
 COMPLETION = os.path.join(ROOT, "contrib/gikvand.bash")
 COMPLETE = """source "$1"; shift
@@ -25,23 +29,23 @@ printf '%s\\n' "${COMPREPLY[@]}"
 def completed(*words: str, folder: str | None = None) -> list[str]:
     """What bash answers for the last of these words, which it has cut at each =."""
     status, out, err = ran("bash", "--norc", "-c", COMPLETE, "bash", COMPLETION, *words, folder=folder)
-    expect((words, status, err), (words, 0, ""))
+    assert (words, status, err) == (words, 0, "")
     return sorted(out.split())
 
 
-def options_completed() -> None:
+def test_options_completed() -> None:
     """The commands of gikvand and the options of each are those that it takes."""
-    expect(completed("gikvand", ""), sorted([*tools.COMMANDS, "--help", "--version"]))
-    expect(completed("gikvand", "tr"), ["trade", "trades"])
+    assert completed("gikvand", "") == sorted([*tools.COMMANDS, "--help", "--version"])
+    assert completed("gikvand", "tr") == ["trade", "trades"]
     for name in tools.COMMANDS:
         options = [it for action in parser_of(name)._actions for it in action.option_strings if it.startswith("--")]
-        expect((name, completed("gikvand", name, "-")), (name, sorted(options)))
+        assert (name, completed("gikvand", name, "-")) == (name, sorted(options))
         taking = [it.option_strings[0] for it in parser_of(name)._actions if it.option_strings and it.nargs is None]
         for option in taking:
-            expect((option, completed("gikvand", name, option, "-")), (option, []))
+            assert (option, completed("gikvand", name, option, "-")) == (option, [])
 
 
-def words_completed() -> None:
+def test_words_completed() -> None:
     """The words of each program by their place, files, and a journal's symbols."""
     members = [f"C{number}" for number in range(1, 9)]
     with tempfile.TemporaryDirectory(prefix="completion-") as folder:
@@ -56,11 +60,15 @@ def words_completed() -> None:
                 ("gikvand verify day.journal C1 = c", ["c1.log"]), ("gikvand verify day.journal C1 = c1.log C2 = c", ["c1.log"]),
                 ("gikvand reports day.journal ", members), ("gikvand reports --after 3 day.journal C8", ["C8"]),
                 ("gikvand trades d", journal), ("gikvand trades day.journal ", []), ("gikvand follow day.journal d", journal),
-                ("gikvand follow day.journal x ", []), ("gikvand why d", journal), ("gikvand watch d", journal),
+                ("gikvand follow day.journal x ", []), ("gikvand audit d", journal), ("gikvand audit day.journal d", journal),
+                ("gikvand audit day.journal x ", []), ("gikvand verify --edge d", journal),
+                ("gikvand reports --edge c1.log day.journal C8", ["C8"]), ("gikvand why d", journal), ("gikvand watch d", journal),
                 ("gikvand board d", journal), ("gikvand board --port 8700 d", journal), ("gikvand board day.journal ", []),
                 ("gikvand trade ", ["buy", "cancel", "orders", "replace", "sell"]), ("gikvand trade --member ", list("12345678")),
                 ("gikvand trade --journal d", journal), ("gikvand trade --journal day.journal buy 5 ", ["ABC", "XYZ"]),
-                ("gikvand trade buy 5 ABC m", ["market"]), ("gikvand trade sell 5 ABC 50 ", ["fok", "ioc"]),
+                ("gikvand trade --journal = d", journal), ("gikvand trade --journal = day.journal buy 5 ", ["ABC", "XYZ"]),
+                ("gikvand trade --member = ", list("12345678")), ("gikvand verify --edge = c", ["c1.log"]),
+                ("gikvand trade --port = ", []), ("gikvand trade buy 5 ABC m", ["market"]), ("gikvand trade sell 5 ABC 50 ", ["fok", "ioc"]),
                 ("gikvand demo ", []), ("gikvand day d", journal), ("gikvand day day.journal ABC ", ["XYZ"]),
                 ("gikvand day bad ", ["Q"]), ("gikvand nothing ", sorted(os.listdir(folder))),
                 ("venued ", ["-"]), ("venued 9001 d", journal), ("venued 9001 day.journal ", list("12345678")),
@@ -69,12 +77,16 @@ def words_completed() -> None:
                 ("venue-replay d", journal),
                 ("venue-replay day.journal ", sorted(["book", *members, "snapshot", "check", "carry"])),
                 ("venue-replay day.journal book ", ["ABC", "XYZ"]), ("venue-replay day.journal C1 ABC ", ["XYZ"]),
-                ("venue-replay day.journal carry d", journal), ("venue-replay day.journal carry new ", [])):
-            expect((words, completed(*words.split(" "), folder=folder)), (words, wanted))
-        expect(sorted(os.listdir(folder)), ["bad.symbols", "c1.log", *journal])
+                ("venue-replay day.journal carry d", journal), ("venue-replay day.journal carry new ", []),
+                ("venue-events d", journal), ("venue-events day.journal ", ["follow", "once"]),
+                ("venue-events day.journal once ", ["ABC", "XYZ"]), ("venue-events day.journal once --", ["--after"]),
+                ("venue-events day.journal once --after ", []), ("venue-events day.journal once --after 2 ABC ", ["XYZ"]),
+                ("venue-events day.journal follow ", ["ABC", "XYZ"]), ("venue-events day.journal follow --", ["--after"])):
+            assert (words, completed(*words.split(" "), folder=folder)) == (words, wanted)
+        assert sorted(os.listdir(folder)) == ["bad.symbols", "c1.log", *journal]
 
 
-def typed() -> None:
+def test_typed() -> None:
     """At a prompt, with the key for completion."""
     us, bash = pty.openpty()
     process = subprocess.Popen(["bash", "--norc", "--noprofile", "-i"], stdin=bash, stdout=bash, stderr=bash, start_new_session=True,
@@ -85,12 +97,9 @@ def typed() -> None:
         while "--after 17" not in seen and time.monotonic() < end:
             if select.select([us], [], [], 0.1)[0]:
                 seen += os.read(us, 4096).decode("ascii", "replace")
-        expect(seen[seen.rfind("gikvand"):], "gikvand reports day.journal C1 --after 17")
+        assert seen[seen.rfind("gikvand"):] == "gikvand reports day.journal C1 --after 17"
     finally:
         process.kill()
         process.wait()
         os.close(us)
         os.close(bash)
-
-
-TESTS = [options_completed, words_completed, typed]

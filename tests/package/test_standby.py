@@ -1,0 +1,192 @@
+"""Tests of contrib/standby, which serves a journal on a replicated volume: the step before each start, the watch, and
+the settings of the volume. Here the volume is a folder; dev/failover-drill has one of GlusterFS."""
+import contextlib
+import fcntl
+import os
+import re
+import signal
+import subprocess
+import tempfile
+
+import pytest
+
+from checks import ROOT, contents, ran, text_of
+from drill_store import OPTIONS
+from noting import LOCKED, can_be_noted, noted, order_of
+from venues import PATIENCE, await_that
+
+pytestmark = [pytest.mark.quick, pytest.mark.usefixtures("programs")]
+
+STANDBY = os.path.join(ROOT, "contrib/standby")
+STEP, SERVE, SETTINGS = (os.path.join(STANDBY, it) for it in ("before-start", "serve", "volume-settings"))
+JOURNAL = "venue.journal"
+WRITTEN_AGAIN = 2 << 20  # So many bytes at the end.
+
+
+def put(path: str, data: bytes, mode: int = 0o600) -> str:
+    with open(path, "wb") as file:
+        file.write(data)
+    os.chmod(path, mode)
+    return path
+
+
+def stub(folder: str, name: str, lines: str) -> dict[str, str]:
+    """A program of this name that comes first on the path, of a shell's lines."""
+    put(os.path.join(folder, name), f"#!/bin/sh\n{lines}\n".encode(), 0o755)
+    return {"PATH": f"{folder}:{os.environ['PATH']}"}
+
+
+def written(path: str) -> bool:
+    """Whether something wrote to the file since its time was set to 0."""
+    return os.stat(path).st_mtime != 0
+
+
+def test_step_of_a_start() -> None:
+    """The step writes to the journal, and changes no byte of it, however long it is."""
+    with tempfile.TemporaryDirectory(prefix="standby-") as folder:
+        for size in (1, 17, (1 << 16) + 1, WRITTEN_AGAIN, WRITTEN_AGAIN + 70_001):
+            data = os.urandom(size)
+            path = put(os.path.join(folder, JOURNAL), data)
+            os.utime(path, (0, 0))
+            assert (size, ran(STEP, path)) == (size, (0, "", ""))
+            assert (size, written(path), contents(path) == data) == (size, True, True)
+
+
+def test_step_that_is_refused() -> None:
+    """Where another one has the lock nothing is written; a missing journal isn't made; an empty one is none."""
+    with tempfile.TemporaryDirectory(prefix="standby-") as folder:
+        path = put(os.path.join(folder, JOURNAL), b"some")
+        os.utime(path, (0, 0))
+        with open(path, "rb") as file:
+            fcntl.flock(file, fcntl.LOCK_EX)
+            assert ran(STEP, path) == (41, "", "")
+        assert written(path) == False
+        assert ran(STEP, f"{path}.none") == (1, "", f"before-start: {path}.none: No such file or directory\n")
+        assert ran(STEP, put(path, b"")) == (1, "", f"before-start: {path} is empty\n")
+        assert ran(STEP)[0] == 1
+        assert os.listdir(folder) == [JOURNAL]
+
+
+def test_step_writes_by_its_lock() -> None:
+    """It writes by the descriptor that has the lock: whoever opens the journal meanwhile finds it locked."""
+    text = text_of("contrib/standby/before-start")
+    assert (text.count("os.open("), text.count("open(")) == (1, 1)
+    assert text.index("fcntl.flock") < text.index("write_again(fd, size)\n    os.close")
+
+
+def test_calls_of_the_step() -> None:
+    """It locks the journal for itself alone, and writes the last two megabytes again, all of them and no more, as they stand behind
+    the lock; then it waits for the device."""
+    if not can_be_noted():
+        return
+    with tempfile.TemporaryDirectory(prefix="standby-") as folder:
+        path = os.path.join(folder, JOURNAL)
+        for size, again in ((17, 17), (WRITTEN_AGAIN, WRITTEN_AGAIN), (WRITTEN_AGAIN + 70_001, WRITTEN_AGAIN)):
+            put(path, os.urandom(size))
+            status, calls = noted("python3", STEP, JOURNAL, folder=folder)
+            assert (size, status, order_of(calls, JOURNAL)) == (
+                size, 0, [f"flock {JOURNAL} {LOCKED}", f"write {JOURNAL}", f"sync {JOURNAL}"])
+            assert (size, sum(int(it.more) for it in calls if it.name == "pwrite")) == (size, again)
+
+
+def test_step_of_a_long_journal() -> None:
+    """Of a journal above a gigabyte, of which most is a hole, its end is written again."""
+    with tempfile.TemporaryDirectory(prefix="standby-") as folder:
+        path = put(os.path.join(folder, JOURNAL), b"")
+        size = (1 << 30) + (300 << 20)
+        os.truncate(path, size)
+        assert (ran(STEP, path), os.path.getsize(path)) == ((0, "", ""), size)
+        with open(path, "rb") as file:
+            assert os.lseek(file.fileno(), 0, os.SEEK_DATA) == size - WRITTEN_AGAIN
+
+
+def test_step_beside_another() -> None:
+    """Where another one looks at the journal, by a lock that others may share, nothing is written either."""
+    with tempfile.TemporaryDirectory(prefix="standby-") as folder:
+        path = put(os.path.join(folder, JOURNAL), b"some")
+        os.utime(path, (0, 0))
+        with open(path, "rb") as file:
+            fcntl.flock(file, fcntl.LOCK_SH)
+            assert (ran(STEP, path), written(path)) == ((41, "", ""), False)
+
+
+def test_a_touch_that_hangs() -> None:
+    """A store that is dead answers nothing: the venue is ended once a touch has hung for its longest time."""
+    with tempfile.TemporaryDirectory(prefix="standby-") as folder:
+        put(os.path.join(folder, f"{JOURNAL}.symbols"), b"ABC\n")
+        environment = {**stub(folder, "venued", "exec sleep 600"), **stub(folder, "touch", "exec sleep 600")}
+        text = text_of("contrib/standby/serve")
+        assert text.count("LONGEST=10 ") == 1  # (here it is one second)
+        path = put(os.path.join(folder, "serve"), text.replace("LONGEST=10 ", "LONGEST=1 ").encode(), 0o755)
+        venue = subprocess.Popen([path, "9001", os.path.join(folder, JOURNAL), "2"], stderr=subprocess.PIPE, text=True,
+                                 env={**os.environ, **environment}, start_new_session=True)
+        try:
+            assert venue.wait(PATIENCE) == -9
+            assert venue.stderr.readline() == "serve: this machine is cut off from the store: the venue is ended\n"
+        finally:
+            with contextlib.suppress(ProcessLookupError):
+                os.killpg(venue.pid, signal.SIGKILL)
+            venue.communicate()
+
+
+def test_symbols_of_the_volume() -> None:
+    """The venue is started with the symbols that lie beside the journal; without them it isn't."""
+    with tempfile.TemporaryDirectory(prefix="standby-") as folder:
+        environment = stub(folder, "venued", 'echo "$*"')
+        put(os.path.join(folder, f"{JOURNAL}.symbols"), b"ABC XYZ\n")
+        assert ran(SERVE, 9001, JOURNAL, 2, folder=folder, **environment) == (0, f"9001 {JOURNAL} 2 ABC XYZ\n", "")
+        status, out, err = ran(SERVE, 9001, "none", 2, folder=folder, **environment)
+        assert (status, out, err.splitlines()[-1]) == (1, "", "serve: none.symbols can't be read")
+        assert ran(SERVE, 9001, JOURNAL, folder=folder, **environment) == (2, "", "usage: serve PORT JOURNAL GATEWAYS\n")
+
+
+def test_the_watch() -> None:
+    """The venue lives as long as the watch may touch its file, and is killed once that fails."""
+    with tempfile.TemporaryDirectory(prefix="standby-") as folder:
+        volume = os.path.join(folder, "volume")
+        os.mkdir(volume)
+        put(os.path.join(volume, f"{JOURNAL}.symbols"), b"ABC\n")
+        environment = {**os.environ, **stub(folder, "venued", "exec sleep 600")}
+        venue = subprocess.Popen([SERVE, "9001", os.path.join(volume, JOURNAL), "2"], stderr=subprocess.PIPE, text=True,
+                                 env=environment)
+        try:
+            for _ in range(2):
+                await_that("the watch touches its file",
+                           lambda: os.path.exists(os.path.join(volume, f"{JOURNAL}.watch")))
+                os.remove(os.path.join(volume, f"{JOURNAL}.watch"))
+            assert venue.poll() == None
+            os.rename(volume, f"{volume}.gone")
+            assert venue.wait(PATIENCE) == -9
+            assert venue.stderr.readline() == "serve: this machine is cut off from the store: the venue is ended\n"
+        finally:
+            venue.kill()
+            venue.communicate()
+
+
+def test_settings_of_the_volume() -> None:
+    """The settings that the script makes are those that docs/FAILOVER.md has, each with its reason."""
+    with tempfile.TemporaryDirectory(prefix="standby-") as folder:
+        status, out, err = ran(SETTINGS, "venue", **stub(folder, "gluster", 'printf "%s\\n" "$@"'))
+        assert (status, err) == (0, "")
+        words = out.split()
+        assert words[:4] == ["--mode=script", "volume", "set", "venue"]
+        made = list(zip(words[4::2], words[5::2]))
+        page = re.findall(r"^\| (`.*`) \| (\w+) \|", text_of("docs/FAILOVER.md"), re.MULTILINE)
+        assert made == [(name, value) for names, value in page for name in re.findall(r"`([\w.-]+)`", names)]
+        assert ran(SETTINGS)[0] == 2
+
+
+def test_options_of_the_mount() -> None:
+    """The script's text, docs/FAILOVER.md, in its words and in its line of fstab, and the drill have the same ones."""
+    found = re.compile(r"\bentry-timeout=[\w=,-]+")
+    page = text_of("docs/FAILOVER.md")
+    assert found.findall(page) == 2 * found.findall(text_of("contrib/standby/volume-settings"))
+    assert set(found.findall(page)) == {OPTIONS}
+
+
+def test_unit_of_a_standby() -> None:
+    """What the unit asks of systemd is what docs/FAILOVER.md tells of it."""
+    lines = text_of("contrib/standby/venued@.conf").splitlines()
+    told = re.findall(r"`(\w+=[\w.-]+)`", text_of("docs/FAILOVER.md").partition("### The unit")[2].partition("###")[0])
+    assert [it for it in told if it.startswith("Restart") and it not in lines] == []
+    assert [it for it in lines if it.startswith("Restart") and it not in told] == []

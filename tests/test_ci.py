@@ -1,0 +1,321 @@
+"""Tests of the check itself, scripts/check and .ci/run, which calls it: what it counts of its parts, that a part which fails, crashes or
+tries too few tests makes it fail, that it leaves none out, and what it says where something isn't there.
+
+Each of its parts is a script that says what it is told to. CI_RUN and CHECK in the environment name another .ci/run and another
+scripts/check: tests/known_bad.py puts wrong ones there.
+"""
+import fnmatch
+import glob
+import os
+import re
+import shutil
+import subprocess
+import sys
+from types import ModuleType
+from typing import NamedTuple
+
+import pytest
+
+import crates
+from checks import ROOT
+from script_modules import loaded
+
+pytestmark = pytest.mark.quick
+
+RUN, CHECK = (os.path.abspath(os.environ.get(name, os.path.join(ROOT, path)))
+              for name, path in (("CI_RUN", ".ci/run"), ("CHECK", "scripts/check")))
+MODULES = ("scripts/crates.py", "scripts/debian.py", "scripts/needs_python.py")
+PATIENCE = 120
+PART = '#!/bin/bash\necho "{name} $*" >>{asked}\n{does}\n'
+A_PLAY = "tests/one.play"
+# In the place of pytest: it does what the script does that has the name of its words, with as many workers as the table says.
+PYTEST = """
+import os, re, sys
+if __name__ == "__main__":
+    words = " ".join(["pytest", *sys.argv[2:]]).replace("A_PLAY", "tests/*.play")
+    script = re.sub(r"-n [0-9]+", "-n N", words).replace("/", ":")
+    os.execv("/bin/bash", ["bash", os.path.join(os.path.dirname(os.path.abspath(__file__)), script), *words.split()[1:]])
+""".replace("A_PLAY", A_PLAY)
+ELSEWHERE = ("rt", "chromium", "glusterd", "valgrind", "apt-get")  # Programs of the path.
+BUILT = ("crates/venued/out/venued", "crates/venue_replay/out/venue_replay", "crates/venue_events/out/venue_events",
+         "crates/bench/out/bench", "edge/out/gikvand-edge", "edge/out/tradeclient", "edge/out/FIX44.xml",
+         "crates/edge_frames_c/out/libedge_frames_c.a")
+# Executables that aren't of the full check, or are called by one.
+NO_PARTS = {"dev/play", "dev/bench", "dev/bench-tools", "dev/bench-venue", "dev/costs", "dev/kill-and-restart", "dev/reads",
+            "tests/replay_rules.py", "tests/events_rules.py", "edge/certify", "edge/speed"}
+
+
+def checker() -> ModuleType:
+    """The check as a module: its parts, by its own table."""
+    return loaded(CHECK)
+
+
+def counted() -> dict[str, int]:
+    """The parts that have a last line, each with its least count."""
+    module = checker()
+    return {it.name: it.least for it in module.PARTS if it.name not in (module.SETUP, module.MEASURES)}
+
+
+def every() -> int:
+    """How many pass where all do: the least counts, and dev/measures."""
+    return sum(counted().values()) + 1
+
+
+def passes(count: int) -> str:
+    """What a part does of which so many tests pass."""
+    return f"echo something; echo '{count} passed, 0 failed'"
+
+
+class Ran(NamedTuple):
+    """How a check ended, all its lines, what it said on standard error, and which parts it called, in their order."""
+    status: int
+    lines: list[str]
+    err: str
+    called: list[str]
+
+    @property
+    def last(self) -> str:
+        return self.lines[-1] if self.lines else ""
+
+    def again(self) -> list[str]:
+        """What it has shown at the end of the parts that failed."""
+        return self.lines[min((at for at, it in enumerate(self.lines) if it.startswith("== what failed")), default=len(self.lines)):]
+
+
+def ran(*words: str, by: str = "scripts/check", without: tuple[str, ...] = (), **others: str) -> Ran:
+    """Runs the check where these parts, by names, do something else, and what is built is there but for these files or programs."""
+    shutil.rmtree("tree", ignore_errors=True)
+    asked = os.path.abspath("tree/asked")
+    stubs = {f"path/{it}": (it, ["true"]) for it in ELSEWHERE if it not in without}
+    for it in checker().PARTS:
+        program, _, given = it.command.partition(" ")
+        if program == "pytest":
+            path = "modules/" + re.sub("-n ([0-9]+|{cores})", "-n N", it.command).replace("/", ":")
+        else:
+            path = program if os.sep in program else f"path/{program}"
+        if program not in without:
+            given, does = given.replace("{cores}", '"*"'), others.get(it.name, passes(max(1, it.least)))
+            stubs.setdefault(path, (program, []))[1].append(f'case "$*" in "{given}") {does};; esac')  # (one may be two parts)
+    for path in [*stubs, *BUILT, *MODULES, "scripts/check", ".ci/run", A_PLAY]:
+        os.makedirs(os.path.dirname(os.path.join("tree", path)), exist_ok=True)
+    for path, (name, texts) in stubs.items():
+        with open(os.path.join("tree", path), "w", encoding="ascii") as file:
+            file.write(PART.format(name=name, asked=asked, does="\n".join(texts)))
+        os.chmod(file.name, 0o755)
+    for path, text in (("modules/pytest.py", PYTEST), (A_PLAY, "")):
+        with open(os.path.join("tree", path), "w", encoding="ascii") as file:
+            file.write(text)
+    for path in BUILT:
+        if path not in without:
+            shutil.copy("/bin/true", os.path.join("tree", path))
+    for path, source in (("scripts/check", CHECK), (".ci/run", RUN), *((it, os.path.join(ROOT, it)) for it in MODULES)):
+        shutil.copy(source, os.path.join("tree", path))
+        os.chmod(os.path.join("tree", path), 0o755)
+    kept = {name: value for name, value in os.environ.items()
+            if name not in ("VENUED", "VENUE_REPLAY", "VENUE_EVENTS", "GIKVAND_EDGE", "BENCH", "CHROMIUM")}
+    path = f"{os.path.abspath('tree/path')}:{os.path.dirname(sys.executable)}:/usr/bin:/bin"
+    it = subprocess.run(["bash" if by == ".ci/run" else sys.executable, f"tree/{by}", *words], capture_output=True, text=True,
+                        timeout=PATIENCE, env={**kept, "PATH": path, "PYTHONPATH": os.path.abspath("tree/modules")}, stdin=subprocess.DEVNULL)
+    called = []
+    if os.path.exists(asked):
+        with open(asked, encoding="ascii") as file:
+            called = [line.strip() for line in file if line.split()[0] != "apt-get"]
+    return Ran(it.returncode, it.stdout.splitlines(), it.stderr, called)
+
+
+def commands(names: set[str] | None = None, cores: int | None = None) -> list[str]:
+    """The commands of these parts, or of all."""
+    module = checker()
+    return [it.shown(module.CORES if cores is None else cores) for it in module.PARTS if names is None or it.name in names]
+
+
+def test_all_pass() -> None:
+    """Where all pass the counts of all parts are added, and each was called, one behind the other in the table's order."""
+    came = ran(by=".ci/run")
+    assert (came.status, came.last, came.again()) == (0, f"{every()} passed, 0 failed", [])
+    assert came.called == commands()
+    names = [it.name for it in checker().PARTS]
+    assert [it.split()[0] for it in came.lines[:-2]] == names  # (a line a part, and what it says is kept)
+    assert said_by("users") == ["something", f"{counted()['users']} passed, 0 failed"]
+
+
+def said_by(part: str) -> list[str]:
+    """What a part of the last check has said, by what the check kept."""
+    with open(f"tree/out/check/{part}.txt", encoding="ascii") as file:
+        return file.read().splitlines()
+
+
+def test_a_part_that_takes_long(capsys: pytest.CaptureFixture) -> None:
+    """Of a part that takes long the newest line is shown from time to time, and at its end all of its lines are there."""
+    module = checker()
+    module.SAID = os.path.abspath("said")
+    with open("slow", "w", encoding="ascii") as file:
+        file.write("#!/bin/sh\necho first\nsleep 2\necho '3 passed, 0 failed'\n")
+    os.chmod("slow", 0o755)
+    ended = module.Check().ran(module.Part("slow", os.path.abspath("slow"), "quick", 3), 1, 0.5)
+    assert (ended.status, ended.lines, ended.seconds >= 2) == (0, ["first", "3 passed, 0 failed"], True)
+    assert f"{'slow':18}  0 minutes; its newest line: first" in capsys.readouterr().out.splitlines()
+
+
+EVERY_KIND = pytest.mark.parametrize("part", ("users", "proofs", "siege"))  # By pytest, by a program of the path, and by one of the tree.
+
+
+@EVERY_KIND
+@pytest.mark.parametrize("does, passed, failed", (("echo why it fails; echo '{least} passed, 3 failed'; exit 1", "least", 3),
+                                                  ("echo why it fails; echo '{least} passed, 3 failed'", "least", 3),
+                                                  ("echo why it fails", 0, 1), ("exit 0", 0, 1),
+                                                  ("echo '{least} passed, 0 failed'; echo more", 0, 1),
+                                                  ("echo '{least} passed, 0 failed, 1 left out'", 0, 1)))
+def test_parts_that_fail(part: str, does: str, passed: int | str, failed: int) -> None:
+    """A part whose last line counts a failure, or that ends without such a line, or says something behind it, makes the status 1. Its
+    last lines are shown at the end."""
+    least = counted()[part]
+    came = ran(by=".ci/run", **{part: does.format(least=least)})
+    wanted = every() - least + (least if passed == "least" else passed)
+    assert (came.status, came.last) == (1, f"{wanted} passed, {failed} failed")
+    command, = commands({part})
+    assert came.again()[:1] == [f"== what failed has said last: {command}"]
+    if "why" in does:
+        assert "why it fails" in came.again()
+
+
+def test_a_setup_that_fails() -> None:
+    """Where edge/setup ends badly that counts, and no part of the edge is called; so counts dev/measures."""
+    module = checker()
+    came = ran(by=".ci/run", **{module.SETUP: "exit 1"})
+    behind = {it.name for it in module.PARTS if "edge" in it.name or it.name == "framer"} - {module.SETUP}
+    assert (came.status, came.last) == (1, f"{every() - sum(counted()[it] for it in behind)} passed, 1 failed")
+    assert came.called == [it for it in commands() if it not in commands(behind)]
+    came = ran(by=".ci/run", **{module.MEASURES: "echo bad; exit 1"})
+    assert (came.status, came.last) == (1, f"{every() - 1} passed, 1 failed")
+
+
+@EVERY_KIND
+@pytest.mark.parametrize("does", ("exit 3", "kill -KILL $$", "kill -SEGV $$"))
+def test_parts_that_crash(part: str, does: str) -> None:
+    """A part that ends by a signal, or with a status that its last line doesn't say, has failed."""
+    came = ran(by=".ci/run", **{part: f"{passes(counted()[part])}; {does}"})
+    assert (came.status, came.last) == (1, f"{every()} passed, 1 failed")
+    assert any(it.startswith(f"{part}: it ended with status ") for it in came.again())
+
+
+def test_a_part_that_is_not_there() -> None:
+    came = ran(by=".ci/run", without=("dev/siege",))
+    assert (came.status, came.last) == (1, f"{every() - counted()['siege']} passed, 1 failed")
+    assert "dev/siege can't be run" in came.again()
+
+
+def test_parts_of_fewer_tests() -> None:
+    """A part of which fewer tests were tried than its least count has failed, and a line says so; what failed of them counts as tried."""
+    fewer = {name: passes(least - 1) for name, least in counted().items()}
+    for words, by, names in (((), ".ci/run", list(counted())), ((), "scripts/check", [it for it in counted() if not is_long(it)])):
+        came = ran(*words, by=by, **fewer)
+        passed = sum(counted()[it] - 1 for it in names) + 1
+        assert (by, came.status, came.last) == (by, 1, f"{passed} passed, {len(names)} failed")
+        for it in names:
+            said = f"{counted()[it] - 1} of its tests were tried, and it has {counted()[it]} at least"
+            assert (by, it, f"{it}: {said}" in came.again()) == (by, it, True)
+    came = ran(by=".ci/run", users=f"echo '{counted()['users'] - 1} passed, 1 failed'; exit 1")
+    assert (came.status, came.last) == (1, f"{sum(counted().values())} passed, 1 failed")
+    assert [it for it, least in counted().items() if least < 1] == []
+
+
+def is_long(name: str) -> bool:
+    return next(it for it in checker().PARTS if it.name == name).has("long")
+
+
+def test_side_by_side() -> None:
+    """Without words each part that takes no proof is called once, and with names those alone. The last lines of each that fails are
+    shown at the end."""
+    short = {it.name for it in checker().PARTS if not it.has("long")}
+    came = ran()
+    assert (came.status, came.last) == (0, f"{sum(counted()[it] for it in short - {checker().MEASURES}) + 1} passed, 0 failed")
+    assert sorted(came.called) == sorted(commands(short, 1))
+    least = counted()["wrong_edges"]
+    came = ran("users", "wrong_edges", wrong_edges=f"echo why it fails; echo '{least} passed, 2 failed'; exit 1")
+    assert (came.status, came.last) == (1, f"{counted()['users'] + least} passed, 2 failed")
+    assert sorted(came.called) == sorted(commands({"users", "wrong_edges"}, 1))
+    command, = commands({"wrong_edges"})
+    assert came.again()[:2] == [f"== what failed has said last: {command}", "why it fails"]
+    came = ran(users="kill -KILL $$")
+    assert (came.status, came.last.endswith(" passed, 1 failed")) == (1, True)
+
+
+def test_nothing_is_built() -> None:
+    """Where the programs aren't built it says what builds them, tries nothing, and ends with status 2; without the edge, a browser or
+    the benchmark it says what is left out, and tries all others."""
+    for without in (BUILT, BUILT[:1], BUILT[2:3]):
+        came = ran(without=without)
+        wanted = [f"check: {it} isn't built: {'edge/setup --tests' if it.startswith('edge/') else 'scripts/build'} builds it"
+                  for it in without if not it.startswith(("crates/bench", "crates/edge"))]
+        assert (came.status, came.lines, came.err.splitlines(), came.called) == (2, [], wanted, [])
+    came = ran("users", without=BUILT[:1])
+    assert (came.status, came.called) == (2, [])
+    came = ran("dictionary", without=BUILT)
+    assert (came.status, len(came.called)) == (0, 1)
+    for without, part, why in ((("edge/out/tradeclient",), "edge", "edge/out/tradeclient isn't built: edge/setup --tests builds it"),
+                               (("crates/bench/out/bench",), "twins", "crates/bench/out/bench isn't built: `rt run` in crates/bench"),
+                               (("chromium",), "board", "without Chromium nothing of it can be tried")):
+        if part == "board" and any(shutil.which(it, path="/usr/bin:/bin") for it in checker().BROWSERS):
+            continue
+        came = ran(without=without)
+        assert (came.status, [it for it in came.lines if it.startswith(f"{part:18}  is left out: {why}")] != []) == (0, True)
+        command, = commands({part}, 1)
+        assert (part, command in came.called) == (part, False)
+
+
+def test_words_of_the_check() -> None:
+    """Its help and its list say what there is, and run nothing; words that are none end it with status 2."""
+    names = [it.name for it in checker().PARTS]
+    assert len(set(names)) == len(names)
+    for by in ("scripts/check", ".ci/run"):
+        came = ran("--help", by=by)
+        assert (by, came.status, came.err, came.called) == (by, 0, "", [])
+        assert (by, [it for it in ("--all", "--list", "NAME...") if f"scripts/check {it}" not in "\n".join(came.lines)]) == (
+            by, [])
+    came = ran("--list")
+    assert (came.status, [it.split()[0] for it in came.lines], came.called) == (0, names, [])
+    for words, by in ((("nothing",), "scripts/check"), (("users", "nothing"), "scripts/check"), (("--all", "users"), "scripts/check"),
+                      (("--nothing",), "scripts/check"), (("users",), ".ci/run")):
+        came = ran(*words, by=by)
+        assert (words, came.status, came.lines, came.called, came.err != "") == (words, 2, [], [], True)
+
+
+def test_no_part_is_left_out() -> None:
+    """Each test and check that can be called is a part of the full check, or one of those that are no parts. Each module of tests and each
+    play is of one part."""
+    listed = subprocess.run(["git", "-C", ROOT, "ls-files", "-s", "tests", "dev", "edge"], capture_output=True, text=True).stdout
+    files = {line.split("\t")[1]: line.split()[0] for line in listed.splitlines()}
+    programs = {it for it, mode in files.items() if mode == "100755"}
+    called = {it.split()[0] for it in commands()} - {"rt", "pytest"}
+    assert sorted(programs - called - NO_PARTS) == []
+    assert sorted(called - programs) == []
+    assert len(set(commands())) == len(commands())
+    tried = [path for it in of_pytest() for path in files if any(covers(word, path) for word in it.command.split())
+             and f"--ignore={path}" not in it.command.split()]
+    assert sorted(tried) == sorted(it for it in files if covers("tests/test_*.py", os.path.join("tests", os.path.basename(it)))
+                                   or it.endswith(".play"))
+
+
+def of_pytest() -> list:
+    """The parts that pytest runs."""
+    return [it for it in checker().PARTS if it.command.startswith("pytest ")]
+
+
+def covers(word: str, path: str) -> bool:
+    """Whether pytest finds tests in this file by this word."""
+    is_one = fnmatch.fnmatch(os.path.basename(path), "test_*.py") and path.startswith(f"{word}/")
+    return is_one or fnmatch.fnmatch(path, word)
+
+
+def test_least_counts() -> None:
+    """The least count of a part that pytest runs is no more than there are tests, and not much less; that of the proofs is of all crates
+    and of all edits that are tried one by one."""
+    proofs, = (it.least for it in checker().PARTS if it.command == "rt ci")
+    count = len(crates.listed()) + len(glob.glob(os.path.join(ROOT, "crates/*/must-fail/*.edit")))
+    assert 0.9 * count <= proofs <= count
+    for it in of_pytest():
+        words = [*it.words(1), "-n", "0", "--collect-only"]
+        found = subprocess.run(words, cwd=ROOT, capture_output=True, text=True, timeout=PATIENCE).stdout
+        count = sum("::" in line for line in found.splitlines())
+        assert 0.9 * count <= it.least <= count, f"{it.name} has {count} tests, and the least count is {it.least}"
