@@ -130,13 +130,28 @@ def commands(names: set[str] | None = None, cores: int | None = None) -> list[st
 
 
 def test_all_pass() -> None:
-    """Where all pass the counts of all parts are added, and each was called, one behind the other in the table's order."""
+    """Where all pass the counts of all parts are added, and each was called, in the table's order but for those that wait."""
     came = ran(by=".ci/run")
     assert (came.status, came.last, came.again()) == (0, f"{every()} passed, 0 failed", [])
-    assert came.called == commands()
-    names = [it.name for it in checker().PARTS]
-    assert [it.split()[0] for it in came.lines[:-2]] == names  # (a line a part, and what it says is kept)
+    parts = checker().PARTS
+    ends = [line.split()[0] for line in came.lines[:-2]]  # (a line a part, and what it says is kept)
+    for waits in (True, False):
+        names = [it.name for it in parts if it.has("waits") == waits]
+        assert [it for it in came.called if it in commands(set(names))] == commands(set(names))
+        assert [it for it in ends if it in names] == names
+    assert (sorted(came.called), len(ends)) == (sorted(commands()), len(parts))
     assert said_by("users") == ["something", f"{counted()['users']} passed, 0 failed"]
+
+
+def test_those_that_wait() -> None:
+    """A part that waits runs beside those behind it, and one behind the other of its kind; one of the edge is behind the edge's setup."""
+    late = "for it in $(seq 200); do [ -e users ] && break; sleep 0.1; done; [ -e users ] || exit 1; sleep 0.5; touch members"
+    came = ran(by=".ci/run", members=f"{late}; {passes(counted()['members'])}", users=f"touch users; {passes(counted()['users'])}",
+               held_ports=f"[ -e members ] || exit 1; {passes(counted()['held_ports'])}",
+               edge=f"[ -e setup ] || exit 1; {passes(counted()['edge'])}", **{checker().SETUP: "sleep 1; touch setup"})
+    assert (came.status, came.last, came.again()) == (0, f"{every()} passed, 0 failed", [])
+    came = ran(by=".ci/run", edge=f"sleep 1; echo '{counted()['edge']} passed, 1 failed'; exit 1")
+    assert (came.status, came.last) == (1, f"{every()} passed, 1 failed")
 
 
 def said_by(part: str) -> list[str]:
@@ -185,7 +200,7 @@ def test_a_setup_that_fails() -> None:
     came = ran(by=".ci/run", **{module.SETUP: "exit 1"})
     behind = {it.name for it in module.PARTS if "edge" in it.name or it.name == "framer"} - {module.SETUP}
     assert (came.status, came.last) == (1, f"{every() - sum(counted()[it] for it in behind)} passed, 1 failed")
-    assert came.called == [it for it in commands() if it not in commands(behind)]
+    assert sorted(came.called) == sorted(set(commands()) - set(commands(behind)))
     came = ran(by=".ci/run", **{module.MEASURES: "echo bad; exit 1"})
     assert (came.status, came.last) == (1, f"{every() - 1} passed, 1 failed")
 

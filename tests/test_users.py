@@ -4,12 +4,14 @@ Members trade by words, the demo is shown, a day is drawn, over the built progra
 place of the checker that succeed and fail. What is expected was worked out from the scripts' own words, README.md and
 docs/PROFILE.md: the lines that are printed, the numbers in the picture, read by its own axes, and the statuses.
 """
+import contextlib
 import io
 import os
 import pty
 import re
 import select
 import shutil
+import signal
 import subprocess
 import sys
 import time
@@ -437,18 +439,27 @@ def processes_in(folder: str) -> list[int]:
     return found
 
 
+def end_all_in(folder: str) -> None:
+    """Kills what is left there."""
+    for pid in processes_in(folder):
+        with contextlib.suppress(ProcessLookupError):
+            os.kill(pid, signal.SIGKILL)
+
+
 def test_demos_that_are_ended() -> None:
     """SIGTERM ends the demo with all that it has started, and nothing of it is left behind."""
-    with subprocess.Popen([script("demo")], stdout=subprocess.PIPE, stderr=subprocess.PIPE, text=True,
-                          env={**os.environ, **PROGRAMS, "TMPDIR": os.getcwd(), "PYTHONUNBUFFERED": "1"}) as it:
-        while "ready" not in (line := it.stdout.readline()):
-            assert (line != "", it.poll()) == (True, None)
-        assert len(processes_in(os.getcwd())) > 0
-        it.terminate()
-        it.stdout.read()
-        assert (it.wait(LONG), it.stderr.read()) == (1, "gikvand demo: ended by a signal\n")
-    await_that("nothing of the demo runs", lambda: not processes_in(os.getcwd()))
-    assert os.listdir() == []
+    with contextlib.ExitStack() as behind:
+        behind.callback(end_all_in, os.getcwd())
+        with subprocess.Popen([script("demo")], stdout=subprocess.PIPE, stderr=subprocess.PIPE, text=True,
+                              env={**os.environ, **PROGRAMS, "TMPDIR": os.getcwd(), "PYTHONUNBUFFERED": "1"}) as demo:
+            while "ready" not in (line := demo.stdout.readline()):
+                assert (line != "", demo.poll()) == (True, None)
+            assert len(processes_in(os.getcwd())) > 0
+            demo.terminate()
+            demo.stdout.read()
+            assert (demo.wait(LONG), demo.stderr.read()) == (1, "gikvand demo: ended by a signal\n")
+        await_that("nothing of the demo runs", lambda: not processes_in(os.getcwd()))
+        assert os.listdir() == []
 
 
 def contents(name: str) -> bytes:

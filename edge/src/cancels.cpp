@@ -11,12 +11,14 @@ namespace edge {
 namespace {
 
 const char *const ALL = "*";  // In the place of a symbol or a side.
+constexpr char DAY = 'D';     // In the place of a side: what is Day, of both sides.
 constexpr std::size_t MOST_OWED = 100;
 
-/// A sweep as its row has it, as `17 ABC 1 MC-7`.
+/// A sweep as its row has it, as `17 ABC 1 MC-7`, or `17 * D 20300101-22:00:00` of a day's end.
 std::string textOf(const Sweep &it) {
-    return std::to_string(it.upTo) + " " + (it.symbol.empty() ? ALL : it.symbol) + " " +
-           (it.side ? std::string(1, it.side) : ALL) + " " + it.name;
+    const std::string front = std::to_string(it.upTo) + " " + (it.symbol.empty() ? ALL : it.symbol) + " ";
+    if (it.isOfDay()) return front + DAY + " " + it.end;
+    return front + (it.side ? std::string(1, it.side) : ALL) + " " + it.name;
 }
 
 /// The sweep of a row.
@@ -27,8 +29,8 @@ Sweep sweepOf(const KeptName &row) {
     if (std::sscanf(row.name.c_str(), "%ld %8s %c%n", &it.upTo, symbol, &side, &end) != 3)
         throw DatabaseFault("row " + std::to_string(row.number) + " of its record is none of a mass cancel");
     if (symbol != std::string(ALL)) it.symbol = symbol;
-    if (side != *ALL) it.side = side;
-    it.name = row.name.substr(std::min(row.name.size(), static_cast<std::size_t>(end) + 1));
+    if (side != *ALL && side != DAY) it.side = side;
+    (side == DAY ? it.end : it.name) = row.name.substr(std::min(row.name.size(), static_cast<std::size_t>(end) + 1));
     it.row = row.number;
     return it;
 }
@@ -49,14 +51,14 @@ void Cancels::venueLost() {
     for (Sweep &it : sweeps_) it.last = 0;
 }
 
-std::size_t Cancels::send(const Orders &orders, const std::string &name) {
-    const std::string time = timeNow();
+std::size_t Cancels::send(const Orders &orders, const Sweep &it) {
+    const std::string time = timeNow(), own = it.isOfDay() ? EXPIRY : CANCEL;
+    const Names::Kind kind = it.isOfDay() ? Names::Kind::Expiry : Names::Kind::Cancel;
     std::size_t count = 0;
     for (const auto &order : orders) {
         if (names_.last() >= Names::GREATEST) break;
         if (!orders_.insert(order.first).second) continue;
-        const long number =
-            names_.add(name.empty() ? CANCEL + std::to_string(names_.last() + 1) : name, Names::Kind::Cancel);
+        const long number = names_.add(it.name.empty() ? own + std::to_string(names_.last() + 1) : it.name, kind);
         link_.send("F", cancelFor(order.second, number, order.first, time), time);
         underWay_[number] = order.first;
         count++;
@@ -77,10 +79,11 @@ std::size_t Cancels::begin(Sweep &it, const Orders &orders) {
     for (const auto &order : orders)
         if (it.takes(order.first, order.second)) taken.insert(order);
     it.count = taken.size();
-    const bool mayCome = probe_ && sweeps_.size() < MOST_OWED;
+    const bool mayCome = probe_ && (it.isOfDay() || sweeps_.size() < MOST_OWED);
     if (areUnderWay(taken) && !mayCome && (taken.empty() || (isNew && !it.name.empty()))) return 0;
     it.row = names_.add(textOf(it), Names::Kind::Sweep);
-    const std::size_t count = send(taken, it.name);
+    const bool isLater = probe_ && it.isOfDay();  // Cancels by a day's end before may be at the venue.
+    const std::size_t count = isLater ? 0 : send(taken, it);
     it.last = probe_ ? 0 : underWay_.empty() ? it.row : underWay_.rbegin()->first;  // Some may be of another sweep.
     sweeps_.push_back(it);
     return count;
@@ -107,6 +110,10 @@ std::vector<Sweep> Cancels::takeOwed(long settled) {
     sweeps_.erase(sweeps_.begin(), end);
     for (const Sweep &it : owed) over_.push_back(it.row);
     return owed;
+}
+
+bool Cancels::isEndOwed() const {
+    return std::any_of(sweeps_.begin(), sweeps_.end(), [](const Sweep &it) { return it.isOfDay() && !it.last; });
 }
 
 bool Cancels::isOver(long upTo) const {

@@ -1,7 +1,7 @@
 #pragma once
 
 // Cancels that the edge sends by itself, on the way from trader.h to the venue: of what rests for a member that went
-// away, and of many orders at once, as a member or an operator asks for.
+// away, of many orders at once, as a member or an operator asks for, and of what is Day when its day has ended.
 
 #include <cstddef>
 #include <map>
@@ -15,18 +15,24 @@
 
 namespace edge {
 
-/// Orders that are to be cancelled in one go: those below a number, of a symbol and a side or of all.
+/// Orders that are to be cancelled in one go: those below a number, of a symbol and a side or of all, or those that an
+/// end of the day is behind.
 struct Sweep {
     std::string symbol;     // Empty: of all symbols.
     char side = '\0';       // None: of both.
     std::string name;       // That of its cancels; empty: each has one of the edge's own.
+    std::string end;        // Of a day: its orders went to the venue before that. Empty: it is of no day's end.
     long upTo = 0;          // Its orders have lower numbers; it is known by that.
     long row = 0;           // The number of its row in the record.
     long last = 0;          // That of its last cancel; 0: it is owed, since nobody knows what became of these.
     std::size_t count = 0;  // So many orders it took.
 
+    bool isOfDay() const { return !end.empty(); }
+
     bool takes(long number, const OpenOrder &order) const {
-        return number < upTo && (symbol.empty() || order.symbol == symbol) && (!side || order.side == side);
+        const bool isAsked =
+            isOfDay() ? order.sent < end : (symbol.empty() || order.symbol == symbol) && (!side || order.side == side);
+        return number < upTo && isAsked;
     }
 };
 
@@ -44,13 +50,15 @@ public:
     /// The connection to the venue has ended: what is under way is owed.
     void venueLost();
 
-    /// Sends a cancel for each of these orders for which none is under way: how many. Their names are of the edge.
-    std::size_t send(const Orders &orders, const std::string &name = "");
+    /// Sends a cancel for each of these orders for which none is under way: how many. Their names are those of the
+    /// sweep, or of the edge.
+    std::size_t send(const Orders &orders, const Sweep &it = Sweep());
 
     /// Keeps a sweep of those of these orders that it takes, and sends their cancels: how many. It is of the orders of
     /// now where it isn't known by a number yet. One that takes none is over at once, and so is one of a member for
     /// whose orders others have sent all cancels: else there might be any number. While nobody knows what the venue has
-    /// taken in of before, a sweep is owed as well: more orders may come to rest. There are numbers for all that.
+    /// taken in of before, a sweep is owed as well: more orders may come to rest. One of a day's end sends nothing
+    /// before that is known, so that each order has one cancel. There are numbers for all that.
     std::size_t begin(Sweep &it, const Orders &orders);
 
     /// The venue has answered all requests up to this number.
@@ -63,6 +71,9 @@ public:
     /// before. They aren't kept here any more.
     std::vector<Sweep> takeOwed(long settled);
     bool isOwed() const { return !sweeps_.empty() && !sweeps_.front().last; }
+
+    /// Whether one of a day's end is: what is Day of a day before may rest.
+    bool isEndOwed() const;
 
     /// Whether one is under way, or owed.
     bool isSweeping() const { return !sweeps_.empty(); }

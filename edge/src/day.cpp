@@ -48,6 +48,15 @@ bool Day::isOpen() const {
     return hours_.isOpen(std::time(nullptr));
 }
 
+/// An end in the days to come was one of a clock that was wrong: the next one is that behind now.
+std::string Day::endOfOrders() {
+    const long now = std::time(nullptr), ended = record_.state().ordersEnded;
+    const bool isAhead = ended > now + Schedule::DAY;
+    if (!isAhead && !ofOrders_.isOver(ended, now)) return "";
+    const long end = record_.change().ordersEnded = ofOrders_.lastEnd(now);
+    return isAhead ? "" : timeOf(end);
+}
+
 /// Puts the reports of the last day that have these numbers into the new one: how many. Each is put where one stood
 /// that has been read.
 long Day::tellAgain(long from, long end) {

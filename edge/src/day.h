@@ -1,7 +1,7 @@
 #pragma once
 
-// Where the days of a session end. The member's thread looks here in front of all that a turn tells, by schedule.h, and
-// notes here what it has written to the member's engine, by heard.h.
+// Where the days of a session end, and what is Day. The member's thread looks here in front of all that a turn tells,
+// by schedule.h, and notes here what it has written to the member's engine, by heard.h.
 
 #include <quickfix/Session.h>
 
@@ -20,8 +20,8 @@ namespace edge {
 /// member is there or not. What it wasn't sent by then is told again under numbers of the new day.
 class Day {
 public:
-    Day(const Schedule &hours, const std::string &member, Record &record)
-        : hours_(hours), member_(member), record_(record) {}
+    Day(const Schedule &hours, const Schedule &ofOrders, const std::string &member, Record &record)
+        : hours_(hours), ofOrders_(ofOrders), member_(member), record_(record) {}
 
     /// Gives it the session and its store, each time that the store has been read.
     void attach(FIX::Session &session, Store &store);
@@ -31,6 +31,10 @@ public:
 
     /// Whether the member may log on now.
     bool isOpen() const;
+
+    /// The end of a day that what is Day is to end by now, as FIX writes it; nothing where each end was passed. Whoever
+    /// asks ends it in this turn.
+    std::string endOfOrders();
 
     /// Begins the next day. No client is there any more.
     void begin();
@@ -71,7 +75,7 @@ public:
 private:
     long tellAgain(long from, long end);
 
-    const Schedule hours_;
+    const Schedule hours_, ofOrders_;
     const std::string member_;
     Record &record_;
     FIX::Session *session_ = nullptr;

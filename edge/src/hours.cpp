@@ -4,6 +4,7 @@
 #include <cctype>
 #include <cstdio>
 
+#include "setting_values.h"
 #include "settings.h"
 
 namespace edge {
@@ -13,13 +14,6 @@ namespace {
 constexpr std::size_t LEAST_LETTERS = 2;
 const char *const DAYS[] = {"sunday", "monday", "tuesday", "wednesday", "thursday", "friday", "saturday"};
 const char *const OTHERS[] = {"LogonTime", "LogonDay", "LogoutTime", "LogoutDay"};
-
-std::string textOf(const FIX::Dictionary &from, const char *name) {
-    if (!from.has(name)) throw BadSetting(name, "is missing");
-    const std::string text = from.getString(name);
-    if (text.empty()) throw BadSetting(name, "is empty");
-    return text;
-}
 
 /// A time of the day in seconds.
 long timeOf(const FIX::Dictionary &from, const char *name) {
@@ -65,8 +59,14 @@ Schedule hoursOf(const FIX::Dictionary &from) {
     return Schedule::weekly(first * Schedule::DAY + start, last * Schedule::DAY + end);
 }
 
+Schedule dayEndsOf(const FIX::Dictionary &from, const Schedule &hours) {
+    if (!from.has("DayEndTime")) return hours;
+    const long end = timeOf(from, "DayEndTime");
+    return Schedule::daily(end, end);
+}
+
 bool isOfHours(const std::string &name) {
-    for (const char *it : {"STARTTIME", "ENDTIME", "STARTDAY", "ENDDAY", "USELOCALTIME"})
+    for (const char *it : {"STARTTIME", "ENDTIME", "STARTDAY", "ENDDAY", "USELOCALTIME", "DAYENDTIME"})
         if (name == it) return true;
     return false;
 }

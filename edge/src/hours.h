@@ -13,6 +13,9 @@ namespace edge {
 /// them, or engines would take for other hours, is a BadSetting.
 Schedule hoursOf(const FIX::Dictionary &from);
 
+/// Reads out of DayEndTime when what is Day ends, each day; with the hours where that is left out.
+Schedule dayEndsOf(const FIX::Dictionary &from, const Schedule &hours);
+
 /// Whether this name, in capitals, is a setting of hours, which the library isn't given.
 bool isOfHours(const std::string &name);
 

@@ -40,6 +40,22 @@ void needOwn(const std::vector<Settings> &members, const char *setting, const Cl
                                               ", and has to be each one's own");
 }
 
+/// The members of a firm, this one with them.
+std::set<std::string> firmOf(const MemberSettings &it) {
+    std::set<std::string> firm = it.limits.orders.desks;
+    firm.insert(it.name());
+    return firm;
+}
+
+/// Desks of one firm say so of each other.
+void needOneFirm(const std::vector<Settings> &members) {
+    for (const Settings &one : members)
+        for (const Settings &other : members)
+            if (one.member.limits.orders.desks.count(other.member.name()) && firmOf(one.member) != firmOf(other.member))
+                throw BadSetting("Firm", "has other members for " + one.member.name() + " than for " +
+                                             other.member.name() + ", which it says to be of one firm");
+}
+
 bool isOneDoor(const Settings &one, const Settings &other) {
     const std::string everywhere = "0.0.0.0";
     return one.member.port == other.member.port &&
@@ -81,6 +97,7 @@ void needApart(const std::vector<Settings> &members) {
     needOwn(members, "StunnelConfig", [](One it, One other) {
         return !it.member.certificate.empty() && it.member.certificate == other.member.certificate;
     });
+    needOneFirm(members);
 }
 
 }

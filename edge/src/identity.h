@@ -12,7 +12,8 @@ namespace edge {
 /// isn't so, or that can't be read, is a BadSetting.
 std::string certificateBy(const std::string &configuration, const std::string &host, int port);
 
-/// Members can be served side by side: no two have one name, port, page, folder or certificate; else a BadSetting.
+/// Members can be served side by side: no two have one name, port, page, folder or certificate, and desks of one firm
+/// name the same members; else a BadSetting.
 void needApart(const std::vector<Settings> &members);
 
 }

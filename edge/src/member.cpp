@@ -15,8 +15,14 @@ namespace {
 
 constexpr std::chrono::milliseconds TICK(500), AGAIN(200), SOON(5), REST(1000);
 constexpr std::size_t MOST_HANDED = 16;
-constexpr int MOST_LOOKS = 16;       // At a client, for the end of what it sent, before another one is let go.
-constexpr int MOST_LINK_LOOKS = 64;  // At the venue's link in one turn: the venue ends one that isn't read.
+constexpr int MOST_LOOKS = 16;         // At a client, for the end of what it sent, before another one is let go.
+constexpr int MOST_LINK_LOOKS = 64;    // At the venue's link in one turn: the venue ends one that isn't read.
+constexpr int MOST_MARKET_LOOKS = 16;  // At what the venue tells all, in one turn.
+
+bool isReadable(int fd) {
+    pollfd it{fd, POLLIN, 0};
+    return ::poll(&it, 1, 0) > 0;
+}
 
 }
 
@@ -38,7 +44,7 @@ Member::Member(const Settings &settings, Record &record)
       turn_(settings.ofAll.edge),
       link_(settings.venue.port + settings.member.number - 1, settings.member.name()),
       trader_(settings, settings.member, record, names_, link_),
-      day_(settings.hours, settings.member.name(), record),
+      day_(settings.hours, settings.dayEnds, settings.member.name(), record),
       logons_(settings.member, trader_),
       conversation_(settings.member, logons_, link_, trader_, day_),
       desk_(settings.member.name(), trader_),
@@ -176,6 +182,7 @@ void Member::turn() {
     lookAtDay();
     if (hasLink_) readLink();
     if (hasJournal_) readJournal();
+    if (hasMarket_) readMarket();
     if (conversation_.isHeldUp()) endWhere(conversation_.passMessages());
     if (hasClient_ && conversation_.isOn() && !conversation_.isHeldUp()) endWhere(conversation_.read());
     conversation_.sendAgain();
@@ -193,15 +200,25 @@ bool Member::rests() const {
 }
 
 /// Ends the member's day where its hours have ended since the last look: before this turn tells anything. Its orders
-/// stay, since it was the day that ended, and no connection that was lost.
+/// stay but for what is Day, since it was the day that ended, and no connection that was lost.
 void Member::lookAtDay() {
-    if (rests() || !day_.isOver()) return;
-    if (conversation_.isOn()) {
-        trader_.spare();
-        conversation_.logOut("the day ends");
-        endClient("its day ends");
+    if (rests()) return;
+    if (day_.isOver()) {
+        if (conversation_.isOn()) {
+            trader_.spare();
+            conversation_.logOut("the day ends");
+            endClient("its day ends");
+        }
+        day_.begin();
     }
-    day_.begin();
+    endOrders();
+}
+
+/// Ends what is Day where a day has ended, once the venue is there, and before the client is read.
+void Member::endOrders() {
+    if (!trader_.isReady()) return;
+    const std::string end = day_.endOfOrders();
+    if (!end.empty()) trader_.endDay(end);
 }
 
 /// Takes the commands one by one: what fails in one of them leaves the others there.
@@ -225,11 +242,12 @@ bool Member::isAsked(Asked &it) {
 /// written, and in a quiet moment the record is tidied up.
 void Member::wait() {
     log_->flush();
-    std::array<pollfd, 4> all{{{bell_.get(), POLLIN, 0}, conversation_.watched(), {-1, 0, 0}, {-1, 0, 0}}};
+    std::array<pollfd, 5> all{{{bell_.get(), POLLIN, 0}, conversation_.watched(), {-1, 0, 0}, {-1, 0, 0}, {-1, 0, 0}}};
     const int reads = trader_.holdsTooMuch() ? 0 : POLLIN, writes = link_.isWriting() ? POLLOUT : 0;
     if (link_.state() != VenueLink::State::Down) all[2] = {link_.fd(), static_cast<short>(reads | writes), 0};
     const bool isReadingOver = replay_ && replay_->isOver();
     if (replay_) all[3] = {replay_->fd(), POLLIN, 0};
+    if (follower_) all[4] = {follower_->fd(), POLLIN, 0};
     const auto most = link_.state() == VenueLink::State::Down || wantsReplay_ ? AGAIN / 4 : TICK;
     const auto pause = conversation_.pause(isReadingOver ? SOON : most);
     const bool isUntidy = record_.isUntidy() && !trader_.isSweeping();
@@ -240,6 +258,7 @@ void Member::wait() {
     hasClient_ = all[1].revents & (POLLIN | POLLHUP | POLLERR);
     hasLink_ = all[2].revents & (POLLIN | POLLHUP | POLLERR);
     hasJournal_ = all[3].revents || isReadingOver;
+    hasMarket_ = all[4].revents || (follower_ && follower_->isOver());
     std::uint64_t rings;
     if (all[0].revents && ::read(bell_.get(), &rings, sizeof rings) < 0) return;  // It has been read already.
 }
@@ -305,6 +324,7 @@ void Member::driveLink() {
         wantsReplay_ = false;
         replay_.reset(new Replay(settings_.venue, member_.name()));
     }
+    followMarket();
 }
 
 void Member::dropLink(const std::string &why) {
@@ -333,20 +353,57 @@ void Member::readLink() {
     if (wasUp || link_.state() != VenueLink::State::Up) return;
     state_ = State::ReadsJournal;
     trader_.beginRecovery();
+    follower_.reset();
     wantsReplay_ = true;
 }
 
 void Member::readJournal() {
     if (!replay_) return;
-    const bool isWhole = replay_->read([this](const char *line, std::size_t size) { trader_.recovered(line, size); });
+    const Replay::Told seen = [this](const char *line, std::size_t size) { trader_.seen(line, size); };
+    const bool isWhole = replay_->read([this](const char *line, std::size_t size) { trader_.recovered(line, size); },
+                                       trader_.needsMarket() ? seen : nullptr);
     if (!isWhole) return;
     turnBack();
     trader_.endRecovery(conversation_.isOn());
+    endOrders();
     state_ = State::Serves;
     logons_.rests(false);
     saidOfVenue_.clear();
     saidOfFault_.clear();
     say(member_.name(), "serves, behind report " + std::to_string(trader_.counts().lastReport));
+}
+
+/// Lets what the venue tells all members come, where the limits of this one need that.
+void Member::followMarket() {
+    if (!trader_.needsMarket() || !trader_.isReady() || follower_ || Clock::now() < followAt_) return;
+    try {
+        follower_.reset(new Replay(settings_.venue, member_.name(), trader_.seenCommands()));
+    } catch (const std::runtime_error &fault) {
+        loseMarket(fault.what());
+    }
+}
+
+/// Begins anew soon: until then what is known of the market is what was told last.
+void Member::loseMarket(const std::string &why) {
+    say(member_.name(), "the market isn't followed, and that begins anew: " + why);
+    follower_.reset();
+    followAt_ = Clock::now() + REST;
+}
+
+/// Reads what the venue has told all members since.
+void Member::readMarket() {
+    if (!follower_) return;
+    std::string why = "venue-events ended";
+    try {
+        for (int looks = 0; looks < MOST_MARKET_LOOKS && (follower_->isOver() || isReadable(follower_->fd())); looks++)
+            if (follower_->read([](const char *, std::size_t) {},
+                                [this](const char *line, std::size_t size) { trader_.seen(line, size); }))
+                throw std::runtime_error(why);
+        return;
+    } catch (const std::runtime_error &fault) {
+        why = fault.what();
+    }
+    loseMarket(why);
 }
 
 /// Lets the session look at the clock, for heartbeats.

@@ -72,6 +72,8 @@ public:
     const MemberSettings &settings() const { return member_; }
     const Counts &counts() const { return trader_.counts(); }
     const Switches &switches() const { return trader_.switches(); }
+    Money openValue() const { return trader_.exposure().shownValue(); }
+    long refusalsBy(Limit limit) const { return trader_.limiter().refusalsBy(limit); }
     bool isLoggedOn() const { return isLoggedOn_; }
     long dayBegan() const { return day_.began(); }
     State state() const { return state_; }
@@ -89,6 +91,7 @@ private:
     void turn();
     void keep();
     void lookAtDay();
+    void endOrders();
     void takeCommands();
     bool isAsked(Asked &it);
     void wait();
@@ -99,6 +102,9 @@ private:
     void driveLink();
     void readLink();
     void readJournal();
+    void followMarket();
+    void readMarket();
+    void loseMarket(const std::string &why);
     void dropLink(const std::string &why);
     void flush();
     void tick();
@@ -130,11 +136,11 @@ private:
     std::atomic<State> state_{State::WaitsForVenue};
     std::atomic<std::size_t> unsent_{0};
 
-    std::string saidOfVenue_, saidOfFault_;  // What is said isn't said again while it lasts.
-    std::unique_ptr<Replay> replay_;
+    std::string saidOfVenue_, saidOfFault_;      // What is said isn't said again while it lasts.
+    std::unique_ptr<Replay> replay_, follower_;  // Of what the journal has, and of what comes into it.
     bool wantsReplay_ = false;
-    Clock::time_point connectAt_, tickAt_, restsUntil_;
-    bool hasClient_ = false, hasLink_ = false, hasJournal_ = false;  // Something to be read, as poll says.
+    Clock::time_point connectAt_, tickAt_, restsUntil_, followAt_;
+    bool hasClient_ = false, hasLink_ = false, hasJournal_ = false, hasMarket_ = false;  // Something to be read.
     bool isStoreRead_ = true;  // Or it has to be read anew, before anything else is done.
     std::thread thread_;
 };

@@ -23,7 +23,7 @@ Names::Names(Record &record)
       byNumber_(record.database(), "SELECT name, kind FROM names WHERE number = ?"),
       byName_(record.database(), "SELECT number, kind FROM names WHERE name = ? AND kind NOT IN ('p', 'w') LIMIT 1"),
       unanswered_(record.database(),
-                  "SELECT number FROM names WHERE number > ? AND number <= ? AND kind = 'r' ORDER BY number"),
+                  "SELECT number FROM names WHERE number > ? AND number <= ? AND kind IN ('r', 'g') ORDER BY number"),
       from_(record.database(),
             "SELECT number, at FROM names WHERE number > ? AND (number <= ? OR kind IN ('x', 's')) AND kind != 'w'"
             " ORDER BY number LIMIT ?"),
@@ -121,11 +121,10 @@ std::vector<long> Names::unanswered(long upTo) {
     return numbers;
 }
 
-bool Names::isProbe(long number) {
-    if (const KeptName *const kept = record_.turns().ofNumber(number))
-        return kept->kind == static_cast<char>(Kind::Probe);
+bool Names::is(long number, Kind kind) {
+    if (const KeptName *const kept = record_.turns().ofNumber(number)) return kept->kind == static_cast<char>(kind);
     Rows rows = byNumber_.of(number);
-    return rows.next() && rows.bytes(1) == textOf(Kind::Probe);
+    return rows.next() && rows.bytes(1) == textOf(kind);
 }
 
 std::vector<KeptName> Names::sweeps() {

@@ -11,10 +11,11 @@
 
 namespace edge {
 
-// Names of the edge's own, which members can't give: of each probe, and the beginnings of those of cancels and of
-// requests whose names nobody knows.
+// Names of the edge's own, which members can't give: of each probe, and the beginnings of those of cancels, of the ends
+// of Day orders, and of requests whose names nobody knows.
 constexpr const char *PROBE = "edge-probe";
 constexpr const char *CANCEL = "edge-cancel-";
+constexpr const char *EXPIRY = "edge-expiry-";
 constexpr const char *NAMELESS = "edge-lost-";
 
 /// The names that a member gives its requests (ClOrdID), and the rising numbers that the venue knows them by. They are
@@ -22,13 +23,15 @@ constexpr const char *NAMELESS = "edge-lost-";
 class Names {
 public:
     enum class Kind : char {
-        Request = 'r',     // Of the member.
-        Cancel = 'c',      // A cancel by the edge, where the member went away, or of many orders at once.
-        Probe = 'p',       // A cancel of nothing: its answer shows that all before it has been answered.
-        Refused = 'x',     // The edge refused it, so the venue never has its number.
-        Struck = 's',      // The venue rejected it as a message, as its member was told.
-        MassCancel = 'q',  // Of the member, and answered by the edge, so the venue never has its number.
-        Sweep = 'w',       // What is kept of a mass cancel until it is over. It isn't a name.
+        Request = 'r',         // Of the member. What rests by it is Day.
+        GoodTillCancel = 'g',  // Of the member, too. What rests by it stays when a day ends.
+        Cancel = 'c',          // A cancel by the edge, where the member went away, or of many orders at once.
+        Expiry = 'e',          // A cancel by the edge of a Day order whose day has ended.
+        Probe = 'p',           // A cancel of nothing: its answer shows that all before it has been answered.
+        Refused = 'x',         // The edge refused it, so the venue never has its number.
+        Struck = 's',          // The venue rejected it as a message, as its member was told.
+        MassCancel = 'q',      // Of the member, and answered by the edge, so the venue never has its number.
+        Sweep = 'w',           // What is kept of many cancels at once until they are over. It isn't a name.
     };
 
     static constexpr long GREATEST = 999999999999999;  // The venue takes no greater number.
@@ -69,7 +72,8 @@ public:
     /// The requests that no report has answered, up to this number, the lowest first.
     std::vector<long> unanswered(long upTo);
 
-    bool isProbe(long number);
+    /// Whether a name of this number is kept, and of this kind.
+    bool is(long number, Kind kind);
 
     /// The rows of sweeps, the first one first, and an end of one.
     std::vector<KeptName> sweeps();

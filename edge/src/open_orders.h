@@ -12,6 +12,7 @@ struct OpenOrder {
     std::string orderId, symbol;
     char side;
     bool isFilledInPart;
+    std::string sent;  // When the order, or the last replace of it, went to the venue: what is Day ends by that.
 };
 
 /// The orders of a member that rest at the venue, by their numbers, as its reports tell.
@@ -24,7 +25,7 @@ public:
         if (event == '5') orders_.erase(report.number(41));
         if (event == '4' && report.has(41)) orders_.erase(report.number(41));
         if (event == '4' || event == '8' || report.byte(39) == '2') orders_.erase(number);
-        else if (event) orders_[number] = {report.text(37), report.text(55), report.byte(54), report.byte(39) == '1'};
+        else if (event) put(report, orders_[number]);
     }
 
     const OpenOrder *find(long number) const {
@@ -37,6 +38,12 @@ public:
     const std::map<long, OpenOrder> &all() const { return orders_; }
 
 private:
+    /// A fill has the time of what the order traded with.
+    static void put(const Fields &report, OpenOrder &into) {
+        const std::string sent = report.byte(150) == 'F' ? into.sent : report.text(52);
+        into = {report.text(37), report.text(55), report.byte(54), report.byte(39) == '1', sent};
+    }
+
     std::map<long, OpenOrder> orders_;
 };
 

@@ -62,8 +62,8 @@ char sideOf(const Message &message) {
 char timeInForceOf(const Message &message) {
     const std::string text = textOf(message, FIELD::TimeInForce);
     if (text.empty()) return '\0';
-    if (text != "0" && text != "3" && text != "4")
-        throw Refused(OTHER, "TimeInForce (59) " + text + " isn't traded: 0, 3 and 4 are");
+    if (text != "0" && text != "1" && text != "3" && text != "4")
+        throw Refused(OTHER, "TimeInForce (59) " + text + " isn't traded: 0, 1, 3 and 4 are");
     return text[0];
 }
 
@@ -151,7 +151,8 @@ std::string bodyFor(const Request &it, long number, long original, const std::st
             "\00138=" + std::to_string(it.quantity) + "\1";
     if (it.type == 'F') return body;
     body += it.price ? "40=2\00144=" + std::to_string(it.price) + "\1" : "40=1\1";
-    if (it.timeInForce) body += std::string("59=") + it.timeInForce + "\1";
+    // The venue knows no days: what rests there is good till it is cancelled.
+    if (it.timeInForce && !it.isGoodTillCancel()) body += std::string("59=") + it.timeInForce + "\1";
     return body;
 }
 
@@ -164,7 +165,7 @@ std::string cancelFor(const OpenOrder &order, long number, long original, const 
 }
 
 std::string probeFor(const std::string &symbol, long number, const std::string &time) {
-    return cancelFor(OpenOrder{"", symbol, '1', false}, number, number, time);
+    return cancelFor(OpenOrder{"", symbol, '1', false, ""}, number, number, time);
 }
 
 }

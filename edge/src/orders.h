@@ -28,13 +28,20 @@ struct Request {
     char side = '1';               // Of q: none, where it is about both.
     long quantity = 1, price = 0;  // Whole numbers; no price: a market order.
     char timeInForce = '\0';       // None: the member gave none.
-    long sequence = 0;             // The MsgSeqNum that it went to the venue with.
+    long sequence = 0;             // The MsgSeqNum that it went to the venue with,
+    std::string time;              // and when that was.
 
     bool isOrder() const { return type == 'D'; }
     bool isMassCancel() const { return type == 'q'; }
 
+    /// Whether it stays over the ends of days: what gives no TimeInForce is Day, as FIX has it.
+    bool isGoodTillCancel() const { return timeInForce == '1'; }
+
     /// Whether it asks for an order that may rest.
     bool mayRest() const { return type == 'D' || type == 'G'; }
+
+    /// Whether what isn't traded at once may rest: not of a market order, nor of TimeInForce 3 and 4.
+    bool mayStay() const { return price && timeInForce != '3' && timeInForce != '4'; }
 };
 
 /// Reads requests of members: what the venue doesn't have is refused, or dropped where the settings say so.

@@ -15,8 +15,9 @@ namespace edge {
 
 namespace {
 
-constexpr long VERSION = 3;
-constexpr long WITHOUT_TURNS = 1, WITHOUT_SWITCHES = 2;  // Versions of before, whose records lack such tables.
+constexpr long VERSION = 4;
+// Versions of before, whose records lack these.
+constexpr long WITHOUT_TURNS = 1, WITHOUT_SWITCHES = 2, WITHOUT_ENDS = 3;
 
 // A turn has its names and messages in the bytes of one row, as turns.h reads them, and what they change of the state.
 const char *const TURNS =
@@ -37,12 +38,13 @@ const char *const TABLES =
     "CREATE TABLE session (sender INTEGER NOT NULL, target INTEGER NOT NULL, created TEXT NOT NULL,"
     " report INTEGER NOT NULL, reject INTEGER NOT NULL, first INTEGER NOT NULL, last INTEGER NOT NULL,"
     " heard INTEGER NOT NULL, spared INTEGER NOT NULL, settled INTEGER NOT NULL, doubted_at INTEGER NOT NULL,"
-    " doubtful INTEGER NOT NULL, drop_before INTEGER NOT NULL, boot TEXT NOT NULL, at INTEGER NOT NULL);"
-    "INSERT INTO session VALUES (1, 1, '', 0, 0, 0, 0, 1, 0, 0, 0, 0, 0, '', 0)";
+    " doubtful INTEGER NOT NULL, drop_before INTEGER NOT NULL, boot TEXT NOT NULL, at INTEGER NOT NULL,"
+    " orders_ended INTEGER NOT NULL);"
+    "INSERT INTO session VALUES (1, 1, '', 0, 0, 0, 0, 1, 0, 0, 0, 0, 0, '', 0, 0)";
 
 const char *const READ =
     "SELECT sender, target, created, report, reject, first, last, heard, spared, settled, doubted_at, doubtful,"
-    " drop_before, boot, at FROM session";
+    " drop_before, boot, at, orders_ended FROM session";
 
 const char *const READ_TURNS =
     "SELECT at, sender, target, report, reject, last, heard, settled, did FROM turns ORDER BY turn";
@@ -84,7 +86,7 @@ void Record::open() {
         Statement version(database_, "PRAGMA user_version");
         Rows rows = version.of();
         const long found = rows.next() ? rows.number(0) : 0;
-        if (found && found != VERSION && found != WITHOUT_TURNS && found != WITHOUT_SWITCHES)
+        if (found && found != VERSION && found != WITHOUT_TURNS && found != WITHOUT_SWITCHES && found != WITHOUT_ENDS)
             database_.fail("it is of another version of the edge");
         if (found && found != VERSION) addTables(found);
         if (found) look(changed);
@@ -98,10 +100,13 @@ void Record::open() {
     sentBefore_ = state_.sender;
 }
 
-/// Gives a record of this version of before the tables that it lacks.
+/// Gives a record of this version of before the tables that it lacks. What rests by it ends with the next day: none of
+/// its members could ask for more.
 void Record::addTables(long version) {
     database_.run(std::string("BEGIN; ") + (version == WITHOUT_TURNS ? TURNS : "") + "; " + SWITCHES +
-                  "; PRAGMA user_version = " + std::to_string(VERSION) + "; COMMIT");
+                  "; ALTER TABLE session ADD COLUMN orders_ended INTEGER NOT NULL DEFAULT " +
+                  std::to_string(std::time(nullptr)) + "; PRAGMA user_version = " + std::to_string(VERSION) +
+                  "; COMMIT");
 }
 
 void Record::make() {
@@ -113,6 +118,7 @@ void Record::make() {
     database_.run(SWITCHES);
     state_ = State();
     const bool tookOver = takeOver(before_, member_, database_, state_);
+    if (tookOver) state_.ordersEnded = std::time(nullptr);  // As of a record of before.
     database_.run("PRAGMA user_version = " + std::to_string(VERSION));
     commit();
     if (tookOver) putAside(before_);
@@ -140,6 +146,7 @@ void Record::look(long changed) {
     state_.doubtedAt = rows.number(10);
     state_.isDoubtful = rows.number(11);
     state_.dropBefore = rows.number(12);
+    state_.ordersEnded = rows.number(15);
     written_ = state_;
     const std::string boot = rows.bytes(13);
     long at = rows.number(14);
@@ -260,13 +267,15 @@ const std::string &Record::createdText() {
 bool Record::isOneRow() const {
     return isOfThisRun_ && state_.created == written_.created && state_.isSpared == written_.isSpared &&
            state_.first == written_.first && state_.doubtedAt == written_.doubtedAt &&
-           state_.isDoubtful == written_.isDoubtful && state_.dropBefore == written_.dropBefore;
+           state_.isDoubtful == written_.isDoubtful && state_.dropBefore == written_.dropBefore &&
+           state_.ordersEnded == written_.ordersEnded;
 }
 
 void Record::writeState() {
     write_.run(state_.sender, state_.target, createdText(), state_.told.report, state_.told.reject, state_.first,
                state_.last, state_.heard, static_cast<long>(state_.isSpared), state_.settled, state_.doubtedAt,
-               static_cast<long>(state_.isDoubtful), state_.dropBefore, boot_, static_cast<long>(std::time(nullptr)));
+               static_cast<long>(state_.isDoubtful), state_.dropBefore, state_.ordersEnded, boot_,
+               static_cast<long>(std::time(nullptr)));
     commit_.run();
     areTablesChanging_ = false;
     isOfThisRun_ = true;

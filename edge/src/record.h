@@ -112,7 +112,7 @@ private:
     Statement write_{database_,
                      "UPDATE session SET sender = ?, target = ?, created = ?, report = ?, reject = ?, first = ?,"
                      " last = ?, heard = ?, spared = ?, settled = ?, doubted_at = ?, doubtful = ?, drop_before = ?,"
-                     " boot = ?, at = ? WHERE rowid = 1"};
+                     " orders_ended = ?, boot = ?, at = ? WHERE rowid = 1"};
 };
 
 }

@@ -1,8 +1,9 @@
 #include "replay.h"
 
 #include <fcntl.h>
-#include <spawn.h>
+#include <sys/prctl.h>
 #include <sys/wait.h>
+#include <unistd.h>
 
 #include <cerrno>
 #include <csignal>
@@ -24,6 +25,27 @@ std::runtime_error failure(const std::string &why) {
     return std::runtime_error("venue-events " + why);
 }
 
+/// Starts a program whose output goes to this descriptor, and which ends with the thread that has started it: whoever
+/// kills the edge leaves none behind. What keeps it from starting is the system's error.
+pid_t started(char *const *words, int out) {
+    const pid_t parent = ::getpid();
+    volatile int fault = 0;  // The child has this memory until it is the other program.
+    sigset_t none;
+    sigemptyset(&none);
+    const pid_t child = ::vfork();
+    if (child == 0) {
+        ::sigprocmask(SIG_SETMASK, &none, nullptr);  // The edge's threads hold signals back.
+        const bool isBound = !::prctl(PR_SET_PDEATHSIG, SIGKILL) && ::getppid() == parent;
+        if (isBound && ::dup2(out, STDOUT_FILENO) >= 0) ::execve(words[0], words, environ);
+        fault = errno;
+        ::_exit(1);
+    }
+    if (child < 0 || !fault) return child;
+    ::waitpid(child, nullptr, 0);
+    errno = fault;
+    return -1;
+}
+
 }
 
 std::size_t reportIn(const char *line, std::size_t size, const std::string &member) {
@@ -34,8 +56,9 @@ std::size_t reportIn(const char *line, std::size_t size, const std::string &memb
     return end < size && !member.compare(0, member.size(), line + at, member.size()) && line[end] == ' ' ? end + 1 : 0;
 }
 
-Replay::Replay(const VenuePlace &venue, const std::string &member) : member_(member) {
-    std::vector<std::string> words{venue.events, venue.journal, "once"};
+Replay::Replay(const VenuePlace &venue, const std::string &member, long after) : member_(member) {
+    std::vector<std::string> words{venue.events, venue.journal, after == ONCE ? "once" : "follow"};
+    if (after > 0) words.insert(words.end(), {"--after", std::to_string(after)});
     words.insert(words.end(), venue.symbols.begin(), venue.symbols.end());
     std::vector<char *> pointers;
     for (std::string &word : words) pointers.push_back(&word[0]);
@@ -44,23 +67,8 @@ Replay::Replay(const VenuePlace &venue, const std::string &member) : member_(mem
     if (::pipe2(ends, O_CLOEXEC)) throw failure("can't be started: " + reason());
     out_.reset(ends[0]);
     const Descriptor in(ends[1]);
-    posix_spawn_file_actions_t actions;
-    posix_spawnattr_t attributes;
-    sigset_t none;
-    sigemptyset(&none);
-    ::posix_spawn_file_actions_init(&actions);
-    ::posix_spawn_file_actions_adddup2(&actions, in.get(), STDOUT_FILENO);
-    ::posix_spawnattr_init(&attributes);
-    ::posix_spawnattr_setsigmask(&attributes, &none);  // The edge's threads hold signals back.
-    ::posix_spawnattr_setflags(&attributes, POSIX_SPAWN_SETSIGMASK);
-    const int fault = ::posix_spawn(&child_, words[0].c_str(), &actions, &attributes, pointers.data(), environ);
-    ::posix_spawn_file_actions_destroy(&actions);
-    ::posix_spawnattr_destroy(&attributes);
-    if (fault) {
-        child_ = -1;
-        errno = fault;
-        throw failure("can't be started: " + reason());
-    }
+    child_ = started(pointers.data(), in.get());
+    if (child_ < 0) throw failure("can't be started: " + reason());
     ::fcntl(out_.get(), F_SETFL, O_NONBLOCK);
 }
 
@@ -80,13 +88,14 @@ bool Replay::hasEnded() {
                                                                   : "signal " + std::to_string(WTERMSIG(status))));
 }
 
-bool Replay::read(const std::function<void(const char *, std::size_t)> &told) {
+bool Replay::read(const Told &told, const Told &seen) {
     if (isOver()) return hasEnded();
     const auto look = in_.look([this](char *piece, std::size_t size) { return ::read(out_.get(), piece, size); });
     if (look == Inbox::Look::Failed) throw failure("can't be read: " + reason());
     for (std::size_t end; (end = in_.bytes().find('\n', in_.at())) != std::string::npos; in_.take(end + 1 - in_.at())) {
         const std::size_t size = end - in_.at(), front = reportIn(in_.data(), size, member_);
         if (front) told(in_.data() + front, size - front);
+        if (seen) seen(in_.data(), size);
     }
     if (look != Inbox::Look::End) return false;
     out_.reset();

@@ -18,8 +18,11 @@ std::size_t reportIn(const char *line, std::size_t size, const std::string &memb
 /// drops it ends the program.
 class Replay {
 public:
-    /// Starts it for a member, as C1.
-    Replay(const VenuePlace &venue, const std::string &member);
+    static constexpr long ONCE = -1;
+
+    /// Starts it for a member, as C1: it ends behind what the journal has. Or it goes on as the journal grows, behind
+    /// so many commands.
+    Replay(const VenuePlace &venue, const std::string &member, long after = ONCE);
     ~Replay();
     Replay(const Replay &) = delete;
     Replay &operator=(const Replay &) = delete;
@@ -30,9 +33,13 @@ public:
     /// Whether no more lines are to come of it, and it hasn't ended: it is to be read again soon, to learn how it ends.
     bool isOver() const { return !out_; }
 
-    /// Reads once what there is, and calls `told` with each report: its line, with a bar behind each field. Whether the
-    /// program has ended behind its last line; throws a std::runtime_error where it can't read the journal.
-    bool read(const std::function<void(const char *, std::size_t)> &told);
+    /// What is called with a line, or a part of one.
+    using Told = std::function<void(const char *, std::size_t)>;
+
+    /// Reads once what there is, and calls `told` with each report: its line, with a bar behind each field; and `seen`,
+    /// where there is such a one, with each whole line. Whether the program has ended behind its last line; throws a
+    /// std::runtime_error where it can't read the journal.
+    bool read(const Told &told, const Told &seen = nullptr);
 
 private:
     bool hasEnded();

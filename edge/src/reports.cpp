@@ -14,6 +14,7 @@ using FIX::Message;
 namespace FIELD = FIX::FIELD;
 
 const char *const SAID_BY_EDGE = "edge: ";
+const char *const ENDED = "the day has ended";
 const char *const LOST = "EL";  // So begins the ExecID of a report of a lost request, with its number behind.
 
 Message made(const char *type) {
@@ -89,6 +90,7 @@ Message Reports::executionOf(const Fields &report) const {
     it.setField(FIELD::ExecType, report.text(150));
     it.setField(FIELD::LeavesQty, report.text(151));
     if (report.has(32) && !lastCapacity_.empty()) it.setField(FIELD::LastCapacity, lastCapacity_);
+    if (report.byte(150) == '4' && report.has(41) && names_.is(report.number(11), Names::Kind::Expiry)) expire(it);
     return it;
 }
 
@@ -102,6 +104,15 @@ Message Reports::rejectOf(const Fields &report) const {
     it.setField(FIELD::CxlRejReason, report.text(102));
     it.setField(FIELD::CxlRejResponseTo, report.text(434));
     return it;
+}
+
+/// What is Day ends by itself, as its member sees it: no cancel of that was asked for.
+void Reports::expire(Message &it) const {
+    it.setField(FIELD::ClOrdID, it.getField(FIELD::OrigClOrdID));
+    it.removeField(FIELD::OrigClOrdID);
+    it.setField(FIELD::ExecType, "C");
+    it.setField(FIELD::OrdStatus, "C");
+    it.setField(FIELD::Text, std::string(SAID_BY_EDGE) + ENDED);
 }
 
 /// A number that no report of the venue has, and none of the edge before.

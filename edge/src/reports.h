@@ -42,6 +42,7 @@ public:
 private:
     FIX::Message executionOf(const Fields &report) const;
     FIX::Message rejectOf(const Fields &report) const;
+    void expire(FIX::Message &it) const;
     FIX::Message massRefusal(const FIX::Message &asked, int reason, const std::string &text) const;
     std::string priceOf(const std::string &symbol, long steps) const;
     void copyPrice(const FIX::Message &asked, FIX::Message &told, const std::string &symbol) const;

@@ -10,6 +10,7 @@
 #include <vector>
 
 #include "log.h"
+#include "order_limits.h"
 #include "schedule.h"
 #include "ticks.h"
 
@@ -37,6 +38,7 @@ struct Limits {
     bool cancelOnDisconnect, mayReset;
     std::set<int> dropped;     // Fields of orders that the venue doesn't have, and that are left out in silence.
     std::string lastCapacity;  // What LastCapacity (29) of a fill says; empty: it isn't there.
+    OrderLimits orders;
 };
 
 /// A member of the venue, and the session that it has at the edge.
@@ -68,7 +70,7 @@ struct Settings {
     std::uint64_t diskReserve;  // Bytes that have to be free for a new order to be taken.
     LogBounds log;              // Of messages, and as much of events.
     std::uint64_t folderBytes;  // As many bytes in the folders are the most with which a new order is taken.
-    Schedule hours;             // When the member's session begins and ends.
+    Schedule hours, dayEnds;    // When the member's session begins and ends, and when what is Day does.
     MemberSettings member;
 };
 

@@ -25,6 +25,7 @@ struct State {
     long doubtedAt = 0;  // Names may be missing of what the member sent before this second; 0: none.
     bool isDoubtful = false;  // And the member has sent nothing since but what it says to be sent again.
     long dropBefore = 0;      // Names of finished requests of before this second may go; 0: none.
+    long ordersEnded = 0;     // The last end of a day by which what is Day was ended; 0: there was none.
 };
 
 }

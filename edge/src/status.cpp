@@ -19,6 +19,15 @@ bool waits(int fd, int milliseconds) {
     return ::poll(&it, 1, milliseconds) > 0;
 }
 
+/// How many requests each limit has refused, of those that have refused any.
+std::string refusalsOf(const Member &member) {
+    std::string words;
+    for (const Limit limit : ALL_LIMITS)
+        if (const long count = member.refusalsBy(limit))
+            words += std::string(words.empty() ? " (" : ", ") + std::to_string(count) + " by " + nameOf(limit);
+    return words.empty() ? words : words + ")";
+}
+
 }
 
 std::string statusOf(const Member &member) {
@@ -27,10 +36,10 @@ std::string statusOf(const Member &member) {
     std::ostringstream line;
     line << member.settings().name() << " (" << member.settings().session.getTargetCompID().getString()
          << "): " << wordsOf(member.state()) << ", " << (member.isLoggedOn() ? "logged on" : "away") << ", "
-         << counts.requests << " requests, " << counts.refusals << " refused by the edge, " << counts.reports
-         << " reports, the last " << counts.lastReport << ", " << counts.openOrders << " open orders, "
-         << member.unsent() << " bytes not taken, numbers since " << timeOf(member.dayBegan())
-         << (off.empty() ? "" : ", ") << off;
+         << counts.requests << " requests, " << counts.refusals << " refused by the edge" << refusalsOf(member) << ", "
+         << counts.reports << " reports, the last " << counts.lastReport << ", " << counts.openOrders
+         << " open orders worth " << textOf(member.openValue()) << ", " << member.unsent()
+         << " bytes not taken, numbers since " << timeOf(member.dayBegan()) << (off.empty() ? "" : ", ") << off;
     return line.str();
 }
 
@@ -74,12 +83,16 @@ std::string StatusPage::figures() const {
          << "gikvand_edge_refusals_total" << member << counts.refusals << "\n"
          << "gikvand_edge_reports_total" << member << counts.reports << "\n"
          << "gikvand_edge_open_orders" << member << counts.openOrders << "\n"
+         << "gikvand_edge_open_value" << member << textOf(member_.openValue()) << "\n"
          << "gikvand_edge_day_began_seconds" << member << member_.dayBegan() << "\n"
          << "gikvand_edge_unsent_bytes" << member << member_.unsent() << "\n"
          << "gikvand_edge_stopped" << member << member_.switches().showsStopped() << "\n";
     for (const auto &it : member_.switches().shownHalted())
         page << "gikvand_edge_halted{member=\"" << member_.settings().name() << "\",symbol=\"" << it.first << "\"} "
              << it.second << "\n";
+    for (const Limit limit : ALL_LIMITS)
+        page << "gikvand_edge_limit_refusals_total{member=\"" << member_.settings().name() << "\",limit=\""
+             << nameOf(limit) << "\"} " << member_.refusalsBy(limit) << "\n";
     return page.str();
 }
 

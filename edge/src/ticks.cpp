@@ -45,15 +45,16 @@ Tick::Tick(const std::string &text) : text_(text), decimals_(0), mantissa_(0) {
     const std::size_t point = text.find('.');
     decimals_ = point == std::string::npos ? 0 : static_cast<int>(text.size() - point - 1);
     if (decimals_ > DECIMALS) throw std::invalid_argument("a step of more than nine decimals: " + text);
+    step_ = value;
     mantissa_ = static_cast<long>(value / power(DECIMALS - decimals_));
     if (mantissa_ > std::numeric_limits<long>::max() / MOST)
         throw std::invalid_argument("too great a step of so many decimals: " + text);
 }
 
 long Tick::stepsOf(const std::string &price) const {
-    const long long value = billionths(price), step = mantissa_ * power(DECIMALS - decimals_);
-    if (value <= 0 || value % step || value / step > MOST) return 0;
-    return static_cast<long>(value / step);
+    const long long value = billionths(price);
+    if (value <= 0 || value % step_ || value / step_ > MOST) return 0;
+    return static_cast<long>(value / step_);
 }
 
 std::string Tick::priceOf(long steps) const {

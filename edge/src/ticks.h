@@ -2,6 +2,8 @@
 
 #include <string>
 
+#include "money.h"
+
 namespace edge {
 
 /// The most of a price and of a quantity that the venue takes.
@@ -20,12 +22,16 @@ public:
     /// std::invalid_argument.
     std::string priceOf(long steps) const;
 
+    /// What so many come to at a price of so many steps.
+    Money valueOf(long steps, long quantity) const { return static_cast<Money>(step_) * steps * quantity; }
+
     const std::string &text() const { return text_; }
 
 private:
     std::string text_;
     int decimals_;
     long mantissa_;
+    long long step_ = 0;  // In billionths.
 };
 
 /// A quantity of FIX as a whole number, as 100 or 100.00: 0 where it is none, or isn't whole, or above what the venue

@@ -5,6 +5,7 @@
 
 #include <algorithm>
 #include <ctime>
+#include <iterator>
 
 #include "lines.h"
 #include "seconds.h"
@@ -47,6 +48,9 @@ Trader::Trader(const Settings &settings, const MemberSettings &member, Record &r
       reports_(settings.ticks, names, member.limits.lastCapacity),
       cancels_(names, link),
       switches_(record, settings.venue.symbols),
+      exposure_(settings.ticks),
+      market_(settings.ticks, member.limits.orders.desks),
+      limiter_(member.limits.orders, settings.ticks, exposure_, market_),
       rate_(member.limits.messagesPerSecond),
       room_(settings.folder, settings.diskReserve),
       quota_({settings.folder, settings.logFolder}, settings.folderBytes) {}
@@ -89,13 +93,20 @@ void Trader::pass(const FIX::Message &message) {
             massCancel(message, it);
             return;
         }
-        needAllowed(it);
-        needRoom(it);
-        if (it.isOrder()) needFewOrders();
-        passOn(it, originalOf(it));
+        passWhereAllowed(it);
     } catch (const Refused &why) {
         refuse(message, head, why);
     }
+}
+
+/// Passes a request on for which there is room, and which neither an operator nor a limit is against.
+void Trader::passWhereAllowed(const Request &it) {
+    needAllowed(it);
+    needRoom(it);
+    if (it.isOrder()) needFewOrders();
+    const long original = originalOf(it);
+    if (it.mayRest()) needWithinLimits(it, original);
+    passOn(it, original);
 }
 
 /// Whether its engine says that it may have sent this before.
@@ -119,9 +130,11 @@ void Trader::needSure(const FIX::Message &message) const {
 void Trader::passOn(const Request &it, long original) {
     if (!hasNumber()) throw Refused(OTHER, "the venue takes no greater number");
     const std::string time = timeNow();
-    const long number = names_.add(it.name, Names::Kind::Request);
+    const long number = names_.add(it.name, it.isGoodTillCancel() ? Names::Kind::GoodTillCancel : Names::Kind::Request);
     const char type[] = {it.type, '\0'};
     Request &sent = underWay_[number] = it;
+    sent.time = time;
+    if (it.mayRest()) exposure_.sent(number, original, it, limiter_.priceOf(it));
     sent.sequence = link_.send(type, bodyFor(it, number, original, time), time);
     if (underWay_.size() >= member_.limits.underWay) heardAt_ = Bucket::Clock::now();
 }
@@ -148,7 +161,8 @@ void Trader::needFewUnderWay(const Request &it) const {
 
 /// While the venue answers nothing for long its member is read all the same, for its heartbeats.
 bool Trader::isBusy() const {
-    return isReady_ && underWay_.size() >= member_.limits.underWay && Bucket::Clock::now() - heardAt_ < PATIENCE;
+    const bool waits = underWay_.size() >= member_.limits.underWay || isInDoubt() || cancels_.isEndOwed();
+    return isReady_ && waits && Bucket::Clock::now() - heardAt_ < PATIENCE;
 }
 
 void Trader::needRoom(const Request &it) {
@@ -161,6 +175,30 @@ void Trader::needAllowed(const Request &it) const {
     if (!it.mayRest()) return;
     if (switches_.isStopped()) throw Refused(CLOSED, "the operator has stopped this member");
     if (switches_.isHalted(it.symbol)) throw Refused(CLOSED, "the operator has halted " + it.symbol);
+    if (cancels_.isEndOwed()) throw Refused(CLOSED, "the day has ended, and its orders aren't cancelled yet");
+}
+
+/// What a limit refuses has no number yet, so the venue never hears of it.
+void Trader::needWithinLimits(const Request &it, long original) {
+    if (isInDoubt()) limiter_.refuseUnknown(it);
+    limiter_.judge(it, original);
+    const bool isTaken = it.isOrder() || (it.mayStay() && exposure_.isOf(original, it));  // The venue refuses others.
+    if (isTaken && member_.limits.orders.selfTrade == SelfTrade::CancelOld) cancelCrossed(it);
+}
+
+/// Cancels the member's own orders that this one would trade with. The venue takes these cancels first, as it takes a
+/// member's requests in their order.
+void Trader::cancelCrossed(const Request &it) {
+    const char other = it.side == '1' ? '2' : '1';
+    Cancels::Orders crossed;
+    for (const long number : exposure_.crossedBy(it.symbol, it.side, it.price))
+        crossed[number] = {"", it.symbol, other, false, ""};
+    cancels_.send(crossed);
+}
+
+/// Whether what is open has to be known, and the venue hasn't said what it has taken of before.
+bool Trader::isInDoubt() const {
+    return limiter_.limits().needsOpen() && record_.state().settled < doubtTo_;
 }
 
 bool Trader::hasRoom() {
@@ -199,6 +237,9 @@ void Trader::beginRecovery() {
     lacking_ = 0;
     open_.clear();
     underWay_.clear();
+    exposure_.clear();
+    market_.clear();
+    doubtTo_ = 0;
     cancels_.venueLost();
 }
 
@@ -258,6 +299,8 @@ void Trader::take(const Fields &report) {
     const bool isBehind = isBehindTold(report);
     if (underWay_.erase(number)) heardAt_ = Bucket::Clock::now();
     if (type == '8' && (isBehind || isRecovering_)) open_.take(report);
+    if (isBehind || isRecovering_) exposure_.take(report);
+    market_.take(report);
     if (isBehind) tell(report);
     if (isNamed) names_.answered(number);  // Behind what a probe's answer tells of those before it.
     if (isReady_) sweepOwed();
@@ -286,9 +329,9 @@ bool Trader::isBehindTold(const Fields &report) {
 void Trader::tell(const Fields &report) {
     const bool isExecution = report.byte(35) == '8';
     const long number = report.number(isExecution ? 17 : 11);
-    if (!isExecution && names_.isProbe(number)) {
+    if (!isExecution && names_.is(number, Names::Kind::Probe)) {
         tellLost(number);
-    } else {
+    } else if (isExecution || !names_.is(number, Names::Kind::Expiry)) {  // Else its order had an end of its own.
         FIX::Message message = reports_.of(report);
         send(message);
         counts_.reports++;
@@ -316,6 +359,7 @@ void Trader::rejected(const Fields &reject) {
         tellLost(it->first,
                  "the venue rejected field " + reject.text(371) + " of this request, by reason " + reject.text(373));
         names_.strike(it->first);
+        exposure_.dropped(it->first);
         underWay_.erase(it);
         return;
     }
@@ -328,6 +372,8 @@ void Trader::probe() {
     const std::string time = timeNow();
     link_.send("F", probeFor(settings_.venue.symbols[0], number, time), time);
     cancels_.probed(number);
+    doubtTo_ = number;
+    heardAt_ = Bucket::Clock::now();
 }
 
 void Trader::left() {
@@ -344,8 +390,20 @@ void Trader::isBack() {
 std::map<long, OpenOrder> Trader::orders() const {
     std::map<long, OpenOrder> orders = open_.all();
     for (const auto &it : underWay_)
-        if (it.second.type != 'F') orders[it.first] = {"", it.second.symbol, it.second.side, false};
+        if (it.second.type != 'F') orders[it.first] = {"", it.second.symbol, it.second.side, false, it.second.time};
     return orders;
+}
+
+/// Those of them that are Day: so is each that isn't known to be asked for otherwise. What a wrong clock has sent in
+/// the days to come counts as sent before all ends.
+std::map<long, OpenOrder> Trader::dayOrders() {
+    const std::string latest = timeOf(std::time(nullptr) + Schedule::DAY);
+    std::map<long, OpenOrder> all = orders();
+    for (auto it = all.begin(); it != all.end();) {
+        if (it->second.sent > latest) it->second.sent.clear();
+        it = names_.is(it->first, Names::Kind::GoodTillCancel) ? all.erase(it) : std::next(it);
+    }
+    return all;
 }
 
 void Trader::cancelAll() {
@@ -360,7 +418,7 @@ void Trader::cancelAll() {
 
 /// Sends a cancel for each order of a sweep: how many.
 std::size_t Trader::sweep(Sweep &it) {
-    const std::map<long, OpenOrder> all = orders();
+    const std::map<long, OpenOrder> all = it.isOfDay() ? dayOrders() : orders();
     if (names_.last() + static_cast<long>(all.size()) + BESIDE > Names::GREATEST)
         throw Refused(OTHER, "the venue takes no greater number");
     return cancels_.begin(it, all);
@@ -374,23 +432,34 @@ Sweep Trader::cancelEach() {
 
 /// Tells the member how many cancels go to the venue for its mass cancel: each is answered by a report of its own.
 void Trader::massCancel(const FIX::Message &message, const Request &it) {
-    Sweep those{it.symbol, it.side, it.name};
+    Sweep those{it.symbol, it.side, it.name, ""};
     const std::size_t count = sweep(those);
     FIX::Message told = reports_.massCancelled(message, names_.add(it.name, Names::Kind::MassCancel), count);
     send(told);
 }
 
+/// Sends the cancels of a sweep that nobody waits for, and says so.
+void Trader::carryOut(Sweep &it) {
+    try {
+        const std::string count = std::to_string(sweep(it));
+        if (count == "0") return;
+        say(member_.name(), it.isOfDay() ? "the day has ended: cancels " + count + " orders that are Day"
+                                         : "cancels " + count + " orders, as was asked for before");
+    } catch (const Refused &why) {
+        say(member_.name(), std::string("orders stay that were to be cancelled: ") + why.what());
+    }
+}
+
 /// Sends anew what is owed of sweeps, where the venue has answered all that was sent before.
 void Trader::sweepOwed() {
     cancels_.answered(record_.state().settled);
-    for (Sweep &it : cancels_.takeOwed(record_.state().settled)) {
-        try {
-            const std::size_t count = sweep(it);
-            if (count) say(member_.name(), "cancels " + std::to_string(count) + " orders, as was asked for before");
-        } catch (const Refused &why) {
-            say(member_.name(), std::string("orders stay that were to be cancelled: ") + why.what());
-        }
-    }
+    for (Sweep &it : cancels_.takeOwed(record_.state().settled)) carryOut(it);
+}
+
+void Trader::endDay(const std::string &end) {
+    Sweep it;
+    it.end = end;
+    carryOut(it);
 }
 
 std::string Trader::restsOf(const Sweep &it) {

@@ -11,6 +11,9 @@
 
 #include "bucket.h"
 #include "cancels.h"
+#include "exposure.h"
+#include "limiter.h"
+#include "market.h"
 #include "names.h"
 #include "open_orders.h"
 #include "orders.h"
@@ -47,6 +50,9 @@ public:
     void spare() { record_.change().isSpared = true; }
     void isBack();
 
+    /// Cancels what is Day and went to the venue before this end of a day. The venue is there, and has told what rests.
+    void endDay(const std::string &end);
+
     /// Cancels all orders that rest or are under way, as a sweep which is over once the venue has answered that.
     /// Refused where the venue takes no more.
     Sweep cancelEach();
@@ -65,6 +71,13 @@ public:
     /// The journal is to be read, from its beginning on.
     void beginRecovery();
     void recovered(const char *line, std::size_t size);
+
+    /// What the venue tells all members, line by line, where the limits of this one need that; and how many commands of
+    /// the journal were told so.
+    bool needsMarket() const { return limiter_.limits().needsMarket(); }
+    void seen(const char *line, std::size_t size) { market_.take(line, size); }
+    long seenCommands() const { return market_.commands(); }
+
     void endRecovery(bool hasClient);
 
     /// A message of the venue. It waits until what the journal tells has been taken in, which stands before it.
@@ -79,7 +92,8 @@ public:
     /// Whether requests go to the venue.
     bool isReady() const { return isReady_; }
 
-    /// Whether as many requests as may be wait for the venue, which answers: no more are read until it has.
+    /// Whether as many requests as may be wait for the venue, which answers, or an end of a day does: no more are read
+    /// until it has.
     bool isBusy() const;
 
     /// Whether the disk and the bounds of its folders have room for new orders.
@@ -93,6 +107,8 @@ public:
     void clearFault() { fault_.clear(); }
 
     const Counts &counts() const { return counts_; }
+    const Exposure &exposure() const { return exposure_; }
+    const Limiter &limiter() const { return limiter_; }
 
 private:
     void pass(const FIX::Message &message);
@@ -103,10 +119,16 @@ private:
     void needFewUnderWay(const Request &it) const;
     void needFewOrders();
     void needAllowed(const Request &it) const;
+    void needWithinLimits(const Request &it, long original);
+    void cancelCrossed(const Request &it);
+    bool isInDoubt() const;
     void massCancel(const FIX::Message &message, const Request &it);
     std::size_t sweep(Sweep &it);
+    void carryOut(Sweep &it);
     std::map<long, OpenOrder> orders() const;
+    std::map<long, OpenOrder> dayOrders();
     void sweepOwed();
+    void passWhereAllowed(const Request &it);
     void passOn(const Request &it, long original);
     static bool isSentAgain(const FIX::Message &message);
     void refuse(const FIX::Message &message, const Request &it, const Refused &why);
@@ -134,8 +156,11 @@ private:
     OpenOrders open_;
     Cancels cancels_;
     Switches switches_;
+    Exposure exposure_;
+    Market market_;
+    Limiter limiter_;
     std::map<long, Request> underWay_;   // Requests that no report has answered yet.
-    Bucket::Clock::time_point heardAt_;  // When the venue answered last, or had as many requests as may be.
+    Bucket::Clock::time_point heardAt_;  // When the venue answered last, or had what is waited for.
     Bucket rate_;
     std::vector<std::string> held_;  // Messages of the venue, until the journal has been read.
     std::size_t heldBytes_ = 0;
@@ -146,6 +171,7 @@ private:
     Quota quota_;
     bool hasRoom_ = true;
     long lacking_ = 0;  // So many requests that the journal has are none of the names.
+    long doubtTo_ = 0;  // Until this one is answered nobody knows what the venue has taken of before; 0: all is known.
     Counts counts_;
 };
 

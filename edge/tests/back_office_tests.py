@@ -9,7 +9,9 @@ import sys
 
 from differential import SHORT, Run, told_by, wanted_of
 from edges import JOURNAL, NAMES, ROOT, SYMBOLS, Trouble
+from engines import at_rest
 from gikvand.fix import fields_of
+from market import Market
 from trading_tests import expect
 
 REQUESTS = SHORT // 3
@@ -76,4 +78,15 @@ def test_back_office():
     expect(len(list(csv.DictReader(gikvand("trades", JOURNAL, "--csv")[1]))), len(rows))
 
 
-TESTS = [test_back_office]
+def test_ended_order():
+    """An order that has expired: to the venue that is a cancel by the edge, so a log with it is right, and lacks that report."""
+    market = Market("2030-01-01 21:59:00", hours={"DayEndTime": "22:00:00"})
+    one = at_rest(market.port, "a")
+    market.clock.put("2030-01-01 22:00:00")
+    one.report(_150="C", _11="a")
+    expect(verified(1, logged("member.log", one.history)), (1, 1))
+    came = [fields_of(line) for line in gikvand("reports", JOURNAL, "C1")[1]]
+    expect([(it["150"], it["11"].rpartition("-")[0], it.get("41")) for it in came], [("0", "", None), ("4", "edge-expiry", "a")])
+
+
+TESTS = [test_back_office, test_ended_order]

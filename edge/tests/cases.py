@@ -1,9 +1,12 @@
 """The cases of a member's test day: what its people are asked to do, and what its engine has to do then."""
-from edges import NAMES
+import time
+
+from edges import NAMES, Edge
 from engines import Engine, order
 from gikvand.fix import fields_of, value
 
 MEMBER, OTHER = 1, 2
+SOON = 2  # Seconds behind a start of the edge, in which the day ends.
 
 
 class Failed(Exception):
@@ -11,12 +14,13 @@ class Failed(Exception):
 
 
 class Day:
-    """A member's test day: the relay that its engine connects to, and the other side of its trades."""
+    """A member's test day: the relay that its engine connects to, the edge behind that, and the other side of its trades."""
 
-    def __init__(self, relay, edge_port, patience, ask):
-        self.relay, self.patience, self.ask = relay, patience, ask
+    def __init__(self, relay, edge, edge_port, patience, ask):
+        self.relay, self.edge, self.patience, self.ask = relay, edge, patience, ask
         self.other = Engine(edge_port, OTHER).log_on()
         self.names, self.at, self.told_at, self.looked_at, self.trades = [], 0, 0, 0, 0
+        self.name_of_day = None
 
     def mark(self):
         """What is said from now on belongs to the next case."""
@@ -46,6 +50,16 @@ class Day:
         self.other.send("D", order(f"t{self.trades}", 2, quantity, price))
         self.other.report(_150="F", _11=f"t{self.trades}")
 
+    def end(self):
+        """Lets the day end: the edge is started again by settings that say so."""
+        self.edge.stop()
+        with open("edge.cfg", encoding="ascii") as file:
+            settings = file.read()
+        at = time.strftime("%H:%M:%S", time.gmtime(time.time() + SOON))
+        self.edge = Edge(settings.replace("[DEFAULT]", f"[DEFAULT]\nDayEndTime={at}", 1)).ready(len((MEMBER, OTHER)))
+        self.other.close()
+        self.other.log_on()
+
     def no_protest(self):
         """The member hasn't rejected what it was told since this was last asked."""
         looked_at, self.looked_at = self.looked_at, len(self.relay.said)
@@ -71,11 +85,13 @@ class Day:
             if came != wants and not (tag in ("_38", "_44") and came and float(came) == float(wants)):
                 raise Failed(f"the field {tag[1:]} is {came}, and not {wants}")
 
-    def asks_for_order(self, quantity, symbol, price, event="0"):
-        """Asks for an order, and looks at it and at its answer: its name."""
-        self.ask(f"buy {quantity} {symbol} {price}")
+    def asks_for_order(self, quantity, symbol, price, event="0", terms=(None, "0"), word=""):
+        """Asks for an order, and looks at it and at its answer: its name. Its TimeInForce is one of these."""
+        self.ask(f"buy {quantity} {symbol} {price}{word}")
         it = self.said("D", "no order came")
         self.has(it, _55=symbol, _54="1", _38=str(quantity), _44=price, _40="2")
+        if it.get("59") not in terms:
+            raise Failed(f"the field 59 is {it.get('59')}, and not {terms[-1]}")
         name = self.new_name(it)
         self.told("the order wasn't answered as it should be: see the field 58 of the answer", _11=name, _150=event)
         return name
@@ -134,6 +150,30 @@ def refused_cancel(day):
     day.told("the cancel wasn't refused", _35="9", _11=day.new_name(it))
 
 
+def limited_order(day):
+    """send an order that a limit refuses: its quantity is above the greatest one, 1000"""
+    day.no_protest()
+    name = day.asks_for_order(1001, "ABC", "50", "8")
+    day.told("the refusal wasn't by the limit", _11=name, _103="3")
+
+
+def limited_price(day):
+    """send an order that a limit refuses: its price is outside of the collar, 50 per cent round the last trade"""
+    day.no_protest()
+    name = day.asks_for_order(10, "ABC", "80", "8")
+    day.told("the refusal wasn't by the limit", _11=name, _103="3")
+
+
+def limited_replace(day):
+    """send an order, and a replace of it that a limit refuses, so that the order rests on"""
+    day.no_protest()
+    name = day.asks_for_order(10, "ABC", "30")
+    day.ask("replace 1001 ABC 30")
+    it = day.said("G", "no OrderCancelReplaceRequest came")
+    day.has(it, _41=name, _38="1001", _44="30", _55="ABC", _54="1")
+    day.told("the replace wasn't refused", _35="9", _11=day.new_name(it), _102="2", _434="2")
+
+
 def gap(day):
     """notice that a message was lost on its way to you, and ask for it again"""
     day.no_protest()
@@ -187,6 +227,27 @@ def cut_in_a_fill(day):
     day.told("the missed fill wasn't told: did the engine ask for it by a ResendRequest?", _11=name, _150="F", _39="2")
 
 
+def good_till_cancel(day):
+    """send an order for the day, and one that is good till it is cancelled"""
+    day.no_protest()
+    day.name_of_day = day.asks_for_order(10, "ABC", "30")
+    day.mark()
+    day.asks_for_order(20, "ABC", "30", terms=("1",), word=" gtc")
+
+
+def day_end(day):
+    """be told that the one has expired when its day ends, and cancel the other one"""
+    day.ask("come back")
+    day.end()
+    day.said("A", "the engine didn't come back")
+    day.told("the end of the order wasn't told", _11=day.name_of_day, _150="C", _39="C")
+    day.ask("cancel ABC")
+    it = day.said("F", "no OrderCancelRequest came")
+    day.no_protest()
+    day.has(it, _41=day.last_name(), _55="ABC", _54="1")
+    day.told("the cancel wasn't taken: see the field 58 of the answer", _11=day.new_name(it), _150="4")
+
+
 def heartbeat(day):
     """do nothing, for the time of two heartbeats"""
     day.no_protest()
@@ -207,5 +268,6 @@ def logout(day):
     day.told("the Logout wasn't answered", _35="5")
 
 
-CASES = [logon, new_order, partial_fill, replaced, cancelled, refused_order, refused_cancel, gap, own_gap,
-         cut_in_a_fill, heartbeat, logout]
+LIMITS = {"MaxOrderQuantity": "1000", "PriceCollar": "50%", "ReferencePrices": "ABC:50"}  # Of each member of the day.
+CASES = [logon, new_order, partial_fill, replaced, cancelled, refused_order, refused_cancel, limited_order, limited_price,
+         limited_replace, gap, own_gap, cut_in_a_fill, good_till_cancel, day_end, heartbeat, logout]

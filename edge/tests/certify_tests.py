@@ -6,9 +6,9 @@ import threading
 import time
 
 from edges import ROOT, Trouble, free_port, running
-from engines import Engine, cancel, order, replace
+from engines import GTC, Engine, cancel, order, replace
 from gikvand.fix import value
-from tradeclients import TradeClient
+from tradeclients import DAY, GTC as GTC_OF_STOCK, TradeClient
 from trading_tests import expect
 
 CERTIFY = os.path.join(ROOT, "edge/certify")
@@ -57,13 +57,13 @@ def test_tradeclient():
         if word in ("buy", "replace", "cancel"):
             names.append(f"certify-{len(names)}")
         if word == "buy":
-            client[0].order(names[-1], 1, *(rest[0], rest[2], rest[1]))
+            client[0].order(names[-1], 1, *(rest[0], rest[2], rest[1]), term=GTC_OF_STOCK if "gtc" in rest else DAY)
         if word == "replace":
             client[0].replace(names[-1], names[-2], 1, rest[0], rest[2], rest[1])
         if word == "cancel":
             client[0].cancel(names[-1], names[-2], 1, 90, rest[0])
 
-    expect((played(day, acts), day.lines[-1]), (0, "certified: 12 cases passed"))
+    expect((played(day, acts), day.lines[-1]), (0, "certified: 17 cases passed"))
 
 
 class Desk(threading.Thread):
@@ -85,6 +85,8 @@ class Desk(threading.Thread):
             self.engine.send("3", f"45={value(it, '34')}|58=never heard of it|")
         if self.fault == "rejects all" and value(it, "150") == "5":
             self.engine.send("3", f"45={value(it, '34')}|58=what|")
+        if self.fault == "rejects ends" and value(it, "150") == "C":
+            self.engine.send("3", f"45={value(it, '34')}|58=no end|")
 
     def sends_again(self, first):
         if self.fault != "no resend":
@@ -137,7 +139,7 @@ class Desk(threading.Thread):
         if word == "buy":
             side = 2 if fault == "other side" and rest[1] == "NONE" else 1
             price = str(float(rest[2]) + 1) if fault == "other price" else rest[2]
-            self.engine.send("D", order(new, side, rest[0], price, rest[1]))
+            self.engine.send("D", order(new, side, rest[0], price, rest[1], GTC if "gtc" in rest and fault != "all day" else ""))
         if word == "replace":
             self.engine.send("G", replace(new, old, 1, rest[0], rest[2], rest[1]))
         if word == "cancel":
@@ -151,7 +153,8 @@ FAULTS = {  # What an engine does wrong, and what the line of a case that it fai
     "cancels another side": "cancelled: failed: the field 54", "no gap": "gap: failed: the engine didn't ask",
     "no resend": "own gap: failed: the engine answered", "begins anew": "cut in a fill: failed",
     "stays away": "cut in a fill: failed: the engine didn't come back", "no heartbeat": "heartbeat: failed",
-    "no logout": "logout: failed",
+    "no logout": "logout: failed", "all day": "good till cancel: failed: the field 59",
+    "rejects ends": "day end: failed: the engine rejected what it was told: no end",
 }
 
 

@@ -9,6 +9,11 @@ from edges import Trouble
 LIBRARIES = "/usr/lib/*/faketime/libfaketimeMT.so.1"
 
 
+def seconds_of(text):
+    """The second that this is, of UTC, behind the beginning of 1970."""
+    return calendar.timegm(time.strptime(text, "%Y-%m-%d %H:%M:%S"))
+
+
 class Clock:
     """What the edge takes for the time. Waits are as long as they are: the clock that only goes on isn't changed."""
 
@@ -26,7 +31,7 @@ class Clock:
 
     def put(self, text):
         """Puts it forward or back, for all that go by it, at once."""
-        ahead = calendar.timegm(time.strptime(text, "%Y-%m-%d %H:%M:%S")) - time.time()
+        ahead = seconds_of(text) - time.time()
         with open(self.path + ".new", "w", encoding="ascii") as file:
             file.write(f"{ahead:+.6f}\n")
         os.replace(self.path + ".new", self.path)

@@ -7,9 +7,9 @@ import socket
 
 from canonical_tests import until
 from edges import HOST, PATIENCE, Client, again, await_that, copied, freeze, path_of, rows
-from engines import at_rest, order
+from engines import GTC, order
 from gikvand.fix import value
-from market import BEGUN, SELLER, Market, await_heard, is_caught_up, kept, leave, of_journal, places
+from market import BEGUN, SELLER, Market, at_rest_for_long, await_heard, is_caught_up, kept, leave, of_journal, places
 from trading_tests import expect
 
 
@@ -17,14 +17,14 @@ def test_through_the_day():
     """Fills before the end of a day, at it and behind it, of a member that is there and one that is away: each is told
     once, in order, with numbers of the day that it is told in. The one that is there is logged out in words."""
     market = Market("2030-01-01 23:59:00", 2)
-    one, two = at_rest(market.port, "a", 5), at_rest(market.port, "b", 9, 2)
+    one, two = at_rest_for_long(market.port, "a", 5), at_rest_for_long(market.port, "b", 9, 2)
     market.sell(5)
     for _ in range(5):
         one.report(_150="F")
     leave(market, two, 2)
     market.sell(2)
     await_that("both are stored", lambda: kept(2)["report"] == of_journal(2)[-1])
-    one.send("D", order("c", 1, 9, "50.25"))
+    one.send("D", order("c", 1, 9, "50.25", more=GTC))
     one.report(_150="0", _11="c")
     came = market.new_day("2030-01-02 00:00:00", 1, 2)
     expect(came, {1: BEGUN, 2: f"{BEGUN}, and 2 reports that it wasn't sent are told again"})
@@ -45,7 +45,7 @@ def test_through_the_day():
 def test_at_the_end():
     """What waits to be read when the day ends is told behind it: with the new numbers, and as new."""
     market = Market("2030-01-01 21:59:00", hours={"StartTime": "22:00:00", "EndTime": "22:00:00"})
-    one = at_rest(market.port, "a", 9)
+    one = at_rest_for_long(market.port, "a", 9)
     market.sell()
     one.report(_150="F")
     process = market.edge.process_of(1)
@@ -65,7 +65,7 @@ def test_held_up_at_the_end():
     """A day ends while what a client has sent waits for its turn to be read: the client is let go, and the process that
     serves its member goes on."""
     market = Market("2030-01-01 23:59:00", MaxReadMessagesPerSecond="100")
-    one, process = at_rest(market.port, "a"), market.edge.process_of(1)
+    one, process = at_rest_for_long(market.port, "a"), market.edge.process_of(1)
     freeze(process)
     for at in range(50):  # They are read at once, and one in a second is passed on, since each is answered.
         one.send("1", f"112=t{at}|")
@@ -81,7 +81,7 @@ def test_stream():
     """Fills come one behind the other while the clock goes over the end of a day: each is told once, in order, and none
     that was sent before the end has a number of the new day."""
     market = Market("2030-01-01 12:00:00", 2)
-    one, two = at_rest(market.port, "a", 900), at_rest(market.port, "b", 1000000, 2)
+    one, two = at_rest_for_long(market.port, "a", 900), at_rest_for_long(market.port, "b", 1000000, 2)
     leave(market, two, 2)
     market.clock.put("2030-01-01 23:59:59")
     while len(market.lines("a new day")) < 2:
@@ -100,7 +100,7 @@ def test_down_over_the_end():
     """The edge is down when a day ends: what was stored and not sent, and what came meanwhile, is told in the new one.
     So it is behind a weekend of ends. Each reset is done once."""
     market = Market("2030-01-01 23:59:00")
-    one = at_rest(market.port, "a", 900)
+    one = at_rest_for_long(market.port, "a", 900)
     market.sell(2)
     is_caught_up(one)
     leave(market, one)
@@ -130,7 +130,7 @@ def test_down_over_the_end():
 def test_venue_away_at_the_end():
     """The venue isn't there when a day ends: that ends all the same, and what the venue tells later has new numbers."""
     market = Market("2030-01-01 23:59:00", 2)
-    one, two = at_rest(market.port, "a", 9), at_rest(market.port, "b", 9, 2)
+    one, two = at_rest_for_long(market.port, "a", 9), at_rest_for_long(market.port, "b", 9, 2)
     leave(market, two, 2)
     market.sell(10)
     await_that("it is stored", lambda: kept(2)["report"] == of_journal(2)[-1])
@@ -156,7 +156,7 @@ def test_what_was_sent():
     was away for isn't, until it has asked. Whatever isn't told is told again in the next day, marked as such. An engine
     that asks for nothing and goes on misses nothing, also where it has asked in a connection before."""
     market = Market("2030-01-01 23:59:00")
-    one = at_rest(market.port, "a", 900)
+    one = at_rest_for_long(market.port, "a", 900)
     leave(market, one)
     market.sell(3)
     await_that("they are stored", lambda: kept()["report"] == of_journal()[-1])
@@ -188,7 +188,7 @@ def test_what_was_sent():
 def test_half_sent_again():
     """A day ends while a member is sent again, by pieces, what it missed: what it wasn't sent is told in the next day."""
     market = Market("2030-01-01 23:59:00", MaxReadMessagesPerSecond="100")
-    one = at_rest(market.port, "a", 1200)
+    one = at_rest_for_long(market.port, "a", 1200)
     leave(market, one)
     market.sell(1100)
     await_that("they are stored", lambda: kept()["report"] == of_journal()[-1])
@@ -246,7 +246,7 @@ def test_older_copy():
     """An older copy of a record is put back, and a day has ended since: the journal has requests that the record lacks.
     What was told since the copy is told once more in the new day, and each report once."""
     market = Market("2030-01-01 23:59:00")
-    one = at_rest(market.port, "a", 900)
+    one = at_rest_for_long(market.port, "a", 900)
     for _ in range(30):  # So many messages that the numbers of the new day don't reach those of the old one.
         one.settle()
     leave(market, one)
@@ -264,8 +264,9 @@ def test_older_copy():
     market.clock.put("2030-01-02 08:00:00")
     shutil.copy(path_of(1, "older"), path_of(1))
     market.start_again()
-    back = is_caught_up(market.engine().log_on())
-    expect((places(back), [value(it, "97") for it in back.history][:3]), (of_journal()[1:], ["Y", "Y", None]))
+    back = market.engine().log_on()
+    back.report(_150="C", _11="edge-lost-2")  # Nobody knows any more whether it was to stay.
+    expect((places(is_caught_up(back)), [value(it, "97") for it in back.history][:3]), (of_journal()[1:], ["Y", "Y", None]))
 
 
 TESTS = [test_through_the_day, test_at_the_end, test_held_up_at_the_end, test_stream, test_down_over_the_end,

@@ -1,5 +1,6 @@
-"""Four members trade by chance through an edge, while edge, venue and processes of single members are killed: each
-member's store, and each member, has exactly the reports that the journal has for it, in order, each once."""
+"""Four members trade by chance through an edge, while edge, venue and processes of single members are killed, and days end
+about each kill: each member's store, and each member, has exactly the reports that the journal has for it, in order, each
+once. Each Day order ends once, and none that is good till it is cancelled does."""
 import itertools
 import os
 import random
@@ -7,9 +8,9 @@ import signal
 import threading
 import time
 
-from edges import JOURNAL, NAMES, PATIENCE, SYMBOLS, Edge, Trouble, Venue, free_port, members_of, settings_of, started
-from edges import children_of, rows, stored, told
-from engines import Engine, cancel, order, replace
+from edges import JOURNAL, NAMES, PATIENCE, SYMBOLS, Edge, Trouble, Venue, await_that, free_port, members_of, settings_of
+from edges import children_of, rows, started, stored, told
+from engines import GTC, Engine, cancel, order, replace
 from gikvand.fix import fields_of
 
 MEMBERS = 4
@@ -18,6 +19,9 @@ BETWEEN = (120, 260)     # Requests of all members between two kills.
 BURST = 8
 STRIKES = ["member", "both", "edge", "venue"]
 STEP = {"ABC": 100, "XYZ": 4}  # Steps of a price in one.
+TERMS = ["", "", "59=0|", GTC, "59=3|", "59=4|"]
+ENDED = "edge: the day has ended"
+AROUND = (-1, 2)         # Seconds behind a start of the edge, between which a day ends.
 
 
 class Member(threading.Thread):
@@ -59,10 +63,10 @@ class Member(threading.Thread):
         if kind < 0.15:
             return "F", cancel(name, old, side, quantity, symbol)
         if kind < 0.3:
-            return "G", replace(name, old, side, quantity, price, symbol)
+            return "G", replace(name, old, side, quantity, price, symbol, chance.choice(TERMS[:4]))
         if kind < 0.4:
             return "D", order(name, side, quantity, "", symbol).replace("40=2|44=|", "40=1|")
-        return "D", order(name, side, quantity, price, symbol, chance.choice(["", "", "59=0|", "59=3|", "59=4|"]))
+        return "D", order(name, side, quantity, price, symbol, chance.choice(TERMS))
 
 
 def names_of(member, folder="edge"):
@@ -70,7 +74,7 @@ def names_of(member, folder="edge"):
     there twice."""
     kinds, names, refused = {}, {}, set()
     for number, kind, name in rows(member, "SELECT number, kind, name FROM names", folder):
-        if name in refused or (kind in "rsx" and name in names.values()):
+        if name in refused or (kind in "grsx" and name in names.values()):
             raise Trouble(f"C{member}: a name twice: {number} {kind} {name}")
         if kind == "x":
             refused.add(name)
@@ -80,14 +84,17 @@ def names_of(member, folder="edge"):
 
 
 def wanted_of(member, folder="edge"):
-    """What the member is to be told: the journal's reports by the rules of docs/EDGE.md, but for answers to probes."""
+    """What the member is to be told: the journal's reports by the rules of docs/EDGE.md, but for answers to probes, and to
+    ends of orders that had gone."""
     lines = told(member)  # In front of the names: one that came between them is without its report.
     kinds, names, _ = names_of(member, folder)
     wanted = []
     for line in lines:
         it = fields_of(line)
-        if it["35"] == "9" and kinds[int(it["11"])] == "p":
+        if it["35"] == "9" and kinds[int(it["11"])] in "ep":
             continue
+        if kinds[int(it["11"])] == "e":
+            it.update({"11": it.pop("41"), "150": "C", "39": "C", "58": ENDED})
         for tag in ("11", "41"):
             if tag in it:
                 it[tag] = names[int(it[tag])]
@@ -113,7 +120,7 @@ def told_by(messages):
 def refused_by(messages):
     """The names of the requests that the edge says to have refused, but for those that never reached the venue."""
     all_of_edge = [it for it in map(fields_of, messages) if it["35"] in "89" and it.get("58", "").startswith("edge:")]
-    return [it["11"] for it in all_of_edge if not it.get("17", "").startswith("EL")]
+    return [it["11"] for it in all_of_edge if not it.get("17", "").startswith("EL") and it.get("150") != "C"]
 
 
 def are_refused(member, came, where, folder="edge"):
@@ -131,6 +138,34 @@ def is_same(member, came, wanted, where):
             raise Trouble(f"C{member}: report {at + 1} in {where} is {one}, where the journal has {other}")
     if len(came) != len(wanted):
         raise Trouble(f"C{member}: {len(came)} reports in {where}, where the journal has {len(wanted)}")
+
+
+def ended(member, end, folder="edge"):
+    """How many orders of a member were ended, of which each was Day, and ended by one cancel. None that is Day and was sent
+    before this second, in which a day ended, rests."""
+    kinds, names, _ = names_of(member, folder)
+    resting, asked = {}, []
+    for it in map(fields_of, told(member)):
+        number, event = int(it["11"]), it.get("150")
+        if kinds[number] == "e":
+            asked.append(int(it["41"]))
+        if event in ("4", "5"):
+            resting.pop(int(it.get("41", number)), None)
+        if event in ("0", "5"):
+            resting[number] = it["52"]
+        if event == "8" or it["39"] == "2":
+            resting.pop(number, None)
+    wrong = [names[it] for it in asked if kinds[it] == "g" or asked.count(it) > 1]
+    last = time.strftime("%Y%m%d-%H:%M:%S", time.gmtime(end))
+    late = [names[it] for it, sent in resting.items() if kinds[it] != "g" and sent < last]
+    if wrong or late:
+        raise Trouble(f"C{member}: {wrong} were ended, and {late} weren't")
+    return len(asked)
+
+
+def ended_at(member=1):
+    """The last end of a day by which what is Day of a member was ended."""
+    return rows(member, "SELECT orders_ended FROM session")[0][0]
 
 
 def look_at(members):
@@ -169,16 +204,25 @@ def compare(members, folder="edge"):
 
 
 class Run:
-    """A venue, an edge and four members, until all requests are answered."""
+    """A venue, an edge and four members, some of them with limits, until all requests are answered. With days one ends about each
+    start of the edge."""
 
-    def __init__(self, requests, seed):
+    def __init__(self, requests, seed, has_days=False, limits=None):
         self.chance, self.requests, self.kills = random.Random(seed), requests, [0, 0, 0]
-        self.strikes = itertools.cycle(STRIKES)
+        self.strikes, self.has_days, self.end = itertools.cycle(STRIKES), has_days, 0
         self.venue = started(JOURNAL, MEMBERS, list(SYMBOLS))
         self.port = free_port(MEMBERS)
-        self.settings = settings_of({"VenuePort": self.venue.port}, members_of(MEMBERS, self.port))
-        self.edge = Edge(self.settings).ready(MEMBERS)
+        self.sessions = [{**it, **(limits or {}).get(k, {})} for k, it in enumerate(members_of(MEMBERS, self.port), 1)]
+        self.edge = self.start().ready(MEMBERS)
         self.members = [Member(self.port, k, requests // MEMBERS, seed + k) for k in range(1, MEMBERS + 1)]
+
+    def start(self):
+        """The edge, by settings that let a day end soon, or just before."""
+        common = {"VenuePort": self.venue.port}
+        if self.has_days:
+            self.end = int(time.time()) + self.chance.randint(*AROUND)
+            common["DayEndTime"] = time.strftime("%H:%M:%S", time.gmtime(self.end))
+        return Edge(settings_of(common, self.sessions))
 
     def go(self):
         for it in self.members:
@@ -194,6 +238,8 @@ class Run:
             if is_due:
                 self.strike()
             time.sleep(0.01)
+        if self.has_days:
+            await_that("the last end of a day", lambda: all(ended_at(k) >= self.end for k in range(1, MEMBERS + 1)))
         settle(self.members)
 
     def strike(self):
@@ -215,26 +261,28 @@ class Run:
         if which == "venue":
             return
         while self.chance.random() < 0.4:  # Killed again while it starts, or reads the journal.
-            self.edge = Edge(self.settings)
+            self.edge = self.start()
             time.sleep(self.chance.random() / 10)
             self.edge.kill()
             self.kills[0] += 1
-        self.edge = Edge(self.settings).ready(MEMBERS)
+        self.edge = self.start().ready(MEMBERS)
 
 
 def test_differential():
     """The short form, or the long one with --long, which says its figures."""
     is_long = bool(os.environ.get("EDGE_LONG"))
     begin = time.monotonic()
-    run = Run(LONG if is_long else SHORT, 20250102)
+    run = Run(LONG if is_long else SHORT, 20250102, True)
     run.go()
     reports = compare(run.members)
-    if min(run.kills) < 1:
-        raise Trouble(f"too few kills: {run.kills}")
+    ends = sum(ended(k, run.end) for k in range(1, MEMBERS + 1))
+    if min(run.kills) < 1 or not ends:
+        raise Trouble(f"too few kills: {run.kills}, or ends of orders: {ends}")
     if is_long:
         print(f"{run.requests} requests of {MEMBERS} members, {reports} reports, {run.kills[0]} kills of the edge and "
               f"{run.kills[1]} of the venue, {time.monotonic() - begin:.0f} s", flush=True)
-        print(f"the process of one member alone was killed {run.kills[2]} times", flush=True)
+        print(f"the process of one member alone was killed {run.kills[2]} times, and {ends} orders ended with their days",
+              flush=True)
 
 
 TESTS = [test_differential]

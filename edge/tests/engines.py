@@ -7,6 +7,7 @@ from edges import HOST, NAMES, PATIENCE, Trouble
 from gikvand.fix import framed, parted, value
 
 ADMIN = "0 1 2 3 4 5 A".split()
+GTC = "59=1|"  # In an order that stays over the ends of days.
 BEHIND_HEADER = {"8", "9", "10", "35", "49", "56", "34", "52", "43", "122"}
 
 
@@ -201,10 +202,10 @@ def refused(one, wanted, more=""):
     raise Trouble(f"a Logon was taken, where {wanted!r} should come")
 
 
-def at_rest(port, name, quantity=1, member=1):
+def at_rest(port, name, quantity=1, member=1, more=""):
     """A member that is logged on, and whose order to buy at 50 rests."""
     one = Engine(port, member).log_on()
-    one.send("D", order(name, 1, quantity, "50"))
+    one.send("D", order(name, 1, quantity, "50", more=more))
     one.report(_150="0", _11=name)
     return one
 
@@ -218,5 +219,5 @@ def cancel(name, original, side, quantity=1, symbol="ABC"):
     return f"11={name}|38={quantity}|41={original}|54={side}|55={symbol}|60={now()}|"
 
 
-def replace(name, original, side, quantity, price, symbol="ABC"):
-    return f"11={name}|21=1|38={quantity}|40=2|41={original}|44={price}|54={side}|55={symbol}|60={now()}|"
+def replace(name, original, side, quantity, price, symbol="ABC", more=""):
+    return f"11={name}|21=1|38={quantity}|40=2|41={original}|44={price}|54={side}|55={symbol}|60={now()}|{more}"

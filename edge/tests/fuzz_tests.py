@@ -15,12 +15,12 @@ SMALL = b'<fix major="4" minor="4"><header/><trailer/><messages/><components/><f
 # Of each target: the parsers' sources, which are compiled with its checks (the rest of the edge is as it is), and what it
 # begins with.
 TARGETS = {
-    "reports": (("reports", "names", "ticks"), [it.replace(b"|", b"\x01") for it in (REPORT, REJECT)]),
+    "reports": (("reports", "names", "ticks", "exposure"), [it.replace(b"|", b"\x01") for it in (REPORT, REJECT)]),
     "venue": (("venue_frame",), [it.replace(b"|", b"\x01") for it in (REPORT, REJECT)]),
-    "replay": (("replay", "reports", "names", "ticks"),
+    "replay": (("replay", "reports", "names", "ticks", "exposure", "market"),
                [b"command 0 C1 D ABC -\noutput 6 C1 " + REPORT + b"\noutput 7 C1 " + REJECT + b"\nlevel ABC 2 5025 60 1\n"]),
     "ticks": (("ticks",), [b"0.01\n50.25\n100\n", b"0.000000001\n0.5\n1.00\n", b"1000\n5000\n1000000\n"]),
-    "settings": (("settings", "hours", "identity", "stunnel", "schedule", "steps", "ticks"), []),
+    "settings": (("settings", "setting_values", "order_limits", "hours", "identity", "stunnel", "schedule", "steps", "ticks"), []),
     "names": (("take_over",), [NAMES]),
     "commands": (("commands",), [b"stop", b"resume", b"cancel", b"status", b"halt ABC", b"resume XYZ"]),
 }

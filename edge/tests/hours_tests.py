@@ -6,9 +6,9 @@ import urllib.request
 
 from clocks import Clock
 from edges import Client, again, await_that, free_port, told
-from engines import at_rest, order
+from engines import GTC, order
 from gikvand.fix import value
-from market import BEGUN, SELLER, Market, is_caught_up, kept, leave, of_journal, places
+from market import BEGUN, SELLER, Market, at_rest_for_long, is_caught_up, kept, leave, of_journal, places
 from tradeclients import TradeClient
 from trading_tests import expect
 
@@ -29,7 +29,7 @@ def test_week():
     """A session of a week: its numbers go on over each midnight, and begin anew at its end. Who logs on at the weekend
     is told the hours, and no number moves; what is filled there is told in the new week."""
     market = Market("2030-01-03 23:59:00", hours=WEEK)
-    one = at_rest(market.port, "a", 9)
+    one = at_rest_for_long(market.port, "a", 9)
     leave(market, one)  # A session in which nothing comes for hours is ended by the library.
     market.clock.put(FRIDAY + "20:59:30")
     market.sell()
@@ -72,7 +72,7 @@ def test_once():
     market = Market("2030-01-01 21:59:00", hours={"StartTime": "08:00:00", "EndTime": "22:00:00"})
     expect(market.new_day("2030-01-01 22:00:01")[1], BEGUN)
     market.clock.put("2030-01-02 08:00:00")
-    one = at_rest(market.port, "a", 9)
+    one = at_rest_for_long(market.port, "a", 9)
     for now in ("2030-01-01 21:59:58", "2030-01-01 22:00:02"):
         market.clock.put(now)
         market.sell()
@@ -97,7 +97,7 @@ def test_orders_stay():
     stranger comes and goes, before its member is back. When its own connection is cut in the new day it goes."""
     market = Market("2030-01-01 21:59:00", hours=NIGHT, CancelOnDisconnect="Y", Username="desk", PasswordFile=secrets())
     one = market.engine().log_on(SECRET)
-    one.send("D", order("a", 1, 9, "50"))
+    one.send("D", order("a", 1, 9, "50", more=GTC))
     one.report(_150="0", _11="a")
     market.new_day("2030-01-01 22:00:00")
     market.sell()
@@ -127,7 +127,7 @@ def test_stock_engine_at_night():
     """QuickFIX's own client, whose clock is ahead, logs on before the hours, and is refused in words that it doesn't
     count. When the hours have begun it asks for all that was filled at night."""
     market = Market("2030-01-01 21:59:00", hours=NIGHT)
-    one = at_rest(market.port, "a", 9)
+    one = at_rest_for_long(market.port, "a", 9)
     market.new_day("2030-01-01 22:00:00")
     one.close()
     market.sell(2)

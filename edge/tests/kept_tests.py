@@ -340,12 +340,14 @@ def test_kept_by_turns():
 
 
 def test_record_of_before():
-    """A record whose edge kept no turn by itself is taken as it is, and so is one whose edge had no switch."""
+    """A record whose edge kept no turn by itself is taken as it is, and so is one whose edge had no switch, or ended no
+    orders with the day."""
     venue, edge, port = pair()
     one = at_rest(port, "a")
     one.log_out()
     edge.stop()
-    changed(1, "DROP TABLE turns", "DROP TABLE switches", "DROP INDEX sweeps", "PRAGMA user_version = 1")
+    no_ends = "ALTER TABLE session DROP COLUMN orders_ended"
+    changed(1, no_ends, "DROP TABLE turns", "DROP TABLE switches", "DROP INDEX sweeps", "PRAGMA user_version = 1")
     edge = restarted()
     one.log_on().send("D", order("b", 1, 1, "50"))
     one.report(_150="0", _11="b")
@@ -357,13 +359,13 @@ def test_record_of_before():
     one.close()
     one.log_on().log_out()
     edge.stop()
-    changed(1, "DROP TABLE switches", "DROP INDEX sweeps", "PRAGMA user_version = 2")
+    changed(1, no_ends, "DROP TABLE switches", "DROP INDEX sweeps", "PRAGMA user_version = 2")
     edge = restarted()
     one.log_on().send("F", cancel("d", "b", 1))
     one.report(_150="4", _11="d")
     edge.kill()
     restarted()
-    expect((places(1), rows(1, "SELECT * FROM switches"), rows(1, "PRAGMA user_version")), ([1, 2, 3, 4], [], [(3,)]))
+    expect((places(1), rows(1, "SELECT * FROM switches"), rows(1, "PRAGMA user_version")), ([1, 2, 3, 4], [], [(4,)]))
 
 
 def test_growth():

@@ -1,7 +1,7 @@
 """A venue and an edge by a clock of its own, for tests of the days of a session."""
 from clocks import Clock
 from edges import JOURNAL, SYMBOLS, Client, Edge, await_that, pair, rows, started, told, venue_order
-from engines import Engine
+from engines import GTC, Engine, at_rest
 from gikvand.fix import value
 
 SELLER = 3  # A member of the venue itself, with whom all others trade.
@@ -46,6 +46,11 @@ class Market:
         with open("edge.cfg", encoding="ascii") as file:
             settings = file.read()
         self.edge = Edge(settings, env=self.clock.env).ready(self.members)
+
+
+def at_rest_for_long(port, name, quantity=1, member=1):
+    """A member that is logged on, and whose order to buy at 50 rests over the ends of days."""
+    return at_rest(port, name, quantity, member, GTC)
 
 
 def places(engine):

@@ -300,7 +300,7 @@ def test_status_page():
         with urllib.request.urlopen(f"http://127.0.0.1:{port}/", timeout=30) as answer:
             lines.append(answer.read().decode())
     expect(lines[0].rpartition(" ")[0], "C1 (DESK-A): serves, logged on, 3 requests, 2 refused by the edge, 1 reports, "
-                                        "the last 1, 1 open orders, 0 bytes not taken, numbers since")
+                                        "the last 1, 1 open orders worth 50, 0 bytes not taken, numbers since")
     expect((lines[1][:27], lines[1].count("\n")), ("C2 (DESK-B): serves, away, ", 1))
     names = ("serves", "logged_on", "requests_total", "refusals_total", "reports_total", "open_orders", "unsent_bytes")
     expect([figure(page, f"gikvand_edge_{name}") for name in names], [1, 1, 3, 2, 1, 1, 0])

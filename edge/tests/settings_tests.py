@@ -26,6 +26,7 @@ WRONG = {
     "DiskReserve": {"-1": "is no number"},
     "StartTime": {None: "is missing"},
     "EndTime": {"25:00": "isn't HH:MM:SS"},
+    "DayEndTime": {"": "is empty", "17:00": "isn't HH:MM:SS: 17:00", "24:00:00": "isn't HH:MM:SS: 24:00:00"},
     "UseLocalTime": {"Y": "isn't N: hours are in UTC"},
     "LogonTime": {"08:00:00": "isn't taken: members may log on from StartTime to EndTime"},
     "DataDictionary": {"/nowhere": "can't be used", "edge.cfg": "is none of QuickFIX: edge.cfg",
@@ -56,7 +57,21 @@ WRONG_OF_ONE = {
     "MaxFolderBytes": {"1000": "isn't 1048576 to"},
     "AllowAnyone": {"yes": "is neither Y nor N"},
     "SyncNames": {"Y": "is always so"},
+    "TradeSymbols": {"": "is empty", "ABC NONE": "has what is none of Symbols: NONE"},
+    "MaxOrderQuantity": {"1000001": "isn't 0 to 1000000", "-1": "is no number", "1.5": "is no number"},
+    "MaxOrderValue": {"1000000000000000": "is no number", "1e3": "is no number"},
+    "MaxOpenValue": {"": "is empty", "much": "is no number"},
+    "PriceCollar": {"1000001": "isn't 0 to 1000000", "x": "is no number", "0%": "isn't of whole steps, nor 0.01% to 1000%: 0%",
+                    "1000.01%": "isn't of whole steps", "0.001%": "isn't of whole steps", "%": "isn't of whole steps",
+                    ".5%": "isn't of whole steps", "5.%": "isn't of whole steps", "-5%": "isn't of whole steps"},
+    "ReferencePrices": {"ABC": "isn't of SYMBOL:PRICE in whole steps", "ABC:0.005": "isn't of SYMBOL:PRICE in whole steps",
+                        "ABC:0": "isn't of SYMBOL:PRICE", "ABC:1 ABC:2": "has one twice: ABC",
+                        "NONE:1": "has what is none of Symbols: NONE:1", "": "is empty"},
+    "OnlyClosing": {"yes": "is neither Y nor N"},
+    "SelfTrade": {"Never": "isn't Any, CancelNew or CancelOld: Never", "": "is empty"},
+    "Firm": {"C1": "has no use where SelfTrade isn't CancelNew or CancelOld"},
 }
+WRONG_FIRMS = {"C2 C3": "lacks the member whose firm it is: C1", "C1 C9": "isn't of members, as C1 C2: C9", "": "is empty"}
 WRONG_HOURS = {"StartDay: is missing beside the other of the two": {"EndDay": "Friday"},
                "EndDay: is no day, as Monday: Funday": {"StartDay": "Monday", "EndDay": "Funday"},
                "EndDay: is StartDay, with an EndTime behind StartTime": {"StartDay": "Monday", "EndDay": "Monday",
@@ -74,6 +89,8 @@ def wrong_settings():
                 yield (it, {}, f"{name}: {fault}") if is_of_all else ({}, it, f"{name}: {fault}")
     for fault, it in WRONG_HOURS.items():
         yield it, {}, fault
+    for firm, fault in WRONG_FIRMS.items():
+        yield {}, {"SelfTrade": "CancelNew", "Firm": firm}, f"Firm: {fault}"
     for fault, it in WRONG_USERS.items():
         yield {}, {"Username": "desk", **it}, fault
 
@@ -141,6 +158,23 @@ def test_more_settings():
         ran = subprocess.run([EDGE, *words.split()], capture_output=True, text=True, timeout=30)
         if ran.returncode != 1 or wanted not in ran.stderr:
             raise Trouble(f"{words}: {ran.returncode} {ran.stderr}")
+
+
+def test_firms():
+    """Desks of one firm that a file has name the same members; others may have firms of their own, and right limits are right."""
+    port = free_port(3)
+    right = [{"PriceCollar": "1000%", "MaxOrderValue": "999999999999999", "ReferencePrices": "ABC:10000 XYZ:0.25"},
+             {"PriceCollar": "0.01%", "MaxOpenValue": "0", "TradeSymbols": "XYZ ABC"},
+             {"PriceCollar": "1000000", "MaxOrderQuantity": "1000000", "OnlyClosing": "N"}]
+    for firms, fault in ((("C1 C2", "C2 C1", "C3"), ""), (("C1", "C2 C4", "C3"), ""),
+                         (("C1 C2", "C2", "C3"), "Firm: has other members for C1 than for C2, which it says to be of one firm"),
+                         (("C1 C2", "C1 C2 C3", "C3"), "Firm: has other members for C1 than for C2, "),
+                         (("C1 C4", "C2 C3", "C1 C2 C3"), "Firm: has other members for C2 than for C3, ")):
+        members = [{**it, **more, "SelfTrade": "CancelNew", "Firm": firm}
+                   for it, more, firm in zip(members_of(3, port), right, firms, strict=True)]
+        status, lines = said(settings_of({"VenuePort": port}, members), "--check", "--all")
+        if (status, len(lines)) != ((1, 1) if fault else (0, 0)) or fault not in "".join(lines):
+            raise Trouble(f"{firms}: wanted {fault!r}, came {status} {lines}")
 
 
 def test_second_edge():
@@ -261,5 +295,5 @@ def test_other_steps():
         raise Trouble("the order's price is another one")
 
 
-TESTS = [test_wrong_settings, test_more_settings, test_version, test_dictionary_of_the_package, test_second_edge,
+TESTS = [test_wrong_settings, test_more_settings, test_firms, test_version, test_dictionary_of_the_package, test_second_edge,
          test_other_steps]

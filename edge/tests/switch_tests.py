@@ -538,11 +538,8 @@ def test_operator_gone():
     expect([it for it in edge.lines if "operator root" in it], [])
 
 
-def test_stopped_while_it_sends():
-    """A member is stopped while it sends orders without an end. Once that is done nothing of it rests, and all that it sends
-    further is refused. Others trade on."""
-    venue, edge, port = pair(2)
-    one, other = Engine(port, 1).log_on(), Engine(port, 2).log_on()
+def stopped_as_it_sends(one):
+    """A member that is stopped while it sends orders without an end: how many it has sent by then. The command is done."""
     sent, call = 0, None
     while not call or call.process.poll() is None:
         for _ in range(20 if sent < MOST_SENT else 0):
@@ -550,11 +547,20 @@ def test_stopped_while_it_sends():
             one.send("D", order(f"o{sent}", 1, 1, "50"))
         one.pump()
         if sent == 200:
-            call = call or Call("stop C1")
+            call = call or Call(f"stop C{one.member}")
         time.sleep(0.005)
     status, out, err = call.end()
-    expect((status, bool(re.fullmatch(r"C1: stopped, and the venue has answered the cancels of \d+ orders\n", out)), err),
-           (0, True, ""))
+    line = rf"C{one.member}: stopped, and the venue has answered the cancels of \d+ orders\n"
+    expect((status, bool(re.fullmatch(line, out)), err), (0, True, ""))
+    return sent
+
+
+def test_stopped_while_it_sends():
+    """A member is stopped while it sends orders without an end. Once that is done nothing of it rests, and all that it sends
+    further is refused. Others trade on."""
+    venue, edge, port = pair(2)
+    one, other = Engine(port, 1).log_on(), Engine(port, 2).log_on()
+    sent = stopped_as_it_sends(one)
     resting(other, "x")
     is_refused(one, "D", order("last", 1, 1, "50"), STOPPED)
     taken = [value(it, "11") for it in one.history if value(it, "150") == "0"]

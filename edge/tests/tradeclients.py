@@ -32,6 +32,7 @@ TargetCompID=GIKVAND
 QUESTIONS = re.compile(rb"(Action|BeginString|ClOrdID|OrigClOrdID|Side|OrdType|Symbol|OrderQty|TimeInForce|Price|"
                        rb"SenderCompID|TargetCompID|Use a TargetSubID\?|Send order\?|Send cancel\?|Send replace\?|"
                        rb"New price\?|New quantity\?): ")
+DAY, GTC = 1, 4  # Of its choices for TimeInForce.
 IN = re.compile(rb"\nIN: (8=FIX[^\n]*)\n")
 
 
@@ -79,9 +80,9 @@ class TradeClient:
             self.process.stdin.write(f"{answers.get(name, 'Y')}\n".encode())
             self.process.stdin.flush()
 
-    def order(self, name, side, quantity, price, symbol="ABC"):
+    def order(self, name, side, quantity, price, symbol="ABC", term=DAY):
         self.answer("Send order?", Action="1", ClOrdID=name, Side=side, OrderQty=quantity, OrdType=2, Price=price,
-                    Symbol=symbol, TimeInForce=1)
+                    Symbol=symbol, TimeInForce=term)
 
     def cancel(self, name, original, side, quantity, symbol="ABC"):
         self.answer("Send cancel?", Action="2", ClOrdID=name, OrigClOrdID=original, Side=side, OrderQty=quantity,

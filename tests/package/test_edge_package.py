@@ -148,10 +148,18 @@ def test_edge_settings() -> None:
         assert (name, f"/{DICTIONARY}" in text) == (name, True)
 
 
+def text_of_limits() -> str:
+    """The source that reads the limits, with each limit's name in the place of the call that gives it."""
+    text = text_of("edge/src/order_limits.cpp")
+    limits = re.findall(r"\w+", re.search(r"enum class Limit {(.*)}", text_of("edge/src/order_limits.h"))[1])
+    names = re.findall(r'"(\w+)"', re.search(r"NAMES\[\] = {([^}]*)}", text)[1])
+    return re.sub(r"nameOf\(Limit::(\w+)\)", lambda limit: f'"{dict(zip(limits, names))[limit[1]]}"', text)
+
+
 def test_edge_defaults() -> None:
     """Where the table has a number for a setting that is left out, it is the program's."""
     told = {re.search(r"`(\w+)`", names)[1]: left_out for names, _, left_out in rows_of("| setting | value | where it is left out |")}
-    found = re.findall(r'numberOr\(from, "(\w+)", .*, ([0-9L< ]+)\)', text_of("edge/src/settings.cpp"))
+    found = re.findall(r'numberOr\(from, "(\w+)", .*, ([0-9L< ]+)\)', text_of("edge/src/settings.cpp") + text_of_limits())
     assert len(found) == sum(bool(re.fullmatch(r"\d+|no bound", it)) for it in told.values())
     for name, number in found:
         first, _, by = number.replace("L", "").partition("<<")

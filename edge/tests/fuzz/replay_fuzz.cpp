@@ -1,14 +1,21 @@
 // A target of libFuzzer: lines as venue-events prints them, of reports with bars, become a member's open orders and
-// messages, whatever is in them. fuzz_tests.py compiles and runs it.
+// messages, and the market's last trades, whatever is in them. fuzz_tests.py compiles and runs it.
+#include "market.h"
 #include "replay.h"
 #include "told.h"
 
 extern "C" int LLVMFuzzerTestOneInput(const std::uint8_t *data, std::size_t size) {
     static fuzz::Told told;
+    static const std::map<std::string, edge::Tick> ticks{{"ABC", edge::Tick("0.25")}};
+    static edge::Market market(ticks, {"C2"});
     const std::string bytes(reinterpret_cast<const char *>(data), size);
-    for (std::size_t at = 0, end; (end = bytes.find('\n', at)) != std::string::npos; at = end + 1)
+    for (std::size_t at = 0, end; (end = bytes.find('\n', at)) != std::string::npos; at = end + 1) {
+        market.take(bytes.data() + at, end - at);
+        fuzz::want(market.lastTradeOf("ABC") >= 0 && market.lastTradeOf("ABC") <= edge::MOST && market.commands() >= 0);
         if (const std::size_t front = edge::reportIn(bytes.data() + at, end - at, "C1"))
             told.take(edge::Fields(bytes.data() + at + front, end - at - front, '|'));
+    }
     told.clear();
+    market.clear();
     return 0;
 }

@@ -8,6 +8,7 @@
 #include <stdexcept>
 #include <string>
 
+#include "exposure.h"
 #include "fields.h"
 #include "names.h"
 #include "open_orders.h"
@@ -25,6 +26,7 @@ class Told {
 public:
     Told() : record_("fuzz.db", "C1", edge::Before()), names_(opened(record_)), reports_(ticks_, names_, "1") {
         names_.add("ORD-7", edge::Names::Kind::Request);
+        names_.add("edge-expiry-2", edge::Names::Kind::Expiry);
         record_.commit();
     }
 
@@ -32,6 +34,8 @@ public:
     void take(const edge::Fields &report) {
         for (const int tag : {11, 17, 41, 45}) want(report.number(tag) >= 0);
         if (report.byte(35) == '8') open_.take(report);
+        exposure_.take(report);
+        want(exposure_.shownValue() >= 0);
         if (report.byte(35) != '8' && report.byte(35) != '9') return;
         try {
             const FIX::Message message = reports_.of(report);
@@ -40,7 +44,11 @@ public:
     }
 
     /// Forgets the orders: what comes next is another input.
-    void clear() { open_.clear(); }
+    void clear() {
+        want(exposure_.crossedBy("ABC", '1', 0).empty() || exposure_.shownValue() > 0);
+        open_.clear();
+        exposure_.clear();
+    }
 
 private:
     static edge::Record &opened(edge::Record &record) {
@@ -53,6 +61,7 @@ private:
     edge::Names names_;
     edge::Reports reports_;
     edge::OpenOrders open_;
+    edge::Exposure exposure_{ticks_};
 };
 
 }
