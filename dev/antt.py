@@ -137,7 +137,7 @@ class Definition(typing.NamedTuple):
 
 def definitions(lines: list[str]) -> typing.Iterator[Definition]:
     """All definitions and lemmas of a file's lines (of `read`), in their order, also those that are private."""
-    modules, at = [], 0
+    modules, at = list[tuple[int, str]](), 0
     numbers = {number for number, _ in without_imports(lines)}
     while at < len(lines):
         line, first = lines[at], at
@@ -163,7 +163,7 @@ def definitions(lines: list[str]) -> typing.Iterator[Definition]:
 def clauses(lines: list[str], it: Definition) -> list[str]:
     """What a definition consists of, a text each: its head, then its fields, constructors or equations."""
     own = [line for line in lines[it.first:it.last] if line.strip()]
-    depth, parts = indentation(own[0]), []
+    depth, parts = indentation(own[0]), list[str]()
     has_members = it.kind in ("record", "data")
     deeper = [indentation(line) for line in own if indentation(line) > depth]
     deep = min(deeper) if has_members and deeper else depth
@@ -240,7 +240,7 @@ def free_names(
 
     What a `λ`, a `let`, a group `(x : A)` or the pattern of a case binds counts up to the end of the brackets round it.
     """
-    words, scopes, groups = tokens(text), [set(bound)], [[]]
+    words, scopes, groups = tokens(text), [set(bound)], [list[str]()]
     at = 0
     while at < len(words):
         word = words[at]
@@ -295,8 +295,9 @@ def names_of(
         yield from free_names(text, scope, is_constructor)
         scope |= bound_by(text)
     head, *parts = clauses(lines, it)
+    behind = HEAD.sub("", head, count=1)
     if it.kind in ("record", "data"):
-        text = head[HEAD.match(head).end():].strip().removesuffix("where")
+        text = behind.strip().removesuffix("where")
         yield from free_names(text, scope, is_constructor)
         scope |= bound_by(parted(text, ":")[0])
         for part in parts:
@@ -304,7 +305,7 @@ def names_of(
             yield from free_names(of_type, scope, is_constructor)
             scope |= {name}
         return
-    yield from free_names(head[HEAD.match(head).end():], scope, is_constructor)
+    yield from free_names(behind, scope, is_constructor)
     for part in [] if is_lemma(lines, it) else parts:
         left, _, right = part.partition("=")
         given = [word for word in tokens(left) if word not in "(){}[]⟨⟩;,"][1:]

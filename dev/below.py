@@ -4,7 +4,7 @@ import functools
 import os
 import re
 import typing
-from collections.abc import Collection
+from collections.abc import Collection, Iterator
 
 import antt
 import contracts
@@ -69,21 +69,26 @@ class Project:
     """The definitions of all crates, and what stands below each."""
 
     def __init__(self) -> None:
-        self.unknown = set()  # Names without a definition: the file, the name.
-        self.lines, self.names = {}, {}  # Of files: the lines, and what their `use` lines bring.
-        self.specs = {}  # Of each file of specs: its definitions, and the constructors of its data, by their names.
+        self.unknown = set[tuple[str, str]]()  # Names without a definition: the file, the name.
+        self.lines = dict[str, list[str]]()
+        self.names = dict[str, dict[str, list[str]]]()  # What the `use` lines of a file bring.
+        # Of each file of specs: its definitions, and the constructors of its data, by their names.
+        self.specs = dict[str, dict[str, antt.Definition]]()
         for path in antt.sources(".antt"):
             if "/specs/" in path:
                 self.lines[path] = lines = antt.read(path)
-                self.specs[path] = found = {}
+                self.specs[path] = found = dict[str, antt.Definition]()
                 for it in antt.definitions(lines):
                     found.setdefault(it.name, it)
                 for it in [it for it in found.values() if it.kind == "data"]:
                     for part in antt.clauses(lines, it)[1:]:
                         found.setdefault(part.strip().removeprefix("pub ").split(" ")[0], it)
                 self.names[path] = dict(antt.imports(lines))
-        self.code, self.blocks, self.functions = {}, {}, {}  # Of files of code: the lines, and what stands there.
-        self.items, self.facts = {}, {}  # By names: items with their files, and the ghost facts of traits.
+        # Of files of code: the lines, and what stands there.
+        self.code, self.blocks = dict[str, list[str]](), dict[str, list[contracts.Block]]()
+        self.functions = dict[str, list[contracts.Function]]()
+        self.items = dict[str, list[tuple[str, contracts.Item]]]()  # By names: items with their files, and the ghost facts of traits.
+        self.facts = dict[str, tuple[Place, list[contracts.Item]]]()
         for path in antt.sources(".rt"):
             if not OF_TESTS.search(path) and crate_of(path) not in UNREAD:
                 self.add_code(path)
@@ -124,7 +129,7 @@ class Project:
             self.unknown.add((from_path, ".".join(way)))
         return None
 
-    def definition(self, path: str, name: str, from_path: str) -> Entry | None:
+    def definition(self, path: str, name: str, from_path: str) -> Entry | Leaf | None:
         if it := self.specs[path].get(name):
             return Entry(path, it.first, it.name)
         if way := self.names[path].get(name):  # (it is named on by a `pub use`)
@@ -199,7 +204,7 @@ class Project:
     def below_definition(self, entry: Entry) -> list[Entry | Leaf]:
         path, lines, own = entry.path, self.lines[entry.path], self.specs[entry.path]
         it = own[entry.name]
-        found = []
+        found = list[Entry | Leaf | None]()
         for word in antt.names_of(lines, it, self.is_constructor(path)):
             head = word.partition(".")[0]
             if head in own:
@@ -263,7 +268,7 @@ class Project:
         self, place: Place, text: str, values: dict[str, str], of_bounds: dict[str, list[str]]
     ) -> list[Entry | Leaf]:
         """What a term of the code names, where these values have types, and these type parameters have traits."""
-        ghosts, found = self.ghosts(place), []
+        ghosts, found = self.ghosts(place), list[Entry | Leaf | None]()
         trait = place.block.trait if place.block and not place.block.type else ""
         own_facts = {it.name for it in self.facts[trait][1]} if trait else set()
         for one, fact in QUALIFIED.findall(text):
@@ -293,7 +298,7 @@ class Project:
             for it in them:
                 if it.name == parts[0]:
                     return [Entry(home.path, it.first, f"{trait}.{it.name}")]
-            for line in self.code[home.path][home.block.first:home.block.last]:
+            for line in self.code[home.path][home.block.first:home.block.last] if home.block else []:
                 if within := re.match(rf"    type {re.escape(parts[0])}: ([^;]*);", line):
                     return self.fact([it.strip() for it in within[1].split("+")], parts[1:])
         return []
@@ -302,20 +307,19 @@ class Project:
 
     def candidates(self, words: list[str]) -> list[tuple[str, Entry | tuple[str, contracts.Function]]]:
         """The functions and definitions of this name, with full names in which the words in front stand in order."""
-        found = []
-        for path, them in self.functions.items():
-            for it in them:
+        called, found = list[tuple[str, tuple[str, contracts.Function]]](), list[tuple[str, Entry]]()
+        for path, functions in self.functions.items():
+            for it in functions:
                 full = [crate_of(path), *modules_of(path), *([it.owner] if it.owner else []), it.name]
                 if stands_in(words, full):
-                    found.append(("::".join(full), (path, it)))
-        public = [pair for pair in found if pair[1][1].visibility == "pub "]
-        found = public or found
-        for path, them in self.specs.items():
-            for name, it in them.items():
+                    called.append(("::".join(full), (path, it)))
+        public = [pair for pair in called if pair[1][1].visibility == "pub "]
+        for path, definitions in self.specs.items():
+            for name, one in definitions.items():
                 full = [crate_of(path), *modules_of(path), name]
                 if stands_in(words, full) or words == ["Rattle", full[0], "specs", *full[1:]]:
-                    found.append(("::".join(full), Entry(path, it.first, it.name)))
-        return found
+                    found.append(("::".join(full), Entry(path, one.first, one.name)))
+        return [*(public or called), *found]
 
     def clauses(self, path: str, it: contracts.Function) -> list[Promised]:
         """A function's clauses, and those of the trait that it is of."""
@@ -346,8 +350,8 @@ def reading_order(project: Project, roots: list[Entry | Leaf],
                   closed: Collection[Entry] = ()) -> tuple[list[Entry], set[Leaf]]:
     """All that stands below these, each above what it uses, but in circles; and what it comes down to. What stands below
     those that are closed isn't looked at."""
-    order, seen, leaves = [], set(), set()
-    waiting = [(None, iter(list(dict.fromkeys(roots))[::-1]))]
+    order, seen, leaves = list[Entry](), set[Entry](), set[Leaf]()
+    waiting: list[tuple[Entry | None, Iterator[Entry | Leaf]]] = [(None, iter(list(dict.fromkeys(roots))[::-1]))]
     while waiting:
         entry, rest = waiting[-1]
         for it in rest:

@@ -69,10 +69,9 @@ class Callers:
     """The code of all crates, tests and programs too."""
 
     def __init__(self) -> None:
-        self.sources, self.results, self.fields = [], collections.defaultdict(set), collections.defaultdict(set)
-        self.owners, self.traits = collections.defaultdict(set), collections.defaultdict(set)
-        self.aliases, self.results_of = collections.defaultdict(set), collections.defaultdict(set)
-        self.types = set()
+        self.sources, self.types = list[Source](), set[str]()
+        self.results, self.fields, self.owners, self.traits, self.aliases = (collections.defaultdict[str, set[str]](set) for _ in range(5))
+        self.results_of = collections.defaultdict[tuple[str, str], set[str]](set)
         for path in sorted(glob.glob(f"{ROOT}/crates/*/src/**/*.rt", recursive=True)):
             self.add(path)
 
@@ -91,13 +90,13 @@ class Callers:
         for block in contracts.blocks(lines):
             if block.type and block.trait:
                 self.traits[block.trait].add(block.type)
-        for it in contracts.items(lines):
-            text = kept[it.first:it.last]
-            if it.kind == "struct":
+        for item in contracts.items(lines):
+            text = kept[item.first:item.last]
+            if item.kind == "struct":
                 for found in filter(None, map(FIELD.match, text)):
                     self.fields[found[1]] |= {*TYPE.findall(found[2])}
-            elif it.kind == "type":
-                self.aliases[it.name] |= {*TYPE.findall(" ".join(text).partition("=")[2])}
+            elif item.kind == "type":
+                self.aliases[item.name] |= {*TYPE.findall(" ".join(text).partition("=")[2])}
         self.sources.append(Source(path, kept, "\n".join(kept), names, them))
 
     def types_in(self, text: str, it: contracts.Function | None) -> set[str]:

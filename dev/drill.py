@@ -1,7 +1,6 @@
 """The machines of dev/failover-drill at work: members that trade at one of them, and what the others have then. Not
 a script."""
 import contextlib
-import os
 import shutil
 import socket
 import threading
@@ -11,6 +10,7 @@ from collections.abc import Callable, Iterator
 from drill_machines import BRICK, SHARED, Machine
 from drill_store import FOLDER, Store, contents
 from drill_venue import PORT, STEP, SYMBOL, Unit, alone, first_ready, watched
+from gikvand.words import sure
 from traders import Member, Rounds, request
 from venues import Client, Trouble, await_that, message
 
@@ -93,7 +93,7 @@ class Drill:
     """The machines, their volume, and what the journal held after each case."""
 
     def __init__(self, left_out: str | None) -> None:
-        self.left_out, self.times = left_out, {}
+        self.left_out, self.times = left_out, dict[str, list[float]]()
         self.units: list[Unit] = []
 
     def make(self) -> None:
@@ -175,7 +175,7 @@ class Drill:
         unit = first_ready(units, since)
         for other in units:
             if other is not unit:
-                at = unit.ready(since)
+                at = sure(unit.ready(since))
                 await_that(f"{other.machine.name} is refused", lambda: other.refused(at) > 1)
         serving = [it.machine.name for it in self.units if it.ready(since)]
         if serving != [unit.machine.name]:
@@ -206,9 +206,9 @@ class Drill:
         """Behind a failed case: all machines anew, and an empty journal."""
         for it in self.units:
             it.end()
-        for it in self.machines:
-            if it.process.poll() is None:
-                it.die()
-            it.await_free_disk()
-            shutil.rmtree(it.folder)
+        for machine in self.machines:
+            if machine.process.poll() is None:
+                machine.die()
+            machine.await_free_disk()
+            shutil.rmtree(machine.folder)
         self.make()

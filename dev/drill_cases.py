@@ -9,6 +9,7 @@ from drill_machines import HOME, Machine, ran
 from drill_store import contents
 from drill_venue import Unit, alone
 from gikvand.programs import ROOT
+from gikvand.words import sure
 from traders import Member
 from venues import Trouble, await_that
 
@@ -35,7 +36,7 @@ def kill(drill: Drill, unit: Unit, standbys: list[Unit], traders: list[Member], 
     new = drill.goes_on(standbys, since)
     drill.check(new.machine, traders)
     drill.end(new, drill.traded_on(new))
-    return drill.took(f"{what}: the next machine is ready after", new.ready(since) - since)
+    return drill.took(f"{what}: the next machine is ready after", sure(new.ready(since)) - since)
 
 
 def looked(drill: Drill, machine: Machine) -> str:
@@ -67,7 +68,7 @@ def dies(drill: Drill, machine: Machine) -> str:
     later = drill.traded_on(new, machine)
     drill.store.come_back(machine)
     drill.end(new, later)
-    return drill.took("a dead machine: the next one is ready after", new.ready(since) - since)
+    return drill.took("a dead machine: the next one is ready after", sure(new.ready(since)) - since)
 
 
 def parted(drill: Drill, machine: Machine) -> str:
@@ -79,13 +80,13 @@ def parted(drill: Drill, machine: Machine) -> str:
     await_that("the venue that is cut off ends", lambda: unit.when("status ", since) or late(traders, new, since))
     if late(traders, new, since):
         raise Trouble("the venue that was cut off answers, though another one serves")
-    ended = unit.when("status ", since) - since
+    ended = sure(unit.when("status ", since)) - since
     drill.check(new.machine, traders)
     last = max(0.0, *(it.heard_at - since for it in traders))
     later = drill.traded_on(new, machine)
     machine.join()
     drill.end(new, later)
-    return (drill.took("cut off while trading: the next machine is ready after", new.ready(since) - since)
+    return (drill.took("cut off while trading: the next machine is ready after", sure(new.ready(since)) - since)
             + f", the last report came at {last:.2f} s, " + drill.took("the venue that is cut off ends after", ended))
 
 
@@ -114,7 +115,7 @@ def joined(drill: Drill, machine: Machine) -> str:
     if not unit.when("status 2", since):
         raise Trouble(f"the venue that was cut off says {[line for at, line in unit.lines if at >= since]}")
     drill.end(new, later)
-    return drill.took("cut off while idle: the next machine is ready after", new.ready(since) - since)
+    return drill.took("cut off while idle: the next machine is ready after", sure(new.ready(since)) - since)
 
 
 def watch_ends(drill: Drill, machine: Machine) -> str:
@@ -129,7 +130,7 @@ def watch_ends(drill: Drill, machine: Machine) -> str:
     later = drill.traded_on(new, machine)
     machine.join()
     drill.end(new, later)
-    return (drill.took("cut off while idle: the next machine is ready after", new.ready(since) - since) + ", "
+    return (drill.took("cut off while idle: the next machine is ready after", sure(new.ready(since)) - since) + ", "
             + drill.took("the watch ends the venue that is cut off after", ended))
 
 
@@ -175,7 +176,7 @@ def half(drill: Drill, machine: Machine) -> str:
     later = drill.traded_on(new, holder)
     drill.store.come_back(holder)
     drill.end(new, later)
-    return drill.took("half a write: the next machine is ready after", new.ready(since) - since)
+    return drill.took("half a write: the next machine is ready after", sure(new.ready(since)) - since)
 
 
 def holding() -> list[str]:

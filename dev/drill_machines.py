@@ -11,6 +11,7 @@ import subprocess
 import sys
 from collections.abc import Iterator
 
+from gikvand.words import sure
 from venues import Trouble, await_that
 
 INSIDE = "FAILOVER_DRILL_INSIDE"
@@ -127,7 +128,7 @@ class Machine:
         pipe = subprocess.PIPE
         words = [*OWN, "--uts", "bash", "-c", BOOT, "boot", self.folder]
         self.process = subprocess.Popen(words, stdin=pipe, stdout=pipe, stderr=subprocess.DEVNULL)
-        if self.process.stdout.readline() != b"up\n":
+        if sure(self.process.stdout).readline() != b"up\n":
             raise Trouble(f"{self.name} doesn't boot")
         self.init, = children(self.process.pid)
         ran("ip", "link", "add", self.cable, "type", "veth", "peer", "name", "eth0", "netns", str(self.init))

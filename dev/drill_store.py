@@ -7,8 +7,8 @@ import threading
 import uuid
 from collections.abc import Callable
 
-import journals
 from drill_machines import BRICK, SHARED, Machine, ran
+from gikvand import journals
 from gikvand.programs import ROOT
 from venues import Trouble, await_that
 
@@ -94,7 +94,7 @@ class Store:
 
     def mount(self, machine: Machine) -> None:
         """Mounts the volume there, once there are bricks enough."""
-        options = {"no-views": "rw", "direct-io": NO_VIEWS}.get(self.left_out, OPTIONS)
+        options = {"no-views": "rw", "direct-io": NO_VIEWS}.get(self.left_out or "", OPTIONS)
         words = machine.words("mount", "-t", "glusterfs", "-o", options, f"{machine.address}:/{VOLUME}", SHARED)
         await_that(f"{machine.name} mounts the volume",
                    lambda: not subprocess.run(words, capture_output=True).returncode, 0.3)

@@ -7,6 +7,7 @@ import time
 from drill_machines import SHARED, Machine, children, kill
 from drill_store import FOLDER, JOURNAL
 from gikvand.programs import ROOT, VENUED
+from gikvand.words import sure
 from venues import Trouble, await_that
 
 STANDBY = os.path.join(ROOT, "contrib/standby")
@@ -42,12 +43,12 @@ class Unit:
     """The unit on a machine, from now on, and the lines that it prints, each with its moment."""
 
     def __init__(self, machine: Machine, words: list[str], step: str = STEP) -> None:
-        self.machine, self.lines = machine, []
+        self.machine, self.lines = machine, list[tuple[float, str]]()
         self.process = machine.begin("bash", "-c", UNIT, "unit", step, *words)
         threading.Thread(target=self.read, daemon=True).start()
 
     def read(self) -> None:
-        with self.process.stdout as pipe:
+        with sure(self.process.stdout) as pipe:
             for line in pipe:
                 self.lines.append((time.monotonic(), line.rstrip("\n")))
 
@@ -64,7 +65,7 @@ class Unit:
 
     def await_line(self, begins: str, since: float) -> float:
         await_that(f"the venue on {self.machine.name} says '{begins}'", lambda: self.when(begins, since) is not None)
-        return self.when(begins, since)
+        return sure(self.when(begins, since))
 
     def end(self) -> None:
         """Kills it, and then the venue: nothing starts again here."""
@@ -88,4 +89,4 @@ class Unit:
 def first_ready(units: list[Unit], since: float) -> Unit:
     """The unit whose venue is ready first since some moment."""
     await_that("one of the other machines serves", lambda: any(it.ready(since) for it in units))
-    return min((it for it in units if it.ready(since)), key=lambda it: it.ready(since))
+    return min((it for it in units if it.ready(since)), key=lambda it: sure(it.ready(since)))

@@ -53,15 +53,15 @@ class Crate:
         for path in sorted(glob.glob(f"{self.folder}/**/*.rt", recursive=True)):
             if not OF_TESTS.search(path):
                 self.files[path] = contracts.lines_of(path)
-        self.exports, self.named_on = [], []  # (what it exports itself, and the paths of what others have)
+        self.exports = list[Export]()  # What it exports itself,
+        self.named_on = list[tuple[str, list[str]]]()  # and the paths of what others have.
         if (root := f"{self.folder}/lib.rt") in self.files:
             self.export(root, [])
 
     def export(self, path: str, modules: list[str]) -> None:
         """Takes up what a public file of these modules exports."""
         lines = self.files[path]
-        for name in filter(None, (self.public_at(path, line, at) for at, line in enumerate(lines))):
-            self.exports.append(name)
+        self.exports += filter(None, (self.public_at(path, line, at) for at, line in enumerate(lines)))
         for line in lines:
             if (it := PUBLIC_MODULE.match(line)) and (inside := self.file_of([*modules, it[1]])):
                 self.export(inside, [*modules, it[1]])
@@ -88,7 +88,7 @@ class Crate:
     def found(self, modules: list[str], name: str, way: list[str]) -> Export | None:
         """The item of this crate that a `pub use` in a file of these modules brings; None where another has it."""
         if way[0] in ("crate", "self", "super"):
-            front = {"crate": [], "self": modules, "super": modules[:-1]}[way[0]]
+            front = {"crate": list[str](), "self": modules, "super": modules[:-1]}[way[0]]
             way = way[1:]
         else:
             front = modules
@@ -121,9 +121,9 @@ class Crate:
             if it.kind == "fn":
                 is_its = not block and (path, function.line) == (it.path, it.line + 1)
             elif it.kind == "trait":
-                is_its = block and path == it.path and (block.trait, block.type) == (it.name, "")
+                is_its = block is not None and path == it.path and (block.trait, block.type) == (it.name, "")
             else:
-                is_its = block and (block.trait, block.type) == ("", it.name) and function.visibility == "pub "
+                is_its = block is not None and (block.trait, block.type) == ("", it.name) and function.visibility == "pub "
             if is_its:
                 found.append(Call(self.name, "" if it.kind == "fn" else it.name, path, function))
         return found
@@ -176,7 +176,8 @@ class Faults:
     """The enums of all crates, and the numbers of their variants."""
 
     def __init__(self, them: list[Crate]) -> None:
-        self.enums, self.structs, self.constants = {}, {}, {}
+        self.enums, self.structs = dict[str, tuple[Crate, Export]](), dict[str, tuple[Crate, Export]]()
+        self.constants = dict[str, int]()
         for crate in them:
             for it in crate.exports:
                 if it.kind in ("enum", "struct"):
@@ -184,8 +185,8 @@ class Faults:
                     homes.setdefault(it.name, (crate, it))
             for lines in crate.files.values():
                 for line in lines:
-                    if it := re.match(r"(?:pub(?:\(\w+\))? )?const (\w+): \w+ = ([\d_]+);", line):
-                        self.constants[it[1]] = int(it[2])
+                    if found := re.match(r"(?:pub(?:\(\w+\))? )?const (\w+): \w+ = ([\d_]+);", line):
+                        self.constants[found[1]] = int(found[2])
 
     def variants(self, name: str) -> dict[str, re.Match]:
         """The variants of an enum."""
@@ -264,7 +265,7 @@ def error_in(result: str) -> str:
 
 def spans(numbers: list[int]) -> list[str]:
     """Numbers in words, as `1 to 5`."""
-    found = []
+    found = list[list[int]]()
     for it in numbers:
         if found and found[-1][1] == it - 1:
             found[-1][1] = it

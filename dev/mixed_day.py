@@ -3,8 +3,8 @@ limit orders alone, and version 1 where no other is asked for, so that the progr
 same day."""
 import random
 
-import journals
-from journals import Entry
+from gikvand import journals
+from gikvand.journals import Entry
 from venues import message
 
 A_BLOCK = 64

@@ -6,7 +6,7 @@ import socket
 import threading
 import time
 
-import journals
+from gikvand import journals
 from venues import HOST, PATIENCE, TIME, Client, Trouble, Venue, check_snapshots, market_order, message, order, parted
 from venues import replay, value
 
@@ -190,7 +190,6 @@ class Rounds:
         self.kept[trader.member] = kept
         check_kept(who, before, kept)
         check_told(trader, told, kept[len(before):])
-
 
     def check_snapshots(self):
         """Checks that each start but the first wrote a snapshot, that all are true, and that the book from the newest one

@@ -16,7 +16,7 @@ import with_scripts  # (in front of what stands there, and of what an older Pyth
 from gikvand import programs
 from gikvand.fix import HEAD, framed, parted, printed, value  # (some of them for those that import this module)
 from gikvand.ports import HOST, free_port
-from gikvand.programs import EVENTS, REPLAY, ROOT, VENUED, Trouble
+from gikvand.programs import EVENTS, REPLAY, ROOT, VENUED, Trouble  # (EVENTS for those that import this module)
 
 TIME = "20250102-09:30:00"
 PATIENCE = int(os.environ.get("VENUE_PATIENCE", "30"))  # Seconds to wait for what has to come.

@@ -5,5 +5,5 @@ import sys
 
 sys.path.insert(1, os.path.join(os.path.dirname(os.path.dirname(os.path.abspath(__file__))), "scripts"))
 
-import needs_python
-import with_tools
+import needs_python  # (in front of what an older Python can't read)
+import with_tools  # (in front of what stands in the package gikvand)

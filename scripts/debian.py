@@ -7,16 +7,25 @@ import subprocess
 import sys
 
 PYTHON = "/usr/bin/python3"
-QUIET = {"stdin": subprocess.DEVNULL, "stdout": subprocess.DEVNULL, "stderr": subprocess.DEVNULL}
+PACKAGES = {"pytest": "python3-pytest", "xdist": "python3-pytest-xdist", "pyflakes": "python3-pyflakes", "autopep8": "python3-autopep8",
+            "mypy": "python3-mypy"}
+LINTERS = ("pyflakes", "autopep8", "mypy")
+
+
+def succeeds(*words: str, **environment: str) -> bool:
+    """Whether a command that nobody hears can be run, and ends with status 0."""
+    with contextlib.suppress(OSError):
+        return subprocess.run(words, env={**os.environ, **environment}, stdin=subprocess.DEVNULL, stdout=subprocess.DEVNULL,
+                              stderr=subprocess.DEVNULL).returncode == 0
+    return False
 
 
 def install(*packages: str) -> None:
     """Installs these packages, if that can be: once more behind an update of the lists, where these lack them."""
-    words = ["apt-get", "install", "-y", "--no-install-recommends", *packages]
-    environment = {**os.environ, "DEBIAN_FRONTEND": "noninteractive"}
-    with contextlib.suppress(OSError):
-        if subprocess.run(words, env=environment, **QUIET).returncode and not subprocess.run(["apt-get", "update"], **QUIET).returncode:
-            subprocess.run(words, env=environment, **QUIET)
+    def installs() -> bool:
+        return succeeds("apt-get", "install", "-y", "--no-install-recommends", *packages, DEBIAN_FRONTEND="noninteractive")
+    if not installs() and succeeds("apt-get", "update"):
+        installs()
 
 
 def get(program: str, *packages: str) -> None:
@@ -25,18 +34,21 @@ def get(program: str, *packages: str) -> None:
         install(*packages)
 
 
-def has_pytest(python: str) -> bool:
-    """Whether this Python has pytest and its workers."""
-    with contextlib.suppress(OSError):
-        return subprocess.run([python, "-c", "import pytest, xdist"], **QUIET).returncode == 0
-    return False
+def has_modules(python: str, *modules: str) -> bool:
+    """Whether this Python has these modules."""
+    return succeeds(python, "-c", f"import {', '.join(modules)}")
+
+
+def get_modules(*modules: str) -> None:
+    """Installs the packages of these modules for Debian's Python where it lacks one."""
+    if not has_modules(PYTHON, *modules):
+        install(*(PACKAGES[it] for it in modules))
 
 
 @functools.cache
 def python_with_pytest() -> str:
     """The Python that the tests are run by: the one that runs this, or else Debian's, for which pytest is installed where it lacks."""
-    if has_pytest(sys.executable):
+    if has_modules(sys.executable, "pytest", "xdist"):
         return sys.executable
-    if not has_pytest(PYTHON):
-        install("python3-pytest", "python3-pytest-xdist")
+    get_modules("pytest", "xdist")
     return PYTHON

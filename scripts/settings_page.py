@@ -41,7 +41,7 @@ def prose(text: str) -> list[str]:
     lines: list[str] = []
     for code, behind in zip(rest[::2], rest[1::2]):
         opening, plain = ("( ", plain[:-1]) if plain.endswith("(") else ("", plain)
-        closing = re.match(r"[,.;:)]*", behind)[0]
+        closing = behind[:len(behind) - len(behind.lstrip(",.;:)"))]
         lines += [*wrapped(plain), " ".join([f".Ql {opening}{code}", *closing])]
         plain = behind[len(closing):]
         if plain and not plain.startswith(" "):

@@ -1,11 +1,11 @@
 """What `gikvand board` and its page have to say of a journal, by venue-replay and by what members heard. Not a test: tests import it."""
 import collections
 
-import journals
-from chromium import Page
+from chromium import Json, Page
+from gikvand import journals
 from gikvand.fix import fields_of
+from gikvand.journals import Entry
 from gikvand.rules import read_order
-from journals import Entry
 from made_journals import SYMBOLS, contents
 from venues import replay
 
@@ -23,11 +23,12 @@ READ = f"""(() => {{
 NONE, MINUS = "\u2013", "\u2212"
 UP_TO_DATE = "\u2713 up to date"
 LEVELS, TRADES = 10, 12
+Heard = tuple[int, str, int, int, str, str, str]
 
 
 def rows_heard(heard: dict[int, list[str]], lines: list[str], entries: list[Entry]) -> list[dict[str, str | int]]:
     """Each member's row, by the reports that it heard, the orders that rest, and what it has sent."""
-    rows, sent = [], collections.Counter(it.gateway for it in entries)
+    rows, sent = list[dict[str, str | int]](), collections.Counter(it.gateway for it in entries)
     times = {it.gateway: found[1].decode() for it in entries if (found := read_order(it.message))}
     for member, reports in heard.items():
         told = [fields_of(it) for it in reports]
@@ -42,7 +43,7 @@ def rows_heard(heard: dict[int, list[str]], lines: list[str], entries: list[Entr
     return rows
 
 
-def trades_heard(heard: dict[int, list[str]]) -> list[tuple]:
+def trades_heard(heard: dict[int, list[str]]) -> list[Heard]:
     """Place, symbol, quantity, price, buyer, seller and incoming side of each trade that members heard of, in their
     order."""
     fills = sorted((int(it["17"]), member, it) for member, reports in heard.items() for it in map(fields_of, reports)
@@ -73,12 +74,12 @@ def depth_told(lines: list[str], symbol: str) -> list[list[str]]:
             for at in range(count)]
 
 
-def overview_told(name: str, lines: list[str], trades: list[tuple], times: dict[int, str]) -> list[str]:
+def overview_told(name: str, lines: list[str], trades: list[Heard], times: dict[int, str]) -> list[str]:
     """The row of a symbol in the table of all: best prices, their spread, the last price, how it changed since the day before or
     the first trade, and what was traded."""
     prices = [[int(it[2]) for it in map(str.split, lines) if it[:2] == [name, side]] for side in "12"]
     bid, ask = max(prices[0], default=None), min(prices[1], default=None)
-    spread = ask - bid if None not in (bid, ask) else None
+    spread = ask - bid if bid is not None and ask is not None else None
     last, change = None, NONE
     if trades:
         days = [times[it[0]][:8] for it in trades]
@@ -89,14 +90,14 @@ def overview_told(name: str, lines: list[str], trades: list[tuple], times: dict[
     return [name, *shown, change, f"{sum(it[2] for it in trades):,}"]
 
 
-def page_told(journal: str) -> dict[str, object]:
+def page_told(journal: str) -> Json:
     """What the page has to say of this journal, by venue-replay."""
     lines, (commands, outputs) = replay(journal, "book", SYMBOLS)
     entries = journals.read(contents(journal)).entries
     heard = {it: replay(journal, f"C{it}", SYMBOLS)[0] for it in sorted({it.gateway for it in entries})}
     members = [[f"{value:,}" if isinstance(value, int) else value for value in (
         row["name"], row["commands"], row["orders"], row["refused"], row["fills"], row["bought"], row["sold"],
-        row["resting"], row["left"], row["when"][9:])] for row in rows_heard(heard, lines, entries)]
+        row["resting"], row["left"], str(row["when"])[9:])] for row in rows_heard(heard, lines, entries)]
     told = [fields_of(it) for reports in heard.values() for it in reports]
     symbols, overview, times = [], [], {int(it["17"]): it["52"] for it in told if "17" in it}
     for name in SYMBOLS:
@@ -116,7 +117,7 @@ def commands_of(journal: str) -> int:
     return len(journals.read(contents(journal)).entries)
 
 
-def await_shown(page: Page, journal: str) -> dict[str, object]:
+def await_shown(page: Page, journal: str) -> Json:
     """What the page says, once it shows the whole journal."""
     wanted = [UP_TO_DATE, f"{commands_of(journal):,}"]
     page.until('["state", "commands"].map((it) => document.getElementById(it).textContent)', lambda it: it == wanted)

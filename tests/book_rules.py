@@ -3,7 +3,8 @@ test: tests import it. It was written from that page alone, and shares nothing w
 from dataclasses import dataclass
 from typing import NamedTuple
 
-from rules import Field, asks_for_market, body, order_fault, read_order
+from gikvand.rules import Field, asks_for_market, body, order_fault, read_order
+from gikvand.words import sure
 
 MOST_RESTING = 4096
 
@@ -42,7 +43,7 @@ class Order:
 
     def crosses(self, other: "Order") -> bool:
         """Whether it trades with an order of the other side."""
-        return self.symbol == other.symbol and self.side != other.side and self.takes(other.price)
+        return self.symbol == other.symbol and self.side != other.side and self.takes(sure(other.price))
 
     def takes(self, price: int) -> bool:
         """Whether it trades at this price: a market order does at any."""
@@ -53,7 +54,8 @@ class Order:
 
 def turn_of(order: Order) -> tuple[int, int]:
     """The turn of an order that rests, among those of its symbol and side: the lesser one is ahead."""
-    return (-order.price if order.side == b"1" else order.price), order.stamp
+    price = sure(order.price)
+    return (-price if order.side == b"1" else price), order.stamp
 
 
 class Book:
@@ -138,10 +140,10 @@ class Book:
         for other in self.crossed(order):
             if not order.left:
                 break
-            quantity = min(order.left, other.left)
+            quantity, price = min(order.left, other.left), sure(other.price)
             for it in (other, order):
-                it.fill(quantity, other.price)
-                self.report("F", "1" if it.left else "2", it, it.left, fill=(quantity, other.price))
+                it.fill(quantity, price)
+                self.report("F", "1" if it.left else "2", it, it.left, fill=(quantity, price))
         self.resting = [it for it in self.resting if it.left]
 
     def rest(self, order: Order) -> None:
@@ -173,15 +175,15 @@ class Book:
 
     def cancel(self, told: dict[int, bytes]) -> None:
         order = self.named(told)
-        if not self.is_refused(told, order, 1):
+        if not self.is_refused(told, order, 1) and order:
             self.greatest[self.client] = int(told[11])
             self.resting.remove(order)
             self.report("4", "4", order, 0, name=int(told[11]), was=order.name)
 
     def replace(self, told: dict[int, bytes]) -> None:
         order, total, price = self.named(told), int(told[38]), int(told[44])
-        is_wrong = bool(order) and (told.get(59, b"0") != b"0" or total <= order.cum)
-        if self.is_refused(told, order, 2, is_wrong):
+        is_wrong = order is not None and (told.get(59, b"0") != b"0" or total <= order.cum)
+        if self.is_refused(told, order, 2, is_wrong) or not order:
             return
         keeps_place = price == order.price and total <= order.total
         was, self.greatest[self.client] = order.name, int(told[11])

@@ -12,15 +12,17 @@ import subprocess
 import tempfile
 import time
 import zlib
-from collections.abc import Iterator
+from collections.abc import Callable, Iterator
+from typing import Any
 
+from gikvand.words import sure
 from venues import PATIENCE, Trouble
 
 NAMES = ("chromium", "chromium-browser", "google-chrome")
 WORDS = ["--headless=new", "--no-sandbox", "--remote-debugging-pipe", "--no-first-run", "--disable-gpu",
          "--disable-extensions", "--disable-background-networking", "--disable-component-update", "--disable-sync",
          "--disable-dev-shm-usage", "--no-default-browser-check", "--mute-audio", "--hide-scrollbars"]
-Json = dict[str, object]
+Json = dict[str, Any]  # Of the browser: what an expression gives is anything.
 
 
 def program() -> str | None:
@@ -32,7 +34,7 @@ class Page:
     """A page: what is asked of it, and what went wrong in it."""
 
     def __init__(self, browser: "Browser", session: str) -> None:
-        self.browser, self.session, self.errors = browser, session, []
+        self.browser, self.session, self.errors = browser, session, list[str]()
         for name in ("Page", "Runtime", "Log", "Network"):
             self.call(f"{name}.enable")
 
@@ -43,14 +45,14 @@ class Page:
         self.call("Page.navigate", url=address)
         self.until("document.readyState === 'complete'", lambda it: it)
 
-    def value(self, code: str) -> object:
+    def value(self, code: str) -> Any:
         """What an expression of JavaScript gives."""
         found = self.call("Runtime.evaluate", expression=code, returnByValue=True, awaitPromise=True)
         if "exceptionDetails" in found:
             raise Trouble(f"{code} failed: {found['exceptionDetails']}")
         return found["result"].get("value")
 
-    def until(self, code: str, is_right) -> object:
+    def until(self, code: str, is_right: Callable[[Any], object]) -> Any:
         """What an expression gives, once that is right."""
         end = time.monotonic() + PATIENCE
         while not is_right(found := self.value(code)):
@@ -89,7 +91,7 @@ class Browser:
 
     def __init__(self, process: subprocess.Popen, to: int, of: int) -> None:
         self.process, self.to, self.of = process, to, of
-        self.number, self.rest, self.answers, self.pages = 0, b"", {}, {}
+        self.number, self.rest, self.answers, self.pages = 0, b"", dict[int, Json](), dict[str, Page]()
 
     def call(self, method: str, words: Json, session: str | None = None) -> Json:
         """Asks something, and waits for the answer."""
@@ -130,7 +132,7 @@ def browser() -> Iterator[Browser]:
     its_in, to = os.pipe()
     of, its_out = os.pipe()
     with tempfile.TemporaryDirectory(prefix="chromium-", ignore_cleanup_errors=True) as folder:
-        words = ["bash", "-c", f'exec "$@" 3<&{its_in} 4>&{its_out}', "bash", program(), *WORDS,
+        words = ["bash", "-c", f'exec "$@" 3<&{its_in} 4>&{its_out}', "bash", sure(program()), *WORDS,
                  f"--user-data-dir={folder}"]
         with subprocess.Popen(words, pass_fds=(its_in, its_out), stdout=subprocess.DEVNULL, stderr=subprocess.DEVNULL,
                               start_new_session=True) as process:
@@ -173,7 +175,7 @@ def colours(png: bytes) -> collections.Counter[tuple[int, int, int]]:
         data += png[at + 8:at + 8 + size] if kind == b"IDAT" else b""
         at += 12 + size
     rows, size = zlib.decompress(data), {2: 3, 6: 4}[png[25]]
-    above, found = bytearray(width * size), collections.Counter()
+    above, found = bytearray(width * size), collections.Counter[tuple[int, int, int]]()
     for start in range(0, len(rows), 1 + width * size):
         above = unfiltered(rows[start], bytearray(rows[start + 1:start + 1 + width * size]), above, size)
         found.update(zip(above[0::size], above[1::size], above[2::size]))

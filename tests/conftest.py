@@ -15,24 +15,26 @@ import tempfile
 from collections.abc import Callable, Iterator
 
 import pytest
+from _pytest.terminal import TerminalReporter
 
 ROOT = os.path.dirname(os.path.dirname(os.path.abspath(__file__)))
 TOOLS = os.path.abspath(os.environ.get("TOOLS", os.path.join(ROOT, "tools")))
-OWN = ("VENUED", "VENUE_REPLAY", "VENUE_EVENTS", "GIKVAND_EDGE", "PLAY", "CHECK", "CI_RUN")
+OWN = ("VENUED", "VENUE_REPLAY", "VENUE_EVENTS", "GIKVAND_EDGE", "PLAY", "CHECK", "CI_RUN", "LINT")
 os.environ.update({it: os.path.abspath(os.environ[it]) for it in OWN if it in os.environ})
 sys.path[:0] = [TOOLS, *(os.path.join(ROOT, it) for it in ("tests", "dev", "scripts"))]
 pytest.register_assert_rewrite("board_page", "checks", "installed", "made_journals", "running_tools")
 
 import debian
 import gikvand  # (of TOOLS, in front of what puts another path first)
-import journals
 import made_journals
 import refusals
 import venues
+from gikvand import journals
 from script_modules import loaded
 
 FROM_DEBIAN = {"mandoc": "mandoc", "lintian": "lintian", "systemd-analyze": "systemd", "systemd-sysusers": "systemd",
                "dpkg-deb": "dpkg", "strip": "binutils", "mmdebstrap": "mmdebstrap", "ip": "iproute2", "pgrep": "procps"}
+LAST_LINE = pytest.StashKey[str]()
 SHOWN = 2_000  # Characters of what came, where it isn't what was expected.
 
 
@@ -159,14 +161,14 @@ def pytest_assertrepr_compare(op: str, left: object, right: object) -> list[str]
     return ["another thing came", f"came     {left!r:.{SHOWN}}", f"expected {right!r:.{SHOWN}}"] if op == "==" else None
 
 
-def pytest_terminal_summary(terminalreporter: object, exitstatus: int, config: pytest.Config) -> None:
+def pytest_terminal_summary(terminalreporter: TerminalReporter, exitstatus: int, config: pytest.Config) -> None:
     """Keeps the last line, which a run that couldn't read all modules hasn't."""
     counts = {it: len(terminalreporter.stats.get(it, [])) for it in ("passed", "failed", "error")}
     if exitstatus in (pytest.ExitCode.OK, pytest.ExitCode.TESTS_FAILED, pytest.ExitCode.NO_TESTS_COLLECTED):
-        config.last_line = f"{counts['passed']} passed, {counts['failed'] + counts['error']} failed"
+        config.stash[LAST_LINE] = f"{counts['passed']} passed, {counts['failed'] + counts['error']} failed"
 
 
 @pytest.hookimpl(trylast=True)
 def pytest_unconfigure(config: pytest.Config) -> None:
-    if hasattr(config, "last_line"):
-        print(config.last_line, flush=True)
+    if LAST_LINE in config.stash:
+        print(config.stash[LAST_LINE], flush=True)

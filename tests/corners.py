@@ -4,9 +4,9 @@ from collections.abc import Iterator
 from typing import NamedTuple
 
 import book_rules
-import journals
-from journals import Entry
-from rules import sealed
+from gikvand import journals
+from gikvand.journals import Entry
+from gikvand.rules import sealed
 from venues import TIME, market_order, message, order
 
 SYMBOLS = ("ABC", "XYZ")
@@ -154,8 +154,8 @@ def messages() -> Iterator[tuple[str, bytes]]:
 
 def sessions() -> Iterator[tuple[str, bytes]]:
     """How a session may begin and end."""
-    for name, sent in (("nothing", []), ("an order first", [buy(1, 1, 50)]), ("a Heartbeat first", [("0", "")]),
-                       ("a Logout first", [("5", "")]), ("a TestRequest first", [("1", "112=x|")]), ("2 first", [("2", "")])):
+    for name, sent in (("nothing", ()), ("an order first", (buy(1, 1, 50),)), ("a Heartbeat first", (("0", ""),)),
+                       ("a Logout first", (("5", ""),)), ("a TestRequest first", (("1", "112=x|"),)), ("2 first", (("2", ""),))):
         yield name, spelled(*sent)
     for body in ("", "98=0|108=30|141=Y|", "98=1|108=0|141=Y|", "98=0|108=0|141=N|", "98=0|141=Y|108=0|", "98=0|108=0|",
                  "98=0|108=0|141=Y|58=x|", "58=x|"):

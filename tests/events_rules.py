@@ -15,22 +15,24 @@ ROOT = os.path.dirname(os.path.dirname(os.path.abspath(__file__)))
 sys.path.insert(0, os.path.join(ROOT, "dev"))
 
 import with_scripts  # (in front of what stands there, and of what an older Python can't read)
-import journals
 from book_rules import Book, Order, turn_of
-from journals import Damaged, Entry, NotAJournal
+from gikvand import journals
+from gikvand.journals import Damaged, Entry, NotAJournal
+from gikvand.rules import asks_for_market, order_fault, read_order
+from gikvand.words import sure
 from replay_rules import Outcome, are_symbols, said
-from rules import asks_for_market, order_fault, read_order
 
 USAGE = "usage: venue-events JOURNAL once|follow [--after N] SYMBOL..."
-WRONG_WORDS = [[], ["J"], ["J", "once"], ["J", "ABC"], ["", "once", "ABC"], ["J", "", "ABC"], ["J", "Once", "ABC"],
-               ["J", "once", "abc"], ["J", "once", "ABC", "ABC"], ["J", "once", *"ABCDEFGHI"], ["J", "once", ""],
-               ["J", "once", "ABCDEFGHI"], ["J", "once", "--after"], ["J", "once", "--after", "1"],
-               ["J", "once", "--after", "ABC"], ["J", "once", "--after", "-1", "ABC"], ["J", "once", "--after", "+1", "ABC"],
-               ["J", "once", "--after", "01", "ABC"], ["J", "once", "--after", "0", "ABC"], ["J", "once", "--after", "", "ABC"],
-               ["J", "once", "--after", "1x", "ABC"], ["J", "once", "--after", str(2 ** 64), "ABC"],
-               ["J", "once", "--after=1", "ABC"], ["J", "once", "ABC", "--after", "1"], ["J", "--after", "1", "once", "ABC"],
-               ["J", "once", "--after", "1", "--after", "1", "ABC"], ["J", "follow"], ["J", "Follow", "ABC"],
-               ["J", "follow", "once", "abc"], ["J", "once|follow", "ABC"], ["J", "follow", "--after", "0", "ABC"]]
+WRONG_WORDS: list[list[str]] = [
+    [], ["J"], ["J", "once"], ["J", "ABC"], ["", "once", "ABC"], ["J", "", "ABC"], ["J", "Once", "ABC"],
+    ["J", "once", "abc"], ["J", "once", "ABC", "ABC"], ["J", "once", *"ABCDEFGHI"], ["J", "once", ""],
+    ["J", "once", "ABCDEFGHI"], ["J", "once", "--after"], ["J", "once", "--after", "1"],
+    ["J", "once", "--after", "ABC"], ["J", "once", "--after", "-1", "ABC"], ["J", "once", "--after", "+1", "ABC"],
+    ["J", "once", "--after", "01", "ABC"], ["J", "once", "--after", "0", "ABC"], ["J", "once", "--after", "", "ABC"],
+    ["J", "once", "--after", "1x", "ABC"], ["J", "once", "--after", str(2 ** 64), "ABC"],
+    ["J", "once", "--after=1", "ABC"], ["J", "once", "ABC", "--after", "1"], ["J", "--after", "1", "once", "ABC"],
+    ["J", "once", "--after", "1", "--after", "1", "ABC"], ["J", "follow"], ["J", "Follow", "ABC"],
+    ["J", "follow", "once", "abc"], ["J", "once|follow", "ABC"], ["J", "follow", "--after", "0", "ABC"]]
 NUMBER = re.compile(r"[1-9]\d*")
 
 Level = tuple[bytes, bytes, int]
@@ -58,7 +60,7 @@ def read_words(words: list[str]) -> Asked | None:
 
 
 def level_of(order: Order) -> Level:
-    return order.symbol, order.side, order.price
+    return order.symbol, order.side, sure(order.price)
 
 
 def in_turn(levels: list[Level]) -> list[Level]:

@@ -27,7 +27,7 @@ sys.path[:0] = [TOOLS, os.path.join(ROOT, "dev")]
 
 import with_scripts  # (in front of what stands there, and of what an older Python can't read)
 import gikvand as package  # (in front of what puts another path first)
-import journals
+from gikvand import journals
 from made_journals import JOURNAL, contents, gikvand, put
 from running_tools import Follower, await_copy
 from traders import Member, request

@@ -12,8 +12,8 @@ where one is reached by none of them the test fails. `cuts`: the bytes of the fi
 are answered as in one. `replaced_bytes`: each of them is replaced by 00 and by other values. `mutated_sessions`: sessions
 of up to a hundred messages, right ones and wrong ones, many on one journal, so that later ones find a book. A tenth of the
 messages are market orders, or were before they were changed; the journals are of all versions by turns, and on those of
-version 1 the venue refuses these. tests/rules.py says which bytes may come out: the venue's own answers in their order, the reports in
-theirs, numbered together, nothing behind a Logout; where a Logout ended the session, reports that were due may be missing
+version 1 the venue refuses these. tools/gikvand/rules.py says which bytes may come out: the venue's own answers in their
+order, the reports in theirs, numbered together, nothing behind a Logout; where a Logout ended the session, reports that were due may be missing
 at the end. Behind every journal venue-replay has to print each report that the rules know of, and the journal has to have
 the version that it had. That all this tells a wrong answer and a wrong rule is shown by tests/known_bad.py.
 
@@ -41,11 +41,11 @@ sys.path.insert(0, os.path.join(ROOT, "dev"))
 
 import with_scripts  # (in front of what stands there, and of what an older Python can't read)
 import corners
-import journals
 from book_rules import Book
 from corners import SYMBOLS, Corner, all_corners
+from gikvand import journals
+from gikvand.rules import Judged, Session, asks_for_market, sealed
 from replay_rules import line_of
-from rules import Judged, Session, asks_for_market, sealed
 from venues import PATIENCE, REPLAY, TIME, VENUED, Trouble, message, need_programs, order, printed
 
 FIRST = message(1, 1, "A", "98=0|108=0|141=Y|") + message(1, 2, "D", order(1, 1, 100, 50))

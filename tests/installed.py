@@ -159,8 +159,8 @@ def machine(packages: list[str]) -> Iterator[Machine]:
         included = ",".join([INCLUDED, *libraries(packages)])
         status, _, err = ran("mmdebstrap", "--quiet", "--variant=minbase", f"--include={included}", release(), root)
         assert (status, err if status else "") == (0, "")
-        for it in packages:
-            shutil.copy(it, os.path.join(root, "root"))
+        for package in packages:
+            shutil.copy(package, os.path.join(root, "root"))
         it = Machine(root)
         try:
             it.await_boot()

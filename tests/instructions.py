@@ -27,14 +27,15 @@ import shutil
 import subprocess
 import sys
 import tempfile
+from collections.abc import Callable, Sequence
 from typing import NamedTuple
 
 ROOT = os.path.dirname(os.path.dirname(os.path.abspath(__file__)))
 sys.path.insert(0, os.path.join(ROOT, "dev"))
 
 import with_scripts  # (in front of what stands there, and of what an older Python can't read)
-import journals
-from journals import Entry
+from gikvand import journals
+from gikvand.journals import Entry
 from measuring import instructions
 from mixed_day import write_journal
 from venues import REPLAY, VENUED, Trouble, message, need_programs, order
@@ -88,7 +89,7 @@ def eight_symbols(folder: str, more: float) -> Run:
     return replayed(folder, [(*it, "") for it in rest] + [(*it, "59=3|") for it in trade], SYMBOLS)
 
 
-def replayed(folder: str, orders: list[tuple], symbols: list[str]) -> Run:
+def replayed(folder: str, orders: Sequence[tuple], symbols: list[str]) -> Run:
     """A day of these orders: symbol, side, quantity, price and terms of each."""
     entries = [Entry(1, message(1, at + 2, "D", order(at + 1, side, quantity, price, symbol, terms)))
                for at, (symbol, side, quantity, price, terms) in enumerate(orders)]
@@ -173,14 +174,18 @@ def main() -> int:
     except Trouble as why:
         sys.exit(f"instructions: {why}")
     runs, failed = (session, one_symbol, eight_symbols, deep_sells, deep_buys, one_spot, last_of_eight), 0
-    tests = {it.__name__: functools.partial(counted if asked.show else tried, it) for it in runs}
-    for name, test in {**tests, "mirrored": mirrored}.items():
+    look: Callable[..., object] = tried
+    if asked.show:
+        look = counted
+    tests: dict[str, Callable[[], object]] = {it.__name__: functools.partial(look, it) for it in runs}
+    tests["mirrored"] = mirrored
+    for name, test in tests.items():
         try:
             print(f"{name}: {test()}", flush=True)
         except (Trouble, OSError, subprocess.TimeoutExpired) as why:
             print(f"{name}: {why}", flush=True)
             failed += 1
-    print(f"{len(tests) + 1 - failed} passed, {failed} failed")
+    print(f"{len(tests) - failed} passed, {failed} failed")
     return 1 if failed else 0
 
 

@@ -3,10 +3,11 @@ import random
 import struct
 from typing import NamedTuple
 
-import journals
 from book_rules import Book, Order, Report
-from journals import Entry
-from rules import sealed
+from gikvand import journals
+from gikvand.journals import Entry
+from gikvand.rules import sealed
+from gikvand.words import sure
 from snapshot_rules import HEAD, MOST_OUTPUTS, ORDER, snapshot
 
 TABLES = [("ABC",), ("ABC", "XYZ"), ("ABC", "XYZ"), ("B", "A", "X9")]
@@ -18,7 +19,8 @@ HEADS = ("commands", "outputs", *(f"greatest {it}" for it in journals.MEMBERS), 
 FIELDS = ("number", "client", "name", "symbol", "side", "price", "total", "cum", "paid", "stamp")
 MOST_OF_FIELD = {"Q": 2 ** 64, "I": 2 ** 32, "H": 2 ** 16, "B": 2 ** 8}
 TOP = {name: MOST_OF_FIELD[form] for name, form in zip(HEADS + FIELDS, "QQQQQQQQQQH" "QBQBBIIIQQ")}
-WRONG_BLOCKS = ([Entry(0, b"x")], [Entry(9, b"x")], [Entry(1, b"")], [Entry(1, b"x" * 321)], [Entry(1, b"x")] * 4097, [])
+WRONG_BLOCKS: tuple[list[Entry], ...] = (
+    [Entry(0, b"x")], [Entry(9, b"x")], [Entry(1, b"")], [Entry(1, b"x" * 321)], [Entry(1, b"x")] * 4097, [])
 LONG = (4095, 4096, 4097, 8191, 8192, 8193, 9000)  # How many entries the few long journals have.
 
 
@@ -68,7 +70,7 @@ class Orders:
         else:
             it = chance.choice(self.book.resting)
             client, was, symbol, side = it.client, it.name, it.symbol.decode(), it.side.decode()
-            price, total = it.price, max(1, it.total + chance.choice((0, 0, -1, -1, -4, 1, 5)))
+            price, total = sure(it.price), max(1, it.total + chance.choice((0, 0, -1, -1, -4, 1, 5)))
         if chance.random() < 0.05:
             side = "21"[int(side) - 1]
         fields = [(41, was), (11, self.name(client)), (55, symbol), (54, side), (60, TIMES[0]), (38, min(total, MILLION))]
@@ -82,7 +84,8 @@ class Orders:
         chance = self.chance
         at = chance.randrange(len(fields))
         tag, value = fields[at]
-        others = [[], [(tag, value)] * 2, [(tag, 0)], [(tag, "x")], [(tag, "01")], [(tag, 10 ** 15)], [(58, "x" * 40)]]
+        others: list[list[tuple[int, object]]] = [
+            [], [(tag, value)] * 2, [(tag, 0)], [(tag, "x")], [(tag, "01")], [(tag, 10 ** 15)], [(58, "x" * 40)]]
         return fields[:at] + chance.choice(others) + fields[at + 1:]
 
     def no_order(self) -> bytes:

@@ -28,15 +28,15 @@ import re
 import sys
 import tempfile
 import time
-from collections.abc import Iterator
+from collections.abc import Callable, Iterator
 from itertools import zip_longest
 from typing import NamedTuple
 
 from replay_rules import USAGE, WRONG_WORDS, Outcome, Replayer, Symbols  # (first: it finds the scripts' modules)
 import snapshot_rules
 from book_rules import Book
+from gikvand.journals import MEMBERS, Journal, Snapshot
 from journal_writer import DEEP, Chosen, chosen, deep
-from journals import MEMBERS, Journal, Snapshot
 from replay_program import FOLDERS, Program, is_built, not_built
 from replay_rules import counts, line_of, said
 from snapshot_rules import BadSnapshot
@@ -81,7 +81,7 @@ class WrongRules:
     """A program that goes by a wrong rule."""
 
     def __init__(self, wrong: Wrong) -> None:
-        self.wrong, self.stored = wrong, {}
+        self.wrong, self.stored = wrong, dict[str, bytes]()
 
     def put(self, files: dict[str, bytes]) -> None:
         self.stored = dict(files)
@@ -143,9 +143,9 @@ def seen(steps: list[Step]) -> Iterator[str]:
         yield from (name for name, form in SHOWN.items() if form.match(line))
 
 
-def batch(seed: str, numbers: list[int], keep: str | None) -> tuple[collections.Counter, int, list[str]]:
+def batch(seed: str, numbers: list[int], keep: str | None) -> tuple[collections.Counter[str], int, list[str]]:
     """Compares the program on these journals: what they met, how often it ran, and what differs."""
-    met, runs, faults = collections.Counter(), 0, []
+    met, runs, faults = collections.Counter[str](), 0, list[str]()
     with tempfile.TemporaryDirectory(prefix="journals-", dir=FOLDERS) as folder:
         program = Program(folder)
         for number in numbers:
@@ -173,7 +173,7 @@ def journals(given: argparse.Namespace) -> tuple[str, list[str]]:
     """The program on journals by chance."""
     numbers = [given.only] if given.only is not None else list(range(given.journals))
     batches = [numbers[at:at + A_BATCH] for at in range(0, len(numbers), A_BATCH)]
-    met, runs, faults = collections.Counter(), 0, []
+    met, runs, faults = collections.Counter[str](), 0, list[str]()
     with concurrent.futures.ProcessPoolExecutor(given.together) as pool:
         for some, count, differ in pool.map(batch, [given.seed] * len(batches), batches, [given.keep] * len(batches)):
             met, runs, faults = met + some, runs + count, faults + differ
@@ -235,7 +235,7 @@ def wrong_rules(given: argparse.Namespace) -> tuple[str, list[str]]:
     return f"{len(found)} wrong rules, the last one by journal {max(found.values(), default=0)}", faults
 
 
-def wrong_words(_given: argparse.Namespace) -> tuple[str, list[str]]:
+def wrong_words(_: argparse.Namespace) -> tuple[str, list[str]]:
     """Words that are none get the usage line, and nothing is made."""
     with tempfile.TemporaryDirectory(prefix="journals-") as folder:
         program = Program(folder)
@@ -265,6 +265,7 @@ def main() -> None:
     given = read_words()
     if not given.rules_alone and not is_built():
         sys.exit(f"journals_by_chance: {not_built()}")
+    tests: list[Callable[[argparse.Namespace], tuple[str, list[str]]]]
     tests = [wrong_rules] if given.rules_alone else [wrong_rules, wrong_words, journals, deep_book]
     tests = [journals] if given.only is not None else tests
     print(f"journals_by_chance: seed {given.seed}", flush=True)

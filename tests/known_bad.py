@@ -4,7 +4,7 @@ to refuse every one.
 
     tests/known_bad.py [NAME...]      the tests whose names have one of these words in them; without one all
 
-`wrong_rules`: each rule of tests/rules.py and tests/book_rules.py, turned off or turned round (tests/wrong_rules.py), differs
+`wrong_rules`: each rule of tools/gikvand/rules.py and tests/book_rules.py, turned off or turned round (tests/wrong_rules.py), differs
 from the right ones at a session of tests/corners.py. `wrong_answers`: the bytes that are due in a session, with one byte, one
 message, their order, a number or a price changed. `wrong_lines`: the same of what venue-replay prints. `wrong_venues` and
 `wrong_replays`: tests/test_members.py, tests/hostile_bytes.py, tests/refused_memory.py, tests/test_worked_journals.py and
@@ -28,7 +28,7 @@ import subprocess
 import sys
 import tempfile
 import types
-from collections.abc import Callable, Iterator
+from collections.abc import Callable, Iterator, Sequence
 from unittest import mock
 
 ROOT = os.path.dirname(os.path.dirname(os.path.abspath(__file__)))
@@ -44,9 +44,9 @@ import refused_memory
 import wrong_program
 from book_rules import Book
 from corners import LOGON, SYMBOLS, Corner, all_corners, buy, cut, market, sell, spelled
+from gikvand.rules import Judged, sealed, told
 from hostile_bytes import kept_difference
 from replay_rules import line_of
-from rules import Judged, sealed, told
 from venues import EVENTS, LATE, REPLAY, VENUED, Trouble, need_programs
 from wrong_package import WRONG as WRONG_PACKAGES
 from wrong_rules import WRONG
@@ -91,7 +91,7 @@ class Played:
         """Whether other rules differ here. Such as find no answer at all do."""
         try:
             book = corners.book_of(self.corner.journal, modules["book_rules"])
-            if modules["rules"].Judged(self.corner.data, book).difference(self.out):
+            if modules["gikvand.rules"].Judged(self.corner.data, book).difference(self.out):
                 return True
             return self.corner.shows_book and book_lines(book) != self.lines
         except (LookupError, ValueError, TypeError, AttributeError):
@@ -154,11 +154,11 @@ def altered(messages: list[bytes]) -> Iterator[tuple[str, bytes]]:
             if other != it:
                 yield f"message {at} has {tag}={value.decode()}", b"".join(messages[:at] + [other] + messages[at + 1:])
     for at in range(len(messages) - 1):
-        swapped = messages[:at] + [messages[at + 1], messages[at]] + messages[at + 2:]
-        yield f"messages {at} and {at + 1} are swapped", b"".join(swapped)
+        turned = messages[:at] + [messages[at + 1], messages[at]] + messages[at + 2:]
+        yield f"messages {at} and {at + 1} are swapped", b"".join(turned)
         # (the answer to a TestRequest may stand behind the reports of what came later)
         if not any(b"\x0135=0\x01" in it for it in messages[at:at + 2]):
-            yield f"messages {at} and {at + 1} are swapped, each with its number", numbered(swapped)
+            yield f"messages {at} and {at + 1} are swapped, each with its number", numbered(turned)
     last = messages[-1]
     for name, more in (("a further byte", b"8"), ("a further message", last), ("half of one", last[:40]), ("a zero", b"\0")):
         yield f"{name} behind the end", whole + more
@@ -241,7 +241,7 @@ def refused_in_some_try(refuses: Callable, words: tuple) -> tuple[str, str | Non
     return name, why
 
 
-def all_refuse(runs: list[tuple], refuses: Callable = refuses) -> tuple[int, list[str]]:
+def all_refuse(runs: Sequence[tuple], refuses: Callable = refuses) -> tuple[int, list[str]]:
     """Tries these, some side by side."""
     with concurrent.futures.ThreadPoolExecutor(TOGETHER) as pool:
         said = list(pool.map(lambda it: refused_in_some_try(refuses, it), runs))

@@ -12,10 +12,10 @@ import sys
 import tempfile
 import time
 from collections.abc import Iterator
-from typing import NamedTuple
+from typing import AnyStr, NamedTuple
 
-import journals
 from gikvand import main as tools
+from gikvand import journals
 from venues import PATIENCE, REPLAY, TIME, Client, Trouble, market_order, order, started, value
 
 TOOLS = os.path.dirname(os.path.dirname(os.path.abspath(tools.__file__)))
@@ -61,7 +61,7 @@ def gikvand(*words: object) -> tuple[int, list[str], list[str]]:
         try:
             status = tools.run(str(words[0]), [str(it) for it in words[1:]])
         except SystemExit as ended:
-            status = ended.code
+            status = int(ended.code or 0)
     return status, out.getvalue().splitlines(), err.getvalue().splitlines()
 
 
@@ -85,7 +85,7 @@ def followed(*words: object) -> tuple[int, list[str], list[str]]:
     return status, [untimed(it) for it in out], [untimed(it) if " (at " in it else it for it in err]
 
 
-def put(name: str, data: bytes) -> str:
+def put(name: AnyStr, data: bytes) -> AnyStr:
     """Makes a file of these bytes."""
     with open(name, "wb") as file:
         file.write(data)

@@ -193,7 +193,6 @@ class Check:
                 has = self.sources.is_named(it) or any(it in self.sources.fields.get(record, ()) for record in names)
                 self.count(line, None if has else f"`{name}`: no definition or field `{it}` behind {head.strip()}")
 
-
     def read_row(self, line, crate, name, clauses):
         """What the table says of a wrong body of this crate: a function, or one that it calls, and clauses of that."""
         them = self.sources.inner(name, crate) or self.sources.function(name, None, None)

@@ -261,7 +261,7 @@ def of_project(check: Check) -> None:
     there = (int(counts[1]), int(counts[2])) if counts else (0, 0)
     check.count(status == 0, f"{' '.join(LISTEN)}: {there[0]} definitions in {there[1]} files, status {status}")
     check.count(there[0] >= LEAST[0] and there[1] >= LEAST[1], f"{' '.join(LISTEN)}: but {there[0]} in {there[1]}")
-    pages = [(*it, "--but", *CHAPTERS) for it in RECORDS]
+    pages: list[tuple[str, ...]] = [(*it, "--but", *CHAPTERS) for it in RECORDS]
     pages += [(it, "--but", *(other for other in CHAPTERS if other != it)) for it in CHAPTERS]
     for words in pages:
         said, status = run(ROOT, (*words, *A_PAGE))

@@ -12,11 +12,11 @@ ROOT = os.path.dirname(os.path.dirname(os.path.abspath(__file__)))
 sys.path.insert(0, os.path.join(ROOT, "dev"))
 
 import with_scripts  # (in front of what stands there, and of what an older Python can't read)
-import journals
 from book_rules import Book
-from journals import Entry
+from gikvand import journals
+from gikvand.journals import Entry
+from gikvand.rules import Judged, told
 from replay_rules import Replayer
-from rules import Judged, told
 from venues import COUNTS, PATIENCE, TRIES, VENUED, Trouble, Venue, free_port, kill_all, message, need_programs, order
 from venues import printed, replay
 

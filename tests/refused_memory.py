@@ -24,8 +24,8 @@ import os
 import time
 
 from refusals import FRESH, LOGON, LONG, MOST_CALLS, ROOT, answers, by_rules, check_history, contents, journal_of
-from refusals import listens, orders, put, run_tests
-import journals
+from refusals import listens, orders, put, run_tests  # (in front of what it finds)
+from gikvand import journals
 from venues import COUNTS, REPLAY, Client, Trouble, Venue, free_port, message, order, printed, replay
 
 ORDERS = 3

@@ -4,6 +4,7 @@ import signal
 import subprocess
 import sys
 
+from gikvand.words import sure
 from made_journals import TOOLS, contents, untimed
 from venues import PATIENCE, Lines, Trouble, await_that, running
 
@@ -24,7 +25,7 @@ class Follower:
 
     def has_caught_up(self) -> "Follower":
         """Waits for its first line."""
-        if not self.process.stdout.readline():
+        if not sure(self.process.stdout).readline():
             raise Trouble(f"the follower ended: {self.process.communicate()[1]}")
         return self
 

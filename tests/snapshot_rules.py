@@ -4,8 +4,8 @@ orders rest, and 47 bytes for each of these, by symbol in the order of the table
 import struct
 
 from book_rules import MOST_RESTING, Book, Order, turn_of
-from journals import MEMBERS, MOST_ENTRIES, ROW, SNAPSHOT_HEAD
-from rules import NAMES, UNITS
+from gikvand.journals import MEMBERS, MOST_ENTRIES, ROW, SNAPSHOT_HEAD
+from gikvand.rules import NAMES, UNITS
 
 HEAD = struct.Struct(">QQ8QH")
 ORDER = struct.Struct(">QBQBBIIIQQ")

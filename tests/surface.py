@@ -257,7 +257,7 @@ UNSAID = ("deeper", "inside", "corners: [L; N] }", "few", "main", "used", "unsai
 NOBODYS = ["Shape::has", "Turns::turns"]
 
 # What changes in a file, and what has to stand among the differences.
-CHANGES = {
+CHANGES: dict[str, tuple[str, str, str, list[str]]] = {
     "a call is renamed": ("shapes.rt", "pub fn rest<", "pub fn sleep<", ["-    rest<C", "+    sleep<C"]),
     "an argument comes": ("shapes.rt", "by: F)", "by: F, at: u64)", ["-turned<R", "+turned<R"]),
     "an answer changes": ("shapes.rt", "-> Option<L>\n        ensures", "-> L\n        ensures",

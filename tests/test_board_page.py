@@ -15,12 +15,13 @@ import sys
 import pytest
 
 import chromium
-import journals
 import pictures
 from board_page import READ, await_shown, compare, named, page_told, trades_heard
 from chromium import Browser, Page
+from gikvand import journals
+from gikvand.journals import Entry
+from gikvand.words import sure
 from journal_writer import Orders
-from journals import Entry
 from made_journals import BEHIND, DAY, JOURNAL, SYMBOLS, TOOLS, contents, put, trade
 from running_tools import Running
 from venues import TIME, message, order, replay, started
@@ -123,7 +124,7 @@ def test_a_board_that_comes_again(browser: Browser) -> None:
     assert (page.value(READ)["lost"], page.value(READ)["looks"][0], page.errors) == ("", "soft", [])
     with open(os.path.join(TOOLS, "gikvand/board.html"), encoding="utf-8") as file:
         text = file.read()
-    figures = [re.search(rf'id="{name}">([^<]*)<', text)[1] for name in ("commands", "outputs", "resting", "bytes", "pace-now")]
+    figures = [sure(re.search(rf'id="{name}">([^<]*)<', text))[1] for name in ("commands", "outputs", "resting", "bytes", "pace-now")]
     assert figures == ["\u2013"] * 5
 
 
@@ -246,7 +247,7 @@ def test_how_it_looks(browser: Browser) -> None:
 
 def write_near_day(journal: str) -> None:
     """A journal of three members whose orders are near each other, with more levels and trades than are shown."""
-    names, entries, chance = collections.Counter(), [], random.Random(5)
+    names, entries, chance = collections.Counter[int](), list[Entry](), random.Random(5)
     for at in range(160):
         member, side = 1 + at % 3, 1 + at % 2
         names[member] += 1
@@ -281,14 +282,14 @@ def test_the_day_as_a_picture(browser: Browser) -> None:
         row = pictures.row_of(picture, symbol)
         trades = [(it[0] + 1, it[3], it[6]) for it in trades_heard(heard) if it[1] == symbol]
         assert [it[:3] for it in row["trades"]] == trades
-        depth = collections.Counter()
+        depth = collections.Counter[tuple[str, int]]()
         for line in lines:
             depth[{"1": "buy", "2": "sell"}[line[1]], int(line[2])] += int(line[3]) * (line[0] == symbol)
         further = {level: left for level, left in depth.items() if left and level not in row["depth"]}
         assert row["depth"] == {level: left for level, left in depth.items() if left and level not in further}
-        words = f"{named(len(further), 'price')} further off {'is' if len(further) == 1 else 'are'}n't shown: " \
-                f"{sum(further.values()):,} rest there"
-        assert (words, words in picture.said()) == (words, bool(further))
+        rest = f"{named(len(further), 'price')} further off {'is' if len(further) == 1 else 'are'}n't shown: " \
+               f"{sum(further.values()):,} rest there"
+        assert (rest, rest in picture.said()) == (rest, bool(further))
     said = " ".join(picture.said())
     assert [f"{name}: {words.rpartition(', ')[0]}" in said for name, words, *_ in told["symbols"]] == [True] * len(SYMBOLS)
     seen = chromium.colours(keep_picture(page, "day"))
@@ -300,7 +301,7 @@ def test_days_with_far_prices(browser: Browser) -> None:
     price below zero; bars fill their chart, and what was traded adds up."""
     for name, prices, far in (("far.journal", [5190 + at % 25 for at in range(60)] + [5002, 9000], 2),
                               ("low.journal", [1 + at % 3 for at in range(40)], 0)):
-        names, entries = collections.Counter(), []
+        names, entries = collections.Counter[int](), list[Entry]()
         for at, price in enumerate(prices):
             for member, side in ((1, 2), (2, 1)):
                 names[member] += 1
@@ -324,8 +325,8 @@ def test_days_with_far_prices(browser: Browser) -> None:
         heights = [float(point.split(",")[1]) for points, *_ in picture.marks[4:] for point in points.split()[:1]]
         assert (name, max(heights) - min(heights) > 70) == (name, True)
         assert (name, [words for _, _, words, _ in picture.texts if words.startswith("-")]) == (name, [])
-        longest = max(float(it.get("width")) for it in picture.bars)
-        ground = max(float(it.get("x2")) - float(it.get("x1")) for it in picture.lines if float(it.get("x1")) > 700)
+        longest = max(float(it.get("width", "")) for it in picture.bars)
+        ground = max(float(it.get("x2", "")) - float(it.get("x1", "")) for it in picture.lines if float(it.get("x1", "")) > 700)
         assert (name, 0.9 < longest / ground <= 1) == (name, True)
         sums = page.value("[...document.querySelectorAll('.volume title')].map((it) => it.textContent)")
         assert (name, sum(int(it.split()[0].replace(",", "")) for it in sums)) == (

@@ -146,7 +146,7 @@ def test_all_pass() -> None:
 def test_those_that_wait() -> None:
     """A part that waits runs beside those behind it, and one behind the other of its kind; one of the edge is behind the edge's setup."""
     late = "for it in $(seq 200); do [ -e users ] && break; sleep 0.1; done; [ -e users ] || exit 1; sleep 0.5; touch members"
-    came = ran(by=".ci/run", members=f"{late}; {passes(counted()['members'])}", users=f"touch users; {passes(counted()['users'])}",
+    came = ran(by=".ci/run", without=(), members=f"{late}; {passes(counted()['members'])}", users=f"touch users; {passes(counted()['users'])}",
                held_ports=f"[ -e members ] || exit 1; {passes(counted()['held_ports'])}",
                edge=f"[ -e setup ] || exit 1; {passes(counted()['edge'])}", **{checker().SETUP: "sleep 1; touch setup"})
     assert (came.status, came.last, came.again()) == (0, f"{every()} passed, 0 failed", [])
@@ -160,10 +160,10 @@ def said_by(part: str) -> list[str]:
         return file.read().splitlines()
 
 
-def test_a_part_that_takes_long(capsys: pytest.CaptureFixture) -> None:
+def test_a_part_that_takes_long(capsys: pytest.CaptureFixture, monkeypatch: pytest.MonkeyPatch) -> None:
     """Of a part that takes long the newest line is shown from time to time, and at its end all of its lines are there."""
     module = checker()
-    module.SAID = os.path.abspath("said")
+    monkeypatch.setattr(module, "SAID", os.path.abspath("said"))
     with open("slow", "w", encoding="ascii") as file:
         file.write("#!/bin/sh\necho first\nsleep 2\necho '3 passed, 0 failed'\n")
     os.chmod("slow", 0o755)
@@ -185,8 +185,8 @@ def test_parts_that_fail(part: str, does: str, passed: int | str, failed: int) -
     """A part whose last line counts a failure, or that ends without such a line, or says something behind it, makes the status 1. Its
     last lines are shown at the end."""
     least = counted()[part]
-    came = ran(by=".ci/run", **{part: does.format(least=least)})
-    wanted = every() - least + (least if passed == "least" else passed)
+    came = ran(by=".ci/run", without=(), **{part: does.format(least=least)})
+    wanted = every() - least + (least if passed == "least" else int(passed))
     assert (came.status, came.last) == (1, f"{wanted} passed, {failed} failed")
     command, = commands({part})
     assert came.again()[:1] == [f"== what failed has said last: {command}"]
@@ -197,11 +197,11 @@ def test_parts_that_fail(part: str, does: str, passed: int | str, failed: int) -
 def test_a_setup_that_fails() -> None:
     """Where edge/setup ends badly that counts, and no part of the edge is called; so counts dev/measures."""
     module = checker()
-    came = ran(by=".ci/run", **{module.SETUP: "exit 1"})
+    came = ran(by=".ci/run", without=(), **{module.SETUP: "exit 1"})
     behind = {it.name for it in module.PARTS if "edge" in it.name or it.name == "framer"} - {module.SETUP}
     assert (came.status, came.last) == (1, f"{every() - sum(counted()[it] for it in behind)} passed, 1 failed")
     assert sorted(came.called) == sorted(set(commands()) - set(commands(behind)))
-    came = ran(by=".ci/run", **{module.MEASURES: "echo bad; exit 1"})
+    came = ran(by=".ci/run", without=(), **{module.MEASURES: "echo bad; exit 1"})
     assert (came.status, came.last) == (1, f"{every() - 1} passed, 1 failed")
 
 
@@ -209,7 +209,7 @@ def test_a_setup_that_fails() -> None:
 @pytest.mark.parametrize("does", ("exit 3", "kill -KILL $$", "kill -SEGV $$"))
 def test_parts_that_crash(part: str, does: str) -> None:
     """A part that ends by a signal, or with a status that its last line doesn't say, has failed."""
-    came = ran(by=".ci/run", **{part: f"{passes(counted()[part])}; {does}"})
+    came = ran(by=".ci/run", without=(), **{part: f"{passes(counted()[part])}; {does}"})
     assert (came.status, came.last) == (1, f"{every()} passed, 1 failed")
     assert any(it.startswith(f"{part}: it ended with status ") for it in came.again())
 
@@ -224,7 +224,7 @@ def test_parts_of_fewer_tests() -> None:
     """A part of which fewer tests were tried than its least count has failed, and a line says so; what failed of them counts as tried."""
     fewer = {name: passes(least - 1) for name, least in counted().items()}
     for words, by, names in (((), ".ci/run", list(counted())), ((), "scripts/check", [it for it in counted() if not is_long(it)])):
-        came = ran(*words, by=by, **fewer)
+        came = ran(*words, by=by, without=(), **fewer)
         passed = sum(counted()[it] - 1 for it in names) + 1
         assert (by, came.status, came.last) == (by, 1, f"{passed} passed, {len(names)} failed")
         for it in names:

@@ -14,11 +14,12 @@ from collections.abc import Callable
 
 import pytest
 
-import journals
 from checks import ran, text_of
 from events_rules import WRONG_WORDS, events_of, outcome
+from gikvand import journals
+from gikvand.journals import Entry
+from gikvand.words import sure
 from journal_writer import TABLES, Writer, coded, damaged
-from journals import Entry
 from replay_rules import Outcome
 from venues import EVENTS, PATIENCE, Client, Venue, order, running
 
@@ -122,10 +123,10 @@ def test_outputs_that_fail() -> None:
         it = subprocess.run([PROGRAM, "J", "once", "ABC"], stdout=full, stderr=subprocess.PIPE, timeout=PATIENCE)
     assert (it.returncode, it.stderr) == (1, b"")
     process = subprocess.Popen([PROGRAM, "J", "once", "ABC"], stdout=subprocess.PIPE, stderr=subprocess.PIPE)
-    process.stdout.readline()
-    process.stdout.close()
-    assert (process.wait(PATIENCE), process.stderr.read()) == (1, b"")
-    process.stderr.close()
+    sure(process.stdout).readline()
+    sure(process.stdout).close()
+    assert (process.wait(PATIENCE), sure(process.stderr).read()) == (1, b"")
+    sure(process.stderr).close()
     assert told("N", "once", "ABC") == Outcome(0, "", "")
 
 
@@ -177,7 +178,7 @@ class Follower:
         end = time.monotonic() + PATIENCE
         while len(self.out) < len(wanted) and time.monotonic() < end:
             if select.select([self.process.stdout], [], [], 1)[0]:
-                part = os.read(self.process.stdout.fileno(), 65_536)
+                part = os.read(sure(self.process.stdout).fileno(), 65_536)
                 if not part:
                     break
                 self.out += part
@@ -186,7 +187,7 @@ class Follower:
     def ends(self, status: int, err: str = "") -> None:
         """It ends so, with nothing more on its output."""
         assert self.process.wait(PATIENCE) == status
-        assert (self.process.stdout.read(), self.process.stderr.read().decode()) == (b"", err)
+        assert (sure(self.process.stdout).read(), sure(self.process.stderr).read().decode()) == (b"", err)
         self.close()
 
     def rests(self) -> None:
@@ -205,8 +206,8 @@ class Follower:
         self.ends(-number)
 
     def close(self) -> None:
-        self.process.stdout.close()
-        self.process.stderr.close()
+        sure(self.process.stdout).close()
+        sure(self.process.stderr).close()
 
     def kill(self) -> None:
         self.process.kill()
@@ -314,9 +315,9 @@ def test_follows_to_a_closed_output() -> None:
     put("J", long_journal(20))
     follower = Follower()
     follower.hears(lines_of(kept()))
-    follower.process.stdout.close()
+    sure(follower.process.stdout).close()
     grow(journals.block_of(3, [Entry(1, new_order(1, 99, "20260721-14:30:05", 99, 2, 100, 50))]))
-    assert (follower.process.wait(PATIENCE), follower.process.stderr.read()) == (1, b"")
+    assert (follower.process.wait(PATIENCE), sure(follower.process.stderr).read()) == (1, b"")
     follower.close()
     with open("/dev/full", "wb") as full:
         it = subprocess.run([PROGRAM, "J", "follow", "ABC"], stdout=full, stderr=subprocess.PIPE, timeout=PATIENCE)

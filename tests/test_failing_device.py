@@ -26,8 +26,8 @@ import signal
 
 import pytest
 
-import journals
-from journals import Entry
+from gikvand import journals
+from gikvand.journals import Entry
 from refusals import FRESH, LOGON, Refusal, answered, answers, by_rules, check_history, contents, journal_of, listens, orders
 from refusals import put, ran, standard
 from venues import REPLAY, Client, Trouble, printed

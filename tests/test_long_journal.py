@@ -20,12 +20,12 @@ from typing import NamedTuple
 
 import pytest
 
-import journals
 from book_rules import Book, Order
-from journals import Entry
+from gikvand import journals
+from gikvand.journals import Entry
+from gikvand.rules import Judged, told
 from refusals import LOGON, Refusal, compiled, contents, greatest, orders, put, standard
 from replay_rules import counts, line_of
-from rules import Judged, told
 from snapshot_rules import snapshot
 from venues import PATIENCE, REPLAY, Trouble, Venue, free_port, message, order
 

@@ -10,8 +10,8 @@ import time
 
 import pytest
 
-import journals
 from checks import ROOT
+from gikvand import journals
 from traders import Member, check_told, narrow_client, sip
 from venues import HOST, PATIENCE, VENUED, Client, Late, Trouble, Venue, framed, free_port, in_some_try
 from venues import market_order, message, order, replay, started, value

@@ -11,6 +11,7 @@ import tempfile
 import pytest
 
 from checks import ROOT
+from gikvand.words import sure
 from script_modules import loaded
 from venues import PATIENCE, Trouble, started
 
@@ -52,7 +53,7 @@ class Running:
         self.process = subprocess.Popen(words, stdin=subprocess.PIPE, stdout=subprocess.PIPE, text=True)
 
     def __enter__(self) -> int:
-        if self.process.stdout.readline() != "ready\n":
+        if sure(self.process.stdout).readline() != "ready\n":
             self.process.kill()
             raise Trouble("expected a program that is ready came none")
         return self.process.pid
@@ -92,7 +93,7 @@ def test_threads_of_a_venue() -> None:
         before = [os.sched_getaffinity(tid) for tid in tids]
         assert pinned(pid, "--show")[::2] == (0, "")
         assert [os.sched_getaffinity(tid) for tid in tids] == before
-        for words in (["--show"], [], ["--free"]):
+        for words in (("--show",), (), ("--free",)):
             status, lines, err = pinned(pid, *words)
             assert (status, err, is_where(lines)) == (0, "", True)
             assert sorted(line.split(" ", 1)[1].split(", ")[0] for line in lines) == sorted(["watch", *NAMES])
@@ -123,17 +124,17 @@ def test_wrong_words() -> None:
         ended = subprocess.Popen(["true"])
         ended.wait()
         for words, line in (
-                (["x"], "PID is a number, and not 'x'"),
-                ([ended.pid], f"no process {ended.pid}"),
-                ([other], f"{other} is no venued, but {name}"),
-                ([few], f"{few} is no venued that listens: it has 2 threads, and not 6 to 13"),
-                ([many], f"{many} is no venued that listens: it has 16 threads, and not 6 to 13"),
-                ([twice], f"{twice} is no venued that listens: its threads have other names than unmarshaller, processor, marshaller, "
-                          "journaller and gateway1 to gateway8"),
-                ([pid, "--cores", "a"], "a core is a number, and not 'a'"),
-                ([pid, "--cores", "1,"], "a core is a number, and not ''"),
-                ([pid, "--cores", "4096"], f"core 4096 isn't one of {usable}"),
-                ([pid, "--cores", f"{CORES[0]},{CORES[0]}"], f"core {CORES[0]} stands twice")):
+                (("x",), "PID is a number, and not 'x'"),
+                ((ended.pid,), f"no process {ended.pid}"),
+                ((other,), f"{other} is no venued, but {name}"),
+                ((few,), f"{few} is no venued that listens: it has 2 threads, and not 6 to 13"),
+                ((many,), f"{many} is no venued that listens: it has 16 threads, and not 6 to 13"),
+                ((twice,), f"{twice} is no venued that listens: its threads have other names than unmarshaller, processor, marshaller, "
+                           "journaller and gateway1 to gateway8"),
+                ((pid, "--cores", "a"), "a core is a number, and not 'a'"),
+                ((pid, "--cores", "1,"), "a core is a number, and not ''"),
+                ((pid, "--cores", "4096"), f"core 4096 isn't one of {usable}"),
+                ((pid, "--cores", f"{CORES[0]},{CORES[0]}"), f"core {CORES[0]} stands twice")):
             assert (words, *pinned(*words)) == (words, 1, [], f"pin: {line}")
         assert pinned()[0] == 2
         assert pinned(pid, "--show", "--free")[0] == 2

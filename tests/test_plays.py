@@ -19,6 +19,7 @@ from unittest import mock
 import pytest
 
 from checks import ROOT
+from gikvand.words import sure
 
 pytestmark = pytest.mark.quick
 
@@ -202,10 +203,13 @@ def module() -> types.ModuleType:
 
 def test_all_plays() -> None:
     """dev/play without a name plays each file of tests, and counts those that fail."""
-    it, seen = module(), []
-    it.ROOT = ROOT
+    it, seen = module(), list[str]()
+
+    def played(file: str, _: object) -> str | None:
+        seen.append(file)
+        return "a fault" if len(seen) == 3 else None
     words = ["play", "--venued", "/bin/true", "--venue-replay", "/bin/true"]
-    with mock.patch.object(it, "play", lambda file, _: seen.append(file) or ("a fault" if len(seen) == 3 else None)), \
+    with mock.patch.multiple(it, play=played, ROOT=ROOT), \
             mock.patch.object(sys, "argv", words), redirect_stdout(io.StringIO()) as out:
         with pytest.raises(SystemExit) as ended:
             it.main()
@@ -216,7 +220,7 @@ def test_all_plays() -> None:
 
 def words_of_a_play() -> set[str]:
     """The words that the help of dev/play lists."""
-    text = module().__doc__.partition("Lines are blank")[2].partition("A program without")[0]
+    text = sure(module().__doc__).partition("Lines are blank")[2].partition("A program without")[0]
     return {found[1] for line in text.splitlines() if (found := re.match(r"    (\S+)", line)) and not line.startswith("     ")}
 
 

@@ -20,9 +20,10 @@ from unittest import mock
 import pytest
 
 import crates
-import journals
 from checks import ROOT
-from journals import Entry
+from gikvand import journals
+from gikvand.journals import Entry
+from gikvand.words import sure
 from pictures import Picture, row_of
 from script_modules import loaded
 from venues import EVENTS, HOST, PATIENCE, REPLAY, TIME, VENUED, Trouble, await_that, free_port, market_order
@@ -108,7 +109,7 @@ A_DAY = [
     ("replace 13 7 1000000", ["order 13 replaced: sell 7 XYZ at 1000000, 7 left (ClOrdID 15)"]),
     ("cancel 13", ["order 13 cancelled: 0 of 7 filled"]),
     ("orders", ["no order rests"])]
-REFUSALS = [
+REFUSALS: list[tuple[str, list[str]]] = [
     ("buy 9 ABC 50", ["order 1 accepted: buy 9 ABC at 50 (ClOrdID 1)"]),
     ("buy 1 ABC", ["not sent: 'buy 1 ABC' isn't one of the words; 'help' lists them"]),
     ("buy 1 ABC 50 gtc", ["not sent: 'buy 1 ABC 50 gtc' isn't one of the words; 'help' lists them"]),
@@ -158,7 +159,7 @@ def test_requests_that_are_refused() -> None:
     """A request that is refused makes the status 1, also where it is the only one: by a report, a cancel reject, or a Reject."""
     head = f"The journal {JOURNAL}, for ABC."
     expect_trade(f"--journal {JOURNAL} buy 5 ABC 50", 0, [f"The new journal {JOURNAL}, for ABC.",
-                                                         "order 1 accepted: buy 5 ABC at 50 (ClOrdID 1)"])
+                                                          "order 1 accepted: buy 5 ABC at 50 (ClOrdID 1)"])
     expect_trade(f"--journal {JOURNAL} sell 2 ABC 50 ioc", 0,
                  [head, "order 2 accepted: sell 2 ABC at 50 (ClOrdID 2)", "order 1 filled 2 at 50, 3 left",
                   "order 2 filled 2 at 50, nothing left"])
@@ -183,7 +184,7 @@ def test_venues_that_end() -> None:
     put("venued", f"#!/bin/sh\n{PROGRAMS['VENUED']} \"$@\"\nexit 2\n")
     status, out, err = trade("--journal", JOURNAL, "buy", "5", "ABC", "50", VENUED=os.path.abspath("venued"))
     assert (status, out[1:], err) == (1, ["order 1 accepted: buy 5 ABC at 50 (ClOrdID 1)",
-                                        "venued ended with status 2 (docs/OPERATING.md says what that means)"], [])
+                                          "venued ended with status 2 (docs/OPERATING.md says what that means)"], [])
 
 
 def test_answers_in_their_order() -> None:
@@ -191,14 +192,14 @@ def test_answers_in_their_order() -> None:
     with subprocess.Popen([script("trade"), "--journal", JOURNAL], stdin=subprocess.PIPE, stdout=subprocess.PIPE, text=True,
                           env={**os.environ, **PROGRAMS}) as it:
         def said(line: str, count: int) -> list[str]:
-            it.stdin.write(f"{line}\n")
-            it.stdin.flush()
-            return [it.stdout.readline().rstrip("\n").split(":")[0].split(",")[0] for _ in range(count)]
-        assert it.stdout.readline() == f"The new journal {JOURNAL}, for ABC.\n"
+            sure(it.stdin).write(f"{line}\n")
+            sure(it.stdin).flush()
+            return [sure(it.stdout).readline().rstrip("\n").split(":")[0].split(",")[0] for _ in range(count)]
+        assert sure(it.stdout).readline() == f"The new journal {JOURNAL}, for ABC.\n"
         assert said("sell 3 ABC 50", 1) == ["order 1 accepted"]
         assert said("buy 2 ABC 50", 3) == ["order 2 accepted", "order 1 filled 2 at 50", "order 2 filled 2 at 50"]
         assert said("orders", 1) == ["order 1"]
-        it.stdin.close()
+        sure(it.stdin).close()
         assert it.wait(LONG) == 0
 
 
@@ -305,12 +306,12 @@ def test_venues_that_cannot_be_had() -> None:
     status, out, err = trade("--journal", "none.journal", "orders")
     assert (status, out) == (2, [])
     assert err == ["gikvand trade: the journal none.journal can't be read: venue-replay: journal fault 43 (docs/OPERATING.md "
-                 "says what that means)"]
+                   "says what that means)"]
     venue = started(JOURNAL, 1)
     status, out, err = trade("--journal", JOURNAL, "buy", "1", "ABC", "1")
     assert (status, out) == (2, [f"The journal {JOURNAL}, for ABC."])
     assert err == ["venued: journal fault 41",
-                 "gikvand trade: venued ended with status 1 (docs/OPERATING.md says what that means)"]
+                   "gikvand trade: venued ended with status 1 (docs/OPERATING.md says what that means)"]
     assert venue.stop() == (0, 0)
     assert trade("--port", str(port), "--journal", "typo", "orders") == (
         2, [], ["gikvand trade: typo: No such file or directory"])
@@ -341,7 +342,7 @@ def test_members_over_tcp() -> None:
         raise Trouble(f"expected a ClOrdID by the time came {out[1]}")
     status, out, _ = trade("--port", port, "cancel", "4")
     assert (status, out[1]) == (1, "not sent: there is no order 4 of yours that this session knows of; 'orders' lists those "
-                                 "that rest")
+                                "that rest")
     assert venue.stop() == (4, 6)
 
 
@@ -452,12 +453,12 @@ def test_demos_that_are_ended() -> None:
         behind.callback(end_all_in, os.getcwd())
         with subprocess.Popen([script("demo")], stdout=subprocess.PIPE, stderr=subprocess.PIPE, text=True,
                               env={**os.environ, **PROGRAMS, "TMPDIR": os.getcwd(), "PYTHONUNBUFFERED": "1"}) as demo:
-            while "ready" not in (line := demo.stdout.readline()):
+            while "ready" not in (line := sure(demo.stdout).readline()):
                 assert (line != "", demo.poll()) == (True, None)
             assert len(processes_in(os.getcwd())) > 0
             demo.terminate()
-            demo.stdout.read()
-            assert (demo.wait(LONG), demo.stderr.read()) == (1, "gikvand demo: ended by a signal\n")
+            sure(demo.stdout).read()
+            assert (demo.wait(LONG), sure(demo.stderr).read()) == (1, "gikvand demo: ended by a signal\n")
         await_that("nothing of the demo runs", lambda: not processes_in(os.getcwd()))
         assert os.listdir() == []
 
@@ -511,11 +512,12 @@ def test_a_day_drawn() -> None:
         == [picture.title, "ABC: 3 trades of 11 units, the last at 48; 2 by market orders",
             "XYZ: 1 trade of 2 units, the last at 900", "1 price further off isn't shown: 7 rest there",
             "NIX: no order rested, and none was filled"])
-    assert row_of(picture, "ABC") == {"best": {"buy": [(2, 48, 3), (3, 49, 11), (11, 48, 19)], "sell": [(1, 52, 12), (12, 51, 19)]},
-            "trades": [(6, 52, "buy", "buy", False), (9, 49, "sell", "sell", True), (11, 48, "sell", "sell", True)],
-            "depth": {("buy", 48): 8, ("sell", 51): 6}}
+    assert row_of(picture, "ABC") == {
+        "best": {"buy": [(2, 48, 3), (3, 49, 11), (11, 48, 19)], "sell": [(1, 52, 12), (12, 51, 19)]},
+        "trades": [(6, 52, "buy", "buy", False), (9, 49, "sell", "sell", True), (11, 48, "sell", "sell", True)],
+        "depth": {("buy", 48): 8, ("sell", 51): 6}}
     assert row_of(picture, "XYZ") == {"best": {"sell": [(13, 900, 19)]}, "trades": [(16, 900, "buy", "buy", False)],
-                                    "depth": {("sell", 900): 1}}
+                                      "depth": {("sell", 900): 1}}
 
 
 def test_a_day_of_leftovers() -> None:
@@ -530,7 +532,7 @@ def test_a_day_of_leftovers() -> None:
     picture = Picture("\n".join(out))
     assert picture.title == f"The day in {name}: 3 commands, 6 outputs"
     assert row_of(picture, "ABC") == {"best": {"sell": [(1, 50, 5), (6, 55, 7)]}, "trades": [(4, 50, "buy", "buy", False)],
-                                    "depth": {("sell", 55): 4}}
+                                      "depth": {("sell", 55): 4}}
 
 
 def test_days_that_cannot_be_drawn() -> None:
@@ -538,7 +540,7 @@ def test_days_that_cannot_be_drawn() -> None:
     assert (
         ran([script("day"), "my.journal"])
         == (2, [], ["gikvand day: the symbols of my.journal aren't known: name them, or write "
-                                                       "them into my.journal.symbols"]))
+                    "them into my.journal.symbols"]))
     assert ran([script("day"), "missing", "ABC"]) == (2, [], ["gikvand day: missing: No such file or directory"])
     status, out, err = ran([script("day"), "missing", "ABC"], VENUE_EVENTS=os.path.abspath("missing"))
     assert (status, out, [it.endswith(BUILT) for it in err]) == (2, [], [True])

@@ -10,12 +10,13 @@ from collections.abc import Iterator
 
 import pytest
 
-import journals
 from book_rules import Book
-from journals import Damaged, Entry, NotAJournal, Snapshot
+from gikvand import journals
+from gikvand.journals import Damaged, Entry, NotAJournal, Snapshot
+from gikvand.rules import read_order, sealed, shown
+from gikvand.words import sure
 from replay_program import FOLDERS, Program
 from replay_rules import USAGE, WRONG_WORDS, Outcome, Replayer
-from rules import read_order, sealed, shown
 from snapshot_rules import BadSnapshot, restore
 from venues import Trouble, framed, message, order
 
@@ -387,4 +388,4 @@ def test_entries_that_are_no_orders() -> None:
     for data in (logon, BUY + BUY, BUY[:-1], swapped, b"x"):
         assert read_order(data) == None
         assert Book().take(1, data) == []
-    assert read_order(BUY)[:2] == (b"D", b"20250102-09:30:00")
+    assert sure(read_order(BUY))[:2] == (b"D", b"20250102-09:30:00")

@@ -33,9 +33,9 @@ sys.path.insert(0, os.path.join(ROOT, "dev"))
 
 import with_scripts  # (in front of what stands there, and of what an older Python can't read)
 import corners
-import journals
 import measuring
 from corners import SYMBOLS
+from gikvand import journals
 from measuring import FIGURE, PROJECT, TWIN
 from mixed_day import write_journal
 from venues import REPLAY, TIME, VENUED, Client, Trouble, chosen_of, kill_all, market_order, message, need_programs, order
@@ -208,7 +208,7 @@ class Compiled:
     """The twins of these sources, each compiled once it is asked for."""
 
     def __init__(self, folder: str, sources: str) -> None:
-        self.folder, self.sources, self.programs = folder, sources, {}
+        self.folder, self.sources, self.programs = folder, sources, dict[str, str]()
 
     def __call__(self, name: str) -> str:
         if name not in self.programs:

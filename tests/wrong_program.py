@@ -18,6 +18,7 @@ ROOT = os.path.dirname(os.path.dirname(os.path.abspath(__file__)))
 sys.path.insert(0, os.path.join(ROOT, "dev"))
 
 import with_scripts  # (in front of what stands there, and of what an older Python can't read)
+from gikvand.words import sure
 from venues import HEAD, HOST, free_port
 
 REPORT = b"\x0135=8\x01"
@@ -146,7 +147,7 @@ def listen(wrong: str, program: str, port: str, journal: str, gateways: str, *sy
     except OSError:
         print(f"venued: cannot listen on {port}", file=sys.stderr)
         return 1
-    for line in venue.stdout:
+    for line in sure(venue.stdout):
         if wrong == "another count" and "stopped" in line:
             line = line.replace(" commands", "0 commands")
         print(line, end="", flush=True)
@@ -181,7 +182,7 @@ def stream(wrong: str, words: list[str]) -> int:
     """A venue over standard input and output."""
     answers = Answers(wrong)
     venue = subprocess.Popen(words, stdout=subprocess.PIPE, preexec_fn=dies_with_us)
-    while data := os.read(venue.stdout.fileno(), 65536):
+    while data := os.read(sure(venue.stdout).fileno(), 65536):
         put(1, answers.take(data))
     put(1, answers.end())
     status = venue.wait()

@@ -5,12 +5,11 @@ from typing import NamedTuple
 from unittest import mock
 
 import book_rules
-import journals
 import replay_rules
-import rules
 import snapshot_rules
 from book_rules import Book, Order
-from journals import Entry, Journal, Snapshot
+from gikvand import journals, rules
+from gikvand.journals import Entry, Journal, Snapshot
 from replay_rules import Replayer, Symbols, counts, fault, shown
 from snapshot_rules import BadSnapshot
 

@@ -6,9 +6,9 @@ from typing import NamedTuple
 from unittest import mock
 
 import book_rules
-import rules
+from gikvand import rules
 
-FILES = {"rules": rules.__file__, "book_rules": book_rules.__file__}  # Each stands on those before it.
+FILES = {"gikvand.rules": rules.__file__, "book_rules": book_rules.__file__}  # Each stands on those before it.
 
 
 class Wrong(NamedTuple):
@@ -36,7 +36,7 @@ class Wrong(NamedTuple):
 
 
 def of_bytes(old: str, new: str) -> Wrong:
-    return Wrong("rules", old, new)
+    return Wrong("gikvand.rules", old, new)
 
 
 def of_book(old: str, new: str) -> Wrong:
@@ -160,9 +160,9 @@ BOOK = {
     "a buy below its price": of_book("self.price >= price if", "self.price > price if"),
     "a sell above its price": of_book("else self.price <= price", "else self.price < price"),
     "any price": of_book("return self.price >= price if", "return True if"),
-    "the lowest buy first": of_book('-order.price if order.side == b"1"', 'order.price if order.side == b"1"'),
-    "the greatest sell first": of_book("else order.price), order.stamp", "else -order.price), order.stamp"),
-    "the newest order first": of_book("else order.price), order.stamp", "else order.price), -order.stamp"),
+    "the lowest buy first": of_book('-price if order.side == b"1"', 'price if order.side == b"1"'),
+    "the greatest sell first": of_book("else price), order.stamp", "else -price), order.stamp"),
+    "the newest order first": of_book("else price), order.stamp", "else price), -order.stamp"),
     "market orders in old journals": of_book("self.commands >= self.cut and", ""),
     "a Reject of another number": of_book('f"45={found[5][1].decode()}', 'f"45={found[1][1].decode()}'),
     "a Reject of another type": of_book("372={kind.decode()}", "372=D"),
@@ -201,7 +201,7 @@ BOOK = {
                                            "if len(self.resting) < MOST_RESTING and "
                                            "order.name <= self.greatest[order.client]"),
     "a full book for all terms": of_book('if term == b"0" and len', "if len"),
-    "the incoming order's price": of_book("it.fill(quantity, other.price)", "it.fill(quantity, order.price or other.price)"),
+    "the incoming order's price": of_book("it.fill(quantity, price)", "it.fill(quantity, order.price or price)"),
     "the incoming order first": of_book("for it in (other, order):", "for it in (order, other):"),
     "one fill at most": of_book("            if not order.left:\n                break",
                                 "            if not order.left or order.cum:\n                break"),

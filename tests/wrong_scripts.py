@@ -6,10 +6,10 @@ from typing import NamedTuple
 
 import wrong_package
 
-BUILD, PIN, PLAY, CHECK, RUN = "scripts/build", "scripts/pin", "dev/play", "scripts/check", ".ci/run"
+BUILD, PIN, PLAY, LINT, CHECK, RUN = "scripts/build", "scripts/pin", "dev/play", "dev/lint", "scripts/check", ".ci/run"
 TRADE, DEMO, DAY, CRATES = "tools/gikvand/trade.py", "tools/gikvand/demo.py", "tools/gikvand/day.py", "scripts/crates.py"
 PAGES = {"tests/dictionary.py": "docs/FIX44-gikvand.xml", "tests/promises.py": "docs/PROMISES.md"}
-BY_NAME = {PLAY: "PLAY", CHECK: "CHECK", RUN: "CI_RUN"}  # Files that a test takes by the environment.
+BY_NAME = {PLAY: "PLAY", LINT: "LINT", CHECK: "CHECK", RUN: "CI_RUN"}  # Files that a test takes by the environment.
 
 
 class Wrong(NamedTuple):
@@ -49,6 +49,7 @@ class Wrong(NamedTuple):
 SHARED = "tests/conftest.py"
 SHARING = "tests/test_conftest.py"
 USERS, PINS, PLAYS, CI = "tests/test_users.py", "tests/test_pin.py", "tests/test_plays.py", "tests/test_ci.py"
+LINTS = "tests/test_lint.py"
 WRONG = {
     "another line of a fill": Wrong(TRADE, "filled {report['32']} at {report['31']}", "filled {report['31']} at {report['32']}", USERS,
                                     "first_steps"),
@@ -95,6 +96,22 @@ WRONG = {
     "an input that stays open": Wrong(PLAY, '        elif sign == "close":\n            self.program(name).close()\n',
                                       '        elif sign == "close":\n            pass\n', PLAYS, "close"),
     "a program that nobody ends": Wrong(PLAY, "        program.close()\n        program.end(0)\n", "        program.kill()\n", PLAYS, "run"),
+    "imports that nobody uses": Wrong(LINT, "[gone + by_pyflakes(there), ", "[gone, ", LINTS, "unused.py"),
+    "reasons that excuse all": Wrong(LINT, "        return False\n    with open(it.file", "        return True\n    with open(it.file", LINTS,
+                                     "findings"),
+    "imports that needn't say why": Wrong(LINT, "bool(WHY.search(", "bool(re.search(\"\", ", LINTS, "unused.py"),
+    "types that nobody looks at": Wrong(LINT, "of_all = by_mypy(there)", "of_all: list[Finding] = []", LINTS, "typed.py"),
+    "types that don't count": Wrong(LINT, " + bool(of_all)", "", LINTS, "typed.py"),
+    "types of modules alone": Wrong(LINT, "said(\"mypy\", *names.values())", "said(\"mypy\", *(it for it in files if it.endswith(\".py\")))",
+                                    LINTS, "findings"),
+    "scripts of one name": Wrong(LINT, "{it.replace('/', '~')}.py", "{os.path.basename(it)}.py", LINTS, "findings"),
+    "any form": Wrong(LINT, "gone + by_form(there)]", "gone]", LINTS, "form.py"),
+    "files that are gone": Wrong(LINT, "[Finding(it, 1, \"isn't there\") for it in files if it not in there]", "list[Finding]()", LINTS,
+                                 "findings"),
+    "files that git doesn't know": Wrong(LINT, "\"ls-files\", \"-z\"]", "\"ls-files\", \"-zco\"]", LINTS, "findings"),
+    "files without an ending": Wrong(LINT, "return bool(FIRST_LINE.match(file.readline(80)))", "return False", LINTS, "findings"),
+    "no file is enough": Wrong(LINT, "    if not files:\n", "    if files is None:\n", LINTS, "nothing"),
+    "findings that don't count": Wrong(LINT, "    return 1 if failed else 0", "    return 0", LINTS, "unused.py"),
     "failures that don't count": Wrong(CHECK, "self.failed + verdict.failed", "self.failed + 0", CI, "parts_that_fail"),
     "failures of those that wait": Wrong(CHECK, "waiting.append(beside.submit(self.run_one, part))",
                                          "waiting.append(beside.submit(self.ran, part, CORES, HEARD))", CI, "that_wait"),

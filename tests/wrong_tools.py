@@ -111,7 +111,7 @@ WRONG = {
     "another file": Wrong("follow", "        source.check()\n", "", "ends_of"),
     "a journal read by a buffer": Wrong("follow", "opened(path, buffering=0)", "opened(path)", "opened_later"),
     "blocks before damage": Wrong("follow", "            if not found and self.reader.is_counted:\n                raise\n",
-                                   "            raise\n", "broken_j"),
+                                  "            raise\n", "broken_j"),
     "a copy of other bytes": Wrong("follow", "write_all(self.fd, blocks[1:] + CLOSED,", "write_all(self.fd, blocks[1:].replace("
                                    'b"44=50", b"44=51") + CLOSED,', "under_load", "follow_load.py"),
     "a copy that begins anew": Wrong("follow", "if not os.path.lexists(path):", "if True:", "under_load", "follow_load.py"),
@@ -187,7 +187,7 @@ WRONG = {
     "a refusal found anywhere before": Wrong("logs", "without.index(report, at) + 1", "without.index(report) + 1", "refusals_twice"),
     "a lock of any device": Wrong("locks", "if where == device or has_open(pid, it)", "if where", "holders_of"),
     "a journal's name as a command": Wrong("locks", 'if not os.path.basename("".join(words[:1])).startswith("python"):', "if False:",
-                                          "holders_of"),
+                                           "holders_of"),
     "logs that needn't be there": Wrong("verify", '    for log in given.logs:\n        files.opened(log.path).close()\n', "",
                                         "missing_logs"),
     "less inside of a block": Wrong("journals", "1 + SNAPSHOT_HEAD + ROW * (2 ** 16 - 1)", "1 << 20", "longest_blocks"),
@@ -227,7 +227,7 @@ WRONG = {
     "names with quotes": Wrong("watch", r'seen.journal.replace("\\", r"\\").replace(' + "'\"', r\"\\\"\").replace(\"\\n\", r\"\\n\")",
                                "seen.journal", "figures_of_a_disk"),
     "a counter as a gauge": Wrong("watch", '"commands_total", "counter"', '"commands_total", "gauge"', "a_venue_watched"),
-    "a PORT that isn't heeded": Wrong("watch", "given.port or int(own[0])", "int(own[0]) if own else given.port", "a_venue_watched"),
+    "a PORT that isn't heeded": Wrong("watch", "given.port or own[0]", "own[0] if own else given.port", "a_venue_watched"),
     "a damaged journal that hides all": Wrong("watch", "        for _ in book:\n            pass\n    except Trouble as why:\n        "
                                               "return None, str(why)\n", "        for _ in book:\n            pass\n    except "
                                               "Trouble:\n        raise\n", "damaged_journals_watched"),

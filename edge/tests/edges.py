@@ -16,8 +16,8 @@ ROOT = os.path.dirname(os.path.dirname(os.path.dirname(os.path.abspath(__file__)
 sys.path.insert(0, os.path.join(ROOT, "dev"))
 
 import with_scripts  # (in front of what stands there, and of what an older Python can't read)
-from venues import EVENTS, HOST, PATIENCE, Client, Trouble, Venue, await_that, free_port, kill_all, replay, running
-from venues import started
+from venues import EVENTS, PATIENCE, Trouble, Venue, await_that, free_port, replay, running, started
+from venues import HOST, Client, kill_all  # (for those that import this module)
 from venues import order as venue_order  # (in the venue's own profile)
 
 EDGE = os.path.abspath(os.environ.get("GIKVAND_EDGE", os.path.join(ROOT, "edge/out/gikvand-edge")))

@@ -8,7 +8,7 @@ import time
 from clocks import seconds_of
 from differential import ENDED, ended_at, names_of
 from edges import JOURNAL, PATIENCE, Client, Edge, Trouble, again, await_that, changed, freeze, rows, stored, told, venue_order
-from engines import GTC, Engine, cancel, order, replace
+from engines import GTC, cancel, order, replace
 from gikvand.fix import fields_of, value
 from hours_tests import FRIDAY, NIGHT, WEEK
 from kept_tests import GREATEST

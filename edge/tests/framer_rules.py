@@ -67,7 +67,7 @@ def front(data: bytes, longest: int, most: int) -> Message | bool:
     if left or not whole or data[end:end + 7] != b"10=%03d\x01" % (sum(data[:end]) % 256):
         return False
     fields = [(tag_of(it[1]), it[2]) for it in map(FIELD.fullmatch, whole) if it]
-    faults = [(k, fault(*it)) for k, it in enumerate(fields[:most]) if fault(*it) is not None]
+    faults = [(k, found) for k, it in enumerate(fields[:most]) if (found := fault(*it)) is not None]
     if len(fields) > most:
         faults.append((most, OTHER))
     good = {tag for tag, text in fields[:most] if fault(tag, text) is None}

@@ -2,6 +2,7 @@
 import os
 import shutil
 import subprocess
+from collections.abc import Callable
 
 from edges import ROOT, Trouble, members_of, settings_of
 
@@ -62,5 +63,5 @@ def test_parsers_fuzz():
         fuzzed(name)
 
 
-TESTS = []
+TESTS = list[Callable[[], None]]()
 LONG_TESTS = [test_parsers_fuzz]

@@ -405,7 +405,7 @@ WRONG = {
     "told again as if it were new": Wrong(
         "day", '            it.getHeader().setField(FIX::FIELD::PossResend, "Y");\n', "", "through_the_day"),
     "messages of the last day in the new one": Wrong("day", "    store_->dropRest();\n",
-                                                      "    record_.numbersBegan();\n", "what_was_sent"),
+                                                     "    record_.numbersBegan();\n", "what_was_sent"),
     "what was sent kept in memory alone": Wrong("day", "record_.change().heard = heard_.end();", "(void)record_;",
                                                 "down_over_the_end"),
     "all sent that an engine asks a part of": Wrong(
@@ -554,8 +554,8 @@ WRONG = {
         "status_page"),
     "files that a power cut takes": Wrong("files", "!it || (::fsync(it.get()) && errno != EINVAL)", "!it", "power_cuts"),
     "a turn that stays with who can't read": Wrong("member", "    replay_.reset();\n    turn_.giveBack();\n",
-                                                "    if (replay_) turn_.giveBack();\n    replay_.reset();\n",
-                                                "reading_that_fails"),
+                                                   "    if (replay_) turn_.giveBack();\n    replay_.reset();\n",
+                                                   "reading_that_fails"),
     "what the venue says at the end": Wrong("venue_link", "    if (message.byte(35) == '5') return ",
                                             "    if (false) return ", "ended_by"),
     "any amount held meanwhile": Wrong("trader", "return heldBytes_ > MOST_HELD;", "return false;", "flood_meanwhile"),
@@ -771,7 +771,7 @@ WRONG = {
                                                  "    if (isBehind) exposure_.take(report);\n", "test_open_value"),
     "what is open for ever behind the venue's return": Wrong("trader", "    exposure_.clear();\n", "", "test_open_value"),
     "positions that are twice as great behind the venue's return": Wrong("trader", "    exposure_.clear();\n", "",
-                                                                        "test_only_closing"),
+                                                                         "test_only_closing"),
     "orders under way that have no value": Wrong("trader", "    if (it.mayRest()) exposure_.sent(",
                                                  "    if (false) exposure_.sent(", "open_under_way"),
     "replaces under way as their orders": Wrong(

@@ -55,8 +55,8 @@ def test_as_it_is_upgraded_and_removed() -> None:
     """An upgrade leaves the venues as they run; before a removal they are stopped in order."""
     if can_have_places():
         stop = "deb-systemd-invoke stop venued.service venued@*.service"
-        for words, wanted in ((["upgrade", "99.1"], []), (["deconfigure"], []), (["failed-upgrade", "99.1"], []),
-                              (["remove"], [stop])):
+        for words, wanted in ((("upgrade", "99.1"), ()), (("deconfigure",), ()), (("failed-upgrade", "99.1"), ()),
+                              (("remove",), (stop,))):
             assert (words, asked_by("prerm", *words)) == (words, [*wanted, "py3clean -p gikvand"])
         assert asked_by("prerm", "remove", by_systemd=False) == ["py3clean -p gikvand"]
 

@@ -14,6 +14,7 @@ import pytest
 
 import test_debian
 from checks import EDGE, ROOT, can_have_places, contents, is_edge_built, ran, text_of
+from gikvand.words import sure
 from mdoc import Page
 from packed import SCRIPT, Packed
 from script_modules import loaded
@@ -83,8 +84,8 @@ def rows_of(head: str, behind: str = "") -> list[list[str]]:
 def test_edge_usage() -> None:
     """The forms of the command line are those that the program prints, and it tells the project's version."""
     lines = "\n       ".join(page(COMMANDS).synopsis())
-    for status, words in ((1, []), (1, ["--help"]), (1, ["--version", "x"]), (1, ["--check"]), (1, ["--all", "--version"]), (1, ["x", "y"]),
-                          (2, ["stop"]), (2, ["halt", "ABC"])):
+    for status, words in ((1, ()), (1, ("--help",)), (1, ("--version", "x")), (1, ("--check",)), (1, ("--all", "--version")), (1, ("x", "y")),
+                          (2, ("stop",)), (2, ("halt", "ABC"))):
         assert (words, *ran(EDGE, *words)) == (words, status, "", f"usage: {lines}\n")
     assert f"usage: {page(COMMANDS).synopsis()[0]} ..." in page(COMMANDS).items("DIAGNOSTICS")
     assert ran(EDGE, "--version") == (0, f"gikvand-edge {text_of('VERSION')}", "")
@@ -107,7 +108,7 @@ def test_edge_words() -> None:
 def test_edge_switch() -> None:
     """And each word for processes that run."""
     said = page(COMMANDS).items("SWITCH")
-    rows = [(re.search(r"gikvand-edge (\w+ \w+)", words)[1], what) for words, what in rows_of(WORDS, "\n## An operator's switch\n")]
+    rows = [(sure(re.search(r"gikvand-edge (\w+ \w+)", words))[1], what) for words, what in rows_of(WORDS, "\n## An operator's switch\n")]
     assert list(said) == [words.replace("C1", "Ck").replace("ABC", "SYMBOL") for words, _ in rows]
     for (words, what), told in zip(rows, said.values()):
         begun = plain(what.partition(", as [")[0])
@@ -151,14 +152,14 @@ def test_edge_settings() -> None:
 def text_of_limits() -> str:
     """The source that reads the limits, with each limit's name in the place of the call that gives it."""
     text = text_of("edge/src/order_limits.cpp")
-    limits = re.findall(r"\w+", re.search(r"enum class Limit {(.*)}", text_of("edge/src/order_limits.h"))[1])
-    names = re.findall(r'"(\w+)"', re.search(r"NAMES\[\] = {([^}]*)}", text)[1])
+    limits = re.findall(r"\w+", sure(re.search(r"enum class Limit {(.*)}", text_of("edge/src/order_limits.h")))[1])
+    names = re.findall(r'"(\w+)"', sure(re.search(r"NAMES\[\] = {([^}]*)}", text))[1])
     return re.sub(r"nameOf\(Limit::(\w+)\)", lambda limit: f'"{dict(zip(limits, names))[limit[1]]}"', text)
 
 
 def test_edge_defaults() -> None:
     """Where the table has a number for a setting that is left out, it is the program's."""
-    told = {re.search(r"`(\w+)`", names)[1]: left_out for names, _, left_out in rows_of("| setting | value | where it is left out |")}
+    told = {sure(re.search(r"`(\w+)`", names))[1]: left_out for names, _, left_out in rows_of("| setting | value | where it is left out |")}
     found = re.findall(r'numberOr\(from, "(\w+)", .*, ([0-9L< ]+)\)', text_of("edge/src/settings.cpp") + text_of_limits())
     assert len(found) == sum(bool(re.fullmatch(r"\d+|no bound", it)) for it in told.values())
     for name, number in found:
@@ -196,7 +197,7 @@ def test_edge_example() -> None:
             print("package: the example isn't tried: no folder of the system can be another one here")
             return
         right = (0, "the settings are right\n", "")
-        for others, wanted in (({}, right), ({"StunnelConfig": stunnel}, right),
+        for others, wanted in ((dict[str, str](), right), ({"StunnelConfig": stunnel}, right),
                                ({"Symbols": "ABC"}, (1, "", "gikvand-edge: Symbols: isn't of SYMBOL:STEP, as ABC:0.01: ABC\n"))):
             said = ran("unshare", "-rm", "sh", "-c", places, share, EDGE, "--check", put_example(folder, **others))
             assert (others, *said) == (others, *wanted)
@@ -215,10 +216,10 @@ def test_files_of_the_edge_package() -> None:
     assert [line[5] for line in lines if line[0] == "-rwxr-xr-x"] == ["./usr/bin/gikvand-edge"]
     found = {line[5].split(" -> ")[0][2:] for line in lines if line[0][0] != "d"}
     assert found == {"usr/bin/gikvand-edge", f"{UNITS}/gikvand-edge@.service", "usr/lib/sysusers.d/gikvand-edge.conf",
-                   *(f"{UNITS}/{it}.service.d/gikvand-edge.conf" for it in ("venued", "venued@")), DICTIONARY,
-                   *(f"usr/share/man/man{it[-1]}/{it}.gz" for it in (COMMANDS, SETTINGS)),
-                   "usr/share/bash-completion/completions/gikvand-edge", "usr/share/doc/gikvand/EDGE.md",
-                   *(f"{DOC}/{it}" for it in ("EDGE.md", "copyright", "changelog.gz", "examples/C1.cfg", "examples/gikvand-C1.conf"))}
+                     *(f"{UNITS}/{it}.service.d/gikvand-edge.conf" for it in ("venued", "venued@")), DICTIONARY,
+                     *(f"usr/share/man/man{it[-1]}/{it}.gz" for it in (COMMANDS, SETTINGS)),
+                     "usr/share/bash-completion/completions/gikvand-edge", "usr/share/doc/gikvand/EDGE.md",
+                     *(f"{DOC}/{it}" for it in ("EDGE.md", "copyright", "changelog.gz", "examples/C1.cfg", "examples/gikvand-C1.conf"))}
     assert "./etc/gikvand-edge/" in {line[5] for line in lines}
     for name, place in (("edge/FIX44-edge.xml", DICTIONARY), ("docs/EDGE.md", f"{DOC}/EDGE.md"), ("LICENSE", f"{DOC}/copyright")):
         assert (name, contents(os.path.join(unpacked(), place)) == contents(os.path.join(ROOT, name))) == (name, True)
@@ -251,7 +252,7 @@ def test_needs_of_the_edge_package() -> None:
         out = ran("dpkg", "-S", f"/usr{path}")[1] if status else out  # (as a system has it whose /lib is a link)
         owners |= {out.split(":")[0]} if linked else set()
     assert {it.split()[0] for it in needed[1:-1]} == owners
-    libc = next(re.fullmatch(r"libc6 \(>= (.*)\)", it)[1] for it in needed if it.startswith("libc6"))
+    libc = next(sure(re.fullmatch(r"libc6 \(>= (.*)\)", it))[1] for it in needed if it.startswith("libc6"))
     for it in re.findall(r"GLIBC_(\d[\d.]*)", ran("readelf", "--version-info", EDGE)[1]):
         assert (it, ran("dpkg", "--compare-versions", it, "le", libc)[0]) == (it, 0)
     assert f"GLIBC_{libc}" in ran("readelf", "--version-info", EDGE)[1]

@@ -53,7 +53,7 @@ def test_files_of_the_package() -> None:
         {("root/root", it) for it in ("drwxr-xr-x", "-rwxr-xr-x", "-rw-r--r--", "lrwxrwxrwx")})
     programs = {line[5] for line in lines if line[0] == "-rwxr-xr-x"}
     assert programs == {*(f"./usr/bin/{it}" for it in PROGRAMS), "./usr/share/gikvand/scripts/gikvand",
-                      *(f"./usr/share/gikvand/standby/{it}" for it in ("before-start", "serve", "volume-settings"))}
+                        *(f"./usr/share/gikvand/standby/{it}" for it in ("before-start", "serve", "volume-settings"))}
     names = {line[5].split(" -> ")[0] for line in lines}
     modules = [it for it in os.listdir(os.path.join(ROOT, "tools/gikvand")) if it.endswith((".py", ".html"))]
     wanted = ["usr/bin/gikvand", *(f"usr/share/man/man{it[-1]}/{it}.gz" for it in PAGES),
@@ -99,13 +99,14 @@ def test_the_same_bytes() -> None:
 
 @packing
 def test_words_of_the_script() -> None:
+    bare = dict[str, str]()
     with tempfile.TemporaryDirectory(prefix="words-") as folder:
         for words, environment, line in (
-                (["--output", "none"], {}, f"package: none/{os.path.basename(made())} can't be written: No such file or directory"),
-                (["--version", "x"], {}, None), (["x"], {}, None),
-                ([], {"SOURCE_DATE_EPOCH": "now"}, "package: SOURCE_DATE_EPOCH is a number of seconds, and not 'now'"),
-                ([], {"VENUED": "none"}, "package: none isn't built: scripts/build proves and builds it"),
-                ([], {"VENUED": "/bin/sh", "VENUE_REPLAY": SCRIPT}, None)):
+                (("--output", "none"), bare, f"package: none/{os.path.basename(made())} can't be written: No such file or directory"),
+                (("--version", "x"), bare, None), (("x",), bare, None),
+                ((), {"SOURCE_DATE_EPOCH": "now"}, "package: SOURCE_DATE_EPOCH is a number of seconds, and not 'now'"),
+                ((), {"VENUED": "none"}, "package: none isn't built: scripts/build proves and builds it"),
+                ((), {"VENUED": "/bin/sh", "VENUE_REPLAY": SCRIPT}, None)):
             status, out, err = ran(SCRIPT, *words, folder=folder, **environment)
             assert (words, status, out, err == f"{line}\n" if line else bool(err)) == (words, 2, "", True)
         assert os.listdir(folder) == []
@@ -144,8 +145,8 @@ def test_a_venue_of_the_package() -> None:
         with open(journal, "wb"):
             pass
         where = os.path.join(unpacked(), "usr/share/doc/gikvand/OPERATING.md")
-        assert gikvand("reports", journal, "C2", "--symbols", "ABC") == (2, "", f"gikvand reports: the journal {journal} can't be "
-               f"read: venue-events: journal fault 43 ({where} says what that means)\n")
+        assert gikvand("reports", journal, "C2", "--symbols", "ABC") == (
+            2, "", f"gikvand reports: the journal {journal} can't be read: venue-events: journal fault 43 ({where} says what that means)\n")
         assert os.path.exists(where)
 
 

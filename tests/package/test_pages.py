@@ -13,6 +13,7 @@ import pytest
 from checks import ROOT, ran, text_of
 from gikvand import journals
 from gikvand import main as tools
+from gikvand.words import sure
 from mdoc import Page, items_in, literal
 from venues import EVENTS, HOST, REPLAY, VENUED
 
@@ -50,7 +51,7 @@ def test_usages() -> None:
     block = re.split(r"^## Commands$", text_of("docs/OPERATING.md"), flags=re.MULTILINE)[1].strip().split("\n\n")[0]
     assert [it for name in PAGES[:3] for it in page(name).synopsis()] == [line.strip() for line in block.splitlines()]
     for name, program, forms in ((PAGES[0], VENUED, 1), (PAGES[1], REPLAY, 2), (PAGES[2], EVENTS, 1)):
-        for words in ([], ["--help"], ["--version"], ["x"]):
+        for words in ((), ("--help",), ("--version",), ("x",)):
             line = f"usage: {' or '.join(page(name).synopsis()[:forms])}"
             assert (words, *ran(program, *words)) == (words, 1, "", f"{line}\n")
             assert line in page(name).items("DIAGNOSTICS")
@@ -74,7 +75,7 @@ def test_statuses() -> None:
         wanted = {status.split(",")[0]: plain(what) for status, what in rows("Exit statuses", head)}
         said = page(name).items("EXIT STATUS")
         assert {status: plain(what)[:len(wanted.get(status, ""))] for status, what in said.items()} == wanted
-    told = re.search(r"go by the status: (.*?)\. ", text_of("docs/OPERATING.md").replace("\n", " "))[1]
+    told = sure(re.search(r"go by the status: (.*?)\. ", text_of("docs/OPERATING.md").replace("\n", " ")))[1]
     found = re.findall(r"(\d), ([^;]*)", told)
     said = page("gikvand.1").items("EXIT STATUS")
     assert [(status, what[:len(it)]) for (status, it), what in zip(found, map(plain, said.values()))] == (
@@ -162,7 +163,7 @@ def parser_of(name: str) -> argparse.ArgumentParser:
 
 def option_of(it: argparse.Action) -> str:
     """An option as the pages write it, with its value."""
-    return " ".join([*it.option_strings, *([it.metavar or it.dest.upper()] if it.nargs is None else [])])
+    return " ".join([*it.option_strings, *([str(it.metavar or it.dest.upper())] if it.nargs is None else [])])
 
 
 def test_commands_of_gikvand() -> None:
@@ -173,12 +174,12 @@ def test_commands_of_gikvand() -> None:
         parser = parser_of(head.split()[0])
         usage = " ".join(parser.format_usage().split()).removeprefix("usage: ").replace("[-h] ", "").removesuffix(" [-h]")
         assert head == usage
-        options = {option_of(it): it.help for it in parser._actions if it.option_strings}
+        options = {option_of(it): it.help or "" for it in parser._actions if it.option_strings}
         said = items_in(lines)
         assert set(said) - set(options) == set()
         for option in options.keys() - {"-h --help", "--symbols ABC,XYZ"} | said.keys():
             assert (head, plain(said.get(option, ""))[:len(plain(options[option]))]) == (head, plain(options[option]))
-    words = importlib.import_module("gikvand.trade").__doc__.split("\n\n")[3]
+    words = sure(importlib.import_module("gikvand.trade").__doc__).split("\n\n")[3]
     requests = [line.strip().split("  ")[0] for line in words.splitlines()]
     assert literal(parts[next(it for it in parts if it.startswith("trade "))]) == requests
 

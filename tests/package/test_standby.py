@@ -12,6 +12,7 @@ import pytest
 
 from checks import ROOT, contents, ran, text_of
 from drill_store import OPTIONS
+from gikvand.words import sure
 from noting import LOCKED, can_be_noted, noted, order_of
 from venues import PATIENCE, await_that
 
@@ -122,7 +123,7 @@ def test_a_touch_that_hangs() -> None:
                                  env={**os.environ, **environment}, start_new_session=True)
         try:
             assert venue.wait(PATIENCE) == -9
-            assert venue.stderr.readline() == "serve: this machine is cut off from the store: the venue is ended\n"
+            assert sure(venue.stderr).readline() == "serve: this machine is cut off from the store: the venue is ended\n"
         finally:
             with contextlib.suppress(ProcessLookupError):
                 os.killpg(venue.pid, signal.SIGKILL)
@@ -157,7 +158,7 @@ def test_the_watch() -> None:
             assert venue.poll() == None
             os.rename(volume, f"{volume}.gone")
             assert venue.wait(PATIENCE) == -9
-            assert venue.stderr.readline() == "serve: this machine is cut off from the store: the venue is ended\n"
+            assert sure(venue.stderr).readline() == "serve: this machine is cut off from the store: the venue is ended\n"
         finally:
             venue.kill()
             venue.communicate()

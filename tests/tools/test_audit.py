@@ -16,9 +16,9 @@ from unittest import mock
 
 import pytest
 
-import journals
-from gikvand import clock
+from gikvand import clock, journals
 from gikvand.follow import Source
+from gikvand.words import sure
 from made_journals import JOURNAL, TOOLS, contents, each_version, gikvand, made, put, untimed, with_byte
 from venues import PATIENCE, Client, Trouble, await_that, order, running, started
 
@@ -46,7 +46,7 @@ class Auditor:
         self.process.wait()
 
     def has_begun(self) -> "Auditor":
-        if not self.process.stdout.readline():
+        if not sure(self.process.stdout).readline():
             raise Trouble(f"the auditor ended: {self.process.communicate()[1]}")
         return self
 
@@ -63,9 +63,7 @@ class Auditor:
 def lines() -> list[tuple[str, ...]]:
     """The words of each whole line that the log has."""
     whole = contents(LOG).decode().rpartition("\n")[0].splitlines()
-    found = [LINE.fullmatch(line) for line in whole if not line.startswith("#")]
-    assert None not in found
-    return [it.groups() for it in found]
+    return [sure(LINE.fullmatch(line)).groups() for line in whole if not line.startswith("#")]
 
 
 def sums_of(data: bytes) -> list[tuple[str, str, str]]:
@@ -161,7 +159,7 @@ def test_changed_journals() -> None:
             assert (at, out[0].endswith(f" behind the byte {sizes[number - 1]}")) == (at, True)
     for data in (it.data[:ends[-2]] + b"\0", it.data[:ends[-2]], it.data[:40]):
         put(JOURNAL, data)
-        for words in (["--check"], []):
+        for words in (("--check",), ()):
             status, out, _ = gikvand("audit", JOURNAL, LOG, *words)
             assert (len(data), status, len(out)) == (len(data), 1, 1)
             if data[-1:] == b"\0":
@@ -278,7 +276,7 @@ def test_logs_that_take_nothing_more() -> None:
         return WRITE(fd, data[:60])
     with mock.patch.object(os, "write", writes):
         assert gikvand("audit", JOURNAL, LOG) == (2, [], [f"gikvand audit: {LOG} can't be written: No space left on device. "
-                                                        "What stands in it is whole"])
+                                                          "What stands in it is whole"])
     assert (contents(LOG).startswith(b"#") and contents(LOG).count(b"\n") == 1 and contents(LOG).endswith(b"\n")) == True
     it = Auditor().has_begun()
     assert (it.end()[0], len(lines())) == (0, 1)
@@ -329,19 +327,20 @@ def test_words_of_audit() -> None:
     put("back", "".join(f"2026-11-28T04:55:12.586486Z came unknown - {it} {count} {digest}\n" for it in (size, 9)).encode())
     put("damaged", made(3).data[:-9])
     os.mkfifo("pipe")
-    cases = [([], None), ([JOURNAL], None), ([JOURNAL, "text", "more"], None),
-             (["missing", LOG], "missing: No such file or directory"),
-             (["text", LOG], "text: it doesn't begin with the header of a journal of version 1, 2 or 3 (fault 43): is the name right?"),
-             ([JOURNAL, "text"], "text: line 1 is none of a log by gikvand audit"),
-             ([JOURNAL, JOURNAL], f"{JOURNAL}: line 1 is none of a log by gikvand audit"),
-             ([JOURNAL, "missing", "--check"], "missing: No such file or directory"),
-             ([JOURNAL, "nothing", "--check"], "nothing has no line to compare with"),
-             ([JOURNAL, "begun", "--check"], "begun has no line to compare with"),
-             ([JOURNAL, "pipe"], "pipe is no file, but a pipe or a device"),
-             ([JOURNAL, "none/log"], "none/log can't be written: No such file or directory"),
-             (["pipe", LOG], "pipe is no file, but a pipe or a device"),
-             ([JOURNAL, "back", "--check"], "back: line 2 is none of a log by gikvand audit"),
-             (["damaged", LOG], None)]
+    cases: list[tuple[list[str], str | None]] = [
+        ([], None), ([JOURNAL], None), ([JOURNAL, "text", "more"], None),
+        (["missing", LOG], "missing: No such file or directory"),
+        (["text", LOG], "text: it doesn't begin with the header of a journal of version 1, 2 or 3 (fault 43): is the name right?"),
+        ([JOURNAL, "text"], "text: line 1 is none of a log by gikvand audit"),
+        ([JOURNAL, JOURNAL], f"{JOURNAL}: line 1 is none of a log by gikvand audit"),
+        ([JOURNAL, "missing", "--check"], "missing: No such file or directory"),
+        ([JOURNAL, "nothing", "--check"], "nothing has no line to compare with"),
+        ([JOURNAL, "begun", "--check"], "begun has no line to compare with"),
+        ([JOURNAL, "pipe"], "pipe is no file, but a pipe or a device"),
+        ([JOURNAL, "none/log"], "none/log can't be written: No such file or directory"),
+        (["pipe", LOG], "pipe is no file, but a pipe or a device"),
+        ([JOURNAL, "back", "--check"], "back: line 2 is none of a log by gikvand audit"),
+        (["damaged", LOG], None)]
     for words, line in cases:
         status, _, err = gikvand("audit", *words)
         assert (words, status, err[-1:] if line else bool(err)) == (words, 2, [f"gikvand audit: {line}"] if line else True)

@@ -12,11 +12,10 @@ from unittest import mock
 
 import pytest
 
-import journals
 from board_page import rows_heard, trades_heard
-from gikvand import board, events, programs, tally
+from gikvand import board, events, journals, programs, tally
+from gikvand.journals import Entry
 from gikvand.rules import sealed
-from journals import Entry
 from made_journals import JOURNAL, contents, each_version, made, put, untimed, with_byte
 from venues import PATIENCE, Trouble, message, order, replay, running
 
@@ -69,7 +68,7 @@ def test_what_the_page_gets() -> None:
 def test_deep_books() -> None:
     """More levels than are shown, each with some orders; more trades than are shown; and a member who trades with
     itself."""
-    names, entries = collections.Counter(), []
+    names, entries = collections.Counter[int](), list[Entry]()
     def send(member: int, side: int, quantity: int, price: int, more: str = "") -> None:
         names[member] += 1
         body = order(names[member], side, quantity, price, more=more)
@@ -189,7 +188,7 @@ def test_times_of_members() -> None:
 
 def test_changes_of_prices() -> None:
     """A change is that since the last trade of the day before, or else since the first trade of all."""
-    entries, numbers = [], collections.Counter()
+    entries, numbers = list[Entry](), collections.Counter[int]()
     def send(day: str, price: int) -> None:
         for member, side in ((1, 2), (2, 1)):
             numbers[member] += 1

@@ -17,6 +17,7 @@ from venues import HOST, PATIENCE, Trouble, await_that, free_port
 
 pytestmark = [pytest.mark.slow, pytest.mark.usefixtures("programs")]
 
+
 def port_in(address: str) -> int:
     return int(address.split(":")[2].split("/")[0])
 
@@ -82,22 +83,25 @@ def test_browsers() -> None:
         for number in range(30):
             shown.put(b"%d" % number + b" " * 1_000_000 * (number < 29))
             await_that(f"{number} is heard", lambda: heard.readline().startswith(b"data: %d" % number))
-        for it in (heard, one, deaf):
-            it.close()
+        for close in (heard.close, one.close, deaf.close):
+            close()
         await_that("who left is let go", lambda: shown.listeners == 0)
 
 
 def test_slow_browsers() -> None:
     """One that takes nothing, and one that stops within its request or sends it byte by byte, is let go in time."""
     shown, count = pages.Shown(), itertools.count()
+
+    def is_let_go() -> bool:
+        shown.put(b"%d" % next(count) + b" " * 1_000_000)
+        return shown.listeners == 0
     with mock.patch.object(pages, "PATIENCE", 2), mock.patch.object(pages.Handler, "timeout", 2), \
             mock.patch.object(pages, "A_SIGN", 0.1), pages.serving(0, PAGE, shown) as address:
         idle = [socket.create_connection((HOST, port_in(address)), PATIENCE) for _ in range(5)]
         idle[0].sendall(b"GET /")
         deaf = listening(address)
         await_that("the deaf one listens", lambda: shown.listeners == 1)
-        await_that("the deaf one is let go",
-                   lambda: shown.put(b"%d" % next(count) + b" " * 1_000_000) or shown.listeners == 0)
+        await_that("the deaf one is let go", is_let_go)
         for it in idle:
             assert it.recv(10) == b""
         slow = socket.create_connection((HOST, port_in(address)))
@@ -168,17 +172,18 @@ def test_words_of_board() -> None:
     no_header = "it doesn't begin with the header of a journal of version 1, 2 or 3 (fault 43): is the name right?"
     with socket.create_server((HOST, 0)) as taken:
         port = taken.getsockname()[1]
-        cases = [([], None),
-                 ([JOURNAL, "more"], None),
-                 ([JOURNAL, "--port", "0"], None),
-                 (["missing", "--symbols", "ABC"], "missing: No such file or directory"),
-                 ([JOURNAL], f"the symbols of {JOURNAL} aren't known: name them, or write them into {JOURNAL}.symbols"),
-                 (["known.journal", "--symbols", "XYZ"],
-                  "the journal known.journal is one of ABC XYZ, as known.journal.symbols says, and not of XYZ"),
-                 ([".", "--symbols", "ABC"], ".: Is a directory"),
-                 (["/dev/null", "--symbols", "ABC"], "/dev/null is no file, but a pipe or a device"),
-                 (["empty", "--symbols", "ABC"], f"empty: {no_header}"),
-                 (["known.journal", "--port", str(port)], f"cannot listen on {port}: Address already in use")]
+        cases: list[tuple[list[str], str | None]] = [
+            ([], None),
+            ([JOURNAL, "more"], None),
+            ([JOURNAL, "--port", "0"], None),
+            (["missing", "--symbols", "ABC"], "missing: No such file or directory"),
+            ([JOURNAL], f"the symbols of {JOURNAL} aren't known: name them, or write them into {JOURNAL}.symbols"),
+            (["known.journal", "--symbols", "XYZ"],
+             "the journal known.journal is one of ABC XYZ, as known.journal.symbols says, and not of XYZ"),
+            ([".", "--symbols", "ABC"], ".: Is a directory"),
+            (["/dev/null", "--symbols", "ABC"], "/dev/null is no file, but a pipe or a device"),
+            (["empty", "--symbols", "ABC"], f"empty: {no_header}"),
+            (["known.journal", "--port", str(port)], f"cannot listen on {port}: Address already in use")]
         for words, line in cases:
             status, out, err = gikvand("board", *words)
             assert (words, status, out) == (words, 2, [])

@@ -168,5 +168,5 @@ def test_the_command_line() -> None:
     assert ran("help", "verify")[1] == ran("verify", "--help")[1]
     assert "required: JOURNAL\n" in ran("verify")[2]
     for name in tools.COMMANDS:
-        status, out, err = gikvand(name, "--help")
-        assert (name, status, out[0].startswith(f"usage: gikvand {name} "), err) == (name, 0, True, [])
+        status, lines, errors = gikvand(name, "--help")
+        assert (name, status, lines[0].startswith(f"usage: gikvand {name} "), errors) == (name, 0, True, [])

@@ -134,7 +134,7 @@ def test_logs_behind_the_edge() -> None:
             for at in range(len(lines)):
                 logged(lines[:at] + lines[at + 1:])
                 assert ((gikvand(*words)[1][-2]) == (f"C{member}: {len(heard) - 1} reports of c1.log as the journal tells them, which "
-                                               "has 1 more"))
+                                                     "has 1 more"))
                 logged(lines[:at] + lines[at + 1:] + again[at:at + 1])
                 assert (it.version, member, at, gikvand(*words)[0]) == (it.version, member, at, 0)  # (as behind a kill, by a resend)
 
@@ -188,8 +188,7 @@ def test_reports_and_trades_behind_the_edge() -> None:
         assert [(row["Buyer"], row["BuyerClOrdID"], row["Seller"], row["SellerClOrdID"], row["Price"]) for row in rows][0] == (
             "DESK-B", "b1", "DESK-A", "ORD-1", "0.50")
         assert rows[-1]["BuyerClOrdID"] == "edge-lost-3"
-        out = gikvand("reports", JOURNAL, "C3", "--edge", SETTINGS)
-        assert out == (2, [], [f"gikvand reports: {SETTINGS} has no session of C3"])
+        assert gikvand("reports", JOURNAL, "C3", "--edge", SETTINGS) == (2, [], [f"gikvand reports: {SETTINGS} has no session of C3"])
 
 
 def test_probes_of_the_edge() -> None:

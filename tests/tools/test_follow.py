@@ -16,8 +16,10 @@ from unittest import mock
 
 import pytest
 
-import journals
-from journals import Entry
+from gikvand import journals
+from gikvand.follow import Source
+from gikvand.journals import Entry
+from gikvand.words import sure
 from made_journals import (BEHIND, DAY, JOURNAL, TOOLS, Made, contents, each_version, followed, gikvand, made, put,
                            untimed, with_byte)
 from noting import LOCKED, can_be_noted, noted, order_of
@@ -30,7 +32,7 @@ pytestmark = [pytest.mark.slow, pytest.mark.usefixtures("programs")]
 Came = tuple[int, list[str], list[str]]  # A status, and the lines of both outputs.
 
 TAIL = 150  # So many bytes of a copy are its tail in most of these tests: less than its last two blocks have.
-ONCE = ["--once"]
+ONCE = ("--once",)
 
 
 def module() -> types.ModuleType:
@@ -44,9 +46,9 @@ def ending_by_itself() -> Iterator[None]:
         yield
 
 
-def both_ways(data: bytes) -> Iterator[tuple[list[str], Came, bytes]]:
+def both_ways(data: bytes) -> Iterator[tuple[tuple[str, ...], Came, bytes]]:
     """A copy of these bytes is followed once, and one until a signal: the words, what came, and the copy then."""
-    for words in (ONCE, []):
+    for words in (ONCE, ()):
         with ending_by_itself(), mock.patch.object(os, "fdatasync"):
             came = followed(JOURNAL, put("the.copy", data), *words)
         yield words, came, contents("the.copy")
@@ -76,7 +78,7 @@ class Device:
     such file has to be a journal of a beginning."""
 
     def __init__(self, whole: bytes) -> None:
-        self.whole, self.calls = journals.read(whole).entries, []
+        self.whole, self.calls = journals.read(whole).entries, list[str]()
         self.synced = self.now = b""
 
     def pwrite(self, fd: int, data: bytes, at: int) -> int:
@@ -116,7 +118,7 @@ def test_order_of_writes() -> None:
     a gate in the copy's midst was closed by something else, which shows once its end has grown."""
     for it in each_version():
         empty, begun, grown = (it.data[:it.starts[at]] + b"\0" for at in (0, 1, -2))
-        for data, words in ((empty, ONCE), (empty, []), (begun, []), (with_byte(grown, it.starts[1], 0), [])):
+        for data, words in ((empty, ONCE), (empty, ()), (begun, ()), (with_byte(grown, it.starts[1], 0), ())):
             device = Device(it.data)
             device.synced = contents(put("the.copy", data))
             with mock.patch.multiple(os, pwrite=device.pwrite, fdatasync=device.sync), in_short_runs(), ending_by_itself():
@@ -151,16 +153,16 @@ def test_copies_that_are_refused() -> None:
         first, *_, last = it.starts
         other_words = "isn't a beginning of that journal, and stays as it is: {}. Name another file"
         too_long = f"the journal ends behind {len(DAY) + len(BEHIND)} entries, and it has more"
-        cases = [(other, other_words.format(f"they differ in the block at {it.starts[1]}")),
-                 (journals.empty(it.version % 3 + 1), other_words.format("its header is another one")),
-                 (b"", other_words.format("it is no journal")),
-                 (it.data[:-1], f"is damaged at {len(it.data) - 1}: the file ends where a gate should be")]
-        cases += [(with_more(it, len(it.data) - 1, count), other_words.format(too_long)) for count in (1, 1000)]
-        cases += [(with_more(it, gate, count), other_words.format(f"they differ in the block at {gate}"))
-                  for gate in (first, last) for count in (1, 20, 1000)]
-        for data, words in cases:
+        spoiled = [(other, other_words.format(f"they differ in the block at {it.starts[1]}")),
+                   (journals.empty(it.version % 3 + 1), other_words.format("its header is another one")),
+                   (b"", other_words.format("it is no journal")),
+                   (it.data[:-1], f"is damaged at {len(it.data) - 1}: the file ends where a gate should be")]
+        spoiled += [(with_more(it, len(it.data) - 1, count), other_words.format(too_long)) for count in (1, 1000)]
+        spoiled += [(with_more(it, gate, count), other_words.format(f"they differ in the block at {gate}"))
+                    for gate in (first, last) for count in (1, 20, 1000)]
+        for data, said_of in spoiled:
             for way, (status, out, err), copy in both_ways(data):
-                assert (way, status, out, [line.startswith(f"gikvand follow: the.copy {words}") for line in err]) == (
+                assert (way, status, out, [line.startswith(f"gikvand follow: the.copy {said_of}") for line in err]) == (
                     way, 2, [], [True])
                 assert (way, copy == data) == (way, True)
         put("the.copy", it.data)
@@ -180,17 +182,18 @@ def test_copies_that_are_refused() -> None:
     os.mkfifo("pipe")
     put("empty", b"")
     no_header = "it doesn't begin with the header of a journal of version 1, 2 or 3 (fault 43): is the name right?"
-    cases = [([], None),
-             ([JOURNAL], None),
-             (["missing", "the.copy"], "missing: No such file or directory"),
-             ([JOURNAL, JOURNAL], f"{JOURNAL} is the journal itself"),
-             ([JOURNAL, "link"], "link is the journal itself"),
-             ([JOURNAL, "none/copy"], "none/copy can't be written: No such file or directory"),
-             ([JOURNAL, "."], ".: Is a directory"),
-             (["/dev/null", "the.copy"], "/dev/null is no file, but a pipe or a device"),
-             (["empty", "the.copy"], f"empty: {no_header}"),
-             ([JOURNAL, "pipe"], "pipe is no file, but a pipe or a device"),
-             (["pipe", "the.copy"], "pipe is no file, but a pipe or a device")]
+    cases: list[tuple[list[str], str | None]] = [
+        ([], None),
+        ([JOURNAL], None),
+        (["missing", "the.copy"], "missing: No such file or directory"),
+        ([JOURNAL, JOURNAL], f"{JOURNAL} is the journal itself"),
+        ([JOURNAL, "link"], "link is the journal itself"),
+        ([JOURNAL, "none/copy"], "none/copy can't be written: No such file or directory"),
+        ([JOURNAL, "."], ".: Is a directory"),
+        (["/dev/null", "the.copy"], "/dev/null is no file, but a pipe or a device"),
+        (["empty", "the.copy"], f"empty: {no_header}"),
+        ([JOURNAL, "pipe"], "pipe is no file, but a pipe or a device"),
+        (["pipe", "the.copy"], "pipe is no file, but a pipe or a device")]
     for words, line in cases:
         status, out, err = followed(*words, *["--once"] * bool(line))
         assert (words, status, out) == (words, 2, [])
@@ -297,7 +300,7 @@ def test_ended_while_compared() -> None:
     it = made(3)
     put(JOURNAL, it.data)
     copy = it.data[:it.starts[-1]] + b"\0"
-    for words, wanted in ((ONCE, copy), ([], it.data)):
+    for words, wanted in ((ONCE, copy), ((), it.data)):
         put("the.copy", copy)
         with mock.patch.object(module(), "has_signal", lambda seconds: True):
             assert followed(JOURNAL, "the.copy", *words) == (0, ["the.copy: ended by a signal, while it was compared"], [])
@@ -357,7 +360,7 @@ def test_a_standby() -> None:
         first = trader.name
     whole = contents(JOURNAL)
     await_copy("the.copy", journals.read(whole).gate + 1)
-    assert follower.end(signal.SIGTERM)[0] == 0
+    assert sure(follower).end(signal.SIGTERM)[0] == 0
     assert contents("the.copy") == whole[:journals.read(whole).gate] + journals.CLOSED
     assert gikvand("verify", "the.copy")[0] == 0
     standby = Venue(free_port(1), "the.copy", 1, contents("the.copy.symbols").decode().split())
@@ -473,7 +476,7 @@ def test_lines_in_time() -> None:
 def test_ends_of_a_backup() -> None:
     """A backup ends where the journal ended as it began, however much comes meanwhile."""
     it, looks = made(3), 0
-    class Growing(module().Source):  # A journal that has grown by a block at each look.
+    class Growing(Source):  # A journal that has grown by a block at each look.
         def blocks(self) -> bytes:
             nonlocal looks
             looks += 1
@@ -499,7 +502,7 @@ def test_one_follower_a_copy() -> None:
     status, out, _ = gikvand("watch", "the.copy", "--quick", "--prometheus")
     assert (status, 'gikvand_up{journal="the.copy"} 0' in out) == (1, True)
     assert gikvand("why", "the.copy")[1] == [f"fault 41: {who} has it, and one process alone may",
-                                           f"    let it go on, or end it first: kill {follower.process.pid}"]
+                                             f"    let it go on, or end it first: kill {follower.process.pid}"]
     assert follower.end(signal.SIGTERM)[0] == 0
 
 

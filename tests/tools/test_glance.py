@@ -6,7 +6,7 @@ import pytest
 
 from corners import all_corners
 from gikvand import glance, rules, verify
-from journals import Entry
+from gikvand.journals import Entry
 from venues import message, order
 
 pytestmark = [pytest.mark.slow, pytest.mark.usefixtures("programs")]
@@ -20,10 +20,10 @@ def slowly(entry: Entry) -> str | None:
 
 def test_glances() -> None:
     """What is right at a glance is so by the rules too; and each right order is."""
-    seen = collections.Counter()
+    seen = collections.Counter[object]()
     sessions = [rules.Session() for _ in all_corners()]
-    for session, it in zip(sessions, all_corners()):
-        session.feed(it.data)
+    for session, corner in zip(sessions, all_corners()):
+        session.feed(corner.data)
     frames = {frame for session in sessions for frame, *_ in session.orders}
     first = message(1, 2, "D", order(1, 1, 5, 50))
     changed = {first[:at] + other + first[at + 1:] for at in range(len(first))

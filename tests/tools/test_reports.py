@@ -9,13 +9,13 @@ from unittest import mock
 
 import pytest
 
-import journals
-from gikvand import events, programs
-from journals import Entry
+from gikvand import events, journals, programs
+from gikvand.journals import Entry
 from made_journals import JOURNAL, TOOLS, as_nobody, each_version, gikvand, made, put
 from venues import TIME, Client, message, order, started, value
 
 pytestmark = [pytest.mark.slow, pytest.mark.usefixtures("programs")]
+
 
 def as_printed(report: str) -> str:
     """A report as venue-replay prints it: without what only a session has."""
@@ -66,10 +66,10 @@ def test_reports_as_tables() -> None:
 
 SIDES = ["Buyer", "BuyerOrderID", "BuyerClOrdID", "BuyerExecID", "Seller", "SellerOrderID", "SellerClOrdID", "SellerExecID"]
 COLUMNS = ["Place", "Time", "Symbol", "Quantity", "Price", "Incoming", *SIDES]
-FIRST = [3, TIME, "ABC", 30, 50, "buy", "C2", "2", "1", "4", "C1", "1", "1", "3"]
-BY_MARKET = [6, TIME, "ABC", 20, 50, "buy", "C2", "3", "2", "7", "C1", "1", "1", "6"]
-LAST = [14, TIME, "ABC", 10, 50, "buy", "C2", "9", "3", "15", "C1", "1", "3", "14"]
-OLD_LAST = [12, *LAST[1:9], "13", *LAST[10:13], "12"]
+FIRST: list[int | str] = [3, TIME, "ABC", 30, 50, "buy", "C2", "2", "1", "4", "C1", "1", "1", "3"]
+BY_MARKET: list[int | str] = [6, TIME, "ABC", 20, 50, "buy", "C2", "3", "2", "7", "C1", "1", "1", "6"]
+LAST: list[int | str] = [14, TIME, "ABC", 10, 50, "buy", "C2", "9", "3", "15", "C1", "1", "3", "14"]
+OLD_LAST: list[int | str] = [12, *LAST[1:9], "13", *LAST[10:13], "12"]
 
 
 def test_trades_of_a_day() -> None:
@@ -78,13 +78,13 @@ def test_trades_of_a_day() -> None:
         rows = [FIRST, BY_MARKET, LAST] if it.version > 1 else [FIRST, OLD_LAST]
         assert [list(json.loads(line).values()) for line in gikvand("trades", JOURNAL, "--json")[1]] == rows
         status, out, err = gikvand("trades", JOURNAL, "--csv")
-        assert (status, out, err) == (0, [",".join(map(str, row)) for row in [COLUMNS, *rows]], [])
+        assert (status, out, err) == (0, [",".join(COLUMNS), *(",".join(map(str, row)) for row in rows)], [])
         for after in range(16):
             status, out, _ = gikvand("trades", JOURNAL, "--json", "--after", after)
             if after > (13 if it.version == 1 else 15):
                 assert (after, status, out) == (after, 2, [])
                 continue
-            assert (after, [json.loads(line)["Place"] for line in out]) == (after, [row[0] for row in rows if row[0] > after])
+            assert (after, [json.loads(line)["Place"] for line in out]) == (after, [row[0] for row in rows if int(row[0]) > after])
         sides = "C2 (order 2, ClOrdID 1) buys from C1 (order 1, ClOrdID 1)"
         assert gikvand("trades", JOURNAL)[1][0] == f"3, {TIME}: 30 ABC at 50, {sides}, by a buy that came in"
 
@@ -97,7 +97,7 @@ def test_trades_with_oneself_and_in_a_row() -> None:
     found = [json.loads(line) for line in gikvand("trades", JOURNAL, "--json", "--symbols", "ABC")[1]]
     assert [[row[it] for it in ("Place", "Buyer", "BuyerExecID", "Seller", "SellerExecID", "Quantity", "Price", "Incoming")]
             for row in found] == [[5, "C1", "5", "C2", "6", 5, 50, "sell"], [7, "C2", "7", "C2", "8", 5, 49, "sell"],
-                                [9, "C3", "9", "C2", "10", 2, 48, "sell"]]
+                                  [9, "C3", "9", "C2", "10", 2, 48, "sell"]]
 
 
 def test_words_of_reports_and_trades() -> None:
@@ -169,8 +169,8 @@ def test_trades_of_the_last_member() -> None:
 
 def altered(old: str, new: str) -> Callable[..., Iterator[bytes]]:
     """What a program prints of a journal, where one report is another one."""
-    def lines(*words: object) -> Iterator[bytes]:
-        for line in programs.lines_of(*words):
+    def lines(program: str, journal: str, words: list[str]) -> Iterator[bytes]:
+        for line in programs.lines_of(program, journal, words):
             yield line.replace(old.encode(), new.encode()) if b"|17=4|" in line else line
     return lines
 
@@ -191,8 +191,8 @@ def test_reports_of_no_trade() -> None:
 @pytest.mark.usefixtures("journal")
 def test_ends_of_lines() -> None:
     """Tables have a line feed alone at the end of a line, as other programs of this system write them."""
-    for words in (["trades", JOURNAL], ["reports", JOURNAL, "C1"]):
-        for form in ([], ["--csv"], ["--json"]):
+    for words in (("trades", JOURNAL), ("reports", JOURNAL, "C1")):
+        for form in ((), ("--csv",), ("--json",)):
             it = subprocess.run([sys.executable, "-m", "gikvand", *words, *form], capture_output=True,
                                 env={**os.environ, "PYTHONPATH": TOOLS})
             lines = gikvand(*words, *form)[1]

@@ -8,13 +8,14 @@ import sys
 
 import pytest
 
-import journals
 from checks import ROOT
+from gikvand import journals
 from made_journals import JOURNAL, TOOLS, called, contents, gikvand, put
 from noting import can_be_noted, noted, order_of
 from venues import HOST, PATIENCE, free_port
 
 pytestmark = [pytest.mark.slow, pytest.mark.usefixtures("programs")]
+
 
 def test_symbols_of_a_journal() -> None:
     """A journal's symbols are kept from its first start on, and a start with others is refused by a line that says both."""

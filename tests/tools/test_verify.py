@@ -7,8 +7,8 @@ from unittest import mock
 
 import pytest
 
-import journals
-from journals import Entry
+from gikvand import journals
+from gikvand.journals import Entry
 from made_journals import BEHIND, DAY, JOURNAL, SYMBOLS, contents, each_version, gikvand, made, put, with_byte
 from venues import Client, Trouble, message, order, replay, started, value
 
@@ -35,7 +35,7 @@ def test_whole_journals() -> None:
         has = f"{blocks} blocks with {entries} entries and {snapshots} snapshot{'s' * (not snapshots)}"
         assert (status, err) == (0, [])
         assert out == [f"version {it.version}: {has}, and a gate at {len(it.data) - 1}",
-                     *["snapshots: each is that of the entries before it"] * snapshots, f"{JOURNAL}: nothing is wrong"]
+                       *["snapshots: each is that of the entries before it"] * snapshots, f"{JOURNAL}: nothing is wrong"]
         put(JOURNAL, journals.empty(it.version))
         assert gikvand("verify", JOURNAL)[0] == 0
 
@@ -111,7 +111,7 @@ def test_many_findings() -> None:
     data = journals.header(3) + journals.block_of(3, [Entry(1, b"x")] * 37) + journals.CLOSED
     status, out, _ = gikvand("verify", put(JOURNAL, data))
     assert (status, out[9], out[10], out[-1]) == (1, "entry 10, in the block at 16: C1, bad begin", "and 27 more",
-                                                f"{JOURNAL}: 37 findings")
+                                                  f"{JOURNAL}: 37 findings")
 
 
 def test_headers() -> None:
@@ -229,20 +229,21 @@ def test_words_of_verify() -> None:
     put("c1.log", b"")
     os.mkfifo("pipe")
     unknown = f"the symbols of {JOURNAL} aren't known: name them, or write them into {JOURNAL}.symbols"
-    cases = [([], None),
-             ([JOURNAL, "C9=c1.log"], None),
-             ([JOURNAL, "c1.log"], None),
-             ([JOURNAL, "--symbols", "abc"], None),
-             ([JOURNAL, "--symbols", "ABC,ABC"], None),
-             (["missing"], "missing: No such file or directory"),
-             (["."], ".: Is a directory"),
-             (["pipe"], "pipe is no file, but a pipe or a device"),
-             ([""], "an empty name is none"),
-             (["caf\udce9"], "the name caf\udce9 isn't UTF-8, and the programs take no other"),
-             ([JOURNAL, "C1=none.log", "--symbols", "ABC,XYZ"], "none.log: No such file or directory"),
-             ([JOURNAL, "C1=pipe", "--symbols", "ABC,XYZ"], "pipe is no file, but a pipe or a device"),
-             ([JOURNAL], unknown),
-             ([JOURNAL, "C1=c1.log"], unknown)]
+    cases: list[tuple[list[str], str | None]] = [
+        ([], None),
+        ([JOURNAL, "C9=c1.log"], None),
+        ([JOURNAL, "c1.log"], None),
+        ([JOURNAL, "--symbols", "abc"], None),
+        ([JOURNAL, "--symbols", "ABC,ABC"], None),
+        (["missing"], "missing: No such file or directory"),
+        (["."], ".: Is a directory"),
+        (["pipe"], "pipe is no file, but a pipe or a device"),
+        ([""], "an empty name is none"),
+        (["caf\udce9"], "the name caf\udce9 isn't UTF-8, and the programs take no other"),
+        ([JOURNAL, "C1=none.log", "--symbols", "ABC,XYZ"], "none.log: No such file or directory"),
+        ([JOURNAL, "C1=pipe", "--symbols", "ABC,XYZ"], "pipe is no file, but a pipe or a device"),
+        ([JOURNAL], unknown),
+        ([JOURNAL, "C1=c1.log"], unknown)]
     for words, line in cases:
         status, _, err = gikvand("verify", *words)
         assert (words, status, err[-1:] if line else bool(err)) == (words, 2, [f"gikvand verify: {line}"] if line else True)

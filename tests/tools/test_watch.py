@@ -12,11 +12,12 @@ from unittest import mock
 
 import pytest
 
-import journals
+from gikvand import journals
 from made_journals import JOURNAL, SYMBOLS, as_nobody, cancel, contents, each_version, gikvand, made, put, with_byte
 from venues import PATIENCE, REPLAY, Client, Venue, await_that, free_port, order, started
 
 pytestmark = [pytest.mark.slow, pytest.mark.usefixtures("programs")]
+
 
 def causes(*words: object) -> tuple[int, list[str]]:
     """The status of `why`, and the causes that it names, without what mends them."""

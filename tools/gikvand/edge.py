@@ -130,7 +130,7 @@ class Edge:
 
     def __init__(self, path: str) -> None:
         self.path, parts = path, sections(path)
-        common = next((it for head, it in parts if head == "DEFAULT"), {})
+        common: Settings = next((it for head, it in parts if head == "DEFAULT"), {})
         self.common, self.sessions = common, [{**common, **it} for head, it in parts if head == "SESSION"]
         if not self.sessions:
             raise Trouble(f"{path} has no [SESSION]: are these the settings of gikvand-edge?")

@@ -10,6 +10,7 @@ from typing import NamedTuple
 from gikvand import files
 from gikvand.clock import libc
 from gikvand.programs import A_READ, EVENTS, Unread, fault_of, lines_of, need
+from gikvand.words import sure
 
 PR_SET_PDEATHSIG = 1    # The call by which a process asks to be ended with the one that started it.
 FIRST = len("output ")  # Where the place begins in the line of an output.
@@ -94,20 +95,21 @@ class Followed:
         self.journal, self.rest, pipe = journal, b"", subprocess.PIPE
         self.process = subprocess.Popen([EVENTS, journal, "follow", *symbols], stdout=pipe, stderr=pipe, bufsize=0,
                                         preexec_fn=ends_with_us)
-        os.set_blocking(self.process.stdout.fileno(), False)
+        self.out, self.err = sure(self.process.stdout), sure(self.process.stderr)
+        os.set_blocking(self.out.fileno(), False)
 
     def come(self, seconds: float) -> list[str]:
         """Whole lines without their ends, which have come or come within this time; none where nothing does. Stops where
         venue-events has ended, with what it says."""
-        select.select([self.process.stdout], [], [], seconds)
-        data = self.process.stdout.read(A_READ)
+        select.select([self.out], [], [], seconds)
+        data = self.out.read(A_READ)
         if data == b"":
-            raise fault_of(EVENTS, self.journal, self.process.stderr.read(), self.process.wait())
+            raise fault_of(EVENTS, self.journal, self.err.read(), self.process.wait())
         *lines, self.rest = (self.rest + (data or b"")).split(b"\n")
         return [line.decode("latin-1") for line in lines]
 
     def end(self) -> None:
         self.process.kill()
         self.process.wait()
-        self.process.stdout.close()
-        self.process.stderr.close()
+        self.out.close()
+        self.err.close()

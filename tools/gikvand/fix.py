@@ -39,7 +39,7 @@ def parted(data: bytes) -> tuple[list[str], bytes]:
 def value(text: str, tag: str) -> str | None:
     """The value of the first field of this tag, or None."""
     found = re.search(rf"(?:^|\|){tag}=([^|]*)\|", text)
-    return found and found[1]
+    return found[1] if found else None
 
 
 def fields_of(text: str) -> dict[str, str]:

@@ -318,7 +318,7 @@ def begin(source: Source, copy: Copy, is_at_once: bool) -> Comparison:
     """Finds where the copy goes on: at once, by its tail, where that shows it; else once all of it is compared."""
     comparison = Comparison(copy, source)
     gate = copy.gate_by_tail(source) if is_at_once else None
-    if gate in (None, copy.gate):  # (an empty copy is compared in no time)
+    if gate is None or gate == copy.gate:  # (an empty copy is compared in no time)
         while not comparison.is_done:
             comparison.go_on(A_PIECE)
     else:

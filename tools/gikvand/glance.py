@@ -13,5 +13,5 @@ MESSAGE = re.compile(rb"8=FIX\.4\.4\x019=([1-9][0-9]{1,2})\x01(35=[DFG]\x0149=C(
 def is_published(message: bytes, member: int) -> bool:
     """Whether a session of this member publishes it, as far as a glance tells: the form, length and sum are right."""
     found = MESSAGE.fullmatch(message)
-    return (bool(found) and int(found[1]) == len(found[2]) <= LONGEST and int(found[5]) == sum(message[:-TRAILER]) % 256
+    return (found is not None and int(found[1]) == len(found[2]) <= LONGEST and int(found[5]) == sum(message[:-TRAILER]) % 256
             and int(found[3]) == member and found[4] != b"1")

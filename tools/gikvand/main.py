@@ -74,7 +74,7 @@ def ended(name: str, work: Callable[[], int], about: dict[str, str]) -> int:
 
 def run(name: str, words: list[str]) -> int:
     """Runs a command, and answers the status."""
-    about = {}
+    about = dict[str, str]()
     def work() -> int:
         command = importlib.import_module(f"gikvand.{name}")
         parser = argparse.ArgumentParser(prog=f"gikvand {name}", description=text_of(command),

@@ -13,6 +13,7 @@ from collections.abc import Iterator
 
 from gikvand.ports import HOST
 from gikvand.programs import Trouble
+from gikvand.words import sure
 
 OURS = re.compile(r"(127\.0\.0\.1|localhost)(:[0-9]{1,5})?")  # Whom requests are for. Other names are another page's trick.
 PATIENCE = 10      # Seconds that a browser has for its request, and to take what is sent,
@@ -61,10 +62,13 @@ def policy(page: str) -> str:
     """What a browser may do with the page: run and draw what stands in it, and ask us."""
     hashes = {}
     for part in ("script", "style"):
-        inside = re.search(f"<{part}>(.*?)</{part}>", page, re.DOTALL)[1]
+        inside = sure(re.search(f"<{part}>(.*?)</{part}>", page, re.DOTALL))[1]
         hashes[part] = base64.b64encode(hashlib.sha256(inside.encode()).digest()).decode()
     return (f"default-src 'none'; script-src 'sha256-{hashes['script']}'; style-src 'sha256-{hashes['style']}'; "
             "connect-src 'self'; img-src data:; base-uri 'none'; form-action 'none'; frame-ancestors 'none'")
+
+
+Request = socket.socket | tuple[bytes, socket.socket]  # (as any server has it: with no stream there are bytes)
 
 
 class Server(http.server.ThreadingHTTPServer):
@@ -82,21 +86,21 @@ class Server(http.server.ThreadingHTTPServer):
         """Binds as any server does. (The one of http.server would ask for this machine's name, wherever that is
         kept.)"""
         socketserver.TCPServer.server_bind(self)
-        self.server_name, self.server_port = self.server_address[:2]
+        self.server_name, self.server_port = HOST, self.server_address[1]
 
-    def process_request(self, request: socket.socket, address: tuple) -> None:
+    def process_request(self, request: Request, address: tuple) -> None:
         if self.room.acquire(blocking=False):
             super().process_request(request, address)
         else:
             self.shutdown_request(request)
 
-    def process_request_thread(self, request: socket.socket, address: tuple) -> None:
+    def process_request_thread(self, request: Request, address: tuple) -> None:
         try:
             super().process_request_thread(request, address)
         finally:
             self.room.release()
 
-    def handle_error(self, request: socket.socket, address: tuple) -> None:
+    def handle_error(self, request: Request, address: tuple) -> None:
         """A browser that left, or took nothing for too long. Nobody else has to hear of it."""
 
 

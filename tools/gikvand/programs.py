@@ -5,7 +5,7 @@ import subprocess
 from collections.abc import Iterator
 
 from gikvand import files
-from gikvand.words import Trouble
+from gikvand.words import Trouble, sure
 
 ROOT = os.path.dirname(os.path.dirname(os.path.dirname(os.path.abspath(__file__))))
 USR = os.path.dirname(os.path.dirname(ROOT))  # Where scripts/package has put this: /usr/share/gikvand and /usr/bin/gikvand.
@@ -50,10 +50,10 @@ def lines_of(program: str, journal: str, words: list[str]) -> Iterator[bytes]:
     pipe = subprocess.PIPE
     with subprocess.Popen([program, journal, *words], stdout=pipe, stderr=pipe, bufsize=A_READ) as process:
         try:
-            for line in process.stdout:
+            for line in sure(process.stdout):
                 if line.endswith(b"\n"):
                     yield line
-            said, status = process.stderr.read(), process.wait()
+            said, status = sure(process.stderr).read(), process.wait()
         finally:
             process.kill()
     if status:

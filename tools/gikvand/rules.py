@@ -19,11 +19,13 @@ NAMES = range(1, 10 ** 15)
 
 # The format and the range of each tag, and what each type of order message needs and may have. A D that asks for a market
 # order has a table of its own, in which OrdType is what has brought it there.
-FIELDS = {11: (NUMBER, NAMES), 41: (NUMBER, NAMES), 38: (NUMBER, UNITS), 44: (NUMBER, UNITS),
-          40: (BYTE, (b"2",)), 54: (BYTE, (b"1", b"2")), 59: (BYTE, (b"0", b"3", b"4")), 55: (SYMBOL, None), 60: (TIME, None)}
+Formats = dict[int, tuple[re.Pattern[bytes], range | tuple[bytes, ...] | None]]
+FIELDS: Formats = {
+    11: (NUMBER, NAMES), 41: (NUMBER, NAMES), 38: (NUMBER, UNITS), 44: (NUMBER, UNITS),
+    40: (BYTE, (b"2",)), 54: (BYTE, (b"1", b"2")), 59: (BYTE, (b"0", b"3", b"4")), 55: (SYMBOL, None), 60: (TIME, None)}
 NEEDED = {b"D": {11, 38, 40, 44, 54, 55, 60}, b"F": {11, 38, 41, 54, 55, 60}, b"G": {11, 38, 40, 41, 44, 54, 55, 60}}
 ALLOWED = {b"D": {59}, b"F": set(), b"G": {59}}
-MARKET_FIELDS = {**FIELDS, 40: (BYTE, (b"1",))}
+MARKET_FIELDS: Formats = {**FIELDS, 40: (BYTE, (b"1",))}
 MARKET_NEEDED = NEEDED[b"D"] - {44}
 
 Field = tuple[int, bytes]  # A tag and its value.

@@ -4,7 +4,7 @@ grow."""
 import collections
 import itertools
 from dataclasses import dataclass, field
-from typing import NamedTuple
+from typing import Any, NamedTuple
 
 from gikvand.fix import fields_of
 
@@ -15,7 +15,7 @@ A_WHILE = 5         # and over so many a rate is reckoned.
 DAY = len("20250102")  # The day in a time stands in front.
 BUY, SELL = "1", "2"
 
-Json = dict[str, object]
+Json = dict[str, Any]
 Side = dict[int, tuple[int, int]]  # By price the quantity and the count of the orders that rest there.
 
 
@@ -153,7 +153,7 @@ class Tally:
 
     def rows(self) -> list[Json]:
         """A row for each member who has sent something."""
-        resting, left = collections.Counter(), collections.Counter()
+        resting, left = collections.Counter[str](), collections.Counter[str]()
         for member, quantity in self.resting.values():
             resting[member] += 1
             left[member] += quantity
@@ -163,7 +163,7 @@ class Tally:
 
 def symbol(name: str, market: Market) -> Json:
     """What is told of a symbol."""
-    change = market.last[-1].price - market.before if market.last else None
+    change = market.last[-1].price - market.before if market.last and market.before is not None else None
     return {"name": name, "trades": market.trades, "traded": market.traded, "change": change,
             "buys": depth(market.sides[BUY], -1), "sells": depth(market.sides[SELL], 1),
             "last": [{"place": it.place, "time": it.when, "price": it.price, "quantity": it.quantity, "buyer": it.buyer,

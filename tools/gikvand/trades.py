@@ -49,8 +49,8 @@ def trade_of(resting: Fill, incoming: Fill) -> Row:
     place, behind = int(one["17"]), int(two["17"])
     if behind != place + 1 or any(one[tag] != two[tag] for tag in ("52", "55", "32", "31")) or one["54"] == two["54"]:
         raise Trouble(f"the reports with ExecID {place} and {behind} aren't those of one trade: is the journal changed?")
-    row = {"Place": place, "Time": one["52"], "Symbol": one["55"], "Quantity": int(one["32"]), "Price": number_of(one["31"]),
-           "Incoming": "buy" if two["54"] == "1" else "sell"}
+    row: Row = {"Place": place, "Time": one["52"], "Symbol": one["55"], "Quantity": int(one["32"]), "Price": number_of(one["31"]),
+                "Incoming": "buy" if two["54"] == "1" else "sell"}
     row |= side_of(*resting) | side_of(*incoming)
     return {name: row[name] for name in NAMES}
 

@@ -181,7 +181,7 @@ def look_at_snapshots(given: argparse.Namespace, journal: Journal, report: Repor
 def look_at_log(given: argparse.Namespace, log: Log, behind: edge.Edge | None, report: Report) -> None:
     """Looks at a member's log. One that has none of its reports is another's, or of a form that isn't read."""
     replay = Replay(given.journal, log.member, symbols.needed(given.journal, given.symbols))
-    told = behind.logged(int(log.member[1:]), replay) if behind else replay
+    told = behind.logged(int(log.member[1:]), replay) if behind else iter(replay)
     with files.opened(log.path) as file:
         compared = Compared(told)
         report.each(f"{log.path}: {line}" for line in compared.compare(reports(file, log.member, behind)))

@@ -104,10 +104,10 @@ def sockets() -> Iterator[Socket]:
 def ports_of(given: argparse.Namespace, process: Process | None) -> range:
     """The ports of a venue, by its own words or by the PORT that is given."""
     words = process.words if process else []
-    own = words[1:4] if len(words) > 4 and words[1].isdecimal() and words[3].isdecimal() else None
-    if given.port is None and own is None:
+    own = [int(words[1]), int(words[3])] if len(words) > 4 and words[1].isdecimal() and words[3].isdecimal() else []
+    if given.port is None and not own:
         return range(0)
-    first, count = given.port or int(own[0]), int(own[2]) if own else MOST_GATEWAYS
+    first, count = given.port or own[0], own[1] if own else MOST_GATEWAYS
     return range(first, first + count)
 
 

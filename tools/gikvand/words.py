@@ -1,11 +1,22 @@
-"""Counts and times in words, as the commands print them, what a module says of itself, and what went wrong."""
+"""Counts and times in words, as the commands print them, what a module says of itself, what went wrong, and what
+has to be there."""
 import ast
 import datetime
 import types
+from typing import TypeVar
+
+T = TypeVar("T")
 
 
 class Trouble(Exception):
     """What went wrong, in words."""
+
+
+def sure(it: T | None) -> T:
+    """What has to be there: the pipe of a program that was started with one, or the match of a text that has such a form."""
+    if it is None:
+        raise TypeError("what has to be there isn't")
+    return it
 
 
 def some(count: int, noun: str) -> str:
