@@ -157,8 +157,19 @@ _venue_events() {
     esac
 }
 
+# Answers what may stand behind these words to processes of the edge that run.
+_gikvand_switch() {
+    local begun=$1
+    shift
+    case $#:$1 in
+        1:halt) ;;
+        1:*) _gikvand_of "$begun" all "${_gikvand_members[@]}" ;;
+        *) _gikvand_files "$begun" ;;
+    esac
+}
+
 _gikvand_edge() {
-    local words options="--all --member"
+    local words options="--all --member" verbs=""
     COMPREPLY=()
     _gikvand_words
     local begun=${words[-1]} given=("${words[@]:1:${#words[@]}-2}")
@@ -166,11 +177,23 @@ _gikvand_edge() {
         given=("${given[@]:1}")
     else
         options+=" --check --version"
+        verbs="stop resume cancel halt status numbers"
+    fi
+    if [[ ${#given[@]} -gt 0 && " $verbs " == *" ${given[0]} "* ]]; then
+        _gikvand_switch "$begun" "${given[@]}"
+        return
     fi
     case ${#given[@]}:${given[0]-}:$begun in
         0::-*) _gikvand_of "$begun" "$options" ;;
         1:--member:*) _gikvand_of "$begun" "${_gikvand_members[@]}" ;;
-        0::* | 1:--all:* | 2:--member:*) _gikvand_files "$begun" ;;
+        0::*)
+            local found=()
+            _gikvand_of "$begun" "$verbs"
+            found=("${COMPREPLY[@]}")
+            _gikvand_files "$begun"
+            COMPREPLY+=("${found[@]}")
+            ;;
+        1:--all:* | 2:--member:*) _gikvand_files "$begun" ;;
     esac
 }
 

@@ -4,6 +4,7 @@ import os
 import shutil
 import time
 
+import drill_edge
 from drill import ENOUGH, Drill, await_answers, cease, heard, looked_at, send_one_more, stop_listening, trading
 from drill_machines import HOME, Machine, ran
 from drill_store import contents
@@ -179,6 +180,36 @@ def half(drill: Drill, machine: Machine) -> str:
     return drill.took("half a write: the next machine is ready after", sure(new.ready(since)) - since)
 
 
+def edge(drill: Drill, machine: Machine) -> str:
+    """The machine dies, at which members are by the edge: the folder of one is on the volume, and that of the other one
+    is lost, and made anew from the journal. At the next machine both miss nothing."""
+    if why := drill_edge.missing():
+        return f"isn't tried: {why}"
+    drill.serve(machine, drill.words())
+    standbys = drill.standbys(machine)
+    desks = drill_edge.Desks(machine, drill.machines)
+    try:
+        desks.log_on()
+        desks.trade()
+        desks.leave()
+        since = time.monotonic()
+        machine.die()
+        new = drill.goes_on(standbys, since)
+        desks.start(new.machine, drill.left_out != "numbers")
+        desks.log_on()
+        back = time.monotonic() - since
+        desks.miss_nothing(drill.store.journal(new.machine))
+        desks.trade()
+        desks.miss_nothing(drill.store.journal(new.machine))
+        desks.close()
+    finally:
+        desks.end()
+    later = drill.traded_on(new, machine)
+    drill.store.come_back(machine)
+    drill.end(new, later)
+    return drill.took("members behind the edge are told all that they missed after", back)
+
+
 def holding() -> list[str]:
     """The words before a program whose writes of one byte, which make a block count, wait as long as HOLD is there."""
     ran("cc", "-shared", "-fPIC", "-O1", "-o", HOLDS, os.path.join(ROOT, "dev/drill_hold.c"))
@@ -188,9 +219,9 @@ def holding() -> list[str]:
 
 
 CASES = {"killed": killed, "looked": looked, "dies": dies, "parted": parted, "joined": joined, "watched": watch_ends,
-         "brick": brick, "half": half}
+         "brick": brick, "half": half, "edge": edge}
 
 # What may be left out, the case that has to fail then, and in how many rounds at the most.
 PLANTS = {"strict-locks": ("joined", 1), "quorum": ("parted", 1), "direct-io": ("looked", 1), "step": ("half", 6),
-          "watch": ("watched", 1)}
+          "watch": ("watched", 1), "numbers": ("edge", 1)}
 BY_CHANCE = ["no-views"]  # What may be left out too, and is seen to do harm in few rounds alone.

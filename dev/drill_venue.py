@@ -12,7 +12,7 @@ from venues import Trouble, await_that
 
 STANDBY = os.path.join(ROOT, "contrib/standby")
 STEP, SERVE = (os.path.join(STANDBY, it) for it in ("before-start", "serve"))
-SYMBOL, PORT, GATEWAYS = "ABC", 9001, 4
+SYMBOL, PORT, GATEWAYS = "ABC", 9001, 6  # The last two are of members behind the edge.
 LOCKED = "status 41"  # Of a start that another venue's lock refuses, by the step or, without it,
 FAULT = "status 1"    # by the venue itself.
 

@@ -170,6 +170,10 @@ WRONG = {
                                                      "    true\n", "edge_as_it_is_removed"),
     "a purge of the records": Wrong(EDGE_POSTRM, 'echo "gikvand-edge: the records in /var/lib/gikvand-edge stay, the settings, and the '
                                     'users gikvand-edge-C1 to C8"', "rm -rf /var/lib/gikvand-edge", "edge_as_it_is_removed"),
+    "a form of the edge's numbers too few": Wrong(EDGE_PAGE, ".Nm\n.Cm numbers\n.Ar Ck OUT IN\n.Ar SETTINGS ...\n", "", "edge_usage"),
+    "numbers of a session told otherwise": Wrong(EDGE_PAGE, "Shows the next numbers of the member's session", "Shows them", "edge_switch"),
+    "numbers that aren't completed": Wrong(COMPLETION, "cancel halt status numbers", "cancel halt status", "edge_words_completed"),
+    "members that aren't completed": Wrong(COMPLETION, '"$begun" all "${_gikvand_members[@]}"', '"$begun" all', "edge_words_completed"),
     "a word of the edge that isn't completed": Wrong(COMPLETION, '" --check --version"', '" --check"', "edge_words_completed"),
     "files where members stand": Wrong(COMPLETION, '        1:--member:*) _gikvand_of "$begun" "${_gikvand_members[@]}" ;;\n', "",
                                        "edge_words_completed"),

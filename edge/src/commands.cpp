@@ -1,5 +1,6 @@
 #include "commands.h"
 
+#include <algorithm>
 #include <map>
 
 #include "settings.h"
@@ -8,16 +9,37 @@ namespace edge {
 
 namespace {
 
+const char *const NUMBERS = "numbers";
+constexpr std::size_t MOST_DIGITS = 18;  // That a long has room for.
+
 const std::map<std::string, Command::Kind> OF_MEMBERS{{"stop", Command::Kind::Stop},
                                                       {"resume", Command::Kind::Resume},
                                                       {"cancel", Command::Kind::Cancel},
-                                                      {"status", Command::Kind::Status}};
+                                                      {"status", Command::Kind::Status},
+                                                      {NUMBERS, Command::Kind::Numbers}};
 const std::map<std::string, Command::Kind> OF_SYMBOLS{{"halt", Command::Kind::Halt},
                                                       {"resume", Command::Kind::ResumeSymbol}};
 
+/// Reads the two numbers of a session, with a blank between them. Whether they are there.
+bool readNumbers(const std::string &words, Command &into) {
+    const std::size_t end = words.find(' ');
+    if (end == std::string::npos) return false;
+    const std::string out = words.substr(0, end), in = words.substr(end + 1);
+    if (!isNumber(out) || !isNumber(in) || std::max(out.size(), in.size()) > MOST_DIGITS) return false;
+    into.kind = Command::Kind::SetNumbers;
+    into.out = std::stol(out);
+    into.in = std::stol(in);
+    return out == std::to_string(into.out) && in == std::to_string(into.in);  // A number has one spelling.
+}
+
+}
+
+bool isNumber(const std::string &word) {
+    return !word.empty() && word.find_first_not_of("0123456789") == std::string::npos;
 }
 
 std::string Command::words() const {
+    if (kind == Kind::SetNumbers) return std::string(NUMBERS) + " " + std::to_string(out) + " " + std::to_string(in);
     for (const auto &it : symbol.empty() ? OF_MEMBERS : OF_SYMBOLS)
         if (it.second == kind) return symbol.empty() ? it.first : it.first + " " + symbol;
     return "";
@@ -25,6 +47,7 @@ std::string Command::words() const {
 
 bool Command::read(const std::string &words, Command &into) {
     const std::size_t end = words.find(' ');
+    if (end != std::string::npos && words.substr(0, end) == NUMBERS) return readNumbers(words.substr(end + 1), into);
     const auto &kinds = end == std::string::npos ? OF_MEMBERS : OF_SYMBOLS;
     const auto found = kinds.find(words.substr(0, end));
     if (found == kinds.end()) return false;

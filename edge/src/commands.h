@@ -13,16 +13,21 @@ namespace edge {
 
 /// A command of an operator.
 struct Command {
-    enum class Kind { Stop, Resume, Cancel, Halt, ResumeSymbol, Status };
+    enum class Kind { Stop, Resume, Cancel, Halt, ResumeSymbol, Status, Numbers, SetNumbers };
 
     Kind kind;
-    std::string symbol;  // Of Halt and ResumeSymbol.
+    std::string symbol;     // Of Halt and ResumeSymbol.
+    long out = 0, in = 0;  // Of SetNumbers: the next number of the edge, and the next of the member's engine.
 
-    /// In the words that go over the control socket, as `halt ABC`.
+    /// In the words that go over the control socket, as `halt ABC` or `numbers 2000 17`.
     std::string words() const;
 
     /// Reads such words. Whether they are a command.
     static bool read(const std::string &words, Command &into);
+
+    /// Whether it is about the numbers of a session, and whether it asks for nothing but an answer.
+    bool isOfNumbers() const { return kind == Kind::Numbers || kind == Kind::SetNumbers; }
+    bool isQuestion() const { return kind == Kind::Status || kind == Kind::Numbers; }
 };
 
 /// A command that has come, and where its outcome goes.
@@ -33,6 +38,9 @@ struct Asked {
     std::chrono::steady_clock::time_point until;  // It is told by then whether it is done.
     std::function<void(bool isDone, const std::string &what)> tell;
 };
+
+/// Whether a word is of digits alone, as `numbers` has two of them.
+bool isNumber(const std::string &word);
 
 /// How long a command waits for the venue, in seconds.
 constexpr int MOST_WAIT = 10;

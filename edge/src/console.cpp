@@ -12,6 +12,7 @@
 
 #include "control_socket.h"
 #include "lines.h"
+#include "process.h"
 #include "settings.h"
 
 namespace edge {
@@ -22,11 +23,12 @@ using Clock = std::chrono::steady_clock;
 
 constexpr std::chrono::seconds PATIENCE(MOST_WAIT + 5);
 
-/// A member's process that is asked.
+/// A member's process that is asked, or a member whose process doesn't run, where the command is carried out here.
 class Asking {
 public:
-    Asking(const MemberFolder &of, const Command &command) : of_(of), isStatus_(command.kind == Command::Kind::Status) {
+    Asking(const MemberFolder &of, const Command &command, bool isAlone) : of_(of), command_(command) {
         socket_ = controlConnection(of.folder, of.member);
+        isHere_ = !socket_ && (errno == ENOENT || errno == ECONNREFUSED) && command.isOfNumbers() && isAlone;
         if (!socket_) {
             fault_ = std::string(errno == EAGAIN ? "its process is busy" : "its process doesn't run") + ": " +
                      controlPath(of.folder, of.member) + ": " + reason();
@@ -42,9 +44,11 @@ public:
 
 private:
     void hear(Clock::time_point until);
+    void act();
 
     const MemberFolder of_;
-    const bool isStatus_;  // Its answer has the member's name.
+    const Command command_;
+    bool isHere_ = false;
     Descriptor socket_;
     std::string bytes_, fault_;
 };
@@ -66,13 +70,25 @@ void Asking::hear(Clock::time_point until) {
     }
 }
 
+/// Carries the command out, in the place of a process that doesn't run.
+void Asking::act() {
+    fault_.clear();
+    try {
+        bytes_ = actAlone(readOne(of_.settings, of_.member), command_);
+    } catch (const std::exception &why) {
+        fault_ = std::string("its process doesn't run, and its record can't be used: ") + why.what();
+    }
+}
+
 bool Asking::print(Clock::time_point until) {
-    hear(until);
+    if (isHere_) act();
+    else hear(until);
     const std::string line = printed(bytes_.substr(0, bytes_.find('\n')));
     const bool isDone = fault_.empty() && !line.compare(0, std::strlen(DONE), DONE);
     if (fault_.empty() && !isDone && line.compare(0, std::strlen(FAILED), FAILED))
         fault_ = "its process gives no answer";
-    if (isDone) std::cout << (isStatus_ ? "" : of_.member + ": ") << line.substr(std::strlen(DONE)) << std::endl;
+    const bool isNamed = command_.kind == Command::Kind::Status;  // Its answer has the member's name.
+    if (isDone) std::cout << (isNamed ? "" : of_.member + ": ") << line.substr(std::strlen(DONE)) << std::endl;
     else say(of_.member, fault_.empty() ? line.substr(std::strlen(FAILED)) : fault_);
     return isDone;
 }
@@ -88,7 +104,7 @@ std::vector<MemberFolder> foldersOf(const Call &call) {
 }
 
 bool isVerb(const std::string &word) {
-    static const std::set<std::string> verbs{"stop", "resume", "cancel", "halt", "status"};
+    static const std::set<std::string> verbs{"stop", "resume", "cancel", "halt", "status", "numbers"};
     return verbs.count(word);
 }
 
@@ -96,9 +112,12 @@ bool readCall(const std::vector<std::string> &words, Call &into) {
     if (words.size() < 3) return false;
     const std::string &verb = words[0], &what = words[1];
     const bool isOfMembers = what == "all" || isMember(what);
-    if (!Command::read(isOfMembers ? verb : verb + " " + what, into.command)) return false;
+    const bool sets = isOfMembers && isNumber(words[2]);  // A file of such a name is ./5.
+    if (sets && (!isMember(what) || words.size() < 5)) return false;
+    const std::string asked = sets ? verb + " " + words[2] + " " + words[3] : isOfMembers ? verb : verb + " " + what;
+    if (!Command::read(asked, into.command)) return false;
     if (isMember(what)) into.member = what;
-    into.paths.assign(words.begin() + 2, words.end());
+    into.paths.assign(words.begin() + (sets ? 4 : 2), words.end());
     return std::none_of(into.paths.begin(), into.paths.end(),
                         [](const std::string &it) { return it.empty() || it[0] == '-'; });
 }
@@ -110,7 +129,7 @@ int callMembers(const Call &call) {
         return 1;
     }
     std::vector<Asking> all;
-    for (const MemberFolder &it : folders) all.emplace_back(it, call.command);
+    for (const MemberFolder &it : folders) all.emplace_back(it, call.command, folders.size() == 1);
     const auto until = Clock::now() + PATIENCE;
     bool areDone = true;
     for (Asking &it : all) areDone = it.print(until) && areDone;

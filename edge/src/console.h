@@ -1,6 +1,7 @@
 #pragma once
 
-// What an operator says in a shell, on its way to the processes of members: control.h answers there.
+// What an operator says in a shell, on its way to the processes of members: control.h answers there. What is said of a
+// session's numbers is carried out here where no process runs.
 
 #include <string>
 #include <vector>

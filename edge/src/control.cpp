@@ -1,20 +1,18 @@
 #include "control.h"
 
 #include <poll.h>
-#include <pwd.h>
 #include <sys/eventfd.h>
 #include <sys/socket.h>
 
 #include <algorithm>
 #include <cerrno>
 #include <cstdint>
-#include <cstdio>
 #include <ctime>
-#include <memory>
 
 #include "control_socket.h"
 #include "lines.h"
 #include "status.h"
+#include "users.h"
 
 namespace edge {
 
@@ -24,26 +22,12 @@ constexpr std::size_t MOST_CALLERS = 8;  // Callers at a time; others wait.
 constexpr std::chrono::seconds PATIENCE(2), AGAIN(1);
 constexpr int TURN = 500;  // Milliseconds.
 
-struct Close {
-    void operator()(std::FILE *file) const { std::fclose(file); }
-};
-
-/// The name of a user, by the machine's own file alone: no other place of names may hold a command up.
-std::string nameOf(uid_t user) {
-    const std::unique_ptr<std::FILE, Close> file(std::fopen("/etc/passwd", "re"));
-    if (!file) return "";
-    while (const passwd *it = ::fgetpwent(file.get()))
-        if (it->pw_uid == user) return it->pw_name;
-    return "";
-}
-
 /// Who has called, as `root (uid 0)`.
 std::string callerOf(int socket) {
     ucred who{};
     socklen_t size = sizeof who;
     if (::getsockopt(socket, SOL_SOCKET, SO_PEERCRED, &who, &size)) return "unknown";
-    const std::string name = nameOf(who.uid), number = "uid " + std::to_string(who.uid);
-    return name.empty() ? number : shown(name) + " (" + number + ")";
+    return userOf(who.uid);
 }
 
 /// Whether a caller has gone.

@@ -9,14 +9,14 @@
 #include "lines.h"
 #include "message_types.h"
 #include "reports.h"
+#include "sequence.h"
 
 namespace edge {
 
 namespace {
 
 constexpr std::size_t MOST_TO_VENUE = 1 << 20;  // Behind this no more is read of the client.
-// How far a SequenceReset may go at once, and at all: numbers have nine digits.
-constexpr long MOST_STEP = 100000000, MOST_NUMBER = 900000000;
+constexpr long MOST_STEP = 100000000;           // That a SequenceReset may go at once.
 
 }
 
@@ -135,9 +135,8 @@ void Conversation::judge(const std::string &message) {
     last_ = judged.number(FIX::FIELD::MsgSeqNum);
     isLoggingOut_ = judged.is(FIX::FIELD::MsgType, "5");
     const long expected = session_->getExpectedTargetNum();
-    if (!judged.is(FIX::FIELD::MsgType, "A") && !judged.is(FIX::FIELD::MsgType, "2") && last_ == expected &&
-        isOfSession(judged))
-        day_.wentOn();
+    const bool isAsking = judged.is(FIX::FIELD::MsgType, "A") || judged.is(FIX::FIELD::MsgType, "2");
+    if (!isAsking && !isLoggingOut_ && last_ == expected && isOfSession(judged)) day_.wentOn();
     garbled_.good(last_, expected);
     if (!gaps_.lets(judged, message.size(), expected)) return;
     if (!judged.isGood()) reject(message, judged, sessionReject(judged), judged.why());

@@ -1,5 +1,6 @@
 #include "day.h"
 
+#include <quickfix/FieldConvertors.h>
 #include <quickfix/FixFieldNumbers.h>
 
 #include <algorithm>
@@ -57,32 +58,43 @@ std::string Day::endOfOrders() {
     return isAhead ? "" : timeOf(end);
 }
 
-/// Puts the reports of the last day that have these numbers into the new one: how many. Each is put where one stood
-/// that has been read.
-long Day::tellAgain(long from, long end) {
-    long count = 0;
+/// Puts the reports that have these numbers behind the new ones: the numbers that they had. Where the new ones begin
+/// with 1 each is put where one stood that has been read.
+std::vector<int> Day::tellAgain(long from, long end) {
+    std::vector<int> told;
     std::vector<std::string> messages;
     for (; from < end; from += AT_ONCE) {
         store_->get(static_cast<int>(from), static_cast<int>(std::min(from + AT_ONCE, end)) - 1, messages);
         for (const std::string &text : messages) {
             FIX::Message it(text, false);
             if (!isReport(it)) continue;
+            told.push_back(FIX::IntConvertor::convert(it.getHeader().getField(FIX::FIELD::MsgSeqNum)));
             it.getHeader().setField(FIX::FIELD::PossResend, "Y");
             if (!session_->send(it)) throw std::runtime_error("the store of its session takes nothing in");
-            count++;
         }
     }
-    return count;
+    return told;
 }
 
 void Day::begin() {
     const long from = heard_.end(), end = session_->getExpectedSenderNum();
     store_->beginDay();
-    const long count = tellAgain(from, end);
+    const std::size_t count = tellAgain(from, end).size();
     store_->dropRest();
     attach(*session_, *store_);
     begun_ = "a new day: numbers begin with 1" +
              (count ? ", and " + std::to_string(count) + " reports that it wasn't sent are told again" : "");
+}
+
+long Day::goOnWith(long number) {
+    const long from = heard_.end(), end = session_->getExpectedSenderNum();
+    session_->setNextSenderMsgSeqNum(static_cast<int>(number));
+    const std::vector<int> told = tellAgain(from, end);
+    for (const int it : told) store_->drop(it);
+    record_.change().heard = number;
+    record_.wentUp();
+    attach(*session_, *store_);
+    return static_cast<long>(told.size());
 }
 
 void Day::committed() {

@@ -8,6 +8,7 @@
 #include <atomic>
 #include <cstddef>
 #include <string>
+#include <vector>
 
 #include "canonical.h"
 #include "heard.h"
@@ -39,14 +40,19 @@ public:
     /// Begins the next day. No client is there any more.
     void begin();
 
+    /// The numbers go on with this one, which is above those of before. What the member's engine wasn't sent by then is
+    /// told again behind it, since an engine may never ask for what stands below: how many reports that are. No client
+    /// is there.
+    long goOnWith(long number);
+
     /// What was written is committed. A day that has begun is said only now: one that couldn't be kept hasn't.
     void committed();
 
     /// What was written is lost.
     void drop() { begun_.clear(); }
 
-    /// The member's engine has sent the next message of its session, which shows that it goes on: it isn't its Logon,
-    /// and asks for nothing.
+    /// The member's engine has sent the next message of its session, which shows that it goes on: it isn't its Logon
+    /// nor its Logout, and asks for nothing.
     void wentOn() { heard_.wentOn(); }
 
     /// The session has answered a message of the member's engine, in front of which this number was the next one.
@@ -73,7 +79,7 @@ public:
     long began() const { return began_; }
 
 private:
-    long tellAgain(long from, long end);
+    std::vector<int> tellAgain(long from, long end);
 
     const Schedule hours_, ofOrders_;
     const std::string member_;

@@ -59,6 +59,8 @@ void Desk::act(Entry &it) {
             it.what = command.symbol + (switches.isHalted(command.symbol) ? " trades again" : " wasn't halted");
             switches.resume(command.symbol);
             break;
+        case Command::Kind::Numbers: it.what = numbering_.words(); break;
+        case Command::Kind::SetNumbers: it.what = numbering_.set(command.out, command.in); break;
         case Command::Kind::Status: break;  // The page's words are the answer to that.
     }
 }
@@ -115,8 +117,10 @@ void Desk::end() {
 void Desk::tell(const Asked &asked, bool isDone, const std::string &what) {
     const std::string line = "operator " + asked.who + " at " + timeOf(asked.at) + ": " + asked.command.words() + ": " +
                              (isDone ? DONE : FAILED) + what;
-    say(member_, line, LINES);
-    log_->onEvent(line);
+    if (!asked.command.isQuestion()) {
+        say(member_, line, LINES);
+        log_->onEvent(line);
+    }
     asked.tell(isDone, what);
 }
 

@@ -8,15 +8,17 @@
 
 #include "commands.h"
 #include "log.h"
+#include "numbering.h"
 #include "trader.h"
 
 namespace edge {
 
 /// The commands for one member that aren't done yet, and what became of each. One that cancels orders is done once the
-/// venue has answered the cancels. Each has a line that says who, when, what, and the outcome.
+/// venue has answered the cancels. Each that changes something has a line that says who, when, what, and the outcome.
 class Desk {
 public:
-    Desk(const std::string &member, Trader &trader) : member_(member), trader_(trader) {}
+    Desk(const std::string &member, Trader &trader, Numbering &numbering)
+        : member_(member), trader_(trader), numbering_(numbering) {}
 
     /// Gives it the log of the session.
     void attach(Log &log) { log_ = &log; }
@@ -53,6 +55,7 @@ private:
 
     const std::string member_;
     Trader &trader_;
+    Numbering &numbering_;
     Log *log_ = nullptr;
     std::list<Entry> entries_;
 };

@@ -1,11 +1,14 @@
 #include "folders.h"
 
 #include <fcntl.h>
+#include <grp.h>
 #include <poll.h>
 #include <quickfix/Utility.h>
 #include <sys/file.h>
 #include <sys/stat.h>
+#include <unistd.h>
 
+#include <algorithm>
 #include <cerrno>
 #include <cstdio>
 
@@ -105,6 +108,18 @@ std::vector<Descriptor> heldForAll(const std::vector<Settings> &members) {
         break;
     }
     return locks;
+}
+
+void becomeOwner(const std::string &folder) {
+    struct stat it;
+    std::string path = folder;
+    while (::stat(path.c_str(), &it) && path != "." && path != "/") {
+        const std::size_t end = path.rfind('/');
+        path = end == std::string::npos ? "." : path.substr(0, std::max<std::size_t>(end, 1));
+    }
+    if (::geteuid() || !it.st_uid) return;
+    if (::setgroups(0, nullptr) || ::setgid(it.st_gid) || ::setuid(it.st_uid))
+        throw std::runtime_error("can't act as the owner of " + path + ": " + reason());
 }
 
 }

@@ -15,4 +15,8 @@ std::vector<Descriptor> heldFolders(const Settings &settings);
 /// Keeps a second edge of all members away from their common folder while these are held, if they have one.
 std::vector<Descriptor> heldForAll(const std::vector<Settings> &members);
 
+/// Where root asks, makes this process one of the user whose a folder is, or is to be: files that are made in it are
+/// for the member's process.
+void becomeOwner(const std::string &folder);
+
 }

@@ -12,8 +12,9 @@
 namespace {
 
 const char *const USAGE = "usage: gikvand-edge [--check] [--all|--member Ck] SETTINGS\n"
-                          "       gikvand-edge stop|resume|cancel|status Ck|all SETTINGS...\n"
+                          "       gikvand-edge stop|resume|cancel|status|numbers Ck|all SETTINGS...\n"
                           "       gikvand-edge halt|resume SYMBOL SETTINGS...\n"
+                          "       gikvand-edge numbers Ck OUT IN SETTINGS...\n"
                           "       gikvand-edge --version";
 
 /// What the words of a command line ask for.

@@ -47,7 +47,8 @@ Member::Member(const Settings &settings, Record &record)
       day_(settings.hours, settings.dayEnds, settings.member.name(), record),
       logons_(settings.member, trader_),
       conversation_(settings.member, logons_, link_, trader_, day_),
-      desk_(settings.member.name(), trader_),
+      numbering_(settings.member, record, conversation_, day_),
+      desk_(settings.member.name(), trader_, numbering_),
       bell_(::eventfd(0, EFD_NONBLOCK | EFD_CLOEXEC)) {}
 
 Member::~Member() {
@@ -62,6 +63,7 @@ void Member::attach(FIX::Session &session, Store &store, Log &log) {
     trader_.attach(session);
     day_.attach(session, store);
     conversation_.attach(session, store);
+    numbering_.attach(session);
     desk_.attach(log);
 }
 
@@ -102,6 +104,19 @@ void Member::ask(Asked asked) {
         asked_.push_back(std::move(asked));
     }
     wake();
+}
+
+void Member::actAlone(Asked asked) {
+    if (!isStoreRead_) throw std::runtime_error(store_->fault());
+    const bool isQuestion = asked.command.isQuestion();
+    lookAtDay();
+    desk_.take(std::move(asked));
+    if (!isQuestion) {
+        keep();
+        record_.finish();
+    }
+    desk_.release();
+    log_->flush();
 }
 
 void Member::run() {
@@ -178,8 +193,8 @@ void Member::readStore() {
 void Member::turn() {
     driveLink();
     wait();
-    takeCommands();  // In front of what the client sends.
     lookAtDay();
+    takeCommands();  // Behind the end of a day, and in front of what the client sends.
     if (hasLink_) readLink();
     if (hasJournal_) readJournal();
     if (hasMarket_) readMarket();

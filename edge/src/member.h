@@ -22,6 +22,7 @@
 #include "log.h"
 #include "logons.h"
 #include "names.h"
+#include "numbering.h"
 #include "replay.h"
 #include "replay_turn.h"
 #include "settings.h"
@@ -63,6 +64,10 @@ public:
     bool knows(const std::string &username, const std::string &password) const {
         return logons_.knows(username, password);
     }
+
+    /// Carries a command out on this thread, and keeps what came of it; a question changes nothing. The member's own
+    /// thread was never started.
+    void actAlone(Asked asked);
 
     // What the library calls, on this member's thread.
     void asked(const FIX::Message &message) { trader_.asked(message); }
@@ -123,6 +128,7 @@ private:
     Day day_;
     Logons logons_;
     Conversation conversation_;
+    Numbering numbering_;
     Desk desk_;
     FIX::Session *session_ = nullptr;
     Store *store_ = nullptr;

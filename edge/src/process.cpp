@@ -8,15 +8,19 @@
 #include <csignal>
 #include <cstdint>
 #include <cstdlib>
+#include <ctime>
 #include <memory>
+#include <stdexcept>
 
 #include "control.h"
 #include "door.h"
+#include "files.h"
 #include "folders.h"
 #include "lines.h"
 #include "sessions.h"
 #include "status.h"
 #include "steps.h"
+#include "users.h"
 
 namespace edge {
 
@@ -65,6 +69,26 @@ Descriptor starter() {
     return it;
 }
 
+/// All that a member's session is of, of which nothing runs yet. Its folders are held meanwhile.
+struct Parts {
+    explicit Parts(const Settings &settings)
+        : record(recordOf(settings)),
+          member(settings, *record),
+          application(member),
+          stores(*record),
+          logs(settings.logFolder, settings.log),
+          door(application, stores, settings, logs, member) {
+        member.attach(*door.getSession(settings.member.session), stores.store(), logs.log());
+    }
+
+    const std::unique_ptr<Record> record;
+    Member member;
+    Application application;
+    Stores stores;
+    Logs logs;
+    Door door;
+};
+
 /// The threads of door and member, which end in order, whatever ends them: nobody comes in any more, then the member's
 /// ends, and only then does the session that it uses.
 class Running {
@@ -95,25 +119,36 @@ void serveMember(const Settings &settings) {
     Descriptor whoStarted = starter();
     const std::vector<Descriptor> locks = heldFolders(settings);
     keepSteps(settings);
-    const std::unique_ptr<Record> record = recordOf(settings);
     const sigset_t signals = heldBack();
-    Member member(settings, *record);
-    Application application(member);
-    Stores stores(*record);
-    Logs logs(settings.logFolder, settings.log);
-    Door door(application, stores, settings, logs, member);
-    member.attach(*door.getSession(settings.member.session), stores.store(), logs.log());
+    Parts parts(settings);
+    Member &member = parts.member;
     std::unique_ptr<StatusPage> page;
     if (settings.statusPort) page.reset(new StatusPage(settings.statusPort, member));
     const Control control(settings, member);
     {
-        Running running(door, member);
+        Running running(parts.door, member);
         running.start(whoStarted);
         whoStarted.reset();
         int signal;
         ::sigwait(&signals, &signal);
     }
     say("", "stopped");
+}
+
+std::string actAlone(const Settings &settings, const Command &command) {
+    const std::string who = userOf(::getuid());
+    speakFor(settings.member.name());
+    if (command.isQuestion() && !isThere(recordPath(settings)))
+        throw std::runtime_error(recordPath(settings) + " isn't there, so numbers begin with 1");
+    becomeOwner(settings.folder);
+    const std::vector<Descriptor> locks = heldFolders(settings);
+    keepSteps(settings);
+    Parts parts(settings);
+    std::string outcome;
+    const auto tell = [&outcome](bool isDone, const std::string &what) { outcome = (isDone ? DONE : FAILED) + what; };
+    const auto until = std::chrono::steady_clock::now() + std::chrono::seconds(MOST_WAIT);
+    parts.member.actAlone({command, who, std::time(nullptr), until, tell});
+    return outcome;
 }
 
 }

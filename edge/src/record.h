@@ -77,6 +77,10 @@ public:
     /// The numbers of the session have begun anew: what comes from here on is what `stepsBack` takes back.
     void numbersBegan() { sentBefore_ = state_.sender; }
 
+    /// The numbers of the session have gone up, as an operator has set them: what is told from here on stands behind a
+    /// gap as it is.
+    void wentUp() { hasStepped_ = true; }
+
     /// So often it was closed: what wasn't committed by then is lost.
     long closings() const { return closings_; }
 

@@ -20,10 +20,14 @@ void Stores::destroy(FIX::MessageStore *store) {
     delete store;
 }
 
+std::string recordPath(const Settings &settings) {
+    return settings.folder + "/" + settings.member.name() + ".db";
+}
+
 std::unique_ptr<Record> recordOf(const Settings &settings) {
     const std::string name = settings.member.name(), front = settings.folder + "/" + name;
     const Before before{front + ".names", front + ".told", settings.storeFolder, settings.member.session};
-    return std::unique_ptr<Record>(new Record(front + ".db", name, before));
+    return std::unique_ptr<Record>(new Record(recordPath(settings), name, before));
 }
 
 }

@@ -72,7 +72,8 @@ private:
     Log *log_ = nullptr;
 };
 
-/// What is kept of the member of these settings, not opened yet.
+/// Where what is kept of the member of these settings stands, and that, not opened yet.
+std::string recordPath(const Settings &settings);
 std::unique_ptr<Record> recordOf(const Settings &settings);
 
 }

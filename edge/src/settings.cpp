@@ -285,7 +285,7 @@ std::vector<MemberFolder> readFolders(const std::string &path) {
     std::string ofAll;
     for (const FIX::SessionID &session : all.getSessions()) {
         const std::string member = textOf(all.get(session), "Member");
-        folders.push_back({member, folderOf(all.get(), all.get(session), "EdgePath", member, ofAll)});
+        folders.push_back({member, folderOf(all.get(), all.get(session), "EdgePath", member, ofAll), path});
     }
     std::sort(folders.begin(), folders.end(),
               [](const MemberFolder &one, const MemberFolder &other) { return one.member < other.member; });

@@ -77,6 +77,7 @@ struct Settings {
 /// Where the process of a member keeps what it has.
 struct MemberFolder {
     std::string member, folder;
+    std::string settings;  // The file that says so.
 };
 
 /// Whether a symbol or a member may have this name: 1 to 8 capitals and digits, and C1 to C8.

@@ -15,7 +15,8 @@ Store::Store(Record &record, const FIX::SessionID &session)
     : record_(record),
       session_(session),
       range_(record.database(), "SELECT number, bytes FROM messages WHERE number >= ? AND number <= ? ORDER BY number"),
-      empty_(record.database(), "DELETE FROM messages WHERE number >= ?") {
+      empty_(record.database(), "DELETE FROM messages WHERE number >= ?"),
+      drop_(record.database(), "DELETE FROM messages WHERE number = ?") {
     try {
         refresh();
     } catch (const FIX::IOException &) {
@@ -124,6 +125,13 @@ void Store::dropRest() {
         record_.changeTables();
         empty_.run(record_.state().sender);
         record_.numbersBegan();
+    });
+}
+
+void Store::drop(int number) {
+    noting([&] {
+        record_.changeTables();
+        drop_.run(static_cast<long>(number));
     });
 }
 

@@ -44,6 +44,9 @@ public:
     /// Drops what stands behind the messages that were put since the numbers began.
     void dropRest();
 
+    /// Drops the message of this number, as one that is told again under another one.
+    void drop(int number);
+
     /// Why something couldn't be kept or read, or nothing. Nothing is put behind that until the record is read anew, by
     /// `refresh`.
     const std::string &fault() const { return fault_; }
@@ -57,7 +60,7 @@ private:
     const FIX::SessionID session_;
     mutable std::string fault_;
     bool mayReset_ = false;
-    mutable Statement range_, empty_;
+    mutable Statement range_, empty_, drop_;
 };
 
 }

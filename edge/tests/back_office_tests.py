@@ -79,14 +79,16 @@ def test_back_office():
 
 
 def test_ended_order():
-    """An order that has expired: to the venue that is a cancel by the edge, so a log with it is right, and lacks that report."""
+    """An order that has expired: to the venue that is a cancel by the edge, and a log and the reports have it as it was told."""
     market = Market("2030-01-01 21:59:00", hours={"DayEndTime": "22:00:00"})
     one = at_rest(market.port, "a")
     market.clock.put("2030-01-01 22:00:00")
     one.report(_150="C", _11="a")
-    expect(verified(1, logged("member.log", one.history)), (1, 1))
+    expect(verified(1, logged("member.log", one.history)), (2, 0))
+    other = one.history[-1].replace("|150=C|", "|150=4|")
+    expect(gikvand("verify", JOURNAL, f"C1={logged('other.log', [other])}")[0], 1)
     came = [fields_of(line) for line in gikvand("reports", JOURNAL, "C1")[1]]
-    expect([(it["150"], it["11"].rpartition("-")[0], it.get("41")) for it in came], [("0", "", None), ("4", "edge-expiry", "a")])
+    expect([(it["150"], it["11"], it.get("41")) for it in came], [("0", "a", None), ("C", "a", None)])
 
 
 TESTS = [test_back_office, test_ended_order]

@@ -1,12 +1,15 @@
 """The cases of a member's test day: what its people are asked to do, and what its engine has to do then."""
+import re
+import subprocess
 import time
 
-from edges import NAMES, Edge
+from edges import EDGE, NAMES, PATIENCE, Edge, Trouble
 from engines import Engine, order
 from gikvand.fix import fields_of, value
 
 MEMBER, OTHER = 1, 2
 SOON = 2  # Seconds behind a start of the edge, in which the day ends.
+STEP = 1000  # So far the numbers of the edge are set up.
 
 
 class Failed(Exception):
@@ -53,10 +56,30 @@ class Day:
     def end(self):
         """Lets the day end: the edge is started again by settings that say so."""
         self.edge.stop()
+        at = time.strftime("%H:%M:%S", time.gmtime(time.time() + SOON))
+        self.start_again(f"[DEFAULT]\nDayEndTime={at}")
+
+    def set_numbers(self):
+        """Lets the session's numbers be set while the edge is away, its own one up and the member's down: what they were."""
+        self.edge.stop()
+        out, in_ = self.numbers()
+        self.numbers(out + STEP, in_ - 1)
+        self.start_again("[DEFAULT]")
+        return out, in_
+
+    def numbers(self, *wanted):
+        """Looks at the numbers of the member's session, or sets them: the first ones that the command tells."""
+        words = [EDGE, "numbers", f"C{MEMBER}", *map(str, wanted), "edge.cfg"]
+        ran = subprocess.run(words, capture_output=True, text=True, timeout=PATIENCE)
+        if ran.returncode:
+            raise Trouble(f"its numbers aren't set: {ran.stderr}")
+        return tuple(map(int, re.findall(r"next (?:out|in) (\d+)", ran.stdout)))
+
+    def start_again(self, begins):
+        """Starts the edge by its settings, which begin so now."""
         with open("edge.cfg", encoding="ascii") as file:
             settings = file.read()
-        at = time.strftime("%H:%M:%S", time.gmtime(time.time() + SOON))
-        self.edge = Edge(settings.replace("[DEFAULT]", f"[DEFAULT]\nDayEndTime={at}", 1)).ready(len((MEMBER, OTHER)))
+        self.edge = Edge(settings.replace("[DEFAULT]", begins, 1)).ready(len((MEMBER, OTHER)))
         self.other.close()
         self.other.log_on()
 
@@ -66,6 +89,13 @@ class Day:
         for it in self.relay.said[looked_at:self.looked_at]:
             if value(it, "35") in ("3", "j"):
                 raise Failed(f"the engine rejected what it was told: {value(it, '58') or it}")
+
+    def sends_again(self, number):
+        """The member answers a ResendRequest behind the mark, of the message of this number."""
+        def look():
+            return next((it for it in self.relay.said[self.at:] if value(it, "43") == "Y" and int(value(it, "34")) <= number), None)
+        if not self.relay.wait(look, self.patience):
+            raise Failed("the engine answered the ResendRequest neither by the message nor by a SequenceReset")
 
     def last_name(self):
         if not self.names:
@@ -202,12 +232,7 @@ def own_gap(day):
     day.ask("buy 2 ABC 30")
     day.names.append(day.said("D", "no second order came")["11"])
     day.told("the edge noticed no gap", _35="2")
-
-    def look():
-        return next((it for it in day.relay.said[day.at:] if value(it, "43") == "Y" and
-                     int(value(it, "34")) <= int(lost["34"])), None)
-    if not day.relay.wait(look, day.patience):
-        raise Failed("the engine answered the ResendRequest neither by the message nor by a SequenceReset")
+    day.sends_again(int(lost["34"]))
 
 
 def cut_in_a_fill(day):
@@ -225,6 +250,21 @@ def cut_in_a_fill(day):
     if it.get("141") == "Y" or it["34"] == "1":
         raise Failed("the engine began its numbers anew, and so would miss what was told meanwhile")
     day.told("the missed fill wasn't told: did the engine ask for it by a ResendRequest?", _11=name, _150="F", _39="2")
+
+
+def numbers_set(day):
+    """come back to numbers that were set while you were away: ask for the gap, and send again what you are asked for"""
+    day.no_protest()
+    day.ask("come back")
+    out, in_ = day.set_numbers()
+    day.said("A", "the engine didn't come back")
+    asked = day.said("2", "the engine didn't ask for the gap by a ResendRequest")
+    if not int(asked["7"]) <= out:
+        raise Failed(f"it asked from {asked['7']} on, and not from {out} on")
+    day.told("the edge noticed no gap", _35="2")
+    day.sends_again(in_ - 1)
+    day.no_protest()
+    day.asks_for_order(1, "ABC", "30")
 
 
 def good_till_cancel(day):
@@ -270,4 +310,4 @@ def logout(day):
 
 LIMITS = {"MaxOrderQuantity": "1000", "PriceCollar": "50%", "ReferencePrices": "ABC:50"}  # Of each member of the day.
 CASES = [logon, new_order, partial_fill, replaced, cancelled, refused_order, refused_cancel, limited_order, limited_price,
-         limited_replace, gap, own_gap, cut_in_a_fill, good_till_cancel, day_end, heartbeat, logout]
+         limited_replace, gap, own_gap, cut_in_a_fill, numbers_set, good_till_cancel, day_end, heartbeat, logout]

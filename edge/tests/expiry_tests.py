@@ -13,7 +13,7 @@ from gikvand.fix import fields_of, value
 from hours_tests import FRIDAY, NIGHT, WEEK
 from kept_tests import GREATEST
 from market import SELLER, Market, await_heard, is_caught_up, kept, leave, of_journal, places
-from process_tests import STUCK, other_events
+from process_tests import STUCK, is_there as is_there_yet, other_events
 from switch_tests import Call, is_kept, mass
 from tradeclients import GTC as GTC_OF_STOCK, TradeClient
 from trading_tests import expect
@@ -621,6 +621,50 @@ def test_waits_for_the_venue():
     put(one, "new, too")
 
 
+TOLD_ALL = """#!/bin/sh
+'{events}' "$@"
+touch told
+while [ -n "$STUCK" ] && [ -e stuck ]; do sleep 0.05; done
+"""
+
+
+def reads_nothing(process):
+    """Whether no program at work for the journal is a child of this process."""
+    children = []
+    for thread in os.listdir(f"/proc/{process}/task"):
+        with open(f"/proc/{process}/task/{thread}/children", encoding="ascii") as file:
+            children += file.read().split()
+    return not any(map(is_there_yet, children))
+
+
+def test_end_in_front_of_what_waits():
+    """A day ends while the venue is away. What its member has sent by the time at which the journal is read to its end is read
+    behind the day's end: a replace of an order that has ended comes too late."""
+    market = Market(EVENING, hours=AT_TEN)
+    market.edge.stop()
+    market.edge = Edge(other_events(TOLD_ALL), env={**market.clock.env, "STUCK": "Y"}).ready()
+    one = market.engine().log_on()
+    put(one, "day")
+    with open("stuck", "w", encoding="ascii"):
+        os.remove("told")
+    market.venue.kill()
+    market.edge.hears("C1: the venue: ")
+    market.clock.put(OVER)
+    market.venue = again(market.port, SELLER, market.venue.port)
+    await_that("all that the journal has", lambda: os.path.exists("told"))
+    one.settle()
+    process = market.edge.process_of(1)
+    freeze(process)
+    os.remove("stuck")
+    one.send("G", replace("other", "day", 1, 5, "50"))
+    await_that("the end of a reading", lambda: reads_nothing(process))
+    os.kill(process, signal.SIGCONT)
+    expired(one, "day")
+    expect(value(one.report(_11="other"), "35"), "9")
+    is_caught_up(one)
+    expect(asked(), [("day", True)])
+
+
 def test_end_not_kept():
     """The end of a day can't be kept: nothing is sent, and nothing told. It is ended once it can be."""
     market = Market(EVENING, hours=AT_TEN)
@@ -666,4 +710,4 @@ TESTS = [test_day_played_through, test_terms, test_lost_for_long, test_killed_ov
          test_ends_and_venue_killed, test_ends_killed_twice, test_filled_meanwhile, test_replaced_meanwhile,
          test_with_other_cancels, test_away_with_cancel_on_disconnect, test_days_of_a_week, test_whole_week,
          test_ended_once, test_end_of_nothing, test_made_anew, test_record_without_ends, test_end_while_it_is_asked,
-         test_waits_for_the_venue, test_end_not_kept, test_end_of_numbers]
+         test_waits_for_the_venue, test_end_in_front_of_what_waits, test_end_not_kept, test_end_of_numbers]

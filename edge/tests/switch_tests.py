@@ -289,6 +289,18 @@ def stopped_in_the_midst():
     return venue, edge, port, one, call
 
 
+def goes_on_stopped(one):
+    """The next start of an edge goes on with what stopped a member: its two orders are cancelled, each told once, and it stays
+    stopped. The edge."""
+    edge = restarted()
+    one.close()
+    one.log_on()
+    cancelled(one, "a", "b")
+    is_refused(one, "D", order("c", 1, 1, "50"), STOPPED)
+    told_once(one, "a", "b")
+    return edge
+
+
 def killed_before_the_answers(is_venue_killed):
     """The edge is killed when a command is kept, and the venue hasn't answered. Its operator is told that nothing is known.
     The next start goes on with it: the member stays stopped, and each order is cancelled, and told, once."""
@@ -301,12 +313,7 @@ def killed_before_the_answers(is_venue_killed):
         again(port, 1, venue.port)
     else:
         venue.go_on()
-    edge = restarted()
-    one.close()
-    one.log_on()
-    cancelled(one, "a", "b")
-    is_refused(one, "D", order("c", 1, 1, "50"), STOPPED)
-    told_once(one, "a", "b")
+    edge = goes_on_stopped(one)
     if is_venue_killed:
         edge.hears("C1: cancels 2 orders, as was asked for before")
     done("resume C1", "C1: trades again")
@@ -412,12 +419,7 @@ def test_edge_stops():
     expect(call.end(), (1, "", f"gikvand-edge: C1: {why}\n"))
     audited(edge, "stop", f"failed: {why}")
     venue.go_on()
-    edge = restarted()
-    one.close()
-    one.log_on()
-    cancelled(one, "a", "b")
-    is_refused(one, "D", order("c", 1, 1, "50"), STOPPED)
-    told_once(one, "a", "b")
+    goes_on_stopped(one)
 
 
 def test_not_kept():

@@ -85,7 +85,7 @@ def test_edge_usage() -> None:
     """The forms of the command line are those that the program prints, and it tells the project's version."""
     lines = "\n       ".join(page(COMMANDS).synopsis())
     for status, words in ((1, ()), (1, ("--help",)), (1, ("--version", "x")), (1, ("--check",)), (1, ("--all", "--version")), (1, ("x", "y")),
-                          (2, ("stop",)), (2, ("halt", "ABC"))):
+                          (2, ("stop",)), (2, ("halt", "ABC")), (2, ("numbers", "C1", "5", "edge.cfg"))):
         assert (words, *ran(EDGE, *words)) == (words, status, "", f"usage: {lines}\n")
     assert f"usage: {page(COMMANDS).synopsis()[0]} ..." in page(COMMANDS).items("DIAGNOSTICS")
     assert ran(EDGE, "--version") == (0, f"gikvand-edge {text_of('VERSION')}", "")
@@ -391,7 +391,10 @@ def test_edge_words_completed() -> None:
             with open(os.path.join(folder, name), "w", encoding="ascii"):
                 pass
         files = ["C1.cfg", "edge.cfg"]
-        for words, wanted in (("", files), ("e", ["edge.cfg"]), ("--check ", files), ("--check -", ["--all", "--member"]),
+        verbs = ["cancel", "halt", "numbers", "resume", "status", "stop"]
+        for words, wanted in (("", sorted([*files, *verbs])), ("e", ["edge.cfg"]), ("s", ["status", "stop"]), ("stop ", [*MEMBERS, "all"]),
+                              ("numbers C", MEMBERS), ("status a", ["all"]), ("halt ", []), ("cancel all ", files),
+                              ("halt ABC e", ["edge.cfg"]), ("numbers C1 2000 17 ", files), ("--check s", []), ("--check ", files), ("--check -", ["--all", "--member"]),
                               ("--all ", files), ("--check --all e", ["edge.cfg"]), ("--member ", MEMBERS), ("--member C1 ", files),
                               ("--check --member C", MEMBERS), ("--check --member C2 ", files), ("--version ", []), ("edge.cfg ", []),
                               ("--all edge.cfg ", []), ("--member C1 edge.cfg ", []), ("--all -", [])):

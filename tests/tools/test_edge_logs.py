@@ -16,9 +16,9 @@ from checks import ROOT
 from gikvand import edge
 from gikvand.fix import fields_of
 from gikvand.rules import sealed
-from made_journals import JOURNAL, contents, each_version, gikvand, made, put
+from made_journals import JOURNAL, SYMBOLS, cancel, contents, each_version, gikvand, made, put, trade
 from test_reports import as_printed
-from venues import Trouble, value
+from venues import Trouble, order, started, value
 
 pytestmark = [pytest.mark.slow, pytest.mark.edge, pytest.mark.usefixtures("programs")]
 
@@ -202,6 +202,62 @@ def test_probes_of_the_edge() -> None:
     assert ([line for line in out if line.startswith("35=9|")], value(out[0], "11"), value(out[-1], "11")) == ([], "1", "third")
     os.remove("edge/C1/C1.db")
     assert value(gikvand("reports", JOURNAL, "C1", "--edge", SETTINGS)[1][0], "11") == "1"
+
+
+# Two orders of C1, a part of which trades. One ends with its day, as the edge asks, a cancel of an order that has gone comes too
+# late, and the member cancels the other order itself.
+ENDS = [(1, "D", order(1, 2, 100, 50)), (1, "D", order(2, 2, 10, 51)), (2, "D", order(1, 1, 30, 50)),
+        (1, "F", cancel(3, 1, 2, 100)), (1, "F", cancel(4, 1, 2, 100)), (1, "F", cancel(5, 2, 2, 10))]
+ENDS_NAMES = [(1, "r", "day"), (2, "g", "gtc"), (3, "e", "edge-expiry-3"), (4, "e", "edge-expiry-4"), (5, "r", "own")]
+
+
+def told_of_ends(heard: list[str]) -> list[dict[str, str]]:
+    """What the edge tells C1 of these, by docs/EDGE.md: that the order has expired, and nothing of the cancel that came late."""
+    names, rows = {str(at): name for at, _, name in ENDS_NAMES}, []
+    for it in map(fields_of, map(as_printed, heard)):
+        for tag in {"11", "41"} & it.keys():
+            it[tag] = names[it[tag]]
+        for tag in {"44", "31", "6"} & it.keys():
+            it[tag] = f"{int(it[tag]) / STEPS['ABC']:.2f}"
+        it["60"] = it.pop("52")
+        if it["11"] == "edge-expiry-3":
+            it.update({"11": it.pop("41"), "150": "C", "39": "C", "58": "edge: the day has ended"})
+        if it["11"] != "edge-expiry-4":
+            rows.append(it)
+    return rows
+
+
+def test_ends_of_days_behind_the_edge() -> None:
+    """An order that ends with its day has expired, as its member knows it; a cancel of the edge's that comes too late is told to
+    nobody, and any other cancel stays what it is. A log has to have it so."""
+    venue = started(JOURNAL, 3, list(SYMBOLS))
+    heard: dict[int, list[str]] = {1: [], 2: [], 3: []}
+    trade(venue, ENDS, heard)
+    venue.stop()
+    put(f"{JOURNAL}.symbols", b"ABC XYZ\n")
+    record("edge/C1", 1, ENDS_NAMES)
+    settings()
+    wanted = told_of_ends(heard[1])
+    assert [(it["150"], it["11"]) for it in wanted] == [("0", "day"), ("0", "gtc"), ("F", "day"), ("C", "day"), ("4", "own")]
+    came = [fields_of(line) for line in gikvand("reports", JOURNAL, "C1", "--edge", SETTINGS)[1]]
+    for row in came:
+        row["60"] = row.pop("52")
+    assert came == wanted
+    words = ["verify", JOURNAL, "C1=c1.log", "--edge", SETTINGS]
+    lines = [sent(number, "DESK-A", row) for number, row in enumerate(wanted, 2)]
+    logged(lines)
+    status, out, err = gikvand(*words)
+    assert (status, out[-2], err) == (0, "C1: 5 reports of c1.log as the journal tells them, which has 0 more", [])
+    logged([*lines[:3], *lines[4:], sent(5, "DESK-A", wanted[3], "43=Y|")])
+    assert gikvand(*words)[0] == 0  # (by a resend)
+    logged([*lines[:3], *lines[4:]])
+    assert gikvand(*words)[1][-2] == "C1: 4 reports of c1.log as the journal tells them, which has 1 more"
+    for wrong in ({"150": "4", "39": "4"}, {"11": "edge-expiry-3"}, {"41": "day"}, {"151": "70"}, {"58": "edge: else"}):
+        logged([*lines[:3], sent(5, "DESK-A", {**wanted[3], **wrong}), *lines[4:]])
+        assert (wrong, gikvand(*words)[0] != 0 or " 1 more" in gikvand(*words)[1][-2]) == (wrong, True)
+    late = next(it for it in heard[1] if value(it, "35") == "9")
+    logged([*lines, sent(7, "DESK-A", {**fields_of(as_printed(late)), "11": "edge-expiry-4", "41": "day"})])
+    assert gikvand(*words)[0] == 1
 
 
 def write_on(over: threading.Event) -> None:

@@ -18,7 +18,10 @@ from gikvand.words import Trouble
 NAMES, PRICES = ("11", "41"), ("44", "31", "6")  # Tags of what is translated.
 OF_A_SESSION = {"8", "9", "10", "34", "43", "49", "52", "56", "97", "122"}  # Tags that a report gets by being sent,
 NOT_COMPARED = OF_A_SESSION | {"29"}        # and that of a setting which the journal doesn't know.
-BY_EDGE, PROBE = "edge: ", "p"              # So begins the text of what the edge itself says; the kind of its own requests.
+BY_EDGE = "edge: "                          # So begins the text of what the edge itself says.
+PROBE, EXPIRY = "p", "e"                    # The kinds of its own requests: a question, and a cancel at the end of a day.
+CANCELLED, EXPIRED = "4", "C"               # The ExecTypes (150) of such a cancel, as the venue tells it and as the edge does.
+DAY_ENDED = {"150": EXPIRED, "39": EXPIRED, "58": f"{BY_EDGE}the day has ended"}
 REFUSED, MESSAGE = "x", "m"                 # The kind of a name that the edge refused; what is no name in the row of a turn.
 PART = re.compile(rb"(.)(\d+) (\d+) ", re.DOTALL)  # Of a turn's row: what it is, its number, and how many bytes follow.
 TRIES = 20                                  # Looks at a record that is written to meanwhile.
@@ -170,15 +173,22 @@ class Edge:
         return step.price_of(int(steps)) if step else steps
 
     def told(self, number: int, report: dict[str, str]) -> dict[str, str]:
-        """A report of the venue as its member knows it."""
+        """A report of the venue as its member knows it. An order that ends with its day has expired: no cancel was asked for."""
         member = self.member(number)
+        if "41" in report and report.get("150") == CANCELLED and self.is_of_an_end(number, report):
+            report = {tag: text for tag, text in {**report, "11": report["41"], **DAY_ENDED}.items() if tag != "41"}
         return {tag: member.name_of(text) if tag in NAMES else self.price_of(report.get("55", ""), text) if tag in PRICES else text
                 for tag, text in report.items()}
 
+    def is_of_an_end(self, number: int, report: dict[str, str]) -> bool:
+        """Whether a report answers a cancel at the end of a day."""
+        return self.member(number).kinds.get(int(report["11"])) == EXPIRY
+
     def is_for_member(self, number: int, report: dict[str, str]) -> bool:
-        """Whether the edge tells its member of this report: not of what it asked for by itself, nor of rejected messages."""
+        """Whether the edge tells its member of this report: not of what it asked for by itself, nor of rejected messages. Where a
+        cancel at the end of a day is refused its order has an end of its own."""
         if report["35"] == "9":
-            return self.member(number).kinds.get(int(report["11"])) != PROBE
+            return self.member(number).kinds.get(int(report["11"])) != PROBE and not self.is_of_an_end(number, report)
         return report["35"] == "8"
 
     def reports(self, number: int, lines: Iterable[str]) -> Iterator[str]:
@@ -197,7 +207,8 @@ class Edge:
         member = self.member(number)
         if (message.get("49"), message.get("56")) != (member.edge_id, member.comp_id):
             return False
-        return message.get("35") in ("8", "9") and not message.get("58", "").startswith(BY_EDGE)
+        is_own = message.get("58", "").startswith(BY_EDGE) and message.get("150") != EXPIRED
+        return message.get("35") in ("8", "9") and not is_own
 
 
 def text_of(fields: dict[str, str]) -> str:

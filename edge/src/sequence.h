@@ -1,0 +1,8 @@
+#pragma once
+
+namespace edge {
+
+/// The greatest number of a session that anybody may set: so numbers never have more than nine digits.
+constexpr long MOST_NUMBER = 900000000;
+
+}
