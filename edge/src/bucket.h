@@ -24,10 +24,10 @@ public:
 
     void take(double count = 1) { left_ -= count; }
 
-    /// How long it takes until one is left again, with what was left at the last look.
-    std::chrono::milliseconds pause() const {
-        if (!most_ || left_ >= 1) return std::chrono::milliseconds(0);
-        return std::chrono::milliseconds(1 + static_cast<long>(1000 * (1 - left_) / most_));
+    /// How long it takes until this much is left again, with what was left at the last look.
+    std::chrono::milliseconds pause(double count = 1) const {
+        if (!most_ || left_ >= count) return std::chrono::milliseconds(0);
+        return std::chrono::milliseconds(1 + static_cast<long>(1000 * (count - left_) / most_));
     }
 
 private:

@@ -39,6 +39,7 @@ std::string Conversation::begin(Descriptor socket, const std::string &bytes, con
     client_.reset(new Connection(std::move(socket), bytes, member_.limits.messageBytes, member_.limits.unsentBytes,
                                  [this](const std::string &message) { return writing(message); }));
     session_->setResponder(client_.get());
+    trader_.sendsTo(client_.get());
     gaps_.clear();
     garbled_.clear();
     say(member_.name(), "a client from " + clientsAddress_);
@@ -46,6 +47,7 @@ std::string Conversation::begin(Descriptor socket, const std::string &bytes, con
 }
 
 void Conversation::end() {
+    trader_.sendsTo(nullptr);
     client_.reset();
     resends_.clear();
     isHeldUp_ = false;

@@ -44,16 +44,23 @@ long Exposure::Order::boldest() const {
     return boldest;
 }
 
-/// Takes an order out of the sums, or puts it into them.
-void Exposure::count(long key, const Order &it, int sign) {
+Exposure::Counted Exposure::countedOf(const Order &it) const {
     const auto tick = ticks_.find(it.symbol);
-    if (tick == ticks_.end()) return;  // No order of the venue has such a symbol.
+    if (tick == ticks_.end()) return {0, 0, 0};  // No order of the venue has such a symbol.
+    return {it.value(tick->second), it.quantity(), it.boldest()};
+}
+
+/// Changes the sums by what has become of an order.
+void Exposure::count(long key, const Order &it, const Counted &before, const Counted &now) {
     const Place place{it.symbol, it.side};
-    value_ += sign * it.value(tick->second);
-    quantities_[place] += sign * it.quantity();
-    const std::pair<long, long> price{it.boldest(), key};
-    if (price.first && sign > 0) prices_[place].insert(price);
-    if (price.first && sign < 0) prices_[place].erase(price);
+    if (before.quantity != now.quantity) quantities_[place] += now.quantity - before.quantity;
+    if (before.boldest != now.boldest) {
+        auto &prices = prices_[place];
+        if (before.boldest) prices.erase({before.boldest, key});
+        if (now.boldest) prices.insert({now.boldest, key});
+    }
+    if (before.value == now.value) return;
+    value_ += now.value - before.value;
     const std::lock_guard<std::mutex> lock(mutex_);
     shown_ = value_;
 }
@@ -62,9 +69,9 @@ void Exposure::count(long key, const Order &it, int sign) {
 template <class Change>
 void Exposure::change(Orders::iterator at, const Change &how) {
     Order &it = at->second;
-    count(at->first, it, -1);
+    const Counted before = countedOf(it);
     how(it);
-    count(at->first, it, 1);
+    count(at->first, it, before, countedOf(it));
     if (it.isOpen()) return;
     keys_.erase(it.number);
     orders_.erase(at);

@@ -76,12 +76,19 @@ private:
         long boldest() const;
     };
 
+    /// What is counted of an order.
+    struct Counted {
+        Money value;
+        long quantity, boldest;
+    };
+
     using Place = std::pair<std::string, char>;  // A symbol and a side.
     using Orders = std::map<long, Order>;
 
     template <class Change>
     void change(Orders::iterator at, const Change &how);
-    void count(long key, const Order &it, int sign);
+    Counted countedOf(const Order &it) const;
+    void count(long key, const Order &it, const Counted &before, const Counted &now);
     void end(long number);
     void takeExecution(const Fields &report);
     Orders::iterator find(long number);

@@ -38,6 +38,11 @@ public:
         return it ? std::string(it->value, it->size) : std::string();
     }
 
+    /// Puts the value of a field behind a text, where there is one.
+    void append(int tag, std::string &to) const {
+        if (const Field *const it = find(tag)) to.append(it->value, it->size);
+    }
+
     /// The first byte of a field, or 0.
     char byte(int tag) const {
         const Field *const it = find(tag);

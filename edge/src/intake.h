@@ -18,13 +18,16 @@ public:
     };
 
     /// So many messages in a second of those that go on to the venue, and so many bytes of all.
-    Intake(std::size_t messages, std::size_t bytes)
-        : messages_(static_cast<double>(messages)), bytes_(static_cast<double>(bytes)) {}
+    Intake(std::size_t messages, std::size_t bytes);
 
-    bool hasRoom() { return messages_.hasRoom() && bytes_.hasRoom(); }
+    /// Whether it may be read. Once all room is used there is none before there is some for a piece: else who sends too
+    /// much would be read message by message, each with a turn and a sync of its own.
+    bool hasRoom();
 
     /// How long there is no room, as the last look found it.
-    std::chrono::milliseconds pause() const { return std::max(messages_.pause(), bytes_.pause()); }
+    std::chrono::milliseconds pause() const {
+        return std::max(messages_.pause(leastOf(someMessages_)), bytes_.pause(leastOf(someBytes_)));
+    }
 
     /// A message of this size was read.
     void took(std::size_t size, Cost cost);
@@ -33,7 +36,11 @@ public:
     void sentAgain(long count) { messages_.take(static_cast<double>(count)); }
 
 private:
+    double leastOf(double some) const { return isUsed_ ? some : 1; }
+
     Bucket messages_, bytes_;
+    const double someMessages_, someBytes_;  // A piece.
+    bool isUsed_ = false;
 };
 
 }

@@ -3,7 +3,9 @@
 #include <fcntl.h>
 #include <sys/stat.h>
 
+#include <algorithm>
 #include <cstdio>
+#include <cstring>
 #include <stdexcept>
 #include <utility>
 
@@ -15,7 +17,8 @@ namespace edge {
 
 namespace {
 
-constexpr int MOST_AGAIN = 20;  // Of what one ResendRequest brings so many are written.
+constexpr int MOST_AGAIN = 20;     // Of what one ResendRequest brings so many are written.
+constexpr std::size_t FRONT = 64;  // Bytes of a message that have its MsgSeqNum, and the 43 behind that.
 
 bool beginsSo(const std::string &text, const std::string &front) {
     return !text.compare(0, front.size(), front);
@@ -107,10 +110,12 @@ void Log::onIncoming(const std::string &message) {
     put(messages_, message, true);
 }
 
-/// The library writes 43 in front of all that isn't of the header, and only where it sends something again. A word with
-/// the number 0 is the edge's own.
+/// The library writes 43 behind 34, in front of what has any length, and only where it sends something again. A word
+/// with the number 0 is the edge's own.
 void Log::onOutgoing(const std::string &message) {
-    const auto has = [&message](const char *field) { return message.find(field) != std::string::npos; };
+    const auto has = [&message](const char *field) {
+        return ::memmem(message.data(), std::min(message.size(), FRONT), field, std::strlen(field)) != nullptr;
+    };
     const bool isAgain = has("\00143=Y\1") && !has("\00134=0\1");
     if (isAgain && ++again_ > MOST_AGAIN) return;
     put(messages_, message);

@@ -14,6 +14,7 @@ namespace edge {
 namespace {
 
 constexpr std::chrono::milliseconds TICK(500), AGAIN(200), SOON(5), REST(1000);
+constexpr std::chrono::milliseconds QUIET(2);  // So long nothing has come in a quiet moment.
 constexpr std::size_t MOST_HANDED = 16;
 constexpr int MOST_LOOKS = 16;         // At a client, for the end of what it sent, before another one is let go.
 constexpr int MOST_LINK_LOOKS = 64;    // At the venue's link in one turn: the venue ends one that isn't read.
@@ -253,6 +254,12 @@ bool Member::isAsked(Asked &it) {
     return true;
 }
 
+/// Whether the record wants a quiet moment, and nothing is under way that would come late by that: an answer of the
+/// venue is told first.
+bool Member::maySettle() const {
+    return record_.isUntidy() && !rests() && !trader_.isSweeping() && !trader_.isWaiting();
+}
+
 /// Waits until something can be done, and notes what. What the last turn has sent is on its way: now its lines are
 /// written, and in a quiet moment the record is tidied up.
 void Member::wait() {
@@ -265,10 +272,12 @@ void Member::wait() {
     if (follower_) all[4] = {follower_->fd(), POLLIN, 0};
     const auto most = link_.state() == VenueLink::State::Down || wantsReplay_ ? AGAIN / 4 : TICK;
     const auto pause = conversation_.pause(isReadingOver ? SOON : most);
-    const bool isUntidy = record_.isUntidy() && !trader_.isSweeping();
-    if (!isUntidy || ::poll(all.data(), all.size(), 0) == 0) {
-        if (!rests() && isUntidy) record_.tidy();
-        ::poll(all.data(), all.size(), static_cast<int>(pause.count()));
+    const auto comes = [&all](std::chrono::milliseconds within) {
+        return ::poll(all.data(), all.size(), static_cast<int>(within.count())) > 0;
+    };
+    if (!maySettle() || !comes(std::min(QUIET, pause))) {
+        if (maySettle()) record_.tidy();
+        comes(pause);
     }
     hasClient_ = all[1].revents & (POLLIN | POLLHUP | POLLERR);
     hasLink_ = all[2].revents & (POLLIN | POLLHUP | POLLERR);

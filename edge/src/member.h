@@ -116,6 +116,7 @@ private:
     void turnBack();
     void restAfter(const std::string &why);
     bool rests() const;
+    bool maySettle() const;
     void readStore();
 
     const Settings &settings_;

@@ -146,13 +146,22 @@ void Orders::readMassCancel(const Message &message, Request &it) const {
 std::string bodyFor(const Request &it, long number, long original, const std::string &time) {
     std::string body;
     body.reserve(96);
-    if (!it.isOrder()) body += "41=" + std::to_string(original) + "\1";
-    body += "11=" + std::to_string(number) + "\00155=" + it.symbol + "\00154=" + it.side + "\00160=" + time +
-            "\00138=" + std::to_string(it.quantity) + "\1";
+    const auto put = [&body](const char *front, const std::string &value) {
+        body += front;
+        body += value;
+        body += '\1';
+    };
+    if (!it.isOrder()) put("41=", std::to_string(original));
+    put("11=", std::to_string(number));
+    put("55=", it.symbol);
+    put("54=", std::string(1, it.side));
+    put("60=", time);
+    put("38=", std::to_string(it.quantity));
     if (it.type == 'F') return body;
-    body += it.price ? "40=2\00144=" + std::to_string(it.price) + "\1" : "40=1\1";
+    put("40=", it.price ? "2" : "1");
+    if (it.price) put("44=", std::to_string(it.price));
     // The venue knows no days: what rests there is good till it is cancelled.
-    if (it.timeInForce && !it.isGoodTillCancel()) body += std::string("59=") + it.timeInForce + "\1";
+    if (it.timeInForce && !it.isGoodTillCancel()) put("59=", std::string(1, it.timeInForce));
     return body;
 }
 

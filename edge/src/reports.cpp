@@ -15,6 +15,7 @@ namespace FIELD = FIX::FIELD;
 
 const char *const SAID_BY_EDGE = "edge: ";
 const char *const ENDED = "the day has ended";
+const char *const EXPIRED = "C";  // An ExecType (150), and an OrdStatus (39).
 const char *const LOST = "EL";  // So begins the ExecID of a report of a lost request, with its number behind.
 
 Message made(const char *type) {
@@ -59,60 +60,120 @@ std::string stateOf(const OpenOrder *order) {
 
 }
 
+/// The body of a report of the venue, whose fields are put in the order of their tags, as the library writes them.
+class Reports::Body {
+public:
+    Body() { text_.reserve(USUAL); }
+
+    void put(int tag, const std::string &value) {
+        begin(tag);
+        text_ += value;
+        text_ += '\1';
+    }
+
+    /// Puts the value that a field of the report has.
+    void copy(const Fields &report, int tag) { copy(report, tag, tag); }
+    void copy(const Fields &report, int from, int tag) {
+        begin(tag);
+        report.append(from, text_);
+        text_ += '\1';
+    }
+
+    void copyWhereIs(const Fields &report, int tag) {
+        if (report.has(tag)) copy(report, tag);
+    }
+
+    const std::string &text() const { return text_; }
+
+private:
+    void begin(int tag) {
+        text_ += std::to_string(tag);
+        text_ += '=';
+    }
+
+    static constexpr std::size_t USUAL = 256;  // Hardly any body has more bytes.
+
+    std::string text_;
+};
+
 std::string Reports::priceOf(const std::string &symbol, long steps) const {
     const auto tick = ticks_.find(symbol);
     return tick == ticks_.end() ? std::to_string(steps) : tick->second.priceOf(steps);
 }
 
-Message Reports::of(const Fields &report) const {
-    return report.byte(35) == '8' ? executionOf(report) : rejectOf(report);
+std::string Reports::of(const Fields &report) const {
+    return report.byte(FIELD::MsgType) == '8' ? executionOf(report) : rejectOf(report);
 }
 
-Message Reports::executionOf(const Fields &report) const {
-    Message it = made("8");
-    const std::string symbol = report.text(55);
-    it.setField(FIELD::AvgPx, priceOf(symbol, report.number(6)));
-    it.setField(FIELD::ClOrdID, names_.nameOf(report.number(11)));
-    it.setField(FIELD::CumQty, report.text(14));
-    it.setField(FIELD::ExecID, report.text(17));
-    if (report.has(31)) it.setField(FIELD::LastPx, priceOf(symbol, report.number(31)));
-    if (report.has(32)) it.setField(FIELD::LastQty, report.text(32));
-    it.setField(FIELD::OrderID, report.text(37));
-    it.setField(FIELD::OrderQty, report.text(38));
-    it.setField(FIELD::OrdStatus, report.text(39));
-    if (report.has(41)) it.setField(FIELD::OrigClOrdID, names_.nameOf(report.number(41)));
-    if (report.has(44)) it.setField(FIELD::Price, priceOf(symbol, report.number(44)));
-    it.setField(FIELD::Side, report.text(54));
-    it.setField(FIELD::Symbol, symbol);
-    if (report.has(58)) it.setField(FIELD::Text, report.text(58));
-    it.setField(FIELD::TransactTime, report.text(52));
-    if (report.has(103)) it.setField(FIELD::OrdRejReason, report.text(103));
-    it.setField(FIELD::ExecType, report.text(150));
-    it.setField(FIELD::LeavesQty, report.text(151));
-    if (report.has(32) && !lastCapacity_.empty()) it.setField(FIELD::LastCapacity, lastCapacity_);
-    if (report.byte(150) == '4' && report.has(41) && names_.is(report.number(11), Names::Kind::Expiry)) expire(it);
-    return it;
+/// Whether a report tells the end of what is Day, which is a cancel by the edge to the venue.
+bool Reports::isEnd(const Fields &report) const {
+    return report.byte(FIELD::ExecType) == '4' && report.has(FIELD::OrigClOrdID) &&
+           names_.is(report.number(FIELD::ClOrdID), Names::Kind::Expiry);
 }
 
-Message Reports::rejectOf(const Fields &report) const {
-    Message it = made("9");
-    it.setField(FIELD::ClOrdID, names_.nameOf(report.number(11)));
-    it.setField(FIELD::OrderID, report.text(37));
-    it.setField(FIELD::OrdStatus, report.text(39));
-    it.setField(FIELD::OrigClOrdID, names_.nameOf(report.number(41)));
-    it.setField(FIELD::TransactTime, report.text(52));
-    it.setField(FIELD::CxlRejReason, report.text(102));
-    it.setField(FIELD::CxlRejResponseTo, report.text(434));
-    return it;
+std::string Reports::executionOf(const Fields &report) const {
+    const bool isOver = isEnd(report);
+    Body it;
+    it.put(FIELD::AvgPx, priceOf(report.text(FIELD::Symbol), report.number(FIELD::AvgPx)));
+    it.put(FIELD::ClOrdID, names_.nameOf(report.number(isOver ? FIELD::OrigClOrdID : FIELD::ClOrdID)));
+    it.copy(report, FIELD::CumQty);
+    it.copy(report, FIELD::ExecID);
+    putFill(report, it);
+    it.copy(report, FIELD::OrderID);
+    it.copy(report, FIELD::OrderQty);
+    if (isOver) putEnd(report, it);
+    else putState(report, it);
+    it.copy(report, FIELD::LeavesQty);
+    return it.text();
+}
+
+/// What was traded by this report, if something was.
+void Reports::putFill(const Fields &report, Body &into) const {
+    if (report.has(FIELD::LastQty) && !lastCapacity_.empty()) into.put(FIELD::LastCapacity, lastCapacity_);
+    putPrice(report, FIELD::LastPx, into);
+    into.copyWhereIs(report, FIELD::LastQty);
+}
+
+/// Puts a price of a report, where that has it, with the decimals of its symbol.
+void Reports::putPrice(const Fields &report, int tag, Body &into) const {
+    if (report.has(tag)) into.put(tag, priceOf(report.text(FIELD::Symbol), report.number(tag)));
+}
+
+/// What an order has become.
+void Reports::putState(const Fields &report, Body &into) const {
+    into.copy(report, FIELD::OrdStatus);
+    if (report.has(FIELD::OrigClOrdID))
+        into.put(FIELD::OrigClOrdID, names_.nameOf(report.number(FIELD::OrigClOrdID)));
+    putPrice(report, FIELD::Price, into);
+    into.copy(report, FIELD::Side);
+    into.copy(report, FIELD::Symbol);
+    into.copyWhereIs(report, FIELD::Text);
+    into.copy(report, FIELD::SendingTime, FIELD::TransactTime);
+    into.copyWhereIs(report, FIELD::OrdRejReason);
+    into.copy(report, FIELD::ExecType);
 }
 
 /// What is Day ends by itself, as its member sees it: no cancel of that was asked for.
-void Reports::expire(Message &it) const {
-    it.setField(FIELD::ClOrdID, it.getField(FIELD::OrigClOrdID));
-    it.removeField(FIELD::OrigClOrdID);
-    it.setField(FIELD::ExecType, "C");
-    it.setField(FIELD::OrdStatus, "C");
-    it.setField(FIELD::Text, std::string(SAID_BY_EDGE) + ENDED);
+void Reports::putEnd(const Fields &report, Body &into) const {
+    into.put(FIELD::OrdStatus, EXPIRED);
+    putPrice(report, FIELD::Price, into);
+    into.copy(report, FIELD::Side);
+    into.copy(report, FIELD::Symbol);
+    into.put(FIELD::Text, std::string(SAID_BY_EDGE) + ENDED);
+    into.copy(report, FIELD::SendingTime, FIELD::TransactTime);
+    into.put(FIELD::ExecType, EXPIRED);
+}
+
+std::string Reports::rejectOf(const Fields &report) const {
+    Body it;
+    it.put(FIELD::ClOrdID, names_.nameOf(report.number(FIELD::ClOrdID)));
+    it.copy(report, FIELD::OrderID);
+    it.copy(report, FIELD::OrdStatus);
+    it.put(FIELD::OrigClOrdID, names_.nameOf(report.number(FIELD::OrigClOrdID)));
+    it.copy(report, FIELD::SendingTime, FIELD::TransactTime);
+    it.copy(report, FIELD::CxlRejReason);
+    it.copy(report, FIELD::CxlRejResponseTo);
+    return it.text();
 }
 
 /// A number that no report of the venue has, and none of the edge before.

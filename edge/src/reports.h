@@ -22,8 +22,8 @@ public:
     Reports(const std::map<std::string, Tick> &ticks, Names &names, const std::string &lastCapacity)
         : ticks_(ticks), names_(names), lastCapacity_(lastCapacity) {}
 
-    /// A report of the venue, of the type 8 or 9.
-    FIX::Message of(const Fields &report) const;
+    /// The body of a report of the venue, of the type 8 or 9: its fields in the order of their tags.
+    std::string of(const Fields &report) const;
 
     /// The edge's refusal of a request. What it says to have been asked for is the member's own text, but for the
     /// decimals of a price.
@@ -40,9 +40,15 @@ public:
     static bool isOfVenue(const Fields &stored);
 
 private:
-    FIX::Message executionOf(const Fields &report) const;
-    FIX::Message rejectOf(const Fields &report) const;
-    void expire(FIX::Message &it) const;
+    class Body;
+
+    bool isEnd(const Fields &report) const;
+    std::string executionOf(const Fields &report) const;
+    std::string rejectOf(const Fields &report) const;
+    void putFill(const Fields &report, Body &into) const;
+    void putPrice(const Fields &report, int tag, Body &into) const;
+    void putState(const Fields &report, Body &into) const;
+    void putEnd(const Fields &report, Body &into) const;
     FIX::Message massRefusal(const FIX::Message &asked, int reason, const std::string &text) const;
     std::string priceOf(const std::string &symbol, long steps) const;
     void copyPrice(const FIX::Message &asked, FIX::Message &told, const std::string &symbol) const;

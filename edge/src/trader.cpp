@@ -46,6 +46,7 @@ Trader::Trader(const Settings &settings, const MemberSettings &member, Record &r
       link_(link),
       orders_(settings.ticks, member.limits.dropped),
       reports_(settings.ticks, names, member.limits.lastCapacity),
+      teller_(record),
       cancels_(names, link),
       switches_(record, settings.venue.symbols),
       exposure_(settings.ticks),
@@ -57,6 +58,7 @@ Trader::Trader(const Settings &settings, const MemberSettings &member, Record &r
 
 void Trader::attach(FIX::Session &session) {
     session_ = &session;
+    teller_.attach(session);
     counts_.lastReport = record_.state().told.report;
     if (!record_.database().isOpen()) return;  // It is tried again.
     cancels_.attach();
@@ -332,8 +334,7 @@ void Trader::tell(const Fields &report) {
     if (!isExecution && names_.is(number, Names::Kind::Probe)) {
         tellLost(number);
     } else if (isExecution || !names_.is(number, Names::Kind::Expiry)) {  // Else its order had an end of its own.
-        FIX::Message message = reports_.of(report);
-        send(message);
+        teller_.tell(report.byte(35), reports_.of(report));
         counts_.reports++;
     }
     Told &told = record_.change().told;

@@ -22,6 +22,7 @@
 #include "settings.h"
 #include "room.h"
 #include "switches.h"
+#include "teller.h"
 #include "venue_link.h"
 
 namespace edge {
@@ -39,6 +40,9 @@ public:
 
     /// Gives it its session, whose record has been read.
     void attach(FIX::Session &session);
+
+    /// The client's connection, where there is one: what the venue reports goes there.
+    void sendsTo(FIX::Responder *client) { teller_.sendsTo(client); }
 
     /// Takes a request of the member. What goes wrong is told to the member, or is the `fault`.
     void asked(const FIX::Message &message);
@@ -60,6 +64,9 @@ public:
 
     /// Whether many cancels are under way: what can wait waits for these.
     bool isSweeping() const { return cancels_.isSweeping(); }
+
+    /// Whether requests of the member wait for the venue.
+    bool isWaiting() const { return isReady_ && !underWay_.empty(); }
 
     /// Those of its orders that may still rest, in words: how many, and some of their names.
     std::string restsOf(const Sweep &it);
@@ -153,6 +160,7 @@ private:
     FIX::Session *session_ = nullptr;
     Orders orders_;
     Reports reports_;
+    Teller teller_;
     OpenOrders open_;
     Cancels cancels_;
     Switches switches_;

@@ -7,6 +7,7 @@
 #include <cerrno>
 #include <cstdlib>
 
+#include "frame.h"
 #include "lines.h"
 #include "seconds.h"
 
@@ -14,6 +15,7 @@ namespace edge {
 
 namespace {
 constexpr std::size_t LONGEST = 1 << 14;  // Of the bodies of the venue's messages.
+constexpr std::size_t USUAL = 256;        // Hardly any message to it has more bytes.
 }
 
 VenueLink::VenueLink(int port, const std::string &member) : port_(port), member_(member) {}
@@ -82,13 +84,19 @@ bool VenueLink::flush() {
 }
 
 long VenueLink::send(const char *type, const std::string &body, const std::string &time) {
-    const std::string fields = std::string("35=") + type + "\00149=" + member_ +
-                               "\00156=VENUE\00134=" + std::to_string(++number_) + "\00152=" + time + "\1" + body;
-    const std::string whole = "8=FIX.4.4\0019=" + std::to_string(fields.size()) + "\1" + fields;
-    unsigned sum = 0;
-    for (const char it : whole) sum += static_cast<unsigned char>(it);
-    const std::string digits = std::to_string(1000 + sum % 256);
-    out_ += whole + "10=" + digits.substr(1) + "\1";
+    std::string fields;
+    fields.reserve(USUAL);
+    fields += "35=";
+    fields += type;
+    fields += "\00149=";
+    fields += member_;
+    fields += "\00156=VENUE\00134=";
+    fields += std::to_string(++number_);
+    fields += "\00152=";
+    fields += time;
+    fields += '\1';
+    fields += body;
+    frame(fields, out_);
     return number_;
 }
 

@@ -3,12 +3,14 @@ requests under way. What is over a bound is left unread, or refused in words, an
 import contextlib
 import os
 import re
+import signal
 import socket
 import time
 
 import sanitized
 from canonical_tests import rejected, trades, until
-from edges import HOST, PATIENCE, Trouble, free_port, pair, session_files, stored
+from disk_tests import writes_of
+from edges import HOST, PATIENCE, Trouble, free_port, freeze, pair, session_files, stored
 from engines import Engine, at_rest, now, order, refused
 from gikvand.fix import framed, value
 from hostile_tests import logon
@@ -21,6 +23,8 @@ DOOR, ADDRESSES = 64, 256      # Places of the door, and addresses of which it i
 HANDED = 16                    # So many wait for their member's thread.
 SILENCE = 5                    # Seconds that a venue which answers nothing is waited for.
 ANSWERED = 100                 # What an answer of the edge itself costs, in messages that go on to the venue.
+AT_ONCE = 200                  # So many answers are a second's worth.
+MOST_WRITES = 3                # For each message of more; a turn of its own has five at least.
 
 
 class From(Engine):
@@ -105,6 +109,21 @@ def test_rate_of_answers():
     least_time(1, come_and_go, "six Logons at two in a second")
 
 
+def test_read_in_pieces():
+    """Of who sends more than may be read of it several messages are read in one turn, and kept by one sync."""
+    venue, edge, port = pair()
+    one = Engine(port, 1).log_on()
+    process, count = edge.process_of(1), 2 * AT_ONCE
+    freeze(process)
+    for _ in range(count):  # Half of them are read at once.
+        one.send("1", "112=x|")
+    before = writes_of(process)
+    os.kill(process, signal.SIGCONT)
+    answers(one, count)
+    if (writes := writes_of(process) - before) > MOST_WRITES * AT_ONCE:
+        raise Trouble(f"{writes} writes for {AT_ONCE} messages of more than may be read")
+
+
 def test_rate_of_looks():
     """What the edge only looks at, as heartbeats, is read at a bounded rate, too: ten of them are one answer's worth."""
     venue, edge, port = pair(MaxReadMessagesPerSecond=str(2 * ANSWERED))
@@ -134,6 +153,21 @@ def test_back_while_unread():
     one.close()
     one.sent = {number: ("0", "") for number in range(1, one.out)}
     one.log_on()
+
+
+def test_report_in_front_of_a_logon():
+    """What is reported while a Logon lies unread isn't sent to its client, who isn't logged on: it is sent behind that."""
+    venue, edge, port = pair(2, MaxReadMessagesPerSecond=str(ANSWERED))
+    one, other = at_rest(port, "a", 10), Engine(port, 2).log_on()
+    answers(one, 1, [("1", "112=x|")] * 4)
+    one.close()
+    one.sent = {number: ("0", "") for number in range(1, one.out)}
+    before = len(one.came)
+    one.connect().send("A", f"98=0|108={one.heartbeat}|")
+    other.send("D", order("b", 2, 10, "50"))
+    other.report(_150="F")
+    one.report(_150="F", _11="a")
+    expect(value(one.came[before], "35"), "A")
 
 
 def passwords_file():
@@ -424,7 +458,8 @@ def test_far_numbers():
     trades(one, "b")
 
 
-TESTS = [test_rate_of_answers, test_rate_of_looks, test_rate_of_bytes, test_back_while_unread, test_wrong_passwords,
-         test_wrong_passwords_of_many, test_under_way, test_burst, test_heartbeat_bounds, test_share_of_the_door,
-         test_many_handed_over, test_even_shares, test_garbled_again, test_garbled_of_two, test_far_numbers]
+TESTS = [test_rate_of_answers, test_read_in_pieces, test_rate_of_looks, test_rate_of_bytes, test_back_while_unread,
+         test_report_in_front_of_a_logon, test_wrong_passwords, test_wrong_passwords_of_many, test_under_way,
+         test_burst, test_heartbeat_bounds, test_share_of_the_door, test_many_handed_over, test_even_shares,
+         test_garbled_again, test_garbled_of_two, test_far_numbers]
 LONG_TESTS = [test_long_burst]

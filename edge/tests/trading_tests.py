@@ -181,4 +181,26 @@ def test_last_capacity():
     expect(value(other.report(_150="F"), "29"), "1")
 
 
-TESTS = [test_tradeclients, test_each_report, test_refused_fields, test_other_types, test_last_capacity]
+def tags(report):
+    """The tags of a report: those of its header, and those of its body."""
+    those = [int(tag) for tag in fields_of(report)]
+    return those[:7], those[7:-1]
+
+
+def test_written_as_by_the_session():
+    """Reports of the venue, which the edge writes itself, have the header of what the library writes, the form of its times,
+    and the fields of their bodies in its order."""
+    venue, edge, port = pair(TimestampPrecision="6", LastCapacity="1")
+    one = Engine(port, 1).log_on()
+    one.send("D", order("no", 1, 1, "50.001"))
+    librarys = one.report(_150="8")
+    for name, side in (("a", 1), ("b", 2)):
+        one.send("D", order(name, side, 1, "50"))
+    one.send("F", cancel("c", "a", 1))
+    for it in (librarys, one.report(_150="0"), one.report(_150="F"), one.report(_35="9")):
+        head, body = tags(it)
+        expect((head, body, len(value(it, "52"))), (tags(librarys)[0], sorted(body), len(value(librarys, "52"))))
+
+
+TESTS = [test_tradeclients, test_each_report, test_refused_fields, test_other_types, test_last_capacity,
+         test_written_as_by_the_session]

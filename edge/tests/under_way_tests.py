@@ -3,12 +3,14 @@ as it may, a request that the venue rejects, and what the venue sends while its 
 import contextlib
 import os
 import socket
+import sqlite3
+import tempfile
 import threading
 import time
 
 from bounds_tests import most_memory
-from edges import EVENTS, HOST, JOURNAL, PATIENCE, SYMBOLS, Edge, Trouble, await_that, free_port, members_of, pair, replay
-from edges import rows, settings_of, started, stored
+from edges import EVENTS, HOST, JOURNAL, PATIENCE, SYMBOLS, Edge, Trouble, await_that, copied, free_port, members_of, pair
+from edges import replay, rows, settings_of, started, stored
 from engines import Engine, at_rest, cancel, order, replace
 from gikvand.fix import framed, value
 from recovery_tests import SLOW_EVENTS, places, restarted
@@ -19,6 +21,7 @@ TIME = "20250102-09:30:00"
 FLOOD, TEXT = 70_000, 1000  # Reports of the venue that come while the journal is read, and bytes in the text of each.
 MOST_MEMORY = 64 << 20
 MOST_STEPS = 1_000_000  # Of a price of the venue.
+UNTIDY = 100            # Requests of which the names alone are so many that a quiet moment puts them into the tables.
 
 
 def resting(commands):
@@ -226,6 +229,31 @@ def test_flood_meanwhile():
     expect([line for line in edge.lines if "the venue:" in line or "isn't served" in line], [])
 
 
+def tabled(member):
+    """How many names the table of a member's record has at this moment, without those that turns have kept."""
+    with tempfile.TemporaryDirectory(prefix="record-") as place:
+        with contextlib.closing(sqlite3.connect(copied(member, place))) as record:
+            return record.execute("SELECT count(*) FROM names").fetchone()[0]
+
+
+def test_untidy_meanwhile():
+    """While the venue has requests to answer, what turns have kept stays in their rows: an answer would have to wait for more.
+    Behind the last answer it comes into the tables."""
+    venue, edge, port = pair()
+    one = Engine(port, 1).log_on()
+    venue.pause()
+    for at in range(UNTIDY):
+        one.send("D", order(f"u{at}", 1, 1, "50"))
+    for _ in range(3):
+        one.settle()
+        time.sleep(0.1)  # A quiet moment, but for the venue.
+    expect(tabled(1), 0)
+    venue.go_on()
+    one.report(_150="0", _11=f"u{UNTIDY - 1}")
+    await_that(f"{UNTIDY} names in their table", lambda: tabled(1) == UNTIDY)
+    expect(places(1), list(range(1, UNTIDY + 1)))
+
+
 def test_prices_out_of_bounds():
     """A price that the venue can't have isn't told, and its member isn't served; the greatest that there is is told."""
     started(JOURNAL, 1, list(SYMBOLS)).stop()
@@ -248,4 +276,4 @@ def test_prices_out_of_bounds():
 
 TESTS = [test_goes_with_an_order, test_goes_with_a_replace, test_goes_with_a_cancel, test_unanswered_orders_count,
          test_rate_behind_a_pause, test_rejected_by_the_venue, test_ended_by_the_venue, test_flood_meanwhile,
-         test_prices_out_of_bounds]
+         test_untidy_meanwhile, test_prices_out_of_bounds]

@@ -38,8 +38,8 @@ public:
         want(exposure_.shownValue() >= 0);
         if (report.byte(35) != '8' && report.byte(35) != '9') return;
         try {
-            const FIX::Message message = reports_.of(report);
-            want(message.getHeader().getField(35)[0] == report.byte(35) && message.isSetField(11));
+            const std::string told = reports_.of(report);
+            want(edge::Fields(told.data(), told.size(), '\1').has(11));
         } catch (const std::invalid_argument &) {}
     }
 
