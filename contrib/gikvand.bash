@@ -15,6 +15,7 @@ declare -gA _gikvand_options=(
     [trade]="--port --member --journal --symbols --fix"
     [demo]=""
     [day]=""
+    [store-contract]="--machine --folder --cut --join --kill --start --stay --rounds --port"
 )
 
 # Puts the words up to the cursor into `words`, as the program gets them: bash has cut them at each =.
@@ -74,7 +75,7 @@ _gikvand_place() {
     shift 3
     case $command:$# in
         trade:*) _gikvand_request "$begun" "$journal" "$@" ;;
-        demo:*) ;;
+        demo:* | store-contract:*) ;;
         *:0 | follow:1 | audit:1) _gikvand_files "$begun" ;;
         reports:1) _gikvand_of "$begun" "${_gikvand_members[@]}" ;;
         verify:*)
@@ -99,7 +100,9 @@ _gikvand() {
         case ${words[at]} in
             --journal) journal=${words[++at]} ;;
             --journal=*) journal=${words[at]#*=} ;;
-            --symbols | --after | --port | --member | --edge) ((at += 1)) ;;
+            --symbols | --after | --port | --member | --edge | --machine | --folder | --cut | --join | --kill | --start | --stay | --rounds)
+                ((at += 1))
+                ;;
             -*) ;;
             *) given+=("${words[at]}") ;;
         esac
@@ -107,7 +110,8 @@ _gikvand() {
     case $before:$begun in
         --journal:* | --edge:* | *:--journal=* | *:--edge=*) _gikvand_files "${begun#--*=}" ;;
         --member:* | *:--member=*) _gikvand_of "${begun#--*=}" 1 2 3 4 5 6 7 8 ;;
-        --symbols:* | --after:* | --port:*) ;;
+        --symbols:* | --after:* | --port:* | --machine:* | --cut:* | --join:* | --kill:* | --start:* | --stay:* | --rounds:*) ;;
+        --folder:* | *:--folder=*) _gikvand_files "${begun#--*=}" ;;
         *:-*) _gikvand_of "$begun" "${_gikvand_options[$command]-}" --help ;;
         *:*=*) _gikvand_files "${begun#*=}" ;;
         *) _gikvand_place "$command" "$begun" "$journal" "${given[@]}" ;;

@@ -8,8 +8,9 @@ import time
 from collections.abc import Callable, Iterator
 
 from drill_machines import BRICK, SHARED, Machine
-from drill_store import FOLDER, Store, contents
-from drill_venue import PORT, STEP, SYMBOL, Unit, alone, first_ready, watched
+from drill_gluster import Gluster
+from drill_store import FOLDER, contents
+from drill_venue import PORT, SYMBOL, Unit, alone, first_ready, step_without, watched
 from gikvand.words import sure
 from traders import Member, Rounds, request
 from venues import Client, Trouble, await_that, message
@@ -102,7 +103,7 @@ class Drill:
         self.machines = [Machine(number) for number in (1, 2, 3)]
         for it in self.machines:
             it.boot()
-        self.store = Store(self.machines, self.left_out)
+        self.store = Gluster(self.machines, self.left_out)
         self.store.make()
         first = self.machines[0]
         first.do("mkdir", f"{SHARED}/{FOLDER}")
@@ -116,7 +117,7 @@ class Drill:
         print(f"three machines, and a volume with a brick on each of them: made in {took:.0f} s", flush=True)
 
     def unit(self, machine: Machine, words: list[str]) -> Unit:
-        unit = Unit(machine, words, "true" if self.left_out == "step" else STEP)
+        unit = Unit(machine, words, step_without(self.left_out))
         self.units.append(unit)
         return unit
 
@@ -137,7 +138,7 @@ class Drill:
         return units
 
     def words(self) -> list[str]:
-        return alone() if self.left_out == "watch" else watched()
+        return alone() if self.left_out == "watch" else watched(self.left_out)
 
     def play(self, case: Callable[["Drill", Machine], str], number: int) -> str:
         """Plays a case, and says what was seen."""

@@ -2,6 +2,7 @@
 import contextlib
 import os
 import shutil
+import signal
 import time
 
 import drill_edge
@@ -57,6 +58,35 @@ def looked(drill: Drill, machine: Machine) -> str:
     os.remove(HOLD)
     cease(traders)
     return kill(drill, unit, standbys, traders, "killed behind a look")
+
+
+def cached(drill: Drill, machine: Machine) -> str:
+    """The same, where the machines that wait are mounted without the option that keeps the system from bytes of the journal: what
+    the step drops before a start makes up for it."""
+    others = [it for it in drill.machines if it is not machine]
+    for it in others:
+        drill.store.mount(it, is_guarded=False)
+    said = looked(drill, machine)
+    for it in others:
+        drill.store.mount(it)
+    return said
+
+
+def stuck(drill: Drill, machine: Machine) -> str:
+    """The store's client stands still on an idle machine, which isn't cut off: its lock stays, and its venue, which waits for the
+    store, survives a kill. The watch ends the client too, and mounts anew."""
+    unit, standbys, traders = at_work(drill, machine, drill.words())
+    cease(traders)
+    since = time.monotonic()
+    os.kill(drill.store.client(machine), signal.SIGSTOP)
+    ended = unit.await_line("status 137", since) - since
+    new = drill.goes_on(standbys, since)
+    at = sure(new.ready(since))
+    await_that(f"{machine.name} waits for the lock", lambda: unit.refused(at) > 1)
+    drill.check(new.machine, traders)
+    drill.end(new, drill.traded_on(new))
+    return (drill.took("a client that stands still: the next machine is ready after", at - since) + ", "
+            + drill.took("the watch has ended the venue and the client after", ended))
 
 
 def dies(drill: Drill, machine: Machine) -> str:
@@ -125,7 +155,7 @@ def watch_ends(drill: Drill, machine: Machine) -> str:
     cease(traders)
     since = time.monotonic()
     machine.cut()
-    ended = unit.await_line("status 137", since) - since
+    ended = sure(unit.await_line("status 137", since)) - since
     new = drill.goes_on(standbys, since)
     drill.check(new.machine, traders)
     later = drill.traded_on(new, machine)
@@ -218,10 +248,10 @@ def holding() -> list[str]:
     return ["env", f"LD_PRELOAD={HOLDS}", f"HOLD={HOLD}", f"HELD={HELD}"]
 
 
-CASES = {"killed": killed, "looked": looked, "dies": dies, "parted": parted, "joined": joined, "watched": watch_ends,
-         "brick": brick, "half": half, "edge": edge}
+CASES = {"killed": killed, "looked": looked, "cached": cached, "stuck": stuck, "dies": dies, "parted": parted,
+         "joined": joined, "watched": watch_ends, "brick": brick, "half": half, "edge": edge}
 
 # What may be left out, the case that has to fail then, and in how many rounds at the most.
 PLANTS = {"strict-locks": ("joined", 1), "quorum": ("parted", 1), "direct-io": ("looked", 1), "step": ("half", 6),
-          "watch": ("watched", 1), "numbers": ("edge", 1)}
+          "watch": ("watched", 1), "pages": ("cached", 1), "let-go": ("stuck", 1), "numbers": ("edge", 1)}
 BY_CHANCE = ["no-views"]  # What may be left out too, and is seen to do harm in few rounds alone.

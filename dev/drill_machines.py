@@ -46,6 +46,7 @@ mkdir {BRICK} {SHARED}
 mount -o loop "$1/disk" {BRICK}
 mount --bind "$1/lib" /var/lib/glusterd
 mount --bind "$1/log" /var/log/glusterfs
+mount --bind "$1/fstab" /etc/fstab
 mount -t tmpfs tmpfs /run
 ip link set lo up
 echo up
@@ -120,6 +121,8 @@ class Machine:
         self.cable, self.folder = f"cable{number}", f"{HOME}/{number}"
         for it in ("lib", "log"):
             os.makedirs(f"{self.folder}/{it}")
+        with open(f"{self.folder}/fstab", "wb"):
+            pass
         with open(f"{self.folder}/disk", "wb") as file:
             file.truncate(DISK_SIZE)
         ran("mkfs.ext4", "-q", "-m", "0", file.name)

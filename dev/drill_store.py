@@ -1,31 +1,13 @@
-"""The volume on which the machines of dev/failover-drill keep the journal: GlusterFS, a brick on each of them. Not
-a script."""
-import os
-import socket
-import subprocess
+"""What keeps the journal for the machines of dev/failover-drill. Each store is a file of its own, with a class of this one.
+Not a script."""
 import threading
-import uuid
 from collections.abc import Callable
 
-from drill_machines import BRICK, SHARED, Machine, ran
+from drill_machines import SHARED, Machine
 from gikvand import journals
-from gikvand.programs import ROOT
-from venues import Trouble, await_that
 
-SETTINGS = os.path.join(ROOT, "contrib/standby/volume-settings")
-VOLUME, ON_BRICK = "venue", f"{BRICK}/venue"
 FOLDER, JOURNAL = "day", "venue.journal"
-KEPT = [JOURNAL, f"{JOURNAL}.symbols"]  # What has to be the same on all bricks.
-GLUSTERD = 24007  # Its port.
-READS = 100       # Of the journal, so that one sees which brick they come from.
-PID = f"cat /run/gluster/vols/{VOLUME}/*.pid"  # Prints that of a machine's brick.
-NO_VIEWS = "entry-timeout=0,attribute-timeout=0,negative-timeout=1"
-OPTIONS = f"{NO_VIEWS},direct-io-mode=enable"  # Of the mount.
-VIEWS = ("quick-read", "stat-prefetch", "open-behind", "read-ahead", "io-cache", "readdir-ahead")
-OTHERWISE = {  # What a setting is where it is left out.
-    "strict-locks": ["client.strict-locks", "off"],
-    "quorum": ["cluster.quorum-type", "none"],
-    "no-views": [word for it in VIEWS for word in (f"performance.{it}", "on")]}
+KEPT = [JOURNAL, f"{JOURNAL}.symbols"]  # What has to be the same wherever it is kept.
 
 
 def side_by_side(do: Callable[[Machine], object], machines: list[Machine]) -> None:
@@ -47,119 +29,49 @@ def side_by_side(do: Callable[[Machine], object], machines: list[Machine]) -> No
         raise faults[0]
 
 
-def listens(machine: Machine) -> bool:
-    """Whether the machine's glusterd takes connections."""
-    try:
-        with machine.network(), socket.create_connection((machine.address, GLUSTERD), 1):
-            return True
-    except OSError:
-        return False
-
-
 def contents(path: str) -> bytes:
     with open(path, "rb") as file:
         return file.read()
 
 
 class Store:
-    """The volume, with all settings but one that may be left out."""
+    """A store that all machines have mounted, with all settings but one that may be left out."""
 
     def __init__(self, machines: list[Machine], left_out: str | None) -> None:
         self.machines, self.left_out, self.looks = machines, left_out, 0
 
+    def journal(self, machine: Machine, more: str = "") -> str:
+        """The journal, or a file beside it, as this machine has it on the store."""
+        return machine.path(f"{SHARED}/{FOLDER}/{JOURNAL}{more}")
+
     def make(self) -> None:
-        """Makes the volume, and mounts it on all machines."""
-        side_by_side(self.serve, self.machines)
-        first, *others = self.machines
-        for it in others:
-            self.gluster("peer", "probe", it.address)
-        for it in self.machines:
-            await_that(f"{it.name} knows the others",
-                       lambda: self.gluster("pool", "list", on=it).count("Connected") == len(self.machines))
-        bricks = [f"{it.address}:{ON_BRICK}" for it in self.machines]
-        self.gluster("volume", "create", VOLUME, "replica", str(len(bricks)), *bricks)
-        first.do(SETTINGS, VOLUME)
-        if self.left_out in OTHERWISE:
-            self.gluster("volume", "set", VOLUME, *OTHERWISE[self.left_out])
-        self.gluster("volume", "start", VOLUME)
-        side_by_side(self.mount, self.machines)
+        """Makes the store, and mounts it on all machines."""
+        raise NotImplementedError
 
-    def gluster(self, *words: str, on: Machine | None = None) -> str:
-        return (on or self.machines[0]).do("gluster", "--mode=script", *words)
-
-    def serve(self, machine: Machine) -> None:
-        """Starts what looks after the machine's brick."""
-        ran(*machine.words("glusterd", "--log-level", "WARNING"))
-        await_that(f"glusterd of {machine.name} listens", lambda: listens(machine), 0.1)
-
-    def mount(self, machine: Machine) -> None:
-        """Mounts the volume there, once there are bricks enough."""
-        options = {"no-views": "rw", "direct-io": NO_VIEWS}.get(self.left_out or "", OPTIONS)
-        words = machine.words("mount", "-t", "glusterfs", "-o", options, f"{machine.address}:/{VOLUME}", SHARED)
-        await_that(f"{machine.name} mounts the volume",
-                   lambda: not subprocess.run(words, capture_output=True).returncode, 0.3)
+    def mount(self, machine: Machine, is_guarded: bool = True) -> None:
+        """Mounts it there, or mounts it anew, once it can be had: with or without what keeps the system from a memory of its own."""
+        raise NotImplementedError
 
     def come_back(self, machine: Machine) -> None:
         """Boots a machine that has died."""
-        machine.await_free_disk()
-        machine.boot()
-        self.serve(machine)
-        self.mount(machine)
+        raise NotImplementedError
 
-    def kill_brick(self, machine: Machine) -> None:
-        machine.do("bash", "-c", f'kill -KILL "$({PID})"')
-
-    def is_read_from(self) -> Machine:
-        """The machine whose brick all machines read the journal from: one of three, as the number of the file has it."""
-        before = [self.has_read(it) for it in self.machines]
-        for _ in range(READS):
-            contents(self.journal(self.machines[0]))
-        return max(zip(self.machines, before), key=lambda it: self.has_read(it[0]) - it[1])[0]
-
-    def has_read(self, machine: Machine) -> int:
-        """How many bytes the machine's brick has read so far."""
-        return int(machine.do("bash", "-c", f'grep rchar "/proc/$({PID})/io"').split()[1])
-
-    def start_bricks(self) -> None:
-        """Starts those that aren't there."""
-        self.gluster("volume", "start", VOLUME, "force")
+    def client(self, machine: Machine) -> int:
+        """The process that serves the mount there."""
+        raise NotImplementedError
 
     def reaches_all(self, machine: Machine) -> bool:
-        """Whether what is written on this machine comes to all three bricks at once."""
-        self.looks += 1
-        name, data = f"look.{machine.number}", f"{self.looks}\n".encode()
-        try:
-            with open(machine.path(f"{SHARED}/{name}"), "wb", buffering=0) as file:
-                file.write(data)
-            return all(contents(it.path(f"{ON_BRICK}/{name}")) == data for it in self.machines)
-        except OSError:
-            return False
+        """Whether what is written on this machine comes to all copies at once."""
+        raise NotImplementedError
 
-    def journal(self, machine: Machine, more: str = "") -> str:
-        """The journal, or a file beside it, as this machine has it on the volume."""
-        return machine.path(f"{SHARED}/{FOLDER}/{JOURNAL}{more}")
-
-    def on_brick(self, machine: Machine, name: str = JOURNAL) -> str:
-        """The journal, or another file of its folder, as it stands on a machine's brick."""
-        return machine.path(f"{ON_BRICK}/{FOLDER}/{name}")
+    def copy(self, machine: Machine) -> str:
+        """The journal as this machine's own copy has it."""
+        raise NotImplementedError
 
     def entries(self, machine: Machine) -> int:
-        """How many entries the journal has on this machine's brick."""
-        return len(journals.read(contents(self.on_brick(machine))).entries)
-
-    def is_healed(self, machine: Machine) -> bool:
-        """Whether no other brick needs what this one has of the journal."""
-        number = uuid.UUID(bytes=os.getxattr(self.on_brick(machine), "trusted.gfid"))
-        return not os.path.exists(machine.path(f"{ON_BRICK}/.glusterfs/indices/xattrop/{number}"))
+        """How many entries the journal has there."""
+        return len(journals.read(contents(self.copy(machine))).entries)
 
     def await_whole(self) -> None:
-        """Waits until each machine reaches each brick and none waits for a heal. Then all bricks have to be equal."""
-        for it in self.machines:
-            await_that(f"{it.name} reaches all bricks", lambda: self.reaches_all(it), 0.2)
-        await_that("the bricks are healed", lambda: all(map(self.is_healed, self.machines)), 0.2)
-        for name in KEPT:
-            first, *others = (contents(self.on_brick(it, name)) for it in self.machines)
-            for machine, other in zip(self.machines[1:], others):
-                if first != other:
-                    raise Trouble(f"{name} has {len(first)} bytes on the brick of machine 1, and {len(other)} others "
-                                  f"on that of {machine.name}")
+        """Waits until all copies are there again. They have to be equal then."""
+        raise NotImplementedError

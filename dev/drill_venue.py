@@ -4,23 +4,23 @@ import os
 import threading
 import time
 
-from drill_machines import SHARED, Machine, children, kill
+from drill_machines import HOME, SHARED, Machine, children, kill
 from drill_store import FOLDER, JOURNAL
 from gikvand.programs import ROOT, VENUED
 from gikvand.words import sure
 from venues import Trouble, await_that
 
 STANDBY = os.path.join(ROOT, "contrib/standby")
-STEP, SERVE = (os.path.join(STANDBY, it) for it in ("before-start", "serve"))
+STEP, SERVE, LET_GO = (os.path.join(STANDBY, it) for it in ("before-start", "serve", "let-go"))
 SYMBOL, PORT, GATEWAYS = "ABC", 9001, 6  # The last two are of members behind the edge.
 LOCKED = "status 41"  # Of a start that another venue's lock refuses, by the step or, without it,
 FAULT = "status 1"    # by the venue itself.
 
 # What contrib/standby/venued@.conf asks of systemd: the step, the venue, and half a second between two starts.
-UNIT = f"""cd "{SHARED}/{FOLDER}"
-step="$1"
+UNIT = f"""step="$1"
 shift
 while :; do
+    cd "{SHARED}/{FOLDER}"
     "$step" {JOURNAL} && "$@"
     status=$?
     echo "status $status"
@@ -29,9 +29,38 @@ while :; do
 done"""
 
 
-def watched() -> list[str]:
+# What of a program may be left out, the text that is it, and what stands there then.
+LEFT_OUT = {
+    "pages": (STEP, "end = true_end(fd, start)", "end = end_of(fd, start)"),
+    "let-go": (SERVE, 'goes "$1" || let_go', 'goes "$1"')}
+LEFT_OUT["direct-io"] = LEFT_OUT["pages"]  # The option of the mount, and what makes up for it.
+
+
+def without(program: str, left_out: str | None) -> str:
+    """A program of contrib/standby, or a copy of it that lacks this."""
+    of, text, other = LEFT_OUT.get(left_out or "", ("", "", ""))
+    if of != program:
+        return program
+    copy = os.path.join(HOME, os.path.basename(program))
+    with open(program, encoding="utf-8") as file:
+        whole = file.read()
+    if whole.count(text) != 1:
+        raise Trouble(f"{text} stands {whole.count(text)} times in {program}")
+    with open(copy, "w", encoding="utf-8") as file:
+        file.write(whole.replace(text, other))
+    os.chmod(copy, 0o755)
+    return copy
+
+
+def step_without(left_out: str | None) -> str:
+    """The step before each start."""
+    return "true" if left_out == "step" else without(STEP, left_out)
+
+
+def watched(left_out: str | None = None) -> list[str]:
     """The words of a venue with the watch beside it, as the unit has it."""
-    return ["env", f"PATH={os.path.dirname(VENUED)}:{os.environ['PATH']}", SERVE, str(PORT), JOURNAL, str(GATEWAYS)]
+    serve = without(SERVE, left_out)
+    return ["env", f"PATH={os.path.dirname(VENUED)}:{os.environ['PATH']}", serve, str(PORT), JOURNAL, str(GATEWAYS)]
 
 
 def alone() -> list[str]:

@@ -268,6 +268,18 @@ READS(pread64)
 SYNCS(fsync)
 SYNCS(fdatasync)
 
+// That the system is to forget a file's pages.
+#define DROPS(name) \
+    int name(int file, off_t at, off_t size, int advice) { \
+        REAL(int, name, int, off_t, off_t, int); \
+        int why = real(file, at, size, advice); \
+        if (advice == POSIX_FADV_DONTNEED) \
+            note_number("drop", file, NULL, size); \
+        return why; \
+    }
+DROPS(posix_fadvise)
+DROPS(posix_fadvise64)
+
 #define CUTS(name) \
     int name(int file, off_t size) { \
         REAL(int, name, int, off_t); \

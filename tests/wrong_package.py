@@ -12,9 +12,11 @@ NOT_TAKEN = shutil.ignore_patterns("__pycache__", "out", "out-*")
 
 # What a test needs; those of a package need dpkg-deb.
 NEEDED = {"lint_of_the_pages": "mandoc", "lint_of_the_package": "lintian", "services": "systemd-analyze",
-          "the_user_of": "systemd-sysusers", "calls_of_the_step": "cc", "calls_of_the_package": "cc",
+          "the_user_of": "systemd-sysusers", "calls_of_the_step": "cc", "calls_of_the_package": "cc", "trusts_no_memory": "cc",
+          "calls_of_the_watch": "cc",
           "lint_of_the_edge_pages": "mandoc", "lint_of_the_edge_package": "lintian", "services_of_the_edge": "systemd-analyze",
           "users_of_the_edge": "systemd-sysusers"}
+FOR_ROOT = {"test_let_go", "no_store"}  # Tests that mount.
 # Tests for which the system's folders have to be others.
 IN_OTHER_PLACES = {"as_it_is", "behind_it", "edge_example", "edge_as_it_is_installed", "edge_as_it_is_removed"}
 
@@ -30,7 +32,8 @@ class Wrong(NamedTuple):
         """Whether what the tests need is here."""
         has_programs = all(shutil.which(it) for it in ("dpkg-deb", "strip", NEEDED.get(self.tests, "strip")))
         has_edge = not self.is_of_the_edge() or checks.is_edge_built()
-        return has_programs and has_edge and (self.tests not in IN_OTHER_PLACES or checks.can_have_places())
+        has_rights = self.tests not in FOR_ROOT or os.geteuid() == 0
+        return has_programs and has_edge and has_rights and (self.tests not in IN_OTHER_PLACES or checks.can_have_places())
 
     def is_of_the_edge(self) -> bool:
         """Whether it is of the edge's package, which is there once the edge is built."""
@@ -55,7 +58,8 @@ class Wrong(NamedTuple):
 
 VENUED, REPLAY, GIKVAND, JOURNAL = (f"contrib/man/{it}" for it in ("venued.8", "venue-replay.1", "gikvand.1", "venue.journal.5"))
 SERVICE, SERVICES = "contrib/venued.service", "contrib/venued@.service"
-STEP, SERVE, SETTINGS, STANDBY = (f"contrib/standby/{it}" for it in ("before-start", "serve", "volume-settings", "venued@.conf"))
+STEP, SERVE, SETTINGS, STANDBY, LET_GO = (f"contrib/standby/{it}" for it in ("before-start", "serve", "volume-settings", "venued@.conf",
+                                                                             "let-go"))
 SCRIPT, COMPLETION = "scripts/package", "contrib/gikvand.bash"
 EDGE_PAGE, EDGE_SETTINGS, EDGE_LIST = "contrib/man/gikvand-edge.8", "docs/EDGE.md", "scripts/settings_page.py"
 EDGE_SERVICE, EDGE_USERS, DROP_IN = (f"contrib/edge/{it}" for it in ("gikvand-edge@.service", "gikvand-edge.sysusers", "venued-edge.conf"))
@@ -78,7 +82,7 @@ WRONG = {
     "a list without an end": Wrong(VENUED, ".It 128 + n\nSignal n ended it, as a shell says it.\n.El\n", "", "lint_of_the_pages"),
     "an option that isn't completed": Wrong(COMPLETION, "--prometheus --quick", "--prometheus", "completed"),
     "a command that isn't completed": Wrong(COMPLETION, '    [day]=""\n', "", "completed"),
-    "values as options": Wrong(COMPLETION, "--symbols:* | --after:* | --port:*)", "--none:*)", "completed"),
+    "values as options": Wrong(COMPLETION, "--symbols:* | --after:* | --port:* | ", "", "completed"),
     "symbols that bash does": Wrong(COMPLETION, "$symbol =~ ^[A-Z0-9]{1,8}$ && ", "", "completed"),
     "symbols twice": Wrong(COMPLETION, '&& " $* " != *" $symbol "* ', "", "completed"),
     "a program without completion": Wrong(COMPLETION, "complete -F _venued venued\n", "", "completed"),
@@ -109,7 +113,7 @@ WRONG = {
                                         "a_venue_of"),
     "a step without a lock": Wrong(STEP, "fcntl.flock(fd, fcntl.LOCK_EX | fcntl.LOCK_NB)", "pass", "step_that"),
     "a step that writes nothing": Wrong(STEP, "os.pwrite(fd, data, at)", "len(data)", "step_of"),
-    "a step that skips the rest": Wrong(STEP, "max(0, size - LAST), size, PIECE", "max(0, size - LAST), size - PIECE, PIECE", "step_of"),
+    "a step that skips the rest": Wrong(STEP, "len(end) - LAST), len(end), PIECE", "len(end) - LAST), len(end) - PIECE, PIECE", "step_of"),
     "a watch that asks": Wrong(SERVE, 'kill -KILL "$1"', 'kill "$1"', "the_watch"),
     "symbols of nobody": Wrong(SERVE, '"${symbols[@]}"', "ABC", "symbols_of_the_volume"),
     "locks that aren't strict": Wrong(SETTINGS, "    client.strict-locks on\n", "", "settings_of_the_volume"),
@@ -117,10 +121,24 @@ WRONG = {
     "a standby that gives up": Wrong(STANDBY, "Restart=on-failure\n", "", "unit_of_a_standby"),
     "a standby's key that there isn't": Wrong(STANDBY, "RestartSec=500ms", "RestartSeconds=1", "services"),
     "a script that isn't found": Wrong(SCRIPT, '"../share/gikvand/scripts/gikvand"', '"../share/gikvand/gikvand"', "a_venue_of"),
-    "a step that doesn't wait": Wrong(STEP, "    os.fsync(fd)\n", "", "calls_of_the_step"),
+    "a step that doesn't wait": Wrong(STEP, "at + count\n    os.fsync(fd)\n", "at + count\n", "calls_of_the_step"),
+    "a step that remembers": Wrong(STEP, "    os.posix_fadvise(fd, 0, 0, os.POSIX_FADV_DONTNEED)\n", "    pass\n", "trusts_no_memory"),
+    "a step that forgets the beginning alone": Wrong(STEP, "os.posix_fadvise(fd, 0, 0,", "os.posix_fadvise(fd, 0, PIECE,",
+                                                     "calls_of_the_step"),
+    "pages that aren't synced": Wrong(STEP, "    os.fsync(fd)\n    os.posix_fadvise", "    os.posix_fadvise", "calls_of_the_step"),
+    "a step that doesn't compare": Wrong(STEP, "if past in (None, found):", "if True:", "trusts_no_memory"),
+    "a step that reads one memory twice": Wrong(STEP, "flags | os.O_DIRECT", "flags", "trusts_no_memory"),
+    "a watch that only touches": Wrong(SERVE, 'dd if=/dev/zero of="$file" bs=1 count=1 conv=fsync,notrunc 2>/dev/null', 'touch "$file"',
+                                       "calls_of_the_watch"),
+    "a byte that isn't synced": Wrong(SERVE, "conv=fsync,notrunc", "conv=notrunc", "calls_of_the_watch"),
+    "a venue that may stay": Wrong(SERVE, 'goes "$1" || let_go', 'goes "$1"', "a_venue_that_stays"),
+    "a client that is ended anyway": Wrong(SERVE, 'goes "$1" || let_go', "let_go", "a_venue_that_stays"),
+    "a client that goes on": Wrong(LET_GO, "os.kill(pid, signal.SIGKILL)", "os.kill(pid, 0)", "test_let_go"),
+    "a mount that stays away": Wrong(LET_GO, "while is_in_fstab(mount) and not mounts(mount):", "while False:", "test_let_go"),
+    "any mount": Wrong(LET_GO, 'if it[it.index("-") + 1].startswith("fuse")', "", "no_store"),
     "two kilobytes alone": Wrong(STEP, "LAST = 2 << 20", "LAST = 2 << 10", "calls_of_the_step"),
     "a lock that others share": Wrong(STEP, "fcntl.LOCK_EX | fcntl.LOCK_NB", "fcntl.LOCK_SH | fcntl.LOCK_NB", "step_beside"),
-    "the end of a gigabyte": Wrong(STEP, "size = os.fstat(fd).st_size", "size = min(os.fstat(fd).st_size, 1 << 30)", "step_of_a_long"),
+    "the end of a gigabyte": Wrong(STEP, "start + first\n", "(start + first) % (1 << 30)\n", "step_of_a_long"),
     "a touch that hangs for ever": Wrong(SERVE, 'read -r -t "$LONGEST"', "read -r", "a_touch"),
     "a user that isn't made": Wrong("contrib/debian/postinst", "    systemd-sysusers venued.conf\n", "", "as_it_is"),
     "an upgrade that stops": Wrong("contrib/debian/prerm", 'if [ "$1" = remove ] && [ -d', "if [ -d", "as_it_is"),

@@ -124,7 +124,7 @@ WRONG = {
                                        "no_part"),
     "a page's test that is left out": Wrong(CHECK, "    Part(\"promises\", ", "    # Part(\"promises\", ", CI, "no_part"),
     "tests that are of no part": Wrong(CHECK, "    Part(\"tools\", ", "    # Part(\"tools\", ", CI, "no_part"),
-    "a least count that was lowered": Wrong(CHECK, "tests/tools\", \"slow built\", 108)", "tests/tools\", \"slow built\", 90)", CI,
+    "a least count that was lowered": Wrong(CHECK, "tests/tools\", \"slow built\", 122)", "tests/tools\", \"slow built\", 90)", CI,
                                             "least_counts"),
     "passes that aren't added": Wrong(CHECK, "self.passed + verdict.passed", "self.passed + 1", CI, "parts_that_fail"),
     "a part of fewer tests": Wrong(CHECK, "if passed + failed < part.least:", "if False:", CI, "parts_of_fewer"),

@@ -8,7 +8,9 @@ from typing import NamedTuple
 import chromium
 
 BOARD = "test_board_page.py"
-BY_CC = {"calls_of_a_new", "calls_of_the_symbols"}  # Tests that look at calls as tests/refusals.c notes them.
+# Tests that look at calls as tests/refusals.c notes them, or at a store that tests/liar.c plays.
+BY_CC = {"calls_of_a_new", "calls_of_the_symbols", "stale_reads", "late_writes", "passed_early", "syncs_that_lie", "success_while",
+         "folders_in_use", "loses_reports"}
 
 
 class Wrong(NamedTuple):
@@ -28,6 +30,7 @@ class Wrong(NamedTuple):
     def put(self, tools: str, folder: str) -> str:
         """Makes a copy of the tools in this folder that is wrong so, and gives its path."""
         path = shutil.copytree(tools, os.path.join(folder, "tools"), ignore=shutil.ignore_patterns("__pycache__"))
+        shutil.copytree(os.path.join(os.path.dirname(tools), "contrib/standby"), os.path.join(folder, "contrib/standby"))
         name = os.path.join(path, "gikvand", self.module if "." in self.module else f"{self.module}.py")
         with open(name, encoding="utf-8") as file:
             text = file.read()
@@ -100,6 +103,17 @@ WRONG = {
     "a number that isn't known": Wrong("journals", "self.gate, self.count = gate, -MOST_ENTRIES",
                                        "self.gate, self.count = gate, 0", "snapshots_before"),
     "damage that isn't known": Wrong("follow", "if not found and self.reader.is_counted:", "if not found:", "snapshots_before"),
+    "a follower that isn't told": Wrong("follow", "            writes.wait(PAUSE)\n", "            time.sleep(PAUSE)\n", "told_of_writes"),
+    "an old byte that is passed over": Wrong("store_tries", "if plain or behind else", "if False else", "stale_reads"),
+    "late writes that are passed over": Wrong("store_tries", 'self.say("no late writes", fault,', 'self.say("no late writes", "",',
+                                              "late_writes"),
+    "a lock that passed early": Wrong("store_tries", "stood still\" if early is not None", "stood still\" if False",
+                                      "passed_early"),
+    "syncs that aren't counted": Wrong("store_tries", "if has < holder.count else", "if False else", "syncs_that_lie"),
+    "success that isn't counted": Wrong("store_tries", 'if came["count"] > has else', "if False else", "success_while"),
+    "a folder of others": Wrong("store_tries", "            if others:\n", "            if False:\n", "folders_in_use"),
+    "reports that aren't compared": Wrong("store_tries", "self.say(VENUE, faults[0] if faults else \"\"", "self.say(VENUE, \"\"",
+                                          "loses_reports"),
     "a signal while it is compared": Wrong("follow", "        if has_signal(0):\n            raise Ended\n", "", "ended_while"),
     "copies with another header": Wrong("follow", "if (reader.version, reader.cut) != (source.reader.version, ",
                                         "if False and (0, 0) != (source.reader.version, ", "refused"),

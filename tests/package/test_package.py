@@ -24,6 +24,7 @@ from venues import EVENTS, PATIENCE, REPLAY, VENUED, started
 pytestmark = [pytest.mark.quick, pytest.mark.usefixtures("programs")]
 
 UNITS = ("venued.service", "venued@.service")
+OF_A_STANDBY = ("venued-let-go@.path", "venued-let-go@.service")
 PROGRAMS = ("venued", "venue-replay", "venue-events")
 packing = pytest.mark.debian("dpkg-deb", "strip")
 EXPOSED = 15  # The greatest exposure of a service that is taken, in tenths, as systemd-analyze reckons it.
@@ -53,11 +54,11 @@ def test_files_of_the_package() -> None:
         {("root/root", it) for it in ("drwxr-xr-x", "-rwxr-xr-x", "-rw-r--r--", "lrwxrwxrwx")})
     programs = {line[5] for line in lines if line[0] == "-rwxr-xr-x"}
     assert programs == {*(f"./usr/bin/{it}" for it in PROGRAMS), "./usr/share/gikvand/scripts/gikvand",
-                        *(f"./usr/share/gikvand/standby/{it}" for it in ("before-start", "serve", "volume-settings"))}
+                        *(f"./usr/share/gikvand/standby/{it}" for it in ("before-start", "let-go", "serve", "volume-settings"))}
     names = {line[5].split(" -> ")[0] for line in lines}
     modules = [it for it in os.listdir(os.path.join(ROOT, "tools/gikvand")) if it.endswith((".py", ".html"))]
     wanted = ["usr/bin/gikvand", *(f"usr/share/man/man{it[-1]}/{it}.gz" for it in PAGES),
-              *(f"usr/lib/systemd/system/{it}" for it in UNITS), "usr/share/gikvand/standby/venued@.conf",
+              *(f"usr/lib/systemd/system/{it}" for it in (*UNITS, *OF_A_STANDBY)), "usr/share/gikvand/standby/venued@.conf",
               "usr/lib/sysusers.d/venued.conf", "usr/share/doc/gikvand/copyright", "usr/share/doc/gikvand/changelog.gz",
               *(f"usr/share/bash-completion/completions/{it}" for it in ("gikvand", *PROGRAMS)),
               *(f"usr/share/gikvand/tools/gikvand/{it}" for it in modules)]
@@ -184,7 +185,8 @@ def test_services() -> None:
         standby = os.path.join(folder, "etc/systemd/system/venued@standby.service.d")
         os.makedirs(standby)
         shutil.copy(os.path.join(folder, "usr/share/gikvand/standby/venued@.conf"), standby)
-        for unit in ("venued.service", "venued@one.service", "venued@standby.service"):
+        for unit in ("venued.service", "venued@one.service", "venued@standby.service", "venued-let-go@standby.path",
+                     "venued-let-go@standby.service"):
             assert ran("systemd-analyze", "verify", "--man=no", "--recursive-errors=no", f"--root={folder}", unit) == (0, "", "")
         for unit in UNITS:
             status, out, err = ran("systemd-analyze", "security", "--offline=true", f"--threshold={EXPOSED}", "--no-pager",

@@ -157,7 +157,7 @@ def test_lines_of_the_programs() -> None:
 def parser_of(name: str) -> argparse.ArgumentParser:
     """What reads a command's words."""
     parser = argparse.ArgumentParser(prog=name)
-    importlib.import_module(f"gikvand.{name}").add_words(parser)
+    tools.module_of(name).add_words(parser)
     return parser
 
 

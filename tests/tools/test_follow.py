@@ -8,6 +8,7 @@ import os
 import random
 import re
 import signal
+import subprocess
 import sys
 import time
 import types
@@ -340,6 +341,27 @@ def test_followed_while_in_use() -> None:
     assert contents("the.copy") == whole[:gate] + b"\0"
     counts = [len(found.entries) for found in map(journals.read, seen) if found.entries == entries[:len(found.entries)]]
     assert (len(counts), counts, counts[-1] > 100) == (len(seen), sorted(counts), True)
+
+
+def test_told_of_writes() -> None:
+    """A follower that would look again in ten minutes alone ships what is written at once, since the system tells of the write."""
+    whole = made(3)
+    put(JOURNAL, whole.data[:whole.starts[2]] + journals.CLOSED)
+    words = "import gikvand.follow as it, gikvand.main as main; it.PAUSE = 600; main.run('follow', ['{}', 'the.copy'])"
+    follower = subprocess.Popen([sys.executable, "-c", words.format(JOURNAL)], stdout=subprocess.PIPE,
+                                env={**os.environ, "PYTHONPATH": TOOLS})
+    try:
+        assert b" 0 bytes behind" in sure(follower.stdout).readline()
+        with open(JOURNAL, "r+b") as file:
+            file.seek(whole.starts[2] + 1)
+            file.write(whole.data[whole.starts[2] + 1:])
+            file.flush()
+            os.pwrite(file.fileno(), journals.OPEN, whole.starts[2])
+        await_copy("the.copy", len(whole.data))
+        assert contents("the.copy") == whole.data
+    finally:
+        follower.kill()
+        follower.communicate()
 
 
 def test_a_standby() -> None:

@@ -214,14 +214,14 @@ def come(summed: Summed, log: Log) -> str:
 
 def keep_on(summed: Summed, log: Log) -> None:
     """Appends a line for each block that comes, until a signal."""
-    writes = clock.Writes(summed.source.path)
-    while True:
-        if text := come(summed, log):
-            write(summed, log, text)
-        elif has_signal(0):
-            return
-        else:
-            writes.wait(PAUSE)
+    with clock.Writes(summed.source.path) as writes:
+        while True:
+            if text := come(summed, log):
+                write(summed, log, text)
+            elif has_signal(0):
+                return
+            else:
+                writes.wait(PAUSE)
 
 
 def begin(summed: Summed, log: Log) -> bool:

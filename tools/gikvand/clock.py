@@ -42,6 +42,13 @@ class Writes:
         if self.fd >= 0 and libc.inotify_add_watch(self.fd, os.fsencode(path), IN_MODIFY) >= 0:
             self.poll.register(self.fd, select.POLLIN)
 
+    def __enter__(self) -> "Writes":
+        return self
+
+    def __exit__(self, *_: object) -> None:
+        if self.fd >= 0:
+            os.close(self.fd)
+
     def wait(self, seconds: float) -> None:
         """Waits for a write, and no longer than this."""
         if self.poll.poll(1000 * seconds):

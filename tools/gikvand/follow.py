@@ -25,6 +25,7 @@ from collections.abc import Iterator
 from typing import BinaryIO
 
 from gikvand import locks, mends, symbols
+from gikvand.clock import Writes
 from gikvand.files import is_named, make, need_regular, opened, write_all, writing
 from gikvand.journals import CLOSED, OPEN, Block, Damaged, NotAJournal, Reader, exactly, header
 from gikvand.words import Trouble, some, stamped, time_of_day
@@ -32,8 +33,9 @@ from gikvand.words import Trouble, some, stamped, time_of_day
 ENDS = {signal.SIGTERM, signal.SIGINT}
 A_RUN = 1 << 20   # About so many bytes are written between two syncs, where so many wait.
 A_TAIL = 2 << 20  # So many last bytes of a copy are compared first: mostly more than a run leaves behind a gate.
-PAUSE = 0.05      # Seconds between two looks for what has come,
-A_PIECE = 0.02    # and between two while the copy is compared.
+PAUSE = 0.05      # Seconds between two looks for what has come, at most: a write is told of by the system.
+A_REST = 0.005    # So long it rests before it looks, that each block doesn't take syncs of its own.
+A_PIECE = 0.02    # Seconds between two looks while the copy is compared.
 EVERY = 10        # Seconds between two lines, and between two looks whether the journal was written over.
 A_LOOK = 1 << 12  # So many last bytes are looked at then.
 
@@ -283,7 +285,7 @@ def come_since(source: Source, copy: Copy, comparison: Comparison) -> bytes:
     return blocks
 
 
-def ship(source: Source, copy: Copy, comparison: Comparison, end: int | None) -> None:
+def ship(source: Source, copy: Copy, comparison: Comparison, writes: Writes, end: int | None) -> None:
     """Ships what comes, until a signal. With an end, until nothing more stands there, or the copy is longer than that."""
     lines, has_caught_up = Lines(copy, source), False
     while True:
@@ -302,7 +304,9 @@ def ship(source: Source, copy: Copy, comparison: Comparison, end: int | None) ->
             has_caught_up = True
         if is_end:
             return
-        if has_signal(0 if blocks else PAUSE):
+        if not blocks:
+            writes.wait(PAUSE)
+        if has_signal(0 if blocks else A_REST):
             source.look_back(copy)
             return lines.say(", ended by a signal")
         lines.say_in_time()
@@ -335,7 +339,8 @@ def run(given: argparse.Namespace) -> int:
             copy = Copy(given.copy, source)
             comparison = begin(source, copy, not given.once)
             keep_symbols(given.journal, given.copy)
-            ship(source, copy, comparison, end)
+            with Writes(source.path) as writes:
+                ship(source, copy, comparison, writes, end)
         except Trouble as why:
             raise Trouble(why if given.once else f"{why} (at {time_of_day()})") from None
         except Ended:

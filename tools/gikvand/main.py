@@ -3,6 +3,7 @@ import argparse
 import importlib
 import os
 import sys
+import types
 from collections.abc import Callable
 from typing import TextIO
 
@@ -19,12 +20,18 @@ COMMANDS = {"verify": "says whether a journal, or a copy of one, is whole and un
             "board": "shows a journal as a page for a browser, also while it is in use",
             "trade": "trades by words, as a member",
             "demo": "shows a venue of two members, from its start to its journal",
-            "day": "draws the day that a journal holds"}
+            "day": "draws the day that a journal holds",
+            "store-contract": "tries whether a venue may go on at another machine by a store"}
 DONE, FOUND, NOT_DONE = 0, 1, 2  # The statuses: as it should be; something was found that isn't; it couldn't be done.
 
 
+def module_of(name: str) -> types.ModuleType:
+    """The module of a command."""
+    return importlib.import_module(f"gikvand.{name.replace('-', '_')}")
+
+
 def usage() -> str:
-    listed = "".join(f"    {name:9} {what}\n" for name, what in COMMANDS.items())
+    listed = "".join(f"    {name:14} {what}\n" for name, what in COMMANDS.items())
     return ("usage: gikvand COMMAND WORD...\n\n"
             f"Tools for the venue's journal and members.\n\n{listed}\n"
             "`gikvand COMMAND --help` tells the words of one. `gikvand --version` is the release's number.")
@@ -76,7 +83,7 @@ def run(name: str, words: list[str]) -> int:
     """Runs a command, and answers the status."""
     about = dict[str, str]()
     def work() -> int:
-        command = importlib.import_module(f"gikvand.{name}")
+        command = module_of(name)
         parser = argparse.ArgumentParser(prog=f"gikvand {name}", description=text_of(command),
                                          formatter_class=argparse.RawDescriptionHelpFormatter)
         command.add_words(parser)
