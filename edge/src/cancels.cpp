@@ -22,16 +22,17 @@ std::string textOf(const Sweep &it) {
 }
 
 /// The sweep of a row.
-Sweep sweepOf(const KeptName &row) {
+Sweep sweepOf(const KeptSweep &row) {
     Sweep it;
     char symbol[9], side;
     int end = 0;
-    if (std::sscanf(row.name.c_str(), "%ld %8s %c%n", &it.upTo, symbol, &side, &end) != 3)
+    if (std::sscanf(row.text.c_str(), "%ld %8s %c%n", &it.upTo, symbol, &side, &end) != 3)
         throw DatabaseFault("row " + std::to_string(row.number) + " of its record is none of a mass cancel");
     if (symbol != std::string(ALL)) it.symbol = symbol;
     if (side != *ALL && side != DAY) it.side = side;
-    (side == DAY ? it.end : it.name) = row.name.substr(std::min(row.name.size(), static_cast<std::size_t>(end) + 1));
+    (side == DAY ? it.end : it.name) = row.text.substr(std::min(row.text.size(), static_cast<std::size_t>(end) + 1));
     it.row = row.number;
+    it.desk = it.name.empty() && row.desk == FIRST_DESK ? 0 : row.desk;
     return it;
 }
 
@@ -41,7 +42,7 @@ void Cancels::attach() {
     venueLost();
     sweeps_.clear();
     over_.clear();
-    for (const KeptName &row : names_.sweeps()) sweeps_.push_back(sweepOf(row));
+    for (const KeptSweep &row : names_.sweeps()) sweeps_.push_back(sweepOf(row));
 }
 
 void Cancels::venueLost() {
@@ -53,12 +54,15 @@ void Cancels::venueLost() {
 
 std::size_t Cancels::send(const Orders &orders, const Sweep &it) {
     const std::string time = timeNow(), own = it.isOfDay() ? EXPIRY : CANCEL;
-    const Names::Kind kind = it.isOfDay() ? Names::Kind::Expiry : Names::Kind::Cancel;
+    const Names::Kind kind = it.isOfDay()        ? Names::Kind::Expiry
+                             : it.isOfOperator() ? Names::Kind::Operator
+                                                 : Names::Kind::Cancel;
     std::size_t count = 0;
     for (const auto &order : orders) {
         if (names_.last() >= Names::GREATEST) break;
         if (!orders_.insert(order.first).second) continue;
-        const long number = names_.add(it.name.empty() ? own + std::to_string(names_.last() + 1) : it.name, kind);
+        const std::string name = it.name.empty() ? own + std::to_string(names_.last() + 1) : it.name;
+        const long number = names_.add(name, kind, it.desk ? it.desk : order.second.desk);
         link_.send("F", cancelFor(order.second, number, order.first, time), time);
         underWay_[number] = order.first;
         count++;
@@ -81,7 +85,7 @@ std::size_t Cancels::begin(Sweep &it, const Orders &orders) {
     it.count = taken.size();
     const bool mayCome = probe_ && (it.isOfDay() || sweeps_.size() < MOST_OWED);
     if (areUnderWay(taken) && !mayCome && (taken.empty() || (isNew && !it.name.empty()))) return 0;
-    it.row = names_.add(textOf(it), Names::Kind::Sweep);
+    it.row = names_.add(textOf(it), Names::Kind::Sweep, it.desk ? it.desk : FIRST_DESK);
     const bool isLater = probe_ && it.isOfDay();  // Cancels by a day's end before may be at the venue.
     const std::size_t count = isLater ? 0 : send(taken, it);
     it.last = probe_ ? 0 : underWay_.empty() ? it.row : underWay_.rbegin()->first;  // Some may be of another sweep.

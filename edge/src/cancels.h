@@ -16,8 +16,10 @@
 namespace edge {
 
 /// Orders that are to be cancelled in one go: those below a number, of a symbol and a side or of all, or those that an
-/// end of the day is behind.
+/// end of the day is behind. They are of one desk or of all: of one also where the member doesn't have that desk any
+/// more.
 struct Sweep {
+    int desk = 0;           // 0: of all desks.
     std::string symbol;     // Empty: of all symbols.
     char side = '\0';       // None: of both.
     std::string name;       // That of its cancels; empty: each has one of the edge's own.
@@ -29,10 +31,14 @@ struct Sweep {
 
     bool isOfDay() const { return !end.empty(); }
 
+    /// Whether an operator has asked for it: what a member's own mass cancel asks for has the name of that.
+    bool isOfOperator() const { return upTo && name.empty() && !isOfDay(); }
+
     bool takes(long number, const OpenOrder &order) const {
         const bool isAsked =
             isOfDay() ? order.sent < end : (symbol.empty() || order.symbol == symbol) && (!side || order.side == side);
-        return number < upTo && isAsked;
+        const bool isOfDesk = !desk || order.desk == desk || order.owner == desk;
+        return number < upTo && isOfDesk && isAsked;
     }
 };
 

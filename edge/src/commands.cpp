@@ -9,7 +9,7 @@ namespace edge {
 
 namespace {
 
-const char *const NUMBERS = "numbers";
+const char *const NUMBERS = "numbers", *const NAMES = "names";
 constexpr std::size_t MOST_DIGITS = 18;  // That a long has room for.
 
 const std::map<std::string, Command::Kind> OF_MEMBERS{{"stop", Command::Kind::Stop},
@@ -32,6 +32,14 @@ bool readNumbers(const std::string &words, Command &into) {
     return out == std::to_string(into.out) && in == std::to_string(into.in);  // A number has one spelling.
 }
 
+/// Reads the number from which on names are asked for. Whether it is there.
+bool readFrom(const std::string &words, Command &into) {
+    if (!isNumber(words) || words.size() > MOST_DIGITS) return false;
+    into.kind = Command::Kind::Names;
+    into.from = std::stol(words);
+    return words == std::to_string(into.from);
+}
+
 }
 
 bool isNumber(const std::string &word) {
@@ -39,6 +47,7 @@ bool isNumber(const std::string &word) {
 }
 
 std::string Command::words() const {
+    if (kind == Kind::Names) return std::string(NAMES) + " " + std::to_string(from);
     if (kind == Kind::SetNumbers) return std::string(NUMBERS) + " " + std::to_string(out) + " " + std::to_string(in);
     for (const auto &it : symbol.empty() ? OF_MEMBERS : OF_SYMBOLS)
         if (it.second == kind) return symbol.empty() ? it.first : it.first + " " + symbol;
@@ -47,9 +56,11 @@ std::string Command::words() const {
 
 bool Command::read(const std::string &words, Command &into) {
     const std::size_t end = words.find(' ');
-    if (end != std::string::npos && words.substr(0, end) == NUMBERS) return readNumbers(words.substr(end + 1), into);
+    const std::string verb = words.substr(0, end);
+    if (end != std::string::npos && verb == NUMBERS) return readNumbers(words.substr(end + 1), into);
+    if (end != std::string::npos && verb == NAMES) return readFrom(words.substr(end + 1), into);
     const auto &kinds = end == std::string::npos ? OF_MEMBERS : OF_SYMBOLS;
-    const auto found = kinds.find(words.substr(0, end));
+    const auto found = kinds.find(verb);
     if (found == kinds.end()) return false;
     into.kind = found->second;
     into.symbol = end == std::string::npos ? "" : words.substr(end + 1);

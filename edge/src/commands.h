@@ -1,6 +1,6 @@
 #pragma once
 
-// What an operator asks the process of a member for. console.h sends it, control.h takes it in, and desk.h carries it
+// What an operator asks the process of a member for. console.h sends it, control.h takes it in, and operators.h carries it
 // out.
 
 #include <chrono>
@@ -13,13 +13,15 @@ namespace edge {
 
 /// A command of an operator.
 struct Command {
-    enum class Kind { Stop, Resume, Cancel, Halt, ResumeSymbol, Status, Numbers, SetNumbers };
+    enum class Kind { Stop, Resume, Cancel, Halt, ResumeSymbol, Status, Numbers, SetNumbers, Names };
 
     Kind kind;
-    std::string symbol;     // Of Halt and ResumeSymbol.
+    std::string symbol;    // Of Halt and ResumeSymbol.
     long out = 0, in = 0;  // Of SetNumbers: the next number of the edge, and the next of the member's engine.
+    int desk = 0;          // Which one of the member's desks is meant; 0: none was named.
+    long from = 0;         // Of Names, which a process that copies reports asks for: the first number.
 
-    /// In the words that go over the control socket, as `halt ABC` or `numbers 2000 17`.
+    /// In the words that go over the control socket, as `halt ABC`, `numbers 2000 17` or `names 5`.
     std::string words() const;
 
     /// Reads such words. Whether they are a command.
@@ -27,7 +29,7 @@ struct Command {
 
     /// Whether it is about the numbers of a session, and whether it asks for nothing but an answer.
     bool isOfNumbers() const { return kind == Kind::Numbers || kind == Kind::SetNumbers; }
-    bool isQuestion() const { return kind == Kind::Status || kind == Kind::Numbers; }
+    bool isQuestion() const { return kind == Kind::Status || kind == Kind::Numbers || kind == Kind::Names; }
 };
 
 /// A command that has come, and where its outcome goes.

@@ -72,6 +72,9 @@ public:
     bool takesMore() const { return out_.size() - at_ <= base_ / 2; }
     std::size_t unsent() const { return out_.size() - at_; }
 
+    /// Whether the client has taken all that was released.
+    bool hasTaken() const { return at_ == released_; }
+
 private:
     Descriptor socket_;
     Inbox in_;

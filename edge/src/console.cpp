@@ -27,14 +27,14 @@ constexpr std::chrono::seconds PATIENCE(MOST_WAIT + 5);
 class Asking {
 public:
     Asking(const MemberFolder &of, const Command &command, bool isAlone) : of_(of), command_(command) {
-        socket_ = controlConnection(of.folder, of.member);
+        socket_ = controlConnection(of.folder, of.member, Callers::Operators);
         isHere_ = !socket_ && (errno == ENOENT || errno == ECONNREFUSED) && command.isOfNumbers() && isAlone;
         if (!socket_) {
             fault_ = std::string(errno == EAGAIN ? "its process is busy" : "its process doesn't run") + ": " +
-                     controlPath(of.folder, of.member) + ": " + reason();
+                     controlPath(of.folder, of.member, Callers::Operators) + ": " + reason();
             return;
         }
-        const std::string line = of.member + " " + command.words() + "\n";
+        const std::string line = name() + " " + command.words() + "\n";
         if (::send(socket_.get(), line.data(), line.size(), MSG_NOSIGNAL) != static_cast<ssize_t>(line.size()))
             fault_ = "its process can't be asked: " + reason();
     }
@@ -45,6 +45,7 @@ public:
 private:
     void hear(Clock::time_point until);
     void act();
+    std::string name() const { return of_.member + (command_.desk ? "." + std::to_string(command_.desk) : ""); }
 
     const MemberFolder of_;
     const Command command_;
@@ -88,16 +89,21 @@ bool Asking::print(Clock::time_point until) {
     if (fault_.empty() && !isDone && line.compare(0, std::strlen(FAILED), FAILED))
         fault_ = "its process gives no answer";
     const bool isNamed = command_.kind == Command::Kind::Status;  // Its answer has the member's name.
-    if (isDone) std::cout << (isNamed ? "" : of_.member + ": ") << line.substr(std::strlen(DONE)) << std::endl;
-    else say(of_.member, fault_.empty() ? line.substr(std::strlen(FAILED)) : fault_);
+    if (isDone) std::cout << (isNamed ? "" : name() + ": ") << line.substr(std::strlen(DONE)) << std::endl;
+    else say(name(), fault_.empty() ? line.substr(std::strlen(FAILED)) : fault_);
     return isDone;
+}
+
+/// Whether a command to all is for this one: a session of copies has nothing to stop or to cancel.
+bool isAsked(const Command &command, const MemberFolder &it) {
+    return !isOfCopies(it.member) || command.isQuestion() || command.isOfNumbers();
 }
 
 std::vector<MemberFolder> foldersOf(const Call &call) {
     std::vector<MemberFolder> folders;
     for (const std::string &path : call.paths)
         for (const MemberFolder &it : readFolders(path))
-            if (call.member.empty() || call.member == it.member) folders.push_back(it);
+            if (call.member == it.member || (call.member.empty() && isAsked(call.command, it))) folders.push_back(it);
     return folders;
 }
 
@@ -110,13 +116,20 @@ bool isVerb(const std::string &word) {
 
 bool readCall(const std::vector<std::string> &words, Call &into) {
     if (words.size() < 3) return false;
-    const std::string &verb = words[0], &what = words[1];
-    const bool isOfMembers = what == "all" || isMember(what);
+    const std::string &verb = words[0];
+    const std::string what = words[1].substr(0, words[1].find('.'));
+    int desk = 0;
+    if (!isDeskOf(words[1], what, desk)) return false;
+    const bool isOfSymbols = verb == "halt" || verb == "resume";  // A symbol may have such a name as D1.
+    const bool isOfOne = isMember(what) || (isOfCopies(what) && !isOfSymbols);
+    const bool isOfMembers = what == "all" || isOfOne;
     const bool sets = isOfMembers && isNumber(words[2]);  // A file of such a name is ./5.
-    if (sets && (!isMember(what) || words.size() < 5)) return false;
+    if (sets && (!isOfOne || words.size() < 5)) return false;
     const std::string asked = sets ? verb + " " + words[2] + " " + words[3] : isOfMembers ? verb : verb + " " + what;
     if (!Command::read(asked, into.command)) return false;
-    if (isMember(what)) into.member = what;
+    if (desk && !isOfOne) return false;
+    into.command.desk = desk;
+    if (isOfOne) into.member = what;
     into.paths.assign(words.begin() + (sets ? 4 : 2), words.end());
     return std::none_of(into.paths.begin(), into.paths.end(),
                         [](const std::string &it) { return it.empty() || it[0] == '-'; });

@@ -9,7 +9,6 @@
 #include <cstdint>
 #include <ctime>
 
-#include "control_socket.h"
 #include "lines.h"
 #include "status.h"
 #include "users.h"
@@ -43,8 +42,8 @@ void send(int socket, const std::string &line) {
 
 }
 
-Control::Control(const Settings &settings, Member &member)
-    : settings_(settings), member_(member), bell_(::eventfd(0, EFD_NONBLOCK | EFD_CLOEXEC)) {
+Control::Control(const Settings &settings, Member &member, Callers callers)
+    : settings_(settings), member_(member), callersAre_(callers), bell_(::eventfd(0, EFD_NONBLOCK | EFD_CLOEXEC)) {
     listen();
     thread_ = std::thread([this] { run(); });
 }
@@ -57,18 +56,20 @@ Control::~Control() {
     const std::uint64_t one = 1;
     if (::write(bell_.get(), &one, sizeof one) < 0) say("", "who waits for a command isn't woken: " + reason());
     thread_.join();
-    if (listener_) endControl(settings_.folder, settings_.member.name());
+    if (listener_) endControl(settings_.folder, settings_.member.name(), callersAre_);
 }
 
 /// A disk may have no room for a socket: its member is served all the same, and it is tried again.
 void Control::listen() {
     listenAt_ = Clock::now() + AGAIN;
     try {
-        listener_ = controlListener(settings_.folder, settings_.member.name());
+        listener_ = controlListener(settings_.folder, settings_.member.name(), callersAre_);
         saidOfListener_.clear();
     } catch (const std::runtime_error &why) {
         if (saidOfListener_ != why.what())
-            say("", std::string("no command of an operator can be taken: ") + why.what());
+            say("", (callersAre_ == Callers::Operators ? "no command of an operator can be taken: "
+                                                       : "no session of copies can ask for names: ") +
+                        std::string(why.what()));
         saidOfListener_ = why.what();
     }
 }
@@ -133,20 +134,28 @@ bool Control::hear(Caller &it) {
     return it.bytes.size() >= LONGEST_COMMAND;
 }
 
+/// Whether a command is of those who call at this door.
+bool Control::takes(const Command &command) const {
+    return (command.kind == Command::Kind::Names) == (callersAre_ == Callers::Copies);
+}
+
 /// Hands a command to the member: whether its caller goes. A name in front of it says which member is meant, whatever
 /// the caller's path has led to. Who has gone was told that nothing answers, and so nothing may come of that.
 bool Control::ask(Caller &it, const std::string &words) {
-    const std::string front = settings_.member.name() + " ";
+    const std::size_t end = std::min(words.find(' '), words.size());
+    const std::string behind = words.substr(std::min(end + 1, words.size()));
     Command command;
-    if (words.compare(0, front.size(), front) || !Command::read(words.substr(front.size()), command)) {
+    if (!isDeskOf(words.substr(0, end), settings_.member.name(), command.desk) || !Command::read(behind, command) ||
+        !takes(command)) {
         send(it.socket.get(), FAILED + std::string("these are no words to the process of ") + settings_.member.name());
         return true;
     }
     if (hasLeft(it.socket.get())) {
-        say("", "a command isn't carried out, since its operator has gone: " + command.words());
+        if (callersAre_ == Callers::Operators)
+            say("", "a command isn't carried out, since its operator has gone: " + command.words());
         return true;
     }
-    if (command.kind == Command::Kind::Status) {
+    if (command.kind == Command::Kind::Status && !command.desk) {
         send(it.socket.get(), DONE + statusOf(member_));
         return true;
     }

@@ -1,7 +1,8 @@
 #pragma once
 
-// The door for operators: a socket in the member's folder, at which console.h calls. A command that is read here is
-// handed to the member's thread, which says what came of it.
+// The doors for operators, and for sessions that copy the member's reports: a socket each in the member's folder, at
+// which console.h and name_asker.h call. A command that is read here is handed to the member's thread, which says what
+// came of it.
 
 #include <chrono>
 #include <list>
@@ -12,6 +13,7 @@
 #include <vector>
 
 #include "commands.h"
+#include "control_socket.h"
 #include "descriptor.h"
 #include "member.h"
 #include "settings.h"
@@ -19,10 +21,11 @@
 namespace edge {
 
 /// Takes in commands, and answers each by a line. A few callers are there at a time. One that says nothing is let go
-/// soon, and none is waited for. Nobody but the user of this process, and root, can call.
+/// soon, and none is waited for. Nobody but the user of this process, and root, can call. Sessions of copies ask for
+/// names, and at a door of their own, so that they hold up no operator; operators ask for all else.
 class Control {
 public:
-    Control(const Settings &settings, Member &member);
+    Control(const Settings &settings, Member &member, Callers callers);
 
     /// Answers what has been told by then. The member's thread has ended.
     ~Control();
@@ -43,12 +46,14 @@ private:
     void listen();
     void admit();
     bool hear(Caller &it);
+    bool takes(const Command &command) const;
     bool ask(Caller &it, const std::string &words);
     void told(long number, bool isDone, const std::string &what);
     void answer();
 
     const Settings &settings_;
     Member &member_;
+    const Callers callersAre_;
     Descriptor listener_, bell_;
     std::list<Caller> callers_;
     long count_ = 0;

@@ -16,15 +16,15 @@ namespace {
 
 constexpr int WAITING = 8;  // Connections that nobody has taken in yet.
 
-std::string nameOf(const std::string &member) {
-    return member + ".control";
+std::string nameOf(const std::string &member, Callers callers) {
+    return member + (callers == Callers::Operators ? ".control" : ".copies");
 }
 
 /// The address of a socket in a folder, by a descriptor of that: the system takes no path of more than 107 bytes.
 class Address {
 public:
-    Address(const std::string &folder, const std::string &member)
-        : folder_(::open(folder.c_str(), O_PATH | O_DIRECTORY | O_CLOEXEC)), name_(nameOf(member)) {
+    Address(const std::string &folder, const std::string &member, Callers callers)
+        : folder_(::open(folder.c_str(), O_PATH | O_DIRECTORY | O_CLOEXEC)), name_(nameOf(member, callers)) {
         it_.sun_family = AF_UNIX;
         std::snprintf(it_.sun_path, sizeof it_.sun_path, "/proc/self/fd/%d/%s", folder_.get(), name_.c_str());
     }
@@ -52,28 +52,28 @@ Descriptor madeSocket() {
 
 }
 
-std::string controlPath(const std::string &folder, const std::string &member) {
-    return folder + "/" + nameOf(member);
+std::string controlPath(const std::string &folder, const std::string &member, Callers callers) {
+    return folder + "/" + nameOf(member, callers);
 }
 
-Descriptor controlListener(const std::string &folder, const std::string &member) {
-    const Address address(folder, member);
+Descriptor controlListener(const std::string &folder, const std::string &member, Callers callers) {
+    const Address address(folder, member, callers);
     if (address) address.clear();
     Descriptor it = madeSocket();
     // It has its mode before it has its name.
     if (!address || !it || ::fchmod(it.get(), 0600) || ::bind(it.get(), address.get(), Address::size()) ||
         ::listen(it.get(), WAITING))
-        throw std::runtime_error("can't listen at " + controlPath(folder, member) + ": " + reason());
+        throw std::runtime_error("can't listen at " + controlPath(folder, member, callers) + ": " + reason());
     return it;
 }
 
-void endControl(const std::string &folder, const std::string &member) {
-    const Address address(folder, member);
+void endControl(const std::string &folder, const std::string &member, Callers callers) {
+    const Address address(folder, member, callers);
     if (address) address.clear();
 }
 
-Descriptor controlConnection(const std::string &folder, const std::string &member) {
-    const Address address(folder, member);
+Descriptor controlConnection(const std::string &folder, const std::string &member, Callers callers) {
+    const Address address(folder, member, callers);
     Descriptor it = address ? madeSocket() : Descriptor();
     if (it && ::connect(it.get(), address.get(), Address::size())) it.reset();
     return it;

@@ -16,17 +16,34 @@ namespace edge {
 namespace {
 
 constexpr std::size_t MOST_TO_VENUE = 1 << 20;  // Behind this no more is read of the client.
-constexpr long MOST_STEP = 100000000;           // That a SequenceReset may go at once.
+
+/// The number of at most nine digits that stands behind this text, which begins at this place, or 0.
+long numberBehind(const std::string &front, const std::string &text, std::size_t &place) {
+    if (text.compare(place, front.size(), front)) return 0;
+    const std::size_t first = place + front.size();
+    place = std::min(text.find_first_not_of("0123456789", first), text.size());
+    return place > first && place - first <= 9 ? std::stol(text.substr(first, place - first)) : 0;
+}
+
+/// The number that an engine expects which ends its session since ours, this one or one behind it, is too low, in the
+/// words of most engines; or 0.
+long expectedBy(const std::string &text, long ours) {
+    std::size_t place = 0;
+    const long expected = numberBehind("MsgSeqNum too low, expecting ", text, place);
+    const long came = expected ? numberBehind(" but received ", text, place) : 0;
+    return ours && ours <= came && came < expected ? expected : 0;
+}
 
 }
 
 Conversation::Conversation(const MemberSettings &member, const Logons &logons, const VenueLink &link, Trader &trader,
-                           Day &day)
+                           Day &day, Answers &answers)
     : member_(member),
       logons_(logons),
       link_(link),
       trader_(trader),
       day_(day),
+      answers_(answers),
       intake_(member.limits.readMessages, member.limits.readBytes) {}
 
 void Conversation::attach(FIX::Session &session, Store &store) {
@@ -39,18 +56,26 @@ std::string Conversation::begin(Descriptor socket, const std::string &bytes, con
     client_.reset(new Connection(std::move(socket), bytes, member_.limits.messageBytes, member_.limits.unsentBytes,
                                  [this](const std::string &message) { return writing(message); }));
     session_->setResponder(client_.get());
-    trader_.sendsTo(client_.get());
+    trader_.sendsTo(member_.desk, client_.get());
     gaps_.clear();
     garbled_.clear();
-    say(member_.name(), "a client from " + clientsAddress_);
+    answer_ = wanted_ = 0;
+    say(member_.deskName(), "a client from " + clientsAddress_);
     return passMessages();
 }
 
 void Conversation::end() {
-    trader_.sendsTo(nullptr);
+    trader_.sendsTo(member_.desk, nullptr);
     client_.reset();
     resends_.clear();
+    answers_.end();
     isHeldUp_ = false;
+}
+
+void Conversation::goUp() {
+    const long number = wanted_;
+    wanted_ = 0;
+    if (number) intake_.sentAgain(day_.goUpTo(number));
 }
 
 void Conversation::release() {
@@ -59,15 +84,20 @@ void Conversation::release() {
 
 void Conversation::drop() {
     if (client_) client_->drop();
+    wanted_ = 0;
 }
 
 std::string Conversation::flush() {
     if (!client_) return "";
     const bool stands = client_->flush();
     day_.written(client_->unsent());
-    if (client_->isEnding()) return "its session has ended";
+    if (client_->isEnding()) return endWords();
     if (!stands) return "nothing can be written to it";
     return client_->isOverfull() ? "it takes too few of its reports, which are in its store" : "";
+}
+
+std::string Conversation::endWords() const {
+    return "its session has ended" + (farewell_.empty() ? "" : ": " + shown(farewell_));
 }
 
 pollfd Conversation::watched() {
@@ -94,7 +124,7 @@ std::string Conversation::read() {
 
 /// Whether the client is read: while it takes what that brings, the venue answers, and it sends no more than it may.
 bool Conversation::mayRead() {
-    return client_->takesMore() && link_.unsent() < MOST_TO_VENUE && !trader_.isBusy() && intake_.hasRoom();
+    return client_->takesMore() && link_.unsent() < MOST_TO_VENUE && !trader_.isBusy(member_.desk) && intake_.hasRoom();
 }
 
 /// Whoever isn't logged on behind a message, its Logon or its Logout, goes.
@@ -116,14 +146,17 @@ std::string Conversation::passMessages() {
     return "";
 }
 
-/// Passes a message on, and notes what that cost.
+/// Passes a message on, and notes what that cost. Some questions are answered a moment later, and some by many answers.
 void Conversation::passMessage(const std::string &message) {
     const long passed = link_.sent();
     const int told = session_->getExpectedSenderNum();
+    const std::size_t open = answers_.open();
     judge(message);
     auto cost = link_.sent() != passed ? Intake::Cost::PassedOn : Intake::Cost::Looked;
-    if (session_->getExpectedSenderNum() != told || !trader_.hasRoom()) cost = Intake::Cost::Answered;
+    const bool isAnswered = session_->getExpectedSenderNum() != told || answers_.open() > open;
+    if (isAnswered || !trader_.hasRoom()) cost = Intake::Cost::Answered;
     intake_.took(message.size(), cost);
+    intake_.sentAgain(std::max(0, session_->getExpectedSenderNum() - told - 1));
 }
 
 void Conversation::judge(const std::string &message) {
@@ -136,6 +169,8 @@ void Conversation::judge(const std::string &message) {
     client_->passedOver().clear();
     last_ = judged.number(FIX::FIELD::MsgSeqNum);
     isLoggingOut_ = judged.is(FIX::FIELD::MsgType, "5");
+    farewell_ = isLoggingOut_ ? judged.text(FIX::FIELD::Text) : "";
+    wanted_ = isLoggingOut_ && isOfSession(judged) ? expectedBy(judged.text(FIX::FIELD::Text), answer_) : 0;
     const long expected = session_->getExpectedTargetNum();
     const bool isAsking = judged.is(FIX::FIELD::MsgType, "A") || judged.is(FIX::FIELD::MsgType, "2");
     if (!isAsking && !isLoggingOut_ && last_ == expected && isOfSession(judged)) day_.wentOn();
@@ -145,9 +180,14 @@ void Conversation::judge(const std::string &message) {
     else if (judged.is(FIX::FIELD::MsgType, "4") &&
              judged.number(FIX::FIELD::NewSeqNo) > std::min(expected + MOST_STEP, MOST_NUMBER))
         reject(message, judged, rangeReject(judged, FIX::FIELD::NewSeqNo), "NewSeqNo (36) is too far away");
-    else if (isUnsupportedType(judged.text(FIX::FIELD::MsgType)))
-        reject(message, judged, typeReject(judged), "Unsupported message type");
+    else if (isUnsupportedType(judged.text(FIX::FIELD::MsgType)) || isOfTraders(judged))
+        reject(message, judged, typeReject(judged, !member_.isOfCopies()), "Unsupported message type");
     else give(message, judged);
+}
+
+/// Whether a message asks for something in a session of copies, where nothing can be asked for.
+bool Conversation::isOfTraders(const Judged &it) const {
+    return member_.isOfCopies() && isRequest(it.text(FIX::FIELD::MsgType));
 }
 
 /// Whether a message has the CompIDs of the session.
@@ -163,8 +203,11 @@ void Conversation::give(const std::string &message, const Judged &judged) {
         client_->disconnect();
         return;
     }
+    if (isLogon) answers_.begin(judged.text(FIX::FIELD::SendingTime));
     const long expected = session_->getExpectedTargetNum(), next = session_->getExpectedSenderNum();
+    if (isLogon) answer_ = next;
     const bool isResend = judged.is(FIX::FIELD::MsgType, "2");
+    if (isResend) answers_.beginAnew();  // What it hasn't got of that isn't sent again.
     if (isResend && isLongResend(message, judged)) {
         gaps_.given(judged, expected, session_->getExpectedTargetNum());
         return;
@@ -174,7 +217,7 @@ void Conversation::give(const std::string &message, const Judged &judged) {
     try {
         session_->next(message, FIX::UtcTimeStamp());
     } catch (const FIX::InvalidMessage &why) {
-        say(member_.name(), "a message can't be read: " + shown(why.what()));
+        say(member_.deskName(), "a message can't be read: " + shown(why.what()));
     }
     client_->resends(false);
     store_->letReset(false);
@@ -185,10 +228,10 @@ void Conversation::give(const std::string &message, const Judged &judged) {
 /// Whether a Logon isn't shown to the session. Its engine is told why by a message that it doesn't count. A Logout of
 /// the session has the next number: behind that an engine that missed messages would never ask for the first of them.
 bool Conversation::isRefused(const std::string &message, const Judged &logon) {
-    const std::string why =
-        day_.isOpen() ? logons_.refusalOf(logon) : "the session's hours are " + day_.hours().words();
+    std::string why = day_.isOpen() ? logons_.refusalOf(logon) : "the session's hours are " + day_.hours().words();
+    if (why.empty() && day_.owes()) why = "what it wasn't sent is being told again: try again";
     if (why.empty()) return false;
-    say(member_.name(), "a Logon from " + clientsAddress_ + " is refused: " + why);
+    say(member_.deskName(), "a Logon from " + clientsAddress_ + " is refused: " + why);
     const std::string told = uncountedReject(member_.session, logon, why);
     session_->getLog()->onIncoming(message);
     session_->getLog()->onOutgoing(told);
@@ -225,9 +268,9 @@ void Conversation::resendPiece() {
         resends_.clear();
         return;
     }
-    long count = 0;
-    const FIX::Message piece = resends_.next(count);
-    intake_.sentAgain(count);
+    const long from = resends_.reached();
+    const FIX::Message piece = resends_.next(store_->nextKept(from));
+    intake_.sentAgain(store_->keptOf(from, resends_.reached() - 1) + 1);
     client_->resends(true);
     session_->next(piece, FIX::UtcTimeStamp());
     client_->resends(false);
@@ -242,7 +285,7 @@ void Conversation::passOver() {
     const std::string news = it.news(), excess = it.excess();
     const PassedOver::Count fresh = it.fresh();
     if (!news.empty()) {
-        say(member_.name(), "a message can't be read: " + news);
+        say(member_.deskName(), "a message can't be read: " + news);
         session_->getLog()->onEvent("Garbled message: " + news);
     }
     if (fresh.bytes || fresh.messages) intake_.took(fresh.bytes, Intake::Cost::Answered);

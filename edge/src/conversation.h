@@ -12,6 +12,7 @@
 #include <memory>
 #include <string>
 
+#include "answers.h"
 #include "canonical.h"
 #include "connection.h"
 #include "day.h"
@@ -32,7 +33,8 @@ namespace edge {
 /// ends the client's connection where a call says why. Some calls need a client: all from `read` to `end`.
 class Conversation {
 public:
-    Conversation(const MemberSettings &member, const Logons &logons, const VenueLink &link, Trader &trader, Day &day);
+    Conversation(const MemberSettings &member, const Logons &logons, const VenueLink &link, Trader &trader, Day &day,
+                 Answers &answers);
 
     /// Gives it its session and store, before it begins.
     void attach(FIX::Session &session, Store &store);
@@ -56,6 +58,9 @@ public:
     /// Sends the next piece again of what the client asked for, where the client takes it.
     void sendAgain();
 
+    /// Behind its end: where its engine has said that it expects a number above ours, the session goes on with that.
+    void goUp();
+
     /// Lets all that was sent so far be written, which is committed.
     void release();
 
@@ -70,6 +75,10 @@ public:
     pollfd watched();
     std::chrono::milliseconds pause(std::chrono::milliseconds most);
 
+    /// Why the connection of a client ends whose session has ended: with the words of its own Logout, where that has
+    /// some.
+    std::string endWords() const;
+
     bool isOn() const { return client_ != nullptr; }
     bool isEnding() const { return client_ && client_->isEnding(); }
 
@@ -83,6 +92,16 @@ public:
     bool hasLeft() const;
 
     std::size_t unsent() const { return client_ ? client_->unsent() : 0; }
+
+    /// Whether more may be told to it than what it asks for message by message: it has taken all of before, so that
+    /// what it was sent of reports is known, and it has room for what that costs.
+    bool mayBeTold() { return client_->hasTaken() && intake_.hasRoom(); }
+
+    /// So many messages were told so, or looked at.
+    void told(long count) { intake_.sentAgain(count); }
+
+    /// Whether its engine misses nothing of what was told before, or goes on without that.
+    bool goesOn() const { return !resends_.isDue() && day_.goesOn(); }
     const std::string &clientsAddress() const { return clientsAddress_; }
 
 private:
@@ -91,6 +110,7 @@ private:
     void judge(const std::string &message);
     void give(const std::string &message, const Judged &judged);
     bool isOfSession(const Judged &it) const;
+    bool isOfTraders(const Judged &it) const;
     bool isRefused(const std::string &message, const Judged &logon);
     bool isLongResend(const std::string &message, const Judged &request);
     void resendPiece();
@@ -105,6 +125,7 @@ private:
     const VenueLink &link_;
     Trader &trader_;
     Day &day_;
+    Answers &answers_;
     FIX::Session *session_ = nullptr;
     Store *store_ = nullptr;
 
@@ -117,7 +138,10 @@ private:
     bool isHeldUp_ = false;
     bool isClientsTurn_ = false;  // It is read in front of the next piece that is sent again.
     long last_ = 0;               // The number of the last message of the client that could be read.
-    bool isLoggingOut_ = false;   // That is a Logout.
+    bool isLoggingOut_ = false;   // That is a Logout,
+    std::string farewell_;        // and its Text (58).
+    long answer_ = 0;             // The number by which its Logon was answered.
+    long wanted_ = 0;             // The number that its engine expects, where that says that ours is too low.
 };
 
 }

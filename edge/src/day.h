@@ -12,17 +12,28 @@
 
 #include "canonical.h"
 #include "heard.h"
+#include "owed.h"
 #include "schedule.h"
+#include "session_record.h"
+#include "settings.h"
 #include "store.h"
 
 namespace edge {
 
-/// The days of a member's session. At the end of its hours the numbers of a session begin anew, once, whether the
-/// member is there or not. What it wasn't sent by then is told again under numbers of the new day.
+/// The days of a session of a member. At the end of its hours the numbers of a session begin anew, once, whether the
+/// member is there or not. What it wasn't sent by then is told again under numbers of the new day, in front of what the
+/// venue tells it next. Of a session of copies that may be any number, and is done in pieces. So is what a desk is told
+/// again, where other desks would wait for more than a piece.
 class Day {
 public:
-    Day(const Schedule &hours, const Schedule &ofOrders, const std::string &member, Record &record)
-        : hours_(hours), ofOrders_(ofOrders), member_(member), record_(record) {}
+    /// Of the session of a desk.
+    Day(const Schedule &hours, const Schedule &ofOrders, const MemberSettings &member, Record &record)
+        : hours_(hours),
+          ofOrders_(ofOrders),
+          name_(member.deskName()),
+          isOfCopies_(member.isOfCopies()),
+          record_(record, member.desk),
+          owed_(record_) {}
 
     /// Gives it the session and its store, each time that the store has been read.
     void attach(FIX::Session &session, Store &store);
@@ -41,15 +52,31 @@ public:
     void begin();
 
     /// The numbers go on with this one, which is above those of before. What the member's engine wasn't sent by then is
-    /// told again behind it, since an engine may never ask for what stands below: how many reports that are. No client
-    /// is there.
+    /// told again behind it, since an engine may never ask for what stands below: how many reports that are, or 0 where
+    /// it is done in pieces. No client is there.
     long goOnWith(long number);
+
+    /// Whether something is to be told again in pieces. Nobody may log on until then.
+    bool owes() const { return owed_.isThere(); }
+
+    /// Tells the next piece of that.
+    void tellOwed();
+
+    /// The engine, which has gone, expects this number where its Logon was answered by a lower one: it has another day,
+    /// or another store. It passes over all that it is told below. So the numbers go up, and what it wasn't sent is
+    /// told again there: how many messages are looked at for that. Where it says so once more, and has heard nothing
+    /// since, nothing is told again.
+    long goUpTo(long number);
 
     /// What was written is committed. A day that has begun is said only now: one that couldn't be kept hasn't.
     void committed();
 
     /// What was written is lost.
-    void drop() { begun_.clear(); }
+    void drop() {
+        begun_.clear();
+        wentUp_.clear();
+        toldAgain_.clear();
+    }
 
     /// The member's engine has sent the next message of its session, which shows that it goes on: it isn't its Logon
     /// nor its Logout, and asks for nothing.
@@ -63,6 +90,7 @@ public:
 
     /// Whether the engine is known to miss nothing of what was told before it logged on.
     bool hasAll() const { return heard_.hasAll(); }
+    bool goesOn() const { return heard_.goesOn(); }
 
     /// So many bytes wait to be written to the engine.
     void written(std::size_t unsent);
@@ -79,15 +107,21 @@ public:
     long began() const { return began_; }
 
 private:
+    bool isInPieces(long from, long end) const;
     std::vector<int> tellAgain(long from, long end);
+    void dropEach(const std::vector<int> &numbers);
+    void passStep();
 
     const Schedule hours_, ofOrders_;
-    const std::string member_;
-    Record &record_;
+    const std::string name_;
+    const bool isOfCopies_;
+    SessionRecord record_;
     FIX::Session *session_ = nullptr;
     Store *store_ = nullptr;
     Heard heard_;
-    std::string begun_;  // What is said of a new day once it is committed.
+    Owed owed_;
+    std::string begun_, wentUp_, toldAgain_;  // What is said of a new day, of numbers and of pieces, once it is committed.
+    long wentUpTo_ = 0;                       // Where the numbers last went up to by an engine's word.
     std::atomic<long> began_{0};
 };
 

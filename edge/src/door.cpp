@@ -13,6 +13,7 @@
 #include "canonical.h"
 #include "guests.h"
 #include "lines.h"
+#include "listener.h"
 
 namespace edge {
 
@@ -35,25 +36,12 @@ std::string placeOf(const sockaddr_in &address) {
 
 }
 
-Descriptor listener(const std::string &host, int port) {
-    Descriptor it(::socket(AF_INET, SOCK_STREAM | SOCK_NONBLOCK | SOCK_CLOEXEC, 0));
-    if (!it) throw std::runtime_error("can't make a socket: " + reason());
-    const int one = 1;
-    ::setsockopt(it.get(), SOL_SOCKET, SO_REUSEADDR, &one, sizeof one);
-    sockaddr_in address{};
-    address.sin_family = AF_INET;
-    address.sin_port = htons(static_cast<std::uint16_t>(port));
-    ::inet_pton(AF_INET, host.c_str(), &address.sin_addr);
-    if (::bind(it.get(), reinterpret_cast<const sockaddr *>(&address), sizeof address) || ::listen(it.get(), SOMAXCONN))
-        throw std::runtime_error("can't listen on " + host + ":" + std::to_string(port) + ": " + reason());
-    return it;
-}
-
 Door::Door(FIX::Application &application, FIX::MessageStoreFactory &stores, const Settings &settings,
-           FIX::LogFactory &logs, Member &member)
+           FIX::LogFactory &logs, MemberSession &desk)
     : FIX::Acceptor(application, stores, settings.library, logs),
       settings_(settings),
-      member_(member),
+      desk_(desk),
+      who_(settings.member.desk == FIRST_DESK ? "" : settings.member.deskName()),
       framer_(settings.member.limits.messageBytes) {}
 
 void Door::onInitialize(const FIX::SessionSettings &) throw(FIX::RuntimeError) {
@@ -69,7 +57,7 @@ void Door::onStart() {
         try {
             turn();
         } catch (const std::exception &why) {
-            say("", std::string("the door: ") + why.what());
+            say(who_, std::string("the door: ") + why.what());
             std::this_thread::sleep_for(TURN);
         }
     }
@@ -86,7 +74,7 @@ void Door::turn() {
     std::size_t at = 1;
     for (auto it = guests_.begin(); it != guests_.end(); at++) {
         const bool isOver = (all[at].revents && isDone(*it)) || Clock::now() - it->since > PATIENCE;
-        if (isOver && it->socket) say("", "a client from " + it->from + " is let go: it didn't log on");
+        if (isOver && it->socket) say(who_, "a client from " + it->from + " is let go: it didn't log on");
         it = isOver ? guests_.erase(it) : std::next(it);
     }
     for (int count = 0; all[0].revents && count < AT_ONCE && admit(); count++) {}
@@ -101,7 +89,7 @@ bool Door::admit() {
         ::accept4(listener_.get(), reinterpret_cast<sockaddr *>(&address), &size, SOCK_NONBLOCK | SOCK_CLOEXEC));
     if (!socket) {
         if (errno == EAGAIN || errno == ECONNABORTED || errno == EINTR) return false;
-        say("", "no client can be taken in: " + reason());
+        say(who_, "no client can be taken in: " + reason());
         admitAt_ = Clock::now() + TURN;
         return false;
     }
@@ -128,7 +116,7 @@ bool Door::makeRoom(std::uint32_t address, const std::string &from) {
     if (room.way() == Guests::Way::Free) return true;
     const auto who = std::next(guests_.begin(), static_cast<long>(room.place()));
     const bool isRefused = room.way() == Guests::Way::Refused;
-    say("", "a client from " + (isRefused ? from : who->from) + " is let go: too many wait to log on", 1);
+    say(who_, "a client from " + (isRefused ? from : who->from) + " is let go: too many wait to log on", 1);
     if (!isRefused) guests_.erase(who);
     return !isRefused;
 }
@@ -143,7 +131,7 @@ bool Door::isDone(Guest &guest) {
     try {
         return greet(guest);
     } catch (const BadBytes &why) {
-        say("", "a client from " + guest.from + " is let go: " + why.what());
+        say(who_, "a client from " + guest.from + " is let go: " + why.what());
         guest.socket.reset();
         return true;
     }
@@ -160,21 +148,21 @@ bool Door::greet(Guest &guest) {
     if (!logon.isGood()) throw BadBytes("its first message can't be read: " + logon.why());
     if (isOfMember(logon)) handOver(guest, logon);
     else
-        say("", "a client from " + guest.from +
-                    " is let go, whose first message is no Logon of a member: " + shown(masked(first)));
+        say(who_, "a client from " + guest.from +
+                      " is let go, whose first message is no Logon of a member: " + shown(masked(first)));
     guest.socket.reset();
     return true;
 }
 
 bool Door::isOfMember(const Judged &logon) const {
-    const FIX::SessionID &session = member_.settings().session;
+    const FIX::SessionID &session = desk_.settings().session;
     const bool isMembers = logon.is(FIX::FIELD::SenderCompID, session.getTargetCompID().getValue()) &&
                            logon.is(FIX::FIELD::TargetCompID, session.getSenderCompID().getValue());
     return isMembers && logon.is(FIX::FIELD::MsgType, "A");
 }
 
 void Door::handOver(Guest &guest, const Judged &logon) {
-    if (isLookedAt(guest, logon)) member_.hand(std::move(guest.socket), guest.bytes, guest.from);
+    if (isLookedAt(guest, logon)) desk_.hand(std::move(guest.socket), guest.bytes, guest.from);
 }
 
 /// Whether the password is the member's. Who hasn't got it reaches neither the session nor its store, and is told
@@ -183,16 +171,16 @@ bool Door::isLookedAt(const Guest &guest, const Judged &logon) {
     const std::string front = "a Logon from " + guest.from + " is refused: ";
     const auto now = Clock::now();
     if (!delays_.isOver(guest.address, now)) {
-        say("", front + "it comes too soon behind a wrong password", 1);
+        say(who_, front + "it comes too soon behind a wrong password", 1);
         return false;
     }
-    if (member_.knows(logon.text(553), logon.text(554))) {
+    if (desk_.knows(logon.text(553), logon.text(554))) {
         delays_.succeeded(guest.address);
         return true;
     }
     const auto pause = delays_.failed(guest.address, now);
-    say("", front + "Username (553) or Password (554) is wrong; the next one from there is looked at in " +
-                std::to_string(pause.count()) + " ms");
+    say(who_, front + faultOf(logon.text(553), logon.text(554)) + "; the next one from there is looked at in " +
+                  std::to_string(pause.count()) + " ms");
     return false;
 }
 

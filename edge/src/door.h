@@ -11,18 +11,18 @@
 #include "delays.h"
 #include "descriptor.h"
 #include "framer.h"
-#include "member.h"
+#include "member_session.h"
 #include "settings.h"
 
 namespace edge {
 
 /// The library's acceptor over sockets of the edge's own: it listens, reads the first message of each client, and hands
-/// a client whose Logon that is over to the member. It holds few clients, for some seconds each, and waits for none of
+/// a client whose Logon that is over to the desk. It holds few clients, for some seconds each, and waits for none of
 /// them.
 class Door : public FIX::Acceptor {
 public:
     Door(FIX::Application &application, FIX::MessageStoreFactory &stores, const Settings &settings,
-         FIX::LogFactory &logs, Member &member);
+         FIX::LogFactory &logs, MemberSession &desk);
 
 private:
     using Clock = std::chrono::steady_clock;
@@ -50,15 +50,13 @@ private:
     bool isLookedAt(const Guest &guest, const Judged &logon);
 
     const Settings &settings_;
-    Member &member_;
+    MemberSession &desk_;
+    const std::string who_;  // In front of its lines, where that isn't the member's name.
     Framer framer_;
     Descriptor listener_;
     std::list<Guest> guests_;
     Delays delays_;
     Clock::time_point admitAt_;
 };
-
-/// A socket that listens there; throws a std::runtime_error where it can't.
-Descriptor listener(const std::string &host, int port);
 
 }

@@ -46,8 +46,8 @@ long Exposure::Order::boldest() const {
 
 Exposure::Counted Exposure::countedOf(const Order &it) const {
     const auto tick = ticks_.find(it.symbol);
-    if (tick == ticks_.end()) return {0, 0, 0};  // No order of the venue has such a symbol.
-    return {it.value(tick->second), it.quantity(), it.boldest()};
+    if (tick == ticks_.end()) return {0, 0, 0, it.desk};  // No order of the venue has such a symbol.
+    return {it.value(tick->second), it.quantity(), it.boldest(), it.desk};
 }
 
 /// Changes the sums by what has become of an order.
@@ -59,7 +59,9 @@ void Exposure::count(long key, const Order &it, const Counted &before, const Cou
         if (before.boldest) prices.erase({before.boldest, key});
         if (now.boldest) prices.insert({now.boldest, key});
     }
-    if (before.value == now.value) return;
+    if (before.value == now.value && before.desk == now.desk) return;
+    values_[before.desk] -= before.value;
+    values_[now.desk] += now.value;
     value_ += now.value - before.value;
     const std::lock_guard<std::mutex> lock(mutex_);
     shown_ = value_;
@@ -108,7 +110,10 @@ Exposure::Orders::iterator Exposure::place(long number, const std::string &symbo
 void Exposure::sent(long number, long original, const Request &it, long price) {
     const auto at = place(orderOf(original, it) ? original : number, it.symbol, it.side);
     keys_[number] = at->first;
-    change(at, [&](Order &order) { order.asks[number] = {price, it.quantity, it.mayStay()}; });
+    change(at, [&](Order &order) {
+        order.asks[number] = {price, it.quantity, it.mayStay()};
+        order.desk = it.desk;
+    });
 }
 
 /// A request is answered, or won't be.
@@ -119,7 +124,7 @@ void Exposure::end(long number) {
     change(at, [number](Order &order) { order.asks.erase(number); });
 }
 
-void Exposure::take(const Fields &report) {
+void Exposure::take(const Fields &report, int desk) {
     const char event = report.byte(150);
     const bool isExecution = report.byte(35) == '8' && event != '8' && ticks_.count(report.text(55));
     if (!isExecution) {
@@ -127,11 +132,12 @@ void Exposure::take(const Fields &report) {
         return;
     }
     if (event == 'F') positions_[report.text(55)] += (report.byte(54) == BUYS ? 1 : -1) * boundedOf(report, 32);
-    takeExecution(report);
+    takeExecution(report, desk);
 }
 
-/// A report of what an order has become: of a cancel or a replace it has the order's number of before, too.
-void Exposure::takeExecution(const Fields &report) {
+/// A report of what an order has become: of a cancel or a replace it has the order's number of before, too. The name of
+/// that one may have been dropped, so the desk is that of the newer number.
+void Exposure::takeExecution(const Fields &report, int desk) {
     const char event = report.byte(150);
     const bool isAsked = report.has(41), isOver = event == '4' || report.byte(39) == '2';
     const long number = report.number(11);
@@ -152,6 +158,7 @@ void Exposure::takeExecution(const Fields &report) {
         if (report.has(44)) order.price = boundedOf(report, 44);
         order.left = isOver ? 0 : boundedOf(report, 151);
         order.filled = boundedOf(report, 14);
+        order.desk = desk;
     });
 }
 
@@ -162,6 +169,7 @@ void Exposure::clear() {
     prices_.clear();
     positions_.clear();
     value_ = 0;
+    values_.clear();
     const std::lock_guard<std::mutex> lock(mutex_);
     shown_ = 0;
 }
@@ -170,6 +178,11 @@ Money Exposure::valueWith(long original, const Request &it, long price) const {
     const Order *const order = orderOf(original, it);
     const Tick &tick = ticks_.at(it.symbol);
     return value_ - (order ? order->value(tick) : 0) + tick.valueOf(price, openOf(original, it));
+}
+
+Money Exposure::desksValueWith(long original, const Request &it, long price) const {
+    const auto own = values_.find(it.desk);
+    return valueWith(original, it, price) - value_ + (own == values_.end() ? 0 : own->second);
 }
 
 long Exposure::quantityWith(long original, const Request &it) const {

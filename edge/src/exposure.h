@@ -7,6 +7,7 @@
 #include <utility>
 #include <vector>
 
+#include "desk_names.h"
 #include "fields.h"
 #include "money.h"
 #include "orders.h"
@@ -15,7 +16,8 @@
 namespace edge {
 
 /// What a member's orders may come to, and what it holds: of orders that rest at the venue, and of requests that are
-/// under way to it. A replace that is under way counts as its order or as what it asks for, whichever is more.
+/// under way to it. A replace that is under way counts as its order or as what it asks for, whichever is more. Each
+/// order is of one of the member's desks.
 class Exposure {
 public:
     explicit Exposure(const std::map<std::string, Tick> &ticks) : ticks_(ticks) {}
@@ -24,8 +26,8 @@ public:
     /// price.
     void sent(long number, long original, const Request &it, long price);
 
-    /// A report of the venue to the member.
-    void take(const Fields &report);
+    /// A report of the venue to the member, of a request of this desk.
+    void take(const Fields &report, int desk = FIRST_DESK);
 
     /// No report will answer this request.
     void dropped(long number) { end(number); }
@@ -33,9 +35,10 @@ public:
     /// The journal is read anew.
     void clear();
 
-    /// The value of all that is open, as it would be with this request in the place of the order that it replaces; and
-    /// the quantity of its symbol and side.
+    /// The value of all that is open, as it would be with this request in the place of the order that it replaces; that
+    /// of what the request's desk has open; and the quantity of its symbol and side.
     Money valueWith(long original, const Request &it, long price) const;
+    Money desksValueWith(long original, const Request &it, long price) const;
     long quantityWith(long original, const Request &it) const;
 
     /// What would be open of a request: a replace of an order that is filled in part asks for less than its quantity.
@@ -67,6 +70,7 @@ private:
         char side = '1';
         long number = 0, price = 0, left = 0, filled = 0;  // As it rests; nothing left: it doesn't.
         bool mayStay = true;                               // Or it is over with the reports of its command.
+        int desk = FIRST_DESK;
         std::map<long, Ask> asks;
 
         bool isOpen() const { return left || !asks.empty(); }
@@ -80,6 +84,7 @@ private:
     struct Counted {
         Money value;
         long quantity, boldest;
+        int desk;
     };
 
     using Place = std::pair<std::string, char>;  // A symbol and a side.
@@ -90,7 +95,7 @@ private:
     Counted countedOf(const Order &it) const;
     void count(long key, const Order &it, const Counted &before, const Counted &now);
     void end(long number);
-    void takeExecution(const Fields &report);
+    void takeExecution(const Fields &report, int desk);
     Orders::iterator find(long number);
     Orders::iterator place(long number, const std::string &symbol, char side);
     const Order *orderOf(long original, const Request &it) const;
@@ -99,6 +104,7 @@ private:
     Orders orders_;              // By the number of the first request that is known of each.
     std::map<long, long> keys_;  // Of the numbers that an order has, or is asked to have.
     Money value_ = 0;
+    std::map<int, Money> values_;  // Of each desk.
     std::map<Place, long> quantities_;
     std::map<Place, std::set<std::pair<long, long>>> prices_;  // Of orders that may rest, with their keys.
     std::map<std::string, long> positions_;

@@ -5,6 +5,7 @@
 #include <unistd.h>
 
 #include <cerrno>
+#include <cstdio>
 #include <stdexcept>
 
 #include "descriptor.h"
@@ -61,6 +62,17 @@ void writeAll(int fd, const std::string &bytes, const std::string &path) {
         if (done <= 0) throw std::runtime_error("can't write to " + path + ": " + reason());
         at += static_cast<std::size_t>(done);
     }
+}
+
+void writeWhole(const std::string &path, const std::string &bytes) {
+    const std::string part = path + ".new";
+    const Descriptor file(::open(part.c_str(), O_RDWR | O_CREAT | O_TRUNC | O_CLOEXEC, 0600));
+    if (!file) throw std::runtime_error("can't make " + part + ": " + reason());
+    writeAll(file.get(), bytes, part);
+    if (::fsync(file.get())) throw std::runtime_error("can't sync " + part + ": " + reason());
+    if (std::rename(part.c_str(), path.c_str()))
+        throw std::runtime_error("can't rename " + part + " to " + path + ": " + reason());
+    syncFolder(folderOf(path));
 }
 
 void syncFolder(const std::string &folder) {

@@ -26,6 +26,10 @@ void makeFile(const std::string &path);
 /// Writes all these bytes, or throws a std::runtime_error: a part of them may have been written then.
 void writeAll(int fd, const std::string &bytes, const std::string &path);
 
+/// Puts a whole file of these bytes there, or none: a power cut leaves no part of one. Throws a std::runtime_error
+/// where that can't be done.
+void writeWhole(const std::string &path, const std::string &bytes);
+
 /// Syncs what a folder has, so that a power cut doesn't undo a rename; throws a std::runtime_error where it can't.
 void syncFolder(const std::string &folder);
 

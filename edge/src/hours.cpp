@@ -4,6 +4,7 @@
 #include <cctype>
 #include <cstdio>
 
+#include "seconds.h"
 #include "setting_values.h"
 #include "settings.h"
 
@@ -63,6 +64,10 @@ Schedule dayEndsOf(const FIX::Dictionary &from, const Schedule &hours) {
     if (!from.has("DayEndTime")) return hours;
     const long end = timeOf(from, "DayEndTime");
     return Schedule::daily(end, end);
+}
+
+std::string outsideOf(const Schedule &hours, long now) {
+    return hours.isOpen(now) ? "" : "outside its hours until " + timeOf(hours.nextStart(now));
 }
 
 bool isOfHours(const std::string &name) {

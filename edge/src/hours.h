@@ -16,6 +16,9 @@ Schedule hoursOf(const FIX::Dictionary &from);
 /// Reads out of DayEndTime when what is Day ends, each day; with the hours where that is left out.
 Schedule dayEndsOf(const FIX::Dictionary &from, const Schedule &hours);
 
+/// Of a moment outside of these hours until when that is so, in words; else nothing.
+std::string outsideOf(const Schedule &hours, long now);
+
 /// Whether this name, in capitals, is a setting of hours, which the library isn't given.
 bool isOfHours(const std::string &name);
 

@@ -36,8 +36,8 @@ void needOwn(const std::vector<Settings> &members, const char *setting, const Cl
     for (auto one = members.begin(); one != members.end(); ++one)
         for (auto other = std::next(one); other != members.end(); ++other)
             if (clashes(*one, *other))
-                throw BadSetting(setting, "is the same for " + one->member.name() + " and " + other->member.name() +
-                                              ", and has to be each one's own");
+                throw BadSetting(setting, "is the same for " + one->member.deskName() + " and " +
+                                              other->member.deskName() + ", and has to be each one's own");
 }
 
 /// The members of a firm, this one with them.
@@ -62,6 +62,22 @@ bool isOneDoor(const Settings &one, const Settings &other) {
            (one.host == other.host || one.host == everywhere || other.host == everywhere);
 }
 
+/// What sessions have each for itself, whosever they are.
+void needOwnDoors(const std::vector<Settings> &sessions) {
+    using One = const Settings &;
+    needOwn(sessions, "SocketAcceptPort", isOneDoor);
+    needOwn(sessions, "StunnelConfig", [](One it, One other) {
+        return !it.member.certificate.empty() && it.member.certificate == other.member.certificate;
+    });
+}
+
+/// The sessions of all desks of a member.
+std::vector<Settings> sessionsOf(const Settings &member) {
+    std::vector<Settings> sessions = member.desks;
+    sessions.insert(sessions.begin(), member);
+    return sessions;
+}
+
 }
 
 std::string certificateBy(const std::string &configuration, const std::string &host, int port) {
@@ -82,21 +98,24 @@ std::string certificateBy(const std::string &configuration, const std::string &h
     }
 }
 
+void needDesksApart(const Settings &member) {
+    needOwnDoors(sessionsOf(member));
+}
+
 void needApart(const std::vector<Settings> &members) {
-    for (std::size_t at = 1; at < members.size(); at++)
-        if (members[at].member.number == members[at - 1].member.number)
-            throw BadSetting("Member", "has two sessions: " + members[at].member.name());
     using One = const Settings &;
-    needOwn(members, "SocketAcceptPort", isOneDoor);
+    std::vector<Settings> sessions;
+    for (const Settings &it : members) {
+        const std::vector<Settings> its = sessionsOf(it);
+        sessions.insert(sessions.end(), its.begin(), its.end());
+    }
+    needOwnDoors(sessions);
     needOwn(members, "HttpAcceptPort",
             [](One it, One other) { return it.statusPort && it.statusPort == other.statusPort; });
     needOwn(members, "EdgePath", [](One it, One other) { return it.folder == other.folder; });
     needOwn(members, "FileStorePath",
             [](One it, One other) { return !it.storeFolder.empty() && it.storeFolder == other.storeFolder; });
     needOwn(members, "FileLogPath", [](One it, One other) { return it.logFolder == other.logFolder; });
-    needOwn(members, "StunnelConfig", [](One it, One other) {
-        return !it.member.certificate.empty() && it.member.certificate == other.member.certificate;
-    });
     needOneFirm(members);
 }
 

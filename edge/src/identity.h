@@ -12,6 +12,9 @@ namespace edge {
 /// isn't so, or that can't be read, is a BadSetting.
 std::string certificateBy(const std::string &configuration, const std::string &host, int port);
 
+/// The desks of a member can be served side by side: no two have one port or certificate; else a BadSetting.
+void needDesksApart(const Settings &member);
+
 /// Members can be served side by side: no two have one name, port, page, folder or certificate, and desks of one firm
 /// name the same members; else a BadSetting.
 void needApart(const std::vector<Settings> &members);

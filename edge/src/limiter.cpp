@@ -19,6 +19,20 @@ std::string joined(const std::set<std::string> &words) {
 
 }
 
+bool Limiter::isSet(Limit limit) const {
+    switch (limit) {
+        case Limit::Symbols: return !limits_.symbols.empty();
+        case Limit::Quantity: return limits_.quantity;
+        case Limit::Value: return limits_.value;
+        case Limit::Collar: return limits_.collar.isSet();
+        case Limit::Closing: return limits_.isClosing;
+        case Limit::OpenValue: return limits_.openValue;
+        case Limit::MembersOpenValue: return limits_.membersOpenValue;
+        case Limit::SelfTrade: break;
+    }
+    return limits_.selfTrade != SelfTrade::Any;
+}
+
 /// The value of a limit, as the settings have it.
 std::string Limiter::valueOf(Limit limit) const {
     switch (limit) {
@@ -28,6 +42,7 @@ std::string Limiter::valueOf(Limit limit) const {
         case Limit::Collar: return limits_.collar.text;
         case Limit::Closing: return "Y";
         case Limit::OpenValue: return std::to_string(limits_.openValue);
+        case Limit::MembersOpenValue: return std::to_string(limits_.membersOpenValue);
         case Limit::SelfTrade: break;
     }
     return limits_.selfTrade == SelfTrade::CancelNew ? "CancelNew" : "CancelOld";
@@ -46,6 +61,7 @@ void Limiter::judge(const Request &it, long original) {
     if (limits_.collar.isSet()) needCollar(it);
     if (limits_.isClosing) needClosing(it, original);
     if (limits_.openValue) needOpenValue(it, original);
+    if (limits_.membersOpenValue) needMembersValue(it, original);
     if (limits_.selfTrade != SelfTrade::Any) needOther(it);
 }
 
@@ -55,7 +71,10 @@ void Limiter::refuse(Limit limit, const Request &it, int reason, const std::stri
 }
 
 void Limiter::refuseUnknown(const Request &it) {
-    const Limit limit = limits_.openValue ? Limit::OpenValue : limits_.isClosing ? Limit::Closing : Limit::SelfTrade;
+    const Limit limit = limits_.openValue          ? Limit::OpenValue
+                        : limits_.membersOpenValue ? Limit::MembersOpenValue
+                        : limits_.isClosing        ? Limit::Closing
+                                                   : Limit::SelfTrade;
     refuse(limit, it, OPTION, wordsOf(limit) + " can't be judged: the venue hasn't said what it has taken of before");
 }
 
@@ -115,7 +134,8 @@ void Limiter::needCollar(const Request &it) {
                ", which is " + collar + " round " + tick.priceOf(reference));
 }
 
-/// All orders of its side together may close the position, and open none.
+/// All orders of its side together may close the position, and open none: those of all desks, since the position is of
+/// all of them.
 void Limiter::needClosing(const Request &it, long original) {
     const long position = own_.positionOf(it.symbol), closes = it.side == BUYS ? -position : position;
     const long all = own_.quantityWith(original, it), asked = own_.openOf(original, it);
@@ -128,10 +148,20 @@ void Limiter::needClosing(const Request &it, long original) {
 
 void Limiter::needOpenValue(const Request &it, long original) {
     needPrice(Limit::OpenValue, it);
-    const Money value = own_.valueWith(original, it, priceOf(it));
+    const Money value = own_.desksValueWith(original, it, priceOf(it));
     if (value <= moneyOf(limits_.openValue)) return;
     refuse(Limit::OpenValue, it, EXCEEDS,
            "the value of all that is open would be " + textOf(value) + ", above " + wordsOf(Limit::OpenValue));
+}
+
+/// The same of all that the member's desks have open.
+void Limiter::needMembersValue(const Request &it, long original) {
+    needPrice(Limit::MembersOpenValue, it);
+    const Money value = own_.valueWith(original, it, priceOf(it));
+    if (value > moneyOf(limits_.membersOpenValue))
+        refuse(Limit::MembersOpenValue, it, EXCEEDS,
+               "the value of all that its member has open would be " + textOf(value) + ", above " +
+                   wordsOf(Limit::MembersOpenValue));
 }
 
 /// An order of the member itself may go in front of a new one; that of another desk is in other hands.

@@ -14,9 +14,11 @@
 namespace edge {
 
 /// Judges what a member asks for by the limits of its settings, in front of the venue. trader.h asks it before a
-/// request has a number, so what is refused never reaches the venue, and its name is kept as that of a refusal.
+/// request has a number, so what is refused never reaches the venue, and its name is kept as that of a refusal. Of a
+/// member with several desks each has a limiter of its own.
 class Limiter {
 public:
+    /// By what the member has open, of which some is the desk's own.
     Limiter(const OrderLimits &limits, const std::map<std::string, Tick> &ticks, const Exposure &own,
             const Market &market)
         : limits_(limits), ticks_(ticks), own_(own), market_(market) {}
@@ -33,6 +35,10 @@ public:
 
     const OrderLimits &limits() const { return limits_; }
 
+    /// Whether there is such a limit, and its value as the settings have it.
+    bool isSet(Limit limit) const;
+    std::string valueOf(Limit limit) const;
+
     /// So many requests each limit has refused. Of any thread.
     long refusalsBy(Limit limit) const { return refusals_[static_cast<std::size_t>(limit)]; }
 
@@ -43,10 +49,10 @@ private:
     void needCollar(const Request &it);
     void needClosing(const Request &it, long original);
     void needOpenValue(const Request &it, long original);
+    void needMembersValue(const Request &it, long original);
     void needOther(const Request &it);
     void needPrice(Limit limit, const Request &it);
     long referenceOf(const std::string &symbol) const;
-    std::string valueOf(Limit limit) const;
     std::string wordsOf(Limit limit) const;
     [[noreturn]] void refuse(Limit limit, const Request &it, int reason, const std::string &text);
 

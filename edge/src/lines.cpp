@@ -14,7 +14,11 @@ namespace edge {
 
 namespace {
 constexpr std::size_t LONGEST = 200;
-std::string speaker;  // It is set before there is more than one thread.
+std::string name = "gikvand-edge", speaker;  // They are set before there is more than one thread.
+}
+
+void speakAs(const std::string &program) {
+    name = program;
 }
 
 void speakFor(const std::string &who) {
@@ -25,7 +29,7 @@ namespace {
 
 void write(const std::string &who, const std::string &what) {
     const std::string &about = who.empty() ? speaker : who;
-    const std::string line = "gikvand-edge: " + (about.empty() ? "" : about + ": ") + what + "\n";
+    const std::string line = name + ": " + (about.empty() ? "" : about + ": ") + what + "\n";
     pollfd it{STDERR_FILENO, POLLOUT, 0};
     if (::poll(&it, 1, 0) != 1) return;  // Whoever reads it has stopped: no member waits for that.
     for (std::size_t at = 0; at < line.size();) {

@@ -4,6 +4,9 @@
 
 namespace edge {
 
+/// Lets each line begin with the name of this program, in the place of the edge's.
+void speakAs(const std::string &program);
+
 /// Lets each line that is about no member be about this one, whose process this is.
 void speakFor(const std::string &who);
 

@@ -11,6 +11,7 @@
 
 #include "files.h"
 #include "lines.h"
+#include "message_types.h"
 #include "seconds.h"
 
 namespace edge {
@@ -22,6 +23,13 @@ constexpr std::size_t FRONT = 64;  // Bytes of a message that have its MsgSeqNum
 
 bool beginsSo(const std::string &text, const std::string &front) {
     return !text.compare(0, front.size(), front);
+}
+
+/// A message of a market without its entries, which would fill a log within minutes: how many there are stays.
+std::string withoutEntries(const std::string &message) {
+    const std::size_t count = message.find("\001268="), end = message.rfind("\00110=");
+    if (count == std::string::npos || end == std::string::npos) return message;
+    return message.substr(0, message.find('\1', count + 1)) + message.substr(end);
 }
 
 }
@@ -118,7 +126,8 @@ void Log::onOutgoing(const std::string &message) {
     };
     const bool isAgain = has("\00143=Y\1") && !has("\00134=0\1");
     if (isAgain && ++again_ > MOST_AGAIN) return;
-    put(messages_, message);
+    if (isOfMarket(message)) put(messages_, withoutEntries(message));
+    else put(messages_, message);
 }
 
 void Log::onEvent(const std::string &event) {

@@ -20,13 +20,18 @@ bool isSame(const std::string &one, const std::string &other) {
 
 }
 
+std::string faultOf(const std::string &username, const std::string &password) {
+    if (username.empty()) return "Username (553) is missing";
+    return password.empty() ? "Password (554) is missing" : "Username (553) or Password (554) is wrong";
+}
+
 bool Logons::knows(const std::string &username, const std::string &password) const {
     return member_.username.empty() || (isSame(username, member_.username) && isSame(password, member_.password));
 }
 
 std::string Logons::refusalOf(const Judged &logon) const {
-    if (!knows(logon.text(FIX::FIELD::Username), logon.text(FIX::FIELD::Password)))
-        return "Username (553) or Password (554) is wrong";
+    const std::string username = logon.text(FIX::FIELD::Username), password = logon.text(FIX::FIELD::Password);
+    if (!knows(username, password)) return faultOf(username, password);
     const std::string heartbeat = logon.text(FIX::FIELD::HeartBtInt);
     const int beat = std::atoi(heartbeat.c_str());
     if (!heartbeat.empty() && (beat < LEAST_BEAT || beat > MOST_BEAT))
@@ -34,6 +39,7 @@ std::string Logons::refusalOf(const Judged &logon) const {
     if (logon.is(FIX::FIELD::ResetSeqNumFlag, "Y") && !member_.limits.mayReset)
         return "ResetSeqNumFlag (141) isn't taken: it would drop what was missed";
     if (isFaulty_) return "this member can't be served, and the operator of the venue is told why";
+    if (member_.isOfCopies()) return areCopiesThere_ ? "" : "the journal isn't read yet: try again";
     return trader_.isReady() ? "" : "the venue isn't there yet: try again";
 }
 

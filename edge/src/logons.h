@@ -11,6 +11,9 @@
 
 namespace edge {
 
+/// What is wrong with a user's name and password that aren't the member's.
+std::string faultOf(const std::string &username, const std::string &password);
+
 /// What a Logon has to have to be taken as the member's. The hours of the session are another thing, of day.h.
 class Logons {
 public:
@@ -25,10 +28,13 @@ public:
     /// Whether the member has rested for a fault, and hasn't been served since.
     void rests(bool isFaulty) { isFaulty_ = isFaulty; }
 
+    /// A session of copies is served: its journal has what it was told.
+    void copiesAreThere() { areCopiesThere_ = true; }
+
 private:
     const MemberSettings &member_;
     const Trader &trader_;
-    bool isFaulty_ = false;
+    bool isFaulty_ = false, areCopiesThere_ = false;
 };
 
 }

@@ -1,13 +1,20 @@
 #include <sys/stat.h>
+#include <unistd.h>
 
+#include <cerrno>
 #include <csignal>
+#include <ctime>
 #include <iostream>
 
 #include "console.h"
+#include "desk_ids.h"
 #include "folders.h"
+#include "hours.h"
 #include "lines.h"
 #include "process.h"
 #include "supervisor.h"
+#include "surroundings.h"
+#include "users.h"
 
 namespace {
 
@@ -42,13 +49,45 @@ bool isRead(const std::vector<std::string> &words, Words &into) {
     return true;
 }
 
+/// Tells of a journal that can't be read now: its venue makes it at the first start, so that is no fault of the
+/// settings.
+void tellOfJournal(const std::string &path) {
+    if (!::access(path.c_str(), R_OK)) return;
+    const bool isThere = errno != ENOENT && errno != ENOTDIR;
+    std::cout << "VenueJournal: " << (isThere ? "can't be read" : "isn't there") << " now: " << path << "\n";
+}
+
+/// Tells who finds these settings right, what they lack of the venue, and which members couldn't log on now.
+int tellRight(const std::vector<edge::Settings> &members) {
+    std::cout << "the settings are right, as " << edge::userOf(::geteuid()) << " reads them\n";
+    tellOfJournal(members.front().venue.journal);  // One for all.
+    for (const edge::Settings &it : members) {
+        const std::string outside = edge::outsideOf(it.hours, std::time(nullptr));
+        if (!outside.empty()) std::cout << it.member.name() << ": " << outside << "\n";
+    }
+    return std::cout.flush() ? 0 : 1;
+}
+
+/// Looks at a member's settings, and once more as the user whom its service has.
+int checkOne(const Words &words) {
+    edge::Settings settings = edge::readOne(words.path, words.member);
+    edge::needSameDesks(settings);
+    edge::needGateway(settings);
+    edge::needOwnPlaces(words.path);
+    if (!edge::becomeServicesUser(words.path)) return tellRight({settings});
+    try {
+        settings = edge::readOne(words.path, words.member);
+        edge::needSameDesks(settings);
+    } catch (const edge::BadSetting &why) {
+        throw std::runtime_error(why.what() + (", as " + edge::userOf(::geteuid())) + " reads it");
+    }
+    return tellRight({settings});
+}
+
 int actForOne(const Words &words) {
     edge::speakFor(words.member);
+    if (words.checks) return checkOne(words);
     const edge::Settings settings = edge::readOne(words.path, words.member);
-    if (words.checks) {
-        std::cout << "the settings are right\n";
-        return 0;
-    }
     edge::speakFor(settings.member.name());
     edge::serveMember(settings);
     return 0;
@@ -57,8 +96,11 @@ int actForOne(const Words &words) {
 int actForAll(const Words &words) {
     const std::vector<edge::Settings> members = edge::readAll(words.path);
     if (words.checks) {
-        std::cout << "the settings are right\n";
-        return 0;
+        for (const edge::Settings &it : members) {
+            edge::needSameDesks(it);
+            edge::needGateway(it);
+        }
+        return tellRight(members);
     }
     const std::vector<edge::Descriptor> locks = edge::heldForAll(members);
     std::vector<std::string> names;

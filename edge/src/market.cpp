@@ -1,34 +1,10 @@
 #include "market.h"
 
 #include <algorithm>
-#include <cstring>
+
+#include "event_line.h"
 
 namespace edge {
-
-namespace {
-
-const std::string COMMAND = "command ", OUTPUT = "output ";  // So lines begin.
-const std::string TRADE = "|150=F|";                         // What a report of a trade has in it.
-
-bool begins(const char *line, std::size_t size, const std::string &words) {
-    return size >= words.size() && !words.compare(0, words.size(), line, words.size());
-}
-
-/// The number that the word at this place is, of at most 18 digits.
-long numberAt(const char *from, const char *end) {
-    long number = 0;
-    for (int digits = 0; digits < 18 && from < end && *from >= '0' && *from <= '9'; digits++, from++)
-        number = number * 10 + (*from - '0');
-    return number;
-}
-
-/// Where the word behind this place begins, or the end.
-const char *behindWord(const char *from, const char *end) {
-    const void *const blank = std::memchr(from, ' ', static_cast<std::size_t>(end - from));
-    return blank ? static_cast<const char *>(blank) + 1 : end;
-}
-
-}
 
 Market::Market(const std::map<std::string, Tick> &ticks, const std::set<std::string> &desks) {
     for (const auto &tick : ticks) trades_[tick.first] = {};
@@ -38,25 +14,24 @@ Market::Market(const std::map<std::string, Tick> &ticks, const std::set<std::str
 void Market::clear() {
     for (auto &trade : trades_) trade.second = {};
     for (auto &desk : desks_) desk.second.clear();
-    commands_ = outputs_ = 0;
+    outputs_ = 0;
 }
 
 void Market::take(const char *line, std::size_t size) {
-    if (begins(line, size, COMMAND)) commands_ = numberAt(line + COMMAND.size(), line + size) + 1;
-    if (begins(line, size, OUTPUT)) takeOutput(line + OUTPUT.size(), size - OUTPUT.size());
+    EventLine it(line, size);
+    if (it.is("output")) takeOutput(it.rest(), it.size());
 }
 
 /// What stands behind the first word of an output: its place, the member, and the report with bars. What has been told
 /// before is passed over.
 void Market::takeOutput(const char *from, std::size_t size) {
-    const char *const end = from + size, *const member = behindWord(from, end), *const text = behindWord(member, end);
-    const long place = numberAt(from, end);
-    if (text == end || place < outputs_) return;
+    EventLine it(from, size);
+    const long place = it.number();
+    const auto desk = desks_.find(it.word());
+    if (!it.size() || place < outputs_) return;
     outputs_ = place + 1;
-    const auto desk = desks_.find(std::string(member, text - 1));
-    const bool isTrade = ::memmem(text, static_cast<std::size_t>(end - text), TRADE.data(), TRADE.size());
-    if (!isTrade && desk == desks_.end()) return;
-    const Fields report(text, static_cast<std::size_t>(end - text), '|');
+    if (desk == desks_.end() && !isOfTrade(it.rest(), it.size())) return;
+    const Fields report(it.rest(), it.size(), '|');
     if (desk != desks_.end()) desk->second.take(report);
     take(report);
 }

@@ -34,9 +34,6 @@ public:
     /// nothing.
     std::string deskCrossedBy(const std::string &symbol, char side, long price) const;
 
-    /// So many commands of the journal have been told with all that they did. The last one may have been cut off.
-    long commands() const { return commands_ > 0 ? commands_ - 1 : 0; }
-
 private:
     struct Trade {
         long place = 0, price = 0;
@@ -46,8 +43,7 @@ private:
 
     std::map<std::string, Trade> trades_;
     std::map<std::string, Exposure> desks_;
-    long commands_ = 0;  // That have been told, the last one perhaps in part,
-    long outputs_ = 0;   // and so many of their outputs.
+    long outputs_ = 0;  // So many of all outputs have been told.
 };
 
 }

@@ -27,15 +27,17 @@ Names::Names(Record &record)
       from_(record.database(),
             "SELECT number, at FROM names WHERE number > ? AND (number <= ? OR kind IN ('x', 's')) AND kind != 'w'"
             " ORDER BY number LIMIT ?"),
+      range_(record.database(), "SELECT number, name, kind FROM names WHERE number >= ? AND number < ?"),
       drop_(record.database(), "DELETE FROM names WHERE number = ?"),
       sweeps_(record.database(), "SELECT number, name FROM names WHERE kind = 'w' ORDER BY number") {}
 
-long Names::add(const std::string &name, Kind kind) {
+long Names::add(const std::string &name, Kind kind, int desk) {
     State &state = record_.change();
-    record_.add({state.last + 1, static_cast<char>(kind), name, static_cast<long>(std::time(nullptr))});
+    const std::string kept = keptName(name, desk);
+    record_.add({state.last + 1, static_cast<char>(kind), kept, static_cast<long>(std::time(nullptr))});
     Recent &recent = recentOf(++state.last);
     recent.number = state.last;
-    recent.name = name;
+    recent.name = kept;
     return state.last;
 }
 
@@ -52,43 +54,106 @@ void Names::strike(long number) {
     strike_.run(number);
 }
 
-std::string Names::nameOf(long number) {
+/// A name as the record has it, or nothing.
+std::string Names::keptOf(long number) {
     const Recent &recent = recentOf(number);
     if (number && recent.number == number) return recent.name;
     if (const KeptName *const kept = record_.turns().ofNumber(number)) return kept->name;
     Rows rows = byNumber_.of(number);
-    if (rows.next()) return rows.bytes(0);
+    return rows.next() ? rows.bytes(0) : "";
+}
+
+/// What a number is called that has no name.
+std::string Names::wordOf(long number) const {
     const long first = record_.state().first;
     return (first && number >= first ? NAMELESS : "") + std::to_string(number);
 }
 
-long Names::numberOf(const std::string &name) {
-    const Found found = find(name);
-    return found.wasRefused ? 0 : found.number;
+/// Whether a name that the record has is one of a desk that there is.
+bool Names::isOfDesk(const std::string &kept) const {
+    return !kept.empty() && record_.hasDesk(deskOfKept(kept));
 }
 
-bool Names::isKnown(const std::string &name) {
-    return find(name).number;
+std::string Names::nameOf(long number) {
+    const std::string kept = keptOf(number);
+    if (isOfDesk(kept)) return nameOfKept(kept);
+    return wordOf(number);
 }
 
-Names::Found Names::find(const std::string &name) {
+/// What is told of a number with this row of the record, or with none.
+NamedNumber Names::named(const KeptName &it) const {
+    const bool isOfOne = isOfDesk(it.name);
+    return {it.number,
+            isOfOne ? nameOfKept(it.name) : wordOf(it.number),
+            isOfOne ? deskOfKept(it.name) : FIRST_DESK,
+            !isOfOne && record_.hasHadDesks(),
+            it.kind == static_cast<char>(Kind::Expiry),
+            it.kind == static_cast<char>(Kind::Operator)};
+}
+
+std::vector<NamedNumber> Names::namesOf(long from, long end) {
+    std::vector<KeptName> kept;
+    for (long number = from; number < end; number++) kept.push_back({number, '\0', "", 0});
+    for (Rows rows = range_.of(from, end); rows.next();) {
+        KeptName &it = kept[static_cast<std::size_t>(rows.number(0) - from)];
+        it.name = rows.bytes(1);
+        it.kind = rows.bytes(2)[0];
+    }
+    std::vector<NamedNumber> names;
+    for (const KeptName &it : kept) {
+        const KeptName *const inTurn = record_.turns().ofNumber(it.number);
+        names.push_back(named(inTurn ? *inTurn : it));
+    }
+    return names;
+}
+
+int Names::deskOf(long number) {
+    if (!record_.hasHadDesks()) return FIRST_DESK;
+    const std::string kept = keptOf(number);
+    return isOfDesk(kept) ? deskOfKept(kept) : FIRST_DESK;
+}
+
+int Names::ownerOf(long number) {
+    return record_.hasHadDesks() ? deskOfKept(keptOf(number)) : FIRST_DESK;
+}
+
+bool Names::isOfNoDesk(long number) {
+    return record_.hasHadDesks() && !isOfDesk(keptOf(number));
+}
+
+long Names::numberOf(const std::string &name, int desk) {
+    const Found found = find(name, desk);
+    if (found.number || desk != FIRST_DESK) return found.wasRefused ? 0 : found.number;
+    return findNameless(name).number;
+}
+
+bool Names::isKnown(const std::string &name, int desk) {
+    return find(name, desk).number || (desk == FIRST_DESK && findNameless(name).number);
+}
+
+/// A member may ask for what begins as another desk's names do in the record: that is none of its own.
+Names::Found Names::find(const std::string &name, int desk) {
     Found it;
-    if (const KeptName *const kept = record_.turns().ofName(name)) {
-        it.number = kept->number;
-        it.wasRefused = kept->kind == static_cast<char>(Kind::Refused);
+    const std::string kept = keptName(name, desk);
+    if (deskOfKept(kept) != desk) return it;
+    if (const KeptName *const found = record_.turns().ofName(kept)) {
+        it.number = found->number;
+        it.wasRefused = found->kind == static_cast<char>(Kind::Refused);
         return it;
     }
-    {
-        Rows rows = byName_.of(name);
-        if (rows.next()) {
-            it.number = rows.number(0);
-            it.wasRefused = rows.bytes(1) == textOf(Kind::Refused);
-            return it;
-        }
-    }
+    Rows rows = byName_.of(kept);
+    if (!rows.next()) return it;
+    it.number = rows.number(0);
+    it.wasRefused = rows.bytes(1) == textOf(Kind::Refused);
+    return it;
+}
+
+/// The number that a name of no desk has by itself.
+Names::Found Names::findNameless(const std::string &name) {
+    Found it;
     const std::size_t from = name.compare(0, std::strlen(NAMELESS), NAMELESS) ? 0 : std::strlen(NAMELESS);
     const long number = std::atol(name.substr(from, 15).c_str());  // One without a name, perhaps.
-    if (number <= 0 || number > last() || isThere(number)) return it;
+    if (number <= 0 || number > last() || isOfDesk(keptOf(number))) return it;
     if (nameOf(number) == name) it.number = number;
     return it;
 }
@@ -127,12 +192,14 @@ bool Names::is(long number, Kind kind) {
     return rows.next() && rows.bytes(1) == textOf(kind);
 }
 
-std::vector<KeptName> Names::sweeps() {
-    const char kind = static_cast<char>(Kind::Sweep);
-    std::vector<KeptName> found;
-    for (Rows rows = sweeps_.of(); rows.next();) found.push_back({rows.number(0), kind, rows.bytes(1), 0});
+std::vector<KeptSweep> Names::sweeps() {
+    std::vector<KeptSweep> found;
+    const auto add = [&found](long number, const std::string &kept) {
+        found.push_back({number, deskOfKept(kept), nameOfKept(kept)});
+    };
+    for (Rows rows = sweeps_.of(); rows.next();) add(rows.number(0), rows.bytes(1));
     const auto take = [&](const KeptName &it) {
-        if (it.kind == kind) found.push_back(it);
+        if (it.kind == static_cast<char>(Kind::Sweep)) add(it.number, it.name);
     };
     record_.turns().each(take, [](long, const std::string &) {});
     return found;

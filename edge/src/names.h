@@ -18,15 +18,51 @@ constexpr const char *CANCEL = "edge-cancel-";
 constexpr const char *EXPIRY = "edge-expiry-";
 constexpr const char *NAMELESS = "edge-lost-";
 
+/// What a report has to know of the numbers that stand in it.
+class NameBook {
+public:
+    virtual ~NameBook() = default;
+
+    /// What the member's desk called the request of this number.
+    virtual std::string nameOf(long number) = 0;
+
+    /// Whether it is a cancel by the edge of a Day order whose day has ended.
+    virtual bool isExpiry(long number) = 0;
+
+    /// Whether it is a cancel by the edge that an operator has asked for.
+    virtual bool isOfOperator(long number) = 0;
+
+    /// Whether nobody knows which one of several desks sent this request.
+    virtual bool isOfNoDesk(long) { return false; }
+};
+
+/// What who copies reports is told of a number: the name, the desk that is told of the number, and what else a NameBook
+/// has.
+struct NamedNumber {
+    long number;
+    std::string name;
+    int desk;
+    bool isOfNoDesk, isExpiry, isOfOperator;
+};
+
+/// The row of a sweep, and the desk that it stands for.
+struct KeptSweep {
+    long number;
+    int desk;
+    std::string text;
+};
+
 /// The names that a member gives its requests (ClOrdID), and the rising numbers that the venue knows them by. They are
-/// kept in the member's record, so a name is committed before its request is sent. What fails is a DatabaseFault.
-class Names {
+/// kept in the member's record, so a name is committed before its request is sent. Each desk of the member has names of
+/// its own, and each number is of one desk. What fails is a DatabaseFault.
+class Names : public NameBook {
 public:
     enum class Kind : char {
         Request = 'r',         // Of the member. What rests by it is Day.
         GoodTillCancel = 'g',  // Of the member, too. What rests by it stays when a day ends.
         Cancel = 'c',          // A cancel by the edge, where the member went away, or of many orders at once.
         Expiry = 'e',          // A cancel by the edge of a Day order whose day has ended.
+        Operator = 'o',        // A cancel by the edge, as an operator has asked for.
         Probe = 'p',           // A cancel of nothing: its answer shows that all before it has been answered.
         Refused = 'x',         // The edge refused it, so the venue never has its number.
         Struck = 's',          // The venue rejected it as a message, as its member was told.
@@ -38,24 +74,32 @@ public:
 
     explicit Names(Record &record);
 
-    /// Keeps this name, and gives its number.
-    long add(const std::string &name, Kind kind);
+    /// Keeps this name of a desk, and gives its number.
+    long add(const std::string &name, Kind kind, int desk = FIRST_DESK);
 
     /// Keeps that the edge refused a request of this name, which isn't known yet.
-    void refuse(const std::string &name) { add(name, Kind::Refused); }
+    void refuse(const std::string &name, int desk) { add(name, Kind::Refused, desk); }
 
     /// Keeps that no report of this request will come, and that its member was told.
     void strike(long number);
 
-    /// What the member called it. A number of before the first is its own name, and one whose name is lost has one of
-    /// the edge's own.
-    std::string nameOf(long number);
+    /// What its desk called it. A number of before the first is its own name, and one whose name is lost has one of
+    /// the edge's own. So has one of a desk that the member doesn't have any more.
+    std::string nameOf(long number) override;
 
-    /// The number of a name that went to the venue, or 0.
-    long numberOf(const std::string &name);
+    /// The desk that is told of this number: the one that sent it, and the first one where nobody knows.
+    int deskOf(long number);
+    bool isOfNoDesk(long number) override;
 
-    /// Whether a request of this name came before: one that went to the venue, or one that the edge refused.
-    bool isKnown(const std::string &name);
+    /// The desk that sent it, also where the member doesn't have that desk any more: then another one is told of it. It
+    /// is the first one where nobody knows.
+    int ownerOf(long number);
+
+    /// The number of a desk's name that went to the venue, or 0.
+    long numberOf(const std::string &name, int desk);
+
+    /// Whether a request of this name of a desk came before: one that went to the venue, or one that the edge refused.
+    bool isKnown(const std::string &name, int desk);
 
     /// Notes that a report answers it.
     void answered(long number);
@@ -72,11 +116,20 @@ public:
     /// The requests that no report has answered, up to this number, the lowest first.
     std::vector<long> unanswered(long upTo);
 
+    /// The names of the numbers from one to in front of another, each as `nameOf` has it. It is one look at the record,
+    /// however many there are.
+    std::vector<NamedNumber> namesOf(long from, long end);
+
+    /// Which opening of the record they are of: behind another one the names may be others.
+    long opening() const { return record_.opening(); }
+
     /// Whether a name of this number is kept, and of this kind.
     bool is(long number, Kind kind);
+    bool isExpiry(long number) override { return is(number, Kind::Expiry); }
+    bool isOfOperator(long number) override { return is(number, Kind::Operator); }
 
     /// The rows of sweeps, the first one first, and an end of one.
-    std::vector<KeptName> sweeps();
+    std::vector<KeptSweep> sweeps();
     void forget(long number);
 
     long last() const { return record_.state().last; }
@@ -91,8 +144,13 @@ private:
         bool wasRefused = false;
     };
 
-    Found find(const std::string &name);
+    Found find(const std::string &name, int desk);
+    Found findNameless(const std::string &name);
     bool isThere(long number);
+    std::string wordOf(long number) const;
+    std::string keptOf(long number);
+    bool isOfDesk(const std::string &kept) const;
+    NamedNumber named(const KeptName &it) const;
 
     // Names of the last numbers, so that a report needs no look at the record: each at the place of its number.
     struct Recent {
@@ -108,7 +166,7 @@ private:
     std::vector<Recent> recent_{RECENT};
     long recentClosing_ = 0;  // Behind this one of the record they were written.
     long droppedTo_ = 0;
-    Statement strike_, byNumber_, byName_, unanswered_, from_, drop_, sweeps_;
+    Statement strike_, byNumber_, byName_, unanswered_, from_, range_, drop_, sweeps_;
 };
 
 }

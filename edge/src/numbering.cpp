@@ -12,8 +12,8 @@ using std::to_string;
 void needNumber(const char *which, long number) {
     if (number < 1) throw Refused(0, std::string(which) + " can't be " + to_string(number) + ": numbers begin with 1");
     if (number > MOST_NUMBER)
-        throw Refused(0, std::string(which) + " can't be " + to_string(number) + ", which is above " +
-                             to_string(MOST_NUMBER));
+        throw Refused(
+            0, std::string(which) + " can't be " + to_string(number) + ", which is above " + to_string(MOST_NUMBER));
 }
 
 std::string changed(const char *which, long now, long before) {
@@ -24,7 +24,7 @@ std::string changed(const char *which, long now, long before) {
 }
 
 std::string Numbering::words() const {
-    const State &state = record_.state();
+    const SessionState &state = record_.state();
     return member_.session.getTargetCompID().getString() + ": next out " + to_string(state.sender) + ", next in " +
            to_string(state.target);
 }
@@ -33,9 +33,11 @@ std::string Numbering::words() const {
 void Numbering::need(long out, long in) const {
     if (conversation_.isOn())
         throw Refused(0, "its engine is there, from " + conversation_.clientsAddress() + ", and has to log out first");
-    needNumber("next out", out);
-    needNumber("next in", in);
+    if (day_.owes()) throw Refused(0, "its engine is being told again what it wasn't sent: ask once more");
+    if (record_.ofMember().mayTakeBack()) throw Refused(0, "the journal isn't read to its end yet: ask once more");
     const long next = record_.state().sender;
+    if (out != next) needNumber("next out", out);  // What is above all by itself stays, and the other one is set.
+    needNumber("next in", in);
     if (out < next)
         throw Refused(0, "next out " + to_string(out) + " is below " + to_string(next) +
                              ", and its engine would never ask for what stands between");
@@ -52,6 +54,7 @@ std::string Numbering::set(long out, long in) {
     if (count)
         words += "; " + to_string(count) + " reports that it wasn't sent are told again as " + to_string(out) + " to " +
                  to_string(out + count - 1);
+    if (day_.owes()) words += "; what it wasn't sent is told again from " + to_string(out) + " on";
     return words;
 }
 

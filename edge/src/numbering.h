@@ -1,7 +1,7 @@
 #pragma once
 
-// The numbers of a member's session, as an operator looks at them and sets them: desk.h calls here, on the member's own
-// thread, and what changes is committed with the turn.
+// The numbers of a session of a member, as an operator looks at them and sets them: operators.h calls here, on the member's
+// own thread, and what changes is committed with the turn.
 
 #include <quickfix/Session.h>
 
@@ -9,7 +9,7 @@
 
 #include "conversation.h"
 #include "day.h"
-#include "record.h"
+#include "session_record.h"
 #include "settings.h"
 
 namespace edge {
@@ -19,8 +19,8 @@ namespace edge {
 /// over, and its engine would ask for none of it.
 class Numbering {
 public:
-    Numbering(const MemberSettings &member, const Record &record, const Conversation &conversation, Day &day)
-        : member_(member), record_(record), conversation_(conversation), day_(day) {}
+    Numbering(const MemberSettings &member, Record &record, const Conversation &conversation, Day &day)
+        : member_(member), record_(record, member.desk), conversation_(conversation), day_(day) {}
 
     /// Gives it the session.
     void attach(FIX::Session &session) { session_ = &session; }
@@ -35,7 +35,7 @@ private:
     void need(long out, long in) const;
 
     const MemberSettings &member_;
-    const Record &record_;
+    const SessionRecord record_;
     const Conversation &conversation_;
     Day &day_;
     FIX::Session *session_ = nullptr;

@@ -14,8 +14,8 @@ using FIX::Dictionary;
 constexpr long GREATEST = 999999999999999;    // Of a value, in whole units.
 constexpr long MOST_HUNDREDTHS = 100 * 1000;  // A collar of 1000 per cent.
 constexpr std::size_t PARTS = 2, DIGITS = 4;  // Of a per cent: behind the point, and in front of it.
-const char *const NAMES[] = {"TradeSymbols", "MaxOrderQuantity", "MaxOrderValue", "PriceCollar",
-                             "OnlyClosing",  "MaxOpenValue",     "SelfTrade"};
+const char *const NAMES[] = {"TradeSymbols", "MaxOrderQuantity", "MaxOrderValue",    "PriceCollar",
+                             "OnlyClosing",  "MaxOpenValue",     MEMBERS_OPEN_VALUE, "SelfTrade"};
 const char *const REFERENCES = "ReferencePrices", *const FIRM = "Firm";
 
 bool areDigits(const std::string &text) {
@@ -106,6 +106,7 @@ OrderLimits orderLimitsOf(const Dictionary &from, const std::map<std::string, Ti
     it.quantity = numberOr(from, nameOf(Limit::Quantity), 0, MOST, 0);
     it.value = numberOr(from, nameOf(Limit::Value), 0, GREATEST, 0);
     it.openValue = numberOr(from, nameOf(Limit::OpenValue), 0, GREATEST, 0);
+    it.membersOpenValue = numberOr(from, nameOf(Limit::MembersOpenValue), 0, GREATEST, 0);
     it.collar = collarOf(from);
     it.reference = referencesOf(from, ticks);
     it.isClosing = flagOr(from, nameOf(Limit::Closing), false);

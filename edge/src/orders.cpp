@@ -92,8 +92,9 @@ bool Orders::isName(const std::string &name) {
     return isPlain(name) && !isOfEdge(name);
 }
 
-Request Orders::headOf(const Message &message) {
+Request Orders::headOf(const Message &message, int desk) {
     Request it;
+    it.desk = desk;
     it.type = message.getHeader().getField(FIELD::MsgType)[0];
     it.name = textOf(message, FIELD::ClOrdID);
     it.original = textOf(message, FIELD::OrigClOrdID);
@@ -107,8 +108,8 @@ void Orders::needKnownFields(const Message &message, char type) const {
             throw Refused(OTHER, "field " + std::to_string(field.getTag()) + " isn't one of this venue");
 }
 
-Request Orders::read(const Message &message) const {
-    Request it = headOf(message);
+Request Orders::read(const Message &message, int desk) const {
+    Request it = headOf(message, desk);
     needName(it.name, "ClOrdID (11)");
     if (it.original.empty() && (it.type == 'F' || it.type == 'G')) throw Refused(OTHER, "OrigClOrdID (41) is missing");
     needKnownFields(message, it.type);

@@ -30,6 +30,7 @@ struct Request {
     char timeInForce = '\0';       // None: the member gave none.
     long sequence = 0;             // The MsgSeqNum that it went to the venue with,
     std::string time;              // and when that was.
+    int desk = 1;                  // Whose it is.
 
     bool isOrder() const { return type == 'D'; }
     bool isMassCancel() const { return type == 'q'; }
@@ -49,14 +50,14 @@ class Orders {
 public:
     Orders(const std::map<std::string, Tick> &ticks, const std::set<int> &dropped) : ticks_(ticks), dropped_(dropped) {}
 
-    /// The names and the kind of a request, whatever else is wrong with it.
-    static Request headOf(const FIX::Message &message);
+    /// The names and the kind of a request of a desk, whatever else is wrong with it.
+    static Request headOf(const FIX::Message &message, int desk);
 
     /// Whether a request may have this name: 1 to 64 bytes that print, and not as the edge's own begin.
     static bool isName(const std::string &name);
 
     /// The whole request, or Refused.
-    Request read(const FIX::Message &message) const;
+    Request read(const FIX::Message &message, int desk) const;
 
 private:
     void needKnownFields(const FIX::Message &message, char type) const;

@@ -9,10 +9,15 @@
 #include <cstdint>
 #include <cstdlib>
 #include <ctime>
+#include <iterator>
+#include <list>
 #include <memory>
 #include <stdexcept>
+#include <thread>
+#include <vector>
 
 #include "control.h"
+#include "desk_ids.h"
 #include "door.h"
 #include "files.h"
 #include "folders.h"
@@ -69,46 +74,60 @@ Descriptor starter() {
     return it;
 }
 
-/// All that a member's session is of, of which nothing runs yet. Its folders are held meanwhile.
-struct Parts {
-    explicit Parts(const Settings &settings)
-        : record(recordOf(settings)),
-          member(settings, *record),
-          application(member),
-          stores(*record),
-          logs(settings.logFolder, settings.log),
-          door(application, stores, settings, logs, member) {
-        member.attach(*door.getSession(settings.member.session), stores.store(), logs.log());
+/// What the library has of the session of a desk.
+struct DeskParts {
+    DeskParts(const Settings &settings, Record &record, MemberSession &desk)
+        : application(desk),
+          stores(record, settings.member.desk),
+          logs(settings.logFolder, settings.log, settings.member.desk),
+          door(application, stores, settings, logs, desk) {
+        desk.attach(*door.getSession(settings.member.session), stores.store(), logs.log());
     }
 
-    const std::unique_ptr<Record> record;
-    Member member;
     Application application;
     Stores stores;
     Logs logs;
     Door door;
 };
 
-/// The threads of door and member, which end in order, whatever ends them: nobody comes in any more, then the member's
-/// ends, and only then does the session that it uses.
+/// All that a member's sessions are of, of which nothing runs yet. Its folders are held meanwhile.
+struct Parts {
+    explicit Parts(const Settings &settings) : record(recordOf(settings)), member(settings, *record) {
+        desks.emplace_back(settings, *record, member.session(FIRST_DESK));
+        for (const Settings &it : settings.desks) desks.emplace_back(it, *record, member.session(it.member.desk));
+        member.attached();
+    }
+
+    const std::unique_ptr<Record> record;
+    Member member;
+    std::list<DeskParts> desks;
+};
+
+/// The threads of doors and member, which end in order, whatever ends them: nobody comes in any more, then the member's
+/// ends, and only then do the sessions that it uses.
 class Running {
 public:
-    Running(Door &door, Member &member) : door_(door), member_(member) {}
+    explicit Running(Parts &parts) : desks_(parts.desks), member_(parts.member) {}
 
+    /// Each door waits for its own client to log out: that of another desk doesn't wait for that.
     ~Running() {
-        door_.stop();
+        std::vector<std::thread> others;
+        for (auto it = std::next(desks_.begin()); it != desks_.end(); ++it)
+            others.emplace_back([it] { it->door.stop(); });
+        desks_.front().door.stop();
+        for (std::thread &it : others) it.join();
         member_.stop();
     }
 
     void start(const Descriptor &starter) {
-        door_.start();
+        for (DeskParts &it : desks_) it.door.start();
         say("", "ready");
         if (starter && ::write(starter.get(), "r", 1) < 0) say("", "who started it doesn't listen: " + reason());
         member_.start();
     }
 
 private:
-    Door &door_;
+    std::list<DeskParts> &desks_;
     Member &member_;
 };
 
@@ -119,14 +138,17 @@ void serveMember(const Settings &settings) {
     Descriptor whoStarted = starter();
     const std::vector<Descriptor> locks = heldFolders(settings);
     keepSteps(settings);
+    keepDesks(settings);
     const sigset_t signals = heldBack();
     Parts parts(settings);
     Member &member = parts.member;
     std::unique_ptr<StatusPage> page;
     if (settings.statusPort) page.reset(new StatusPage(settings.statusPort, member));
-    const Control control(settings, member);
+    const Control control(settings, member, Callers::Operators);
+    std::unique_ptr<Control> names;  // A session of copies has none.
+    if (!settings.member.isOfCopies()) names.reset(new Control(settings, member, Callers::Copies));
     {
-        Running running(parts.door, member);
+        Running running(parts);
         running.start(whoStarted);
         whoStarted.reset();
         int signal;
@@ -143,6 +165,8 @@ std::string actAlone(const Settings &settings, const Command &command) {
     becomeOwner(settings.folder);
     const std::vector<Descriptor> locks = heldFolders(settings);
     keepSteps(settings);
+    if (command.isQuestion()) needSameDesks(settings);
+    else keepDesks(settings);
     Parts parts(settings);
     std::string outcome;
     const auto tell = [&outcome](bool isDone, const std::string &what) { outcome = (isDone ? DONE : FAILED) + what; };

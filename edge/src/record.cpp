@@ -4,7 +4,9 @@
 
 #include <algorithm>
 #include <cstdlib>
+#include <cstdio>
 #include <ctime>
+#include <random>
 #include <utility>
 
 #include "files.h"
@@ -18,6 +20,8 @@ namespace {
 constexpr long VERSION = 4;
 // Versions of before, whose records lack these.
 constexpr long WITHOUT_TURNS = 1, WITHOUT_SWITCHES = 2, WITHOUT_ENDS = 3;
+// The one of records of members that have had several desks: all others know nothing of these.
+constexpr long WITH_DESKS = 5;
 
 // A turn has its names and messages in the bytes of one row, as turns.h reads them, and what they change of the state.
 const char *const TURNS =
@@ -42,6 +46,14 @@ const char *const TABLES =
     " orders_ended INTEGER NOT NULL);"
     "INSERT INTO session VALUES (1, 1, '', 0, 0, 0, 0, 1, 0, 0, 0, 0, 0, '', 0, 0)";
 
+// The sessions beside the first one. Their messages stand behind those of that one, and their names among all others,
+// as desk_names.h has it. Of a turn that changed one of them its numbers are in the row of the turn.
+const char *const DESKS =
+    "CREATE TABLE IF NOT EXISTS desks (desk INTEGER PRIMARY KEY, sender INTEGER NOT NULL, target INTEGER NOT NULL,"
+    " created TEXT NOT NULL, heard INTEGER NOT NULL, spared INTEGER NOT NULL, doubtful INTEGER NOT NULL);";
+
+const char *const READ_DESKS = "SELECT desk, sender, target, created, heard, spared, doubtful FROM desks";
+
 const char *const READ =
     "SELECT sender, target, created, report, reject, first, last, heard, spared, settled, doubted_at, doubtful,"
     " drop_before, boot, at, orders_ended FROM session";
@@ -60,6 +72,8 @@ constexpr long LONG_LOG = 1 << 20, TOO_LONG_LOG = 2 << 20;
 // that SQLite has made, and nothing was written to, tells nothing.
 constexpr long MOMENT = 5;
 
+constexpr long GREATEST_OPENING = 999999999999999;
+
 // The name in the environment of the system's words for its run, as a service has them that doesn't see all of /proc.
 constexpr const char *BOOT = "GIKVAND_BOOT";
 
@@ -74,30 +88,67 @@ std::string bootOfSystem() {
 
 }
 
+Record::Record(const std::string &path, const std::string &member, const Before &before, const std::set<int> &desks)
+    : database_(path), member_(member), before_(before), desks_(desks) {
+    for (const int desk : desks_) others_[desk];
+}
+
+/// Does this with each session that the record has, and its desk.
+template <class Act>
+void Record::eachSession(const Act &act) {
+    act(FIRST_DESK, static_cast<SessionState &>(state_));
+    for (auto &it : others_)
+        if (it.second.isThere) act(it.first, it.second.now);
+}
+
 void Record::open() {
     close();
     if (wasOpen_ && !isThere(database_.path())) database_.fail("it isn't there any more");
     const long changed = std::max(changeTime(database_.path()), changeTime(database_.path() + "-wal"));
     database_.open();
+    std::random_device chance;
+    opening_ = std::uniform_int_distribution<long>(1, GREATEST_OPENING)(chance);
     isUnread_ = true;
-    hasStepped_ = isOfThisRun_ = false;
+    isOfThisRun_ = false;
+    stepped_.clear();
     try {
         boot_ = bootOfSystem();
         Statement version(database_, "PRAGMA user_version");
         Rows rows = version.of();
         const long found = rows.next() ? rows.number(0) : 0;
-        if (found && found != VERSION && found != WITHOUT_TURNS && found != WITHOUT_SWITCHES && found != WITHOUT_ENDS)
+        const bool hasDesks = found == WITH_DESKS;
+        if (found && !hasDesks && found != VERSION && found != WITHOUT_TURNS && found != WITHOUT_SWITCHES &&
+            found != WITHOUT_ENDS)
             database_.fail("it is of another version of the edge");
-        if (found && found != VERSION) addTables(found);
-        if (found) look(changed);
+        if (found && !hasDesks && found != VERSION) addTables(found);
+        if (found) look(changed, hasDesks);
         else make();
+        addDesks();
     } catch (const DatabaseFault &) {
         close();
         throw;
     }
     wasOpen_ = true;
     toldBefore_ = state_.told;
-    sentBefore_ = state_.sender;
+    eachSession([this](int desk, const SessionState &it) { sentBefore_[desk] = it.sender; });
+}
+
+/// Lets sessions begin that the record doesn't have yet: from the next commit on it is one of several desks. Who only
+/// looks commits nothing.
+void Record::addDesks() {
+    std::string rows;
+    for (const int desk : desks_) {
+        Other &it = others_[desk];
+        if (it.isThere) continue;
+        it.isThere = true;
+        it.now = it.kept = it.written = SessionState();
+        say(deskName(member_, desk), "its numbers begin with 1: the record knows nothing of this desk");
+        rows += "INSERT INTO desks VALUES (" + std::to_string(desk) + ", 1, 1, '" +
+                FIX::UtcTimeStampConvertor::convert(it.now.created) + "', 1, 0, 0);";
+    }
+    if (rows.empty()) return;
+    changeTables();
+    database_.run(std::string(DESKS) + rows + "PRAGMA user_version = " + std::to_string(WITH_DESKS));
 }
 
 /// Gives a record of this version of before the tables that it lacks. What rests by it ends with the next day: none of
@@ -117,6 +168,7 @@ void Record::make() {
     database_.run(TURNS);
     database_.run(SWITCHES);
     state_ = State();
+    forgetDesks();
     const bool tookOver = takeOver(before_, member_, database_, state_);
     if (tookOver) state_.ordersEnded = std::time(nullptr);  // As of a record of before.
     database_.run("PRAGMA user_version = " + std::to_string(VERSION));
@@ -125,7 +177,7 @@ void Record::make() {
 }
 
 /// Reads the state, and looks whether something may be missing behind it.
-void Record::look(long changed) {
+void Record::look(long changed, bool hasDesks) {
     Statement damage(database_, "PRAGMA quick_check(1)"), row(database_, READ);
     if (!wasOpen_) {
         Rows rows = damage.of();
@@ -150,9 +202,32 @@ void Record::look(long changed) {
     written_ = state_;
     const std::string boot = rows.bytes(13);
     long at = rows.number(14);
+    forgetDesks();
+    if (hasDesks) lookAtDesks();
     lookAtTurns(at);
     if (boot_.empty() || boot != boot_) step("the system was started anew");
     else if (changed > at + MOMENT) step("its file was put there behind its last commit");
+}
+
+/// Sessions beside the first one have to be read, or begun: none is known.
+void Record::forgetDesks() {
+    others_.clear();
+    for (const int desk : desks_) others_[desk] = Other();
+}
+
+/// Reads the sessions beside the first one, also those of desks that the settings don't have any more.
+void Record::lookAtDesks() {
+    Statement all(database_, READ_DESKS);
+    for (Rows rows = all.of(); rows.next();) {
+        SessionState it;
+        it.sender = rows.number(1);
+        it.target = rows.number(2);
+        it.created = FIX::UtcTimeStampConvertor::convert(rows.bytes(3));
+        it.heard = rows.number(4);
+        it.isSpared = rows.number(5);
+        it.isDoubtful = rows.number(6);
+        others_[static_cast<int>(rows.number(0))] = {it, it, it, true};
+    }
 }
 
 /// Reads what turns have kept behind the state of the tables, and in which second the last one was.
@@ -167,30 +242,60 @@ void Record::lookAtTurns(long &at) {
         state_.last = rows.number(5);
         state_.heard = rows.number(6);
         state_.settled = rows.number(7);
-        if (!turns_.take(rows.bytes(8), at)) database_.fail("it is damaged, and a turn can't be read: put a copy back");
+        const auto takeNumbers = [this](long desk, const std::string &text) {
+            SessionState &it = others_[static_cast<int>(desk)].now;
+            return std::sscanf(text.c_str(), "%ld %ld %ld", &it.sender, &it.target, &it.heard) == 3;
+        };
+        if (!turns_.take(rows.bytes(8), at, takeNumbers))
+            database_.fail("it is damaged, and a turn can't be read: put a copy back");
     }
+    for (auto &it : others_) it.second.kept = it.second.now;
 }
 
 void Record::step(const std::string &why) {
-    State &state = change();
-    state.sender += STEP;
-    hasStepped_ = true;
-    const std::string line = "its next number is " + std::to_string(state.sender) + ", behind a gap of " +
-                             std::to_string(STEP) + ", since messages may be lost: " + why;
-    if (saidOfStep_ != line) say(member_, line);
-    saidOfStep_ = line;
+    change();
+    std::string lines;
+    eachSession([&](int desk, SessionState &it) {
+        if (!stepped_.insert(desk).second) return;
+        it.sender += STEP;
+        if (!hasDesk(desk)) return;
+        const std::string line = "its next number is " + std::to_string(it.sender) + ", behind a gap of " +
+                                 std::to_string(STEP) + ", since messages may be lost: " + why;
+        if (saidOfStep_.find(line) == std::string::npos) say(deskName(member_, desk), line);
+        lines += line + "\n";
+    });
+    saidOfStep_ = lines;
+}
+
+/// Whether no engine has sent anything since names were lost but what it says to be sent again.
+bool Record::areAllDoubtful() const {
+    return state_.isDoubtful && std::all_of(others_.begin(), others_.end(), [](const std::pair<const int, Other> &it) {
+               return it.second.now.isDoubtful;
+           });
+}
+
+/// Whether the numbers of each session have gone up since it was opened.
+bool Record::haveAllStepped() {
+    bool haveAll = true;
+    eachSession([&](int desk, SessionState &) { haveAll = haveAll && stepped_.count(desk); });
+    return haveAll;
 }
 
 bool Record::stepsBack() {
     State &state = change();
     changeTables();
-    const bool steps = !hasStepped_ && !state.isDoubtful;
-    state.isDoubtful = true;
+    const bool steps = !haveAllStepped() && !areAllDoubtful();
+    eachSession([](int, SessionState &it) { it.isDoubtful = true; });
     state.doubtedAt = std::time(nullptr);
     if (!steps) return false;
-    database_.run("DELETE FROM messages WHERE number >= " + std::to_string(sentBefore_));
+    eachSession([this](int desk, SessionState &it) {
+        if (!hasDesk(desk)) return;  // It was told nothing, and may have a backlog that is to be told again.
+        const long before = sentBefore_[desk];
+        database_.run("DELETE FROM messages WHERE number >= " + std::to_string(placeOf(desk, before)) +
+                      " AND number < " + std::to_string(placeOf(desk + 1, 0)));
+        it.sender = before;
+    });
     state.told = toldBefore_;
-    state.sender = sentBefore_;
     step("the journal has requests that it lacks");
     commit();
     return true;
@@ -217,13 +322,18 @@ State &Record::change() {
     return state_;
 }
 
+SessionState &Record::changeSession(int desk) {
+    State &first = change();
+    return desk == FIRST_DESK ? first : others_.at(desk).now;
+}
+
 void Record::changeTables() {
     change();
     if (areTablesChanging_) return;
     begin_.run();
     areTablesChanging_ = true;
     turns_.each([this](const KeptName &it) { addName_.run(it.number, std::string(1, it.kind), it.name, it.at); },
-                [this](long number, const std::string &bytes) { putMessage_.run(number, Blob{bytes}); });
+                [this](long place, const std::string &bytes) { putMessage_.run(place, Blob{bytes}); });
     forgetTurns_.run();
     turns_.clear();
 }
@@ -234,10 +344,10 @@ void Record::add(KeptName it) {
     else turns_.add(std::move(it));
 }
 
-void Record::put(long number, const std::string &bytes) {
+void Record::put(long place, const std::string &bytes) {
     change();
-    if (areTablesChanging_) putMessage_.run(number, Blob{bytes});
-    else turns_.put(number, bytes);
+    if (areTablesChanging_) putMessage_.run(place, Blob{bytes});
+    else turns_.put(place, bytes);
 }
 
 bool Record::isUntidy() const {
@@ -265,10 +375,23 @@ const std::string &Record::createdText() {
 
 /// Whether what has changed of the state is in the row of a turn.
 bool Record::isOneRow() const {
-    return isOfThisRun_ && state_.created == written_.created && state_.isSpared == written_.isSpared &&
+    const auto isAsWritten = [](const std::pair<const int, Other> &it) {
+        return it.second.now.hasRestOf(it.second.written);
+    };
+    return isOfThisRun_ && state_.hasRestOf(written_) && std::all_of(others_.begin(), others_.end(), isAsWritten) &&
            state_.first == written_.first && state_.doubtedAt == written_.doubtedAt &&
-           state_.isDoubtful == written_.isDoubtful && state_.dropBefore == written_.dropBefore &&
-           state_.ordersEnded == written_.ordersEnded;
+           state_.dropBefore == written_.dropBefore && state_.ordersEnded == written_.ordersEnded;
+}
+
+/// Puts the numbers of sessions beside the first one into the row of the present turn, where this has changed them.
+void Record::keepNumbers() {
+    for (auto &it : others_) {
+        const SessionState &now = it.second.now;
+        if (now.hasNumbersOf(it.second.kept)) continue;
+        turns_.putNumbers(
+            it.first, std::to_string(now.sender) + " " + std::to_string(now.target) + " " + std::to_string(now.heard));
+        it.second.kept = now;
+    }
 }
 
 void Record::writeState() {
@@ -276,10 +399,19 @@ void Record::writeState() {
                state_.last, state_.heard, static_cast<long>(state_.isSpared), state_.settled, state_.doubtedAt,
                static_cast<long>(state_.isDoubtful), state_.dropBefore, state_.ordersEnded, boot_,
                static_cast<long>(std::time(nullptr)));
+    for (auto &it : others_) {
+        const SessionState &now = it.second.now;
+        if (!it.second.isThere) continue;
+        if (!now.hasNumbersOf(it.second.written) || !now.hasRestOf(it.second.written))
+            writeDesk_.run(now.sender, now.target, FIX::UtcTimeStampConvertor::convert(now.created), now.heard,
+                           static_cast<long>(now.isSpared), static_cast<long>(now.isDoubtful),
+                           static_cast<long>(it.first));
+    }
     commit_.run();
     areTablesChanging_ = false;
     isOfThisRun_ = true;
     written_ = state_;
+    for (auto &it : others_) it.second.kept = it.second.written = it.second.now;
 }
 
 void Record::commit() {
@@ -288,6 +420,7 @@ void Record::commit() {
     if (areTablesChanging_) {
         writeState();
     } else {
+        keepNumbers();
         keepTurn_.run(turns_.rows() + 1, static_cast<long>(std::time(nullptr)), state_.sender, state_.target,
                       state_.told.report, state_.told.reject, state_.last, state_.heard, state_.settled,
                       Blob{turns_.present()});

@@ -56,7 +56,8 @@ std::size_t reportIn(const char *line, std::size_t size, const std::string &memb
     return end < size && !member.compare(0, member.size(), line + at, member.size()) && line[end] == ' ' ? end + 1 : 0;
 }
 
-Replay::Replay(const VenuePlace &venue, const std::string &member, long after) : member_(member) {
+Replay::Replay(const VenuePlace &venue, const std::string &member, long after)
+    : member_(member), journal_(venue.journal) {
     std::vector<std::string> words{venue.events, venue.journal, after == ONCE ? "once" : "follow"};
     if (after > 0) words.insert(words.end(), {"--after", std::to_string(after)});
     words.insert(words.end(), venue.symbols.begin(), venue.symbols.end());
@@ -84,8 +85,9 @@ bool Replay::hasEnded() {
     if (!::waitpid(child_, &status, WNOHANG)) return false;
     child_ = -1;
     if (!status) return true;
-    throw failure("can't read the journal: " + (WIFEXITED(status) ? "status " + std::to_string(WEXITSTATUS(status))
-                                                                  : "signal " + std::to_string(WTERMSIG(status))));
+    throw failure("can't read the journal " + journal_ + ": " +
+                  (WIFEXITED(status) ? "status " + std::to_string(WEXITSTATUS(status))
+                                     : "signal " + std::to_string(WTERMSIG(status))));
 }
 
 bool Replay::read(const Told &told, const Told &seen) {

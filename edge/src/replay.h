@@ -7,7 +7,7 @@
 
 #include "descriptor.h"
 #include "inbox.h"
-#include "settings.h"
+#include "venue_place.h"
 
 namespace edge {
 
@@ -33,6 +33,9 @@ public:
     /// Whether no more lines are to come of it, and it hasn't ended: it is to be read again soon, to learn how it ends.
     bool isOver() const { return !out_; }
 
+    /// Whether what was read ends within a line.
+    bool isWithinLine() const { return in_.size(); }
+
     /// What is called with a line, or a part of one.
     using Told = std::function<void(const char *, std::size_t)>;
 
@@ -47,7 +50,7 @@ private:
     Descriptor out_;
     pid_t child_ = -1;
     Inbox in_;
-    const std::string member_;
+    const std::string member_, journal_;
 };
 
 }

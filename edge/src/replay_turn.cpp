@@ -13,9 +13,9 @@ namespace {
 constexpr std::chrono::seconds PATIENCE(30);
 }
 
-ReplayTurn::ReplayTurn(const std::string &folder) {
+ReplayTurn::ReplayTurn(const std::string &folder, const std::string &name) {
     if (folder.empty()) return;
-    const std::string path = folder + "/reading.lock";
+    const std::string path = folder + "/" + name;
     lock_.reset(::open(path.c_str(), O_RDWR | O_CREAT | O_CLOEXEC, 0600));
     if (!lock_) throw std::runtime_error("can't use " + path + ": " + reason());
 }
@@ -23,13 +23,15 @@ ReplayTurn::ReplayTurn(const std::string &folder) {
 bool ReplayTurn::tryTake() {
     const auto now = Clock::now();
     if (!waits_) since_ = now;
-    waits_ = lock_ && ::flock(lock_.get(), LOCK_EX | LOCK_NB) && now - since_ < PATIENCE;
+    isTaken_ = lock_ && !::flock(lock_.get(), LOCK_EX | LOCK_NB);
+    waits_ = lock_ && !isTaken_ && now - since_ < PATIENCE;
     return !waits_;
 }
 
 void ReplayTurn::giveBack() {
     waits_ = false;
-    if (lock_) ::flock(lock_.get(), LOCK_UN);
+    if (isTaken_) ::flock(lock_.get(), LOCK_UN);
+    isTaken_ = false;
 }
 
 }

@@ -11,9 +11,9 @@ namespace edge {
 /// that has waited for half a minute reads all the same, so that a reading that never ends holds up no other for long.
 class ReplayTurn {
 public:
-    /// In the common folder of all members; with none a member reads as it likes. Throws a std::runtime_error where the
-    /// folder can't be used.
-    explicit ReplayTurn(const std::string &folder);
+    /// In the common folder of all members, by a file of this name there; with no folder a member reads as it likes.
+    /// Throws a std::runtime_error where the folder can't be used.
+    explicit ReplayTurn(const std::string &folder, const std::string &name = "reading.lock");
 
     bool tryTake();
 
@@ -23,7 +23,7 @@ public:
 private:
     using Clock = std::chrono::steady_clock;
     Descriptor lock_;
-    bool waits_ = false;
+    bool isTaken_ = false, waits_ = false;
     Clock::time_point since_;
 };
 

@@ -4,6 +4,8 @@
 
 #include <chrono>
 
+#include "message_types.h"
+#include "messages.h"
 #include "seconds.h"
 
 namespace edge {
@@ -13,27 +15,12 @@ namespace {
 using FIX::Message;
 namespace FIELD = FIX::FIELD;
 
-const char *const SAID_BY_EDGE = "edge: ";
 const char *const ENDED = "the day has ended";
+const char *const CANCELLED = "the operator has cancelled this order";
+// What the first of several desks is told with a report that may be another one's.
+const char *const OF_NO_DESK = "nobody knows which desk sent this request";
 const char *const EXPIRED = "C";  // An ExecType (150), and an OrdStatus (39).
-const char *const LOST = "EL";  // So begins the ExecID of a report of a lost request, with its number behind.
-
-Message made(const char *type) {
-    Message it;
-    it.getHeader().setField(FIELD::MsgType, type);
-    return it;
-}
-
-void copy(const Message &from, Message &into, int tag) {
-    const std::string text = textOf(from, tag);
-    if (!text.empty()) into.setField(tag, text);
-}
-
-/// The type of a message of the session, which stands behind its length.
-std::string typeOf(const std::string &message) {
-    const std::size_t at = message.find("\00135=");
-    return at == std::string::npos ? "" : message.substr(at + 4, message.find('\1', at + 4) - at - 4);
-}
+const char *const LOST = "EL";    // So begins the ExecID of a report of a lost request, with its number behind.
 
 /// Makes it one that QuickFIX doesn't count: it was sent before, and has the number 0.
 void uncount(Message &it) {
@@ -108,7 +95,13 @@ std::string Reports::of(const Fields &report) const {
 /// Whether a report tells the end of what is Day, which is a cancel by the edge to the venue.
 bool Reports::isEnd(const Fields &report) const {
     return report.byte(FIELD::ExecType) == '4' && report.has(FIELD::OrigClOrdID) &&
-           names_.is(report.number(FIELD::ClOrdID), Names::Kind::Expiry);
+           names_.isExpiry(report.number(FIELD::ClOrdID));
+}
+
+/// Whether a report tells the end of an order that an operator has had cancelled.
+bool Reports::isByOperator(const Fields &report) const {
+    return report.byte(FIELD::ExecType) == '4' && report.has(FIELD::OrigClOrdID) &&
+           names_.isOfOperator(report.number(FIELD::ClOrdID));
 }
 
 std::string Reports::executionOf(const Fields &report) const {
@@ -139,15 +132,28 @@ void Reports::putPrice(const Fields &report, int tag, Body &into) const {
     if (report.has(tag)) into.put(tag, priceOf(report.text(FIELD::Symbol), report.number(tag)));
 }
 
+/// Whether a report is told to the first of several desks since nobody knows whose it is.
+bool Reports::isOfNoDesk(const Fields &report) const {
+    return names_.isOfNoDesk(report.number(FIELD::ClOrdID)) ||
+           (report.has(FIELD::OrigClOrdID) && names_.isOfNoDesk(report.number(FIELD::OrigClOrdID)));
+}
+
+/// Puts the venue's text, or who has cancelled an order, with a word in front of it where the report is of no desk.
+void Reports::putText(const Fields &report, Body &into) const {
+    std::string text = report.has(FIELD::Text) ? report.text(FIELD::Text) : "";
+    if (isByOperator(report)) text = std::string(SAID_BY_EDGE) + CANCELLED;
+    if (isOfNoDesk(report)) text = OF_NO_DESK + (text.empty() ? "" : ": " + text);
+    if (!text.empty()) into.put(FIELD::Text, text);
+}
+
 /// What an order has become.
 void Reports::putState(const Fields &report, Body &into) const {
     into.copy(report, FIELD::OrdStatus);
-    if (report.has(FIELD::OrigClOrdID))
-        into.put(FIELD::OrigClOrdID, names_.nameOf(report.number(FIELD::OrigClOrdID)));
+    if (report.has(FIELD::OrigClOrdID)) into.put(FIELD::OrigClOrdID, names_.nameOf(report.number(FIELD::OrigClOrdID)));
     putPrice(report, FIELD::Price, into);
     into.copy(report, FIELD::Side);
     into.copy(report, FIELD::Symbol);
-    into.copyWhereIs(report, FIELD::Text);
+    putText(report, into);
     into.copy(report, FIELD::SendingTime, FIELD::TransactTime);
     into.copyWhereIs(report, FIELD::OrdRejReason);
     into.copy(report, FIELD::ExecType);
@@ -170,6 +176,7 @@ std::string Reports::rejectOf(const Fields &report) const {
     it.copy(report, FIELD::OrderID);
     it.copy(report, FIELD::OrdStatus);
     it.put(FIELD::OrigClOrdID, names_.nameOf(report.number(FIELD::OrigClOrdID)));
+    if (isOfNoDesk(report)) it.put(FIELD::Text, OF_NO_DESK);
     it.copy(report, FIELD::SendingTime, FIELD::TransactTime);
     it.copy(report, FIELD::CxlRejReason);
     it.copy(report, FIELD::CxlRejResponseTo);
@@ -284,12 +291,13 @@ Message resendRequest(long first) {
     return asked;
 }
 
-Message typeReject(const Judged &message) {
+Message typeReject(const Judged &message, bool takesRequests) {
     Message told = made("j");
     told.setField(FIELD::RefSeqNum, std::to_string(message.number(FIELD::MsgSeqNum)));
     told.setField(FIELD::RefMsgType, message.text(FIELD::MsgType));
     told.setField(FIELD::BusinessRejectReason, "3");
-    told.setField(FIELD::Text, std::string(SAID_BY_EDGE) + "D, F, G and q are the types of requests here");
+    told.setField(FIELD::Text, SAID_BY_EDGE + (takesRequests ? requestTypes() + " are the types of requests here"
+                                                             : "this session is sent copies, and takes no requests"));
     return told;
 }
 

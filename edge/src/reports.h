@@ -19,7 +19,7 @@ namespace edge {
 /// edge.
 class Reports {
 public:
-    Reports(const std::map<std::string, Tick> &ticks, Names &names, const std::string &lastCapacity)
+    Reports(const std::map<std::string, Tick> &ticks, NameBook &names, const std::string &lastCapacity)
         : ticks_(ticks), names_(names), lastCapacity_(lastCapacity) {}
 
     /// The body of a report of the venue, of the type 8 or 9: its fields in the order of their tags.
@@ -43,19 +43,22 @@ private:
     class Body;
 
     bool isEnd(const Fields &report) const;
+    bool isByOperator(const Fields &report) const;
     std::string executionOf(const Fields &report) const;
     std::string rejectOf(const Fields &report) const;
     void putFill(const Fields &report, Body &into) const;
     void putPrice(const Fields &report, int tag, Body &into) const;
     void putState(const Fields &report, Body &into) const;
     void putEnd(const Fields &report, Body &into) const;
+    bool isOfNoDesk(const Fields &report) const;
+    void putText(const Fields &report, Body &into) const;
     FIX::Message massRefusal(const FIX::Message &asked, int reason, const std::string &text) const;
     std::string priceOf(const std::string &symbol, long steps) const;
     void copyPrice(const FIX::Message &asked, FIX::Message &told, const std::string &symbol) const;
     std::string nextExecId();
 
     const std::map<std::string, Tick> &ticks_;
-    Names &names_;
+    NameBook &names_;
     const std::string lastCapacity_;
     long refusals_ = 0;
 };
@@ -66,8 +69,9 @@ FIX::Message sessionReject(const Judged &refused);
 /// The session's Reject of a message that has a number in this field that can't be followed.
 FIX::Message rangeReject(const Judged &refused, int tag);
 
-/// The answer to a message of a type that is FIX's, and that the edge has nothing to do with.
-FIX::Message typeReject(const Judged &message);
+/// The answer to a message of a type that is FIX's, and that the edge has nothing to do with in a session that takes
+/// requests, or in one that takes none.
+FIX::Message typeReject(const Judged &message, bool takesRequests);
 
 /// A word to an engine that isn't let in, which QuickFIX doesn't count: a Reject that was sent before, of the number 0.
 /// A Logout is counted there, whatever its number is, so that the report which has the next number is never asked for.

@@ -14,9 +14,8 @@ void Resends::ask(const std::string &message, long first, long last) {
 }
 
 /// All but the first have number 1, which is below what is expected, and so aren't counted.
-FIX::Message Resends::next(long &count) {
-    const long end = std::min(last_, next_ + PIECE - 1);
-    count = end - next_ + 1;
+FIX::Message Resends::next(long kept) {
+    const long end = std::min(last_, kept > next_ ? kept - 1 : next_ + PIECE - 1);
     FIX::Message piece(message_, false);
     piece.setField(FIX::BeginSeqNo(static_cast<int>(next_)));
     piece.setField(FIX::EndSeqNo(static_cast<int>(end)));

@@ -21,8 +21,9 @@ public:
     /// All that it asks for below this number has been sent again.
     long reached() const { return next_; }
 
-    /// The next piece, as the session is to be given it, and how many messages it asks for.
-    FIX::Message next(long &count);
+    /// The next piece, as the session is to be given it: up to a message that is kept, where that is the next one from
+    /// there on, or of as many numbers as a piece has.
+    FIX::Message next(long kept);
 
     void clear() { *this = Resends(); }
 

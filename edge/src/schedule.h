@@ -29,6 +29,9 @@ public:
     /// Whether a member may be logged on at this moment.
     bool isOpen(long now) const;
 
+    /// The next start behind this moment.
+    long nextStart(long now) const { return now - since(start_, now) + period_; }
+
     /// Whether a session whose numbers began at a moment has to begin anew now. A clock that was put back doesn't end a
     /// day twice.
     bool isOver(long began, long now) const { return began < lastEnd(now); }

@@ -2,18 +2,20 @@
 
 #include <quickfix/FixFieldNumbers.h>
 
+#include "message_types.h"
+
 namespace edge {
 
 void Application::fromApp(const FIX::Message &message,
                           const FIX::SessionID &) throw(FIX::FieldNotFound, FIX::IncorrectDataFormat,
                                                         FIX::IncorrectTagValue, FIX::UnsupportedMessageType) {
     const std::string &type = message.getHeader().getField(FIX::FIELD::MsgType);
-    if (type != "D" && type != "F" && type != "G" && type != "q") throw FIX::UnsupportedMessageType();
-    member_.asked(message);
+    if (!isRequest(type)) throw FIX::UnsupportedMessageType();
+    desk_.asked(message);
 }
 
 FIX::MessageStore *Stores::create(const FIX::SessionID &session) {
-    return store_ = new Store(record_, session);
+    return store_ = new Store(record_, desk_, session);
 }
 
 void Stores::destroy(FIX::MessageStore *store) {
@@ -27,7 +29,9 @@ std::string recordPath(const Settings &settings) {
 std::unique_ptr<Record> recordOf(const Settings &settings) {
     const std::string name = settings.member.name(), front = settings.folder + "/" + name;
     const Before before{front + ".names", front + ".told", settings.storeFolder, settings.member.session};
-    return std::unique_ptr<Record>(new Record(recordPath(settings), name, before));
+    std::set<int> desks;
+    for (const Settings &it : settings.desks) desks.insert(it.member.desk);
+    return std::unique_ptr<Record>(new Record(recordPath(settings), name, before, desks));
 }
 
 }

@@ -6,38 +6,38 @@
 
 #include "files.h"
 #include "log.h"
-#include "member.h"
+#include "member_session.h"
 #include "record.h"
 #include "settings.h"
 #include "store.h"
 
 namespace edge {
 
-/// What the library calls for the session: each call goes to its member.
+/// What the library calls for the session of a desk: each call goes there.
 class Application : public FIX::Application {
 public:
-    explicit Application(Member &member) : member_(member) {}
+    explicit Application(MemberSession &desk) : desk_(desk) {}
 
     void onCreate(const FIX::SessionID &) override {}
-    void onLogon(const FIX::SessionID &) override { member_.loggedOn(); }
-    void onLogout(const FIX::SessionID &) override { member_.loggedOut(); }
+    void onLogon(const FIX::SessionID &) override { desk_.loggedOn(); }
+    void onLogout(const FIX::SessionID &) override { desk_.loggedOut(); }
     void toAdmin(FIX::Message &, const FIX::SessionID &) override {}
     void toApp(FIX::Message &, const FIX::SessionID &) throw(FIX::DoNotSend) override {}
-    void fromAdmin(const FIX::Message &,
-                   const FIX::SessionID &) throw(FIX::FieldNotFound, FIX::IncorrectDataFormat, FIX::IncorrectTagValue,
-                                                 FIX::RejectLogon) override {}
+    void fromAdmin(const FIX::Message &, const FIX::SessionID &) throw(FIX::FieldNotFound, FIX::IncorrectDataFormat,
+                                                                       FIX::IncorrectTagValue,
+                                                                       FIX::RejectLogon) override {}
     void fromApp(const FIX::Message &message,
                  const FIX::SessionID &session) throw(FIX::FieldNotFound, FIX::IncorrectDataFormat,
                                                       FIX::IncorrectTagValue, FIX::UnsupportedMessageType) override;
 
 private:
-    Member &member_;
+    MemberSession &desk_;
 };
 
 /// Makes the store of the session, in its member's record, and knows it.
 class Stores : public FIX::MessageStoreFactory {
 public:
-    explicit Stores(Record &record) : record_(record) {}
+    Stores(Record &record, int desk) : record_(record), desk_(desk) {}
 
     FIX::MessageStore *create(const FIX::SessionID &session) override;
     void destroy(FIX::MessageStore *store) override;
@@ -47,17 +47,19 @@ public:
 
 private:
     Record &record_;
+    const int desk_;
     Store *store_ = nullptr;
 };
 
 /// Makes the log of the session, which it knows, and the one of what belongs to none, which is written at once.
 class Logs : public FIX::LogFactory {
 public:
-    Logs(const std::string &folder, const LogBounds &bounds) : folder_(folder), bounds_(bounds) {
+    Logs(const std::string &folder, const LogBounds &bounds, int desk)
+        : folder_(folder), global_(folder + "/" + deskName("GLOBAL", desk)), bounds_(bounds) {
         FIX::file_mkdir(folder.c_str());
     }
 
-    FIX::Log *create() override { return new Log(folder_ + "/GLOBAL", bounds_, false); }
+    FIX::Log *create() override { return new Log(global_, bounds_, false); }
     FIX::Log *create(const FIX::SessionID &session) override {
         return log_ = new Log(filesOf(folder_, session), bounds_, true);
     }
@@ -67,7 +69,7 @@ public:
     Log &log() { return *log_; }
 
 private:
-    const std::string folder_;
+    const std::string folder_, global_;
     const LogBounds bounds_;
     Log *log_ = nullptr;
 };

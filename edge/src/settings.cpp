@@ -6,7 +6,11 @@
 #include <unistd.h>
 
 #include <algorithm>
+#include <cerrno>
+#include <cstdlib>
 #include <fstream>
+#include <iterator>
+#include <utility>
 
 #include "hours.h"
 #include "identity.h"
@@ -24,6 +28,51 @@ constexpr std::size_t LEAST_READ = 100;  // Messages in a second: below this a L
 const char *const DICTIONARY = "/usr/share/gikvand-edge/FIX44-edge.xml";
 // Account, HandlInst, ExecInst and others that engines write by themselves and that ask the venue for nothing.
 const char *const DROPPED = "1 15 21 22 48 58 100 114 167 207 528 581 582 1028";
+
+// What a session of copies has no use for.
+const char *const OF_TRADERS[] = {"CancelOnDisconnect",
+                                  "DayEndTime",
+                                  "Desk",
+                                  "DropFields",
+                                  "Firm",
+                                  "MarketData",
+                                  "MarketDataInterval",
+                                  "MaxMessagesPerSecond",
+                                  "MaxOpenOrders",
+                                  "MaxOpenValue",
+                                  "MaxOrderQuantity",
+                                  "MaxOrderValue",
+                                  "MaxRequestsUnderWay",
+                                  "MemberMaxMessagesPerSecond",
+                                  "MemberMaxOpenOrders",
+                                  MEMBERS_OPEN_VALUE,
+                                  "OnlyClosing",
+                                  "PriceCollar",
+                                  "ReferencePrices",
+                                  "ResetByMember",
+                                  "SelfTrade",
+                                  "TradeSymbols"};
+
+// What belongs to a member, and not to one of its desks: each of its sessions has the same.
+const char *const OF_MEMBERS[] = {"SenderCompID",
+                                  "StartTime",
+                                  "EndTime",
+                                  "StartDay",
+                                  "EndDay",
+                                  "DayEndTime",
+                                  "EdgePath",
+                                  "FileLogPath",
+                                  "FileStorePath",
+                                  "HttpAcceptPort",
+                                  "DiskReserve",
+                                  "MaxFolderBytes",
+                                  "MaxLogBytes",
+                                  "MaxLogFiles",
+                                  "SelfTrade",
+                                  "Firm",
+                                  "MemberMaxMessagesPerSecond",
+                                  "MemberMaxOpenOrders",
+                                  MEMBERS_OPEN_VALUE};
 
 using FIX::Dictionary;
 
@@ -56,7 +105,9 @@ void readTicks(const Dictionary &from, Settings &into) {
 std::string passwordOf(const std::string &path, const std::string &user) {
     struct stat it;
     std::ifstream file(path);
-    if (::stat(path.c_str(), &it) || !file) throw BadSetting("PasswordFile", "can't be read: " + path);
+    const bool isSeen = !::stat(path.c_str(), &it);
+    if (!isSeen && (errno == ENOENT || errno == ENOTDIR)) throw BadSetting("PasswordFile", "isn't there: " + path);
+    if (!isSeen || !file) throw BadSetting("PasswordFile", "can't be read: " + path);
     if (it.st_mode & 077) throw BadSetting("PasswordFile", "may be used by others than its owner: chmod 0600 " + path);
     for (std::string line; std::getline(file, line);)
         if (line.compare(0, user.size() + 1, user + ":") == 0 && line.size() > user.size() + 1)
@@ -78,6 +129,8 @@ Limits limitsOf(const Dictionary &from) {
     Limits it;
     it.messagesPerSecond = static_cast<int>(numberOr(from, "MaxMessagesPerSecond", 0, MOST, 0));
     it.openOrders = static_cast<int>(numberOr(from, "MaxOpenOrders", 0, MOST, 0));
+    it.membersPerSecond = static_cast<int>(numberOr(from, "MemberMaxMessagesPerSecond", 0, MOST, 0));
+    it.membersOpenOrders = static_cast<int>(numberOr(from, "MemberMaxOpenOrders", 0, MOST, 0));
     it.messageBytes = static_cast<std::size_t>(numberOr(from, "MaxMessageBytes", 256, 65536, 4096));
     it.unsentBytes = static_cast<std::size_t>(numberOr(from, "MaxUnsentBytes", 65536, 1 << 30, 4 << 20));
     it.readMessages = static_cast<std::size_t>(numberOr(from, "MaxReadMessagesPerSecond", 0, MOST, 20000));
@@ -86,7 +139,7 @@ Limits limitsOf(const Dictionary &from) {
     it.readBytes = static_cast<std::size_t>(numberOr(from, "MaxReadBytesPerSecond", 0, 1 << 30, 8 << 20));
     it.underWay = static_cast<std::size_t>(numberOr(from, "MaxRequestsUnderWay", 1, 1000000, 4000));
     it.cancelOnDisconnect = flagOr(from, "CancelOnDisconnect", false);
-    it.mayReset = flagOr(from, "ResetByMember", false);
+    it.mayReset = !from.has("DropCopyOf") && flagOr(from, "ResetByMember", false);
     it.dropped = tagsOf(from, "DropFields", DROPPED);
     it.lastCapacity = textOr(from, "LastCapacity", "");
     if (it.lastCapacity.size() > 1 || it.lastCapacity.find_first_not_of("1234") != std::string::npos)
@@ -94,16 +147,38 @@ Limits limitsOf(const Dictionary &from) {
     return it;
 }
 
+/// How a copy says whose report it is.
+CopyNames copyNamesOf(const Dictionary &from) {
+    const std::string text = textOr(from, "DropCopyNames", "Parties");
+    if (text == "115") return CopyNames::OnBehalfOf;
+    if (text == "128") return CopyNames::DeliverTo;
+    if (text != "Parties") throw BadSetting("DropCopyNames", "isn't Parties, 115 or 128: " + text);
+    return CopyNames::Parties;
+}
+
+/// Which one of its member's desks a session is.
+int deskOf(const Dictionary &from) {
+    return static_cast<int>(numberOr(from, "Desk", FIRST_DESK, MOST_DESKS, FIRST_DESK));
+}
+
 MemberSettings memberOf(const FIX::SessionID &session, const Dictionary &from) {
     const std::string name = textOf(from, "Member");
-    if (!isMember(name)) throw BadSetting("Member", "isn't C1 to C8: " + name);
-    MemberSettings it{name[1] - '0',
-                      session,
-                      static_cast<int>(numberOf(from, "SocketAcceptPort", 1, 65535)),
-                      textOr(from, "Username", ""),
-                      "",
-                      "",
-                      limitsOf(from)};
+    const bool copies = from.has("DropCopyOf");
+    if (!(copies ? isOfCopies(name) : isMember(name)))
+        throw BadSetting("Member",
+                         (copies ? "isn't D1 to D8, as of a session with DropCopyOf: " : "isn't C1 to C8: ") + name);
+    MemberSettings it{
+        name[1] - '0',
+        session,
+        static_cast<int>(numberOf(from, "SocketAcceptPort", 1, 65535)),
+        textOr(from, "Username", ""),
+        "",
+        "",
+        limitsOf(from),
+        {flagOr(from, "MarketData", false), static_cast<int>(numberOr(from, "MarketDataInterval", 10, 60000, 100))},
+        {},
+        copyNamesOf(from),
+        deskOf(from)};
     if (from.has("PasswordFile") != from.has("Username"))
         throw BadSetting(from.has("Username") ? "PasswordFile" : "Username", "is missing beside the other of the two");
     if (!it.username.empty()) it.password = passwordOf(textOf(from, "PasswordFile"), it.username);
@@ -126,7 +201,7 @@ void readIdentity(const Dictionary &from, Settings &into) {
     throw BadSetting("Username",
                      "is missing: neither a password nor a certificate of its own, by StunnelConfig, tells "
                      "who " +
-                         member.name() + " is; AllowAnyone=Y takes anyone in");
+                         member.deskName() + " is; AllowAnyone=Y takes anyone in");
 }
 
 /// A dictionary without fields of data, whose lengths the library believes.
@@ -154,6 +229,8 @@ void refuseOthers(const Dictionary &from) {
     for (const char *name : {"ResetOnLogon", "ResetOnLogout", "ResetOnDisconnect"})
         if (flagOr(from, name, false))
             throw BadSetting(name, "would drop what a member missed: leave it out, or see ResetByMember");
+    if (flagOr(from, "RefreshOnLogon", false))
+        throw BadSetting("RefreshOnLogon", "would read the record anew in the midst of what is told: leave it out");
     if (!flagOr(from, "PersistMessages", true))
         throw BadSetting("PersistMessages", "has to be Y: it keeps what was missed");
     for (const char *name : {"ValidateLengthAndChecksum", "ValidateFieldsHaveValues"})
@@ -201,12 +278,85 @@ std::string folderOf(const Dictionary &common, const Dictionary &session, const 
 }
 
 /// The port of a member's page: one of its session as it is, and else so far above the one of [DEFAULT] as its port at
-/// the venue is above that of C1.
-int statusPortOf(const Dictionary &common, const Dictionary &session, int member) {
+/// the venue is above that of C1. Those of sessions of copies come behind that of C8.
+int statusPortOf(const Dictionary &common, const Dictionary &session, const MemberSettings &member) {
     const char *const name = "HttpAcceptPort";
     if (!session.has(name)) return 0;
     if (isOwn(common, session, name)) return static_cast<int>(numberOf(session, name, 1, 65535));
-    return static_cast<int>(numberOf(session, name, 1, 65536 - MEMBERS)) + member - 1;
+    const int before = member.isOfCopies() ? MEMBERS : 0;
+    return static_cast<int>(numberOf(session, name, 1, 65536 - MEMBERS - before)) + before + member.number - 1;
+}
+
+/// The CompIDs behind a member in a word of DropCopyOf.
+std::vector<std::string> compIdsOf(const std::string &word, const std::string &named) {
+    std::vector<std::string> compIds;
+    for (std::size_t at = 0, end; at <= named.size(); at = end + 1) {
+        end = std::min(named.find(',', at), named.size());
+        const std::string it = named.substr(at, end - at);
+        if (it.empty()) throw BadSetting("DropCopyOf", "has an empty CompID: " + word);
+        if (std::count(compIds.begin(), compIds.end(), it)) throw BadSetting("DropCopyOf", "has one twice: " + it);
+        compIds.push_back(it);
+    }
+    return compIds;
+}
+
+/// A member with the CompIDs and the folder that its own sessions in the file have; without a CompID where there is none.
+CopiedMember ofThisFile(const FIX::SessionSettings &all, const std::string &member) {
+    CopiedMember it{member, {}, ""};
+    std::map<int, std::string> compIds;
+    std::string ofAll;
+    for (const FIX::SessionID &session : all.getSessions()) {
+        const Dictionary &from = all.get(session);
+        if (textOr(from, "Member", "") != member) continue;
+        compIds[deskOf(from)] = session.getTargetCompID().getValue();
+        it.folder = folderOf(all.get(), from, "EdgePath", member, ofAll);
+    }
+    for (const auto &desk : compIds) it.compIds.push_back(desk.second);
+    return it;
+}
+
+/// A member of a word of DropCopyOf, as C1, C1:DESK-A, or C1:DESK-A,DESK-B where it has several desks. Its CompIDs and
+/// where its process keeps what it has are those of its own sessions of the file. Without one the word has the CompIDs,
+/// that of the first desk in front, and DropCopyPath the rest.
+CopiedMember copiedOf(const FIX::SessionSettings &all, const Dictionary &from, const std::string &word) {
+    const std::string member = word.substr(0, word.find(':'));
+    const std::string named = word.substr(std::min(member.size() + 1, word.size()));
+    if (!isMember(member)) throw BadSetting("DropCopyOf", "has what isn't C1 to C8: " + member);
+    CopiedMember it = ofThisFile(all, member);
+    if (!it.compIds.empty()) {
+        if (word != member && named != it.compIdWords())
+            throw BadSetting("DropCopyOf", "has " + word + ", and this file has " + member + ":" + it.compIdWords());
+        return it;
+    }
+    if (!from.has("DropCopyPath")) throw BadSetting("DropCopyPath", "is missing: no session of this file is " + member);
+    if (named.empty())
+        throw BadSetting("DropCopyOf", "has no CompID of " + member + ", as " + member +
+                                           ":DESK-A has one: no session of this file is " + member);
+    return {member, compIdsOf(word, named), textOf(from, "DropCopyPath") + "/" + member};
+}
+
+/// The members whose reports a session is sent; none where it trades itself. What is for who trades has no use there.
+std::vector<CopiedMember> copiedBy(const FIX::SessionSettings &all, const Dictionary &from) {
+    std::vector<CopiedMember> copied;
+    if (all.get().has("Desk")) throw BadSetting("Desk", "is of one session, and belongs to its [SESSION]");
+    if (all.get().has("DropCopyOf")) throw BadSetting("DropCopyOf", "is of one session, and belongs to its [SESSION]");
+    if (!from.has("DropCopyOf")) {
+        for (const char *name : {"DropCopyNames", "DropCopyPath"})
+            if (from.has(name) && isOwn(all.get(), from, name))
+                throw BadSetting(name, "is for a session with DropCopyOf");
+        return copied;
+    }
+    for (const std::string &word : wordsOf(textOf(from, "DropCopyOf"))) {
+        const CopiedMember next = copiedOf(all, from, word);
+        for (const CopiedMember &it : copied)
+            if (it.name == next.name) throw BadSetting("DropCopyOf", "has one twice: " + next.name);
+        copied.push_back(next);
+    }
+    if (copied.empty()) throw BadSetting("DropCopyOf", "has no member");
+    for (const char *name : OF_TRADERS)
+        if (from.has(name) && isOwn(all.get(), from, name))
+            throw BadSetting(name, "is for members that trade, and not for a session with DropCopyOf");
+    return copied;
 }
 
 void readVenue(const Dictionary &from, Settings &into) {
@@ -225,7 +375,8 @@ void readHost(const Dictionary &from, Settings &into) {
         throw BadSetting("SocketAcceptHost", "is no address, as 127.0.0.1: " + into.host);
 }
 
-Settings settingsOf(const Dictionary &common, const FIX::SessionID &session, const Dictionary &from) {
+Settings settingsOf(const FIX::SessionSettings &all, const FIX::SessionID &session) {
+    const Dictionary &common = all.get(), &from = all.get(session);
     needKnownNames(from);
     refuseOthers(from);
     Settings it;
@@ -233,14 +384,17 @@ Settings settingsOf(const Dictionary &common, const FIX::SessionID &session, con
     readHost(from, it);
     it.hours = hoursOf(from);
     it.dayEnds = dayEndsOf(from, it.hours);
+    const std::vector<CopiedMember> copied = copiedBy(all, from);
     it.member = memberOf(session, from);
-    it.member.limits.orders = orderLimitsOf(from, it.ticks, it.member.name());
+    it.member.copied = copied;
+    if (it.member.isOfCopies()) it.member.market.isOpen = it.member.limits.cancelOnDisconnect = false;
+    else it.member.limits.orders = orderLimitsOf(from, it.ticks, it.member.name());
     readIdentity(from, it);
     const std::string name = it.member.name();
     it.folder = folderOf(common, from, "EdgePath", name, it.ofAll.edge);
     if (from.has("FileStorePath")) it.storeFolder = folderOf(common, from, "FileStorePath", name, it.ofAll.store);
     it.logFolder = folderOf(common, from, "FileLogPath", name, it.ofAll.log);
-    it.statusPort = statusPortOf(common, from, it.member.number);
+    it.statusPort = statusPortOf(common, from, it.member);
     it.diskReserve = static_cast<std::uint64_t>(numberOr(from, "DiskReserve", 0, 1L << 40, 16 << 20));
     it.folderBytes = static_cast<std::uint64_t>(numberOr(from, "MaxFolderBytes", 1 << 20, 1L << 50, 1L << 32));
     it.log.bytes = static_cast<std::size_t>(numberOr(from, "MaxLogBytes", 65536, 1L << 40, 64 << 20));
@@ -248,6 +402,55 @@ Settings settingsOf(const Dictionary &common, const FIX::SessionID &session, con
     it.library = forLibrary(session, from);
     needSameSteps(it);
     return it;
+}
+
+/// Whose desks a group of sessions are, by the numbers of these: what a member has is the same for all of them.
+void needOneMember(const FIX::SessionSettings &all, const std::vector<Settings> &sessions) {
+    const Settings &first = sessions.front();
+    const std::string name = first.member.name();
+    for (const Settings &it : sessions) {
+        if (&it == &first) continue;
+        if (it.member.desk == FIRST_DESK) throw BadSetting("Member", "has two sessions: " + name);
+        const Settings &before = *(&it - 1);
+        if (it.member.desk == before.member.desk)
+            throw BadSetting("Desk", "is that of two sessions: " + it.member.deskName());
+        const Dictionary &own = all.get(it.member.session), &other = all.get(first.member.session);
+        for (const char *setting : OF_MEMBERS)
+            if (own.has(setting) != other.has(setting) ||
+                (own.has(setting) && own.getString(setting) != other.getString(setting)))
+                throw BadSetting(setting, "is another one for " + it.member.deskName() + " than for " + name +
+                                              ", and is one for all desks of a member");
+    }
+    if (first.member.desk != FIRST_DESK)
+        throw BadSetting("Desk",
+                         "is " + std::to_string(first.member.desk) + ", and no session is the first desk of " + name);
+}
+
+/// The settings of members, by their names, out of those of all sessions of a file.
+std::vector<Settings> joined(const FIX::SessionSettings &all, std::vector<Settings> sessions) {
+    std::sort(sessions.begin(), sessions.end(), [](const Settings &one, const Settings &other) {
+        return std::make_pair(one.member.name(), one.member.desk) <
+               std::make_pair(other.member.name(), other.member.desk);
+    });
+    std::vector<Settings> members;
+    for (auto at = sessions.begin(); at != sessions.end();) {
+        const std::string name = at->member.name();
+        const auto end =
+            std::find_if(at, sessions.end(), [&name](const Settings &it) { return it.member.name() != name; });
+        const std::vector<Settings> its(at, end);
+        needOneMember(all, its);
+        members.push_back(its.front());
+        members.back().desks.assign(std::next(its.begin()), its.end());
+        at = end;
+    }
+    return members;
+}
+
+/// A file that has the name of a member is that member's, as the service of this name has it.
+void needItsName(const std::string &path, const std::string &member) {
+    const std::string file = path.substr(path.rfind('/') + 1), name = file.substr(0, file.find('.'));
+    if (isMember(name) && file == name + ".cfg" && isMember(member) && name != member)
+        throw BadSetting("Member", "is " + member + ", and the file " + file + " is that of " + name);
 }
 
 /// What a settings file has, as the library reads it.
@@ -270,6 +473,12 @@ FIX::SessionSettings sectionsOf(const std::string &path) {
 
 }
 
+std::string CopiedMember::compIdWords() const {
+    std::string words;
+    for (const std::string &it : compIds) words += (words.empty() ? "" : ",") + it;
+    return words;
+}
+
 bool isSymbol(const std::string &it) {
     return !it.empty() && it.size() <= 8 &&
            it.find_first_not_of("ABCDEFGHIJKLMNOPQRSTUVWXYZ0123456789") == std::string::npos;
@@ -279,12 +488,17 @@ bool isMember(const std::string &it) {
     return it.size() == 2 && it[0] == 'C' && it[1] >= '1' && it[1] <= '0' + MEMBERS;
 }
 
+bool isOfCopies(const std::string &it) {
+    return it.size() == 2 && it[0] == 'D' && it[1] >= '1' && it[1] <= '0' + MEMBERS;
+}
+
 std::vector<MemberFolder> readFolders(const std::string &path) {
     const FIX::SessionSettings all = sectionsOf(path);
     std::vector<MemberFolder> folders;
     std::string ofAll;
     for (const FIX::SessionID &session : all.getSessions()) {
         const std::string member = textOf(all.get(session), "Member");
+        if (std::atoi(textOr(all.get(session), "Desk", "1").c_str()) != FIRST_DESK) continue;  // It has no process.
         folders.push_back({member, folderOf(all.get(), all.get(session), "EdgePath", member, ofAll), path});
     }
     std::sort(folders.begin(), folders.end(),
@@ -292,13 +506,22 @@ std::vector<MemberFolder> readFolders(const std::string &path) {
     return folders;
 }
 
+std::vector<FIX::Dictionary> readPlain(const std::string &path) {
+    const FIX::SessionSettings all = sectionsOf(path);
+    std::vector<FIX::Dictionary> found;
+    for (const FIX::SessionID &session : all.getSessions()) {
+        found.push_back(all.get(session));
+        if (textOr(found.back(), "Member", "") != textOr(found.front(), "Member", ""))
+            throw BadSetting("[SESSION]", "there are " + std::to_string(all.getSessions().size()));
+    }
+    return found;
+}
+
 std::vector<Settings> readAll(const std::string &path) {
     const FIX::SessionSettings all = sectionsOf(path);
-    std::vector<Settings> members;
-    for (const FIX::SessionID &session : all.getSessions())
-        members.push_back(settingsOf(all.get(), session, all.get(session)));
-    std::sort(members.begin(), members.end(),
-              [](const Settings &one, const Settings &other) { return one.member.number < other.member.number; });
+    std::vector<Settings> sessions;
+    for (const FIX::SessionID &session : all.getSessions()) sessions.push_back(settingsOf(all, session));
+    const std::vector<Settings> members = joined(all, sessions);
     needApart(members);
     return members;
 }
@@ -306,15 +529,23 @@ std::vector<Settings> readAll(const std::string &path) {
 Settings readOne(const std::string &path, const std::string &member) {
     const FIX::SessionSettings all = sectionsOf(path);
     const std::set<FIX::SessionID> sessions = all.getSessions();
+    const auto memberOf = [&all](const FIX::SessionID &it) { return textOr(all.get(it), "Member", ""); };
     std::vector<FIX::SessionID> chosen;
     for (const FIX::SessionID &session : sessions)
-        if (member.empty() || textOr(all.get(session), "Member", "") == member) chosen.push_back(session);
+        if (member.empty() || memberOf(session) == member) chosen.push_back(session);
     if (chosen.empty()) throw BadSetting("Member", "no session has " + member);
-    if (chosen.size() > 1 && !member.empty()) throw BadSetting("Member", "has two sessions: " + member);
-    if (chosen.size() > 1)
+    const auto isOne = [&](const FIX::SessionID &it) { return memberOf(it) == memberOf(chosen[0]); };
+    const auto hasDesk = [&](const FIX::SessionID &it) { return all.get(it).has("Desk"); };
+    const bool areDesks = chosen.size() == 1 || !member.empty() || std::any_of(chosen.begin(), chosen.end(), hasDesk);
+    if (!areDesks || !std::all_of(chosen.begin(), chosen.end(), isOne))
         throw BadSetting("[SESSION]", "there are " + std::to_string(chosen.size()) +
                                           ": --all serves all of them, and --member C1 the one of C1");
-    return settingsOf(all.get(), chosen[0], all.get(chosen[0]));
+    if (sessions.size() == chosen.size()) needItsName(path, textOf(all.get(chosen[0]), "Member"));
+    std::vector<Settings> desks;
+    for (const FIX::SessionID &it : chosen) desks.push_back(settingsOf(all, it));
+    const std::vector<Settings> members = joined(all, desks);
+    needDesksApart(members.front());
+    return members.front();
 }
 
 }

@@ -9,10 +9,12 @@
 #include <string>
 #include <vector>
 
+#include "desk_names.h"
 #include "log.h"
 #include "order_limits.h"
 #include "schedule.h"
 #include "ticks.h"
+#include "venue_place.h"
 
 namespace edge {
 
@@ -22,16 +24,10 @@ public:
     BadSetting(const std::string &name, const std::string &why) : std::runtime_error(name + ": " + why) {}
 };
 
-/// Where the venue is, and how what it has kept is read.
-struct VenuePlace {
-    int port;                          // Of C1; that of Ck is k - 1 above it.
-    std::string journal, events;       // Its journal's file, and the program venue-events.
-    std::vector<std::string> symbols;  // In the venue's order.
-};
-
 /// What a member may do, and what becomes of what it sends.
 struct Limits {
-    int messagesPerSecond, openOrders;  // 0: no limit.
+    int messagesPerSecond, openOrders;        // 0: no limit.
+    int membersPerSecond, membersOpenOrders;  // The same of all desks of the member together.
     std::size_t messageBytes, unsentBytes;
     std::size_t readMessages, readBytes;  // Of all types, in a second; 0: no bound.
     std::size_t underWay;                 // Requests that the venue hasn't answered.
@@ -41,16 +37,44 @@ struct Limits {
     OrderLimits orders;
 };
 
-/// A member of the venue, and the session that it has at the edge.
+/// Whether a member may ask for the market, and how often it is told of that: behind so many milliseconds at least.
+struct MarketSettings {
+    bool isOpen;
+    int interval;
+};
+
+/// A member whose reports are copied, the CompIDs of its desks at the edge, and where its process keeps what it has.
+struct CopiedMember {
+    std::string name;
+    std::vector<std::string> compIds;  // That of its first desk is in front.
+    std::string folder;
+
+    /// The CompIDs with commas, as DropCopyOf has them.
+    std::string compIdWords() const;
+};
+
+/// How a copy says whose report it is: by a party, by OnBehalfOfCompID (115), or by DeliverToCompID (128).
+enum class CopyNames { Parties, OnBehalfOf, DeliverTo };
+
+/// A member of the venue, and the session that one of its desks has at the edge; or a session that is sent copies of
+/// what members are told, and that trades nothing.
 struct MemberSettings {
-    int number;  // k of Ck.
+    int number;  // k of Ck, or of Dk.
     FIX::SessionID session;
     int port;                        // Where it connects to.
     std::string username, password;  // Empty: none is asked for.
     std::string certificate;         // The one that its stunnel takes; empty: none that is known.
     Limits limits;
+    MarketSettings market;
+    std::vector<CopiedMember> copied;  // None: it is a member of the venue.
+    CopyNames copyNames = CopyNames::Parties;
+    int desk = FIRST_DESK;
 
-    std::string name() const { return "C" + std::to_string(number); }
+    bool isOfCopies() const { return !copied.empty(); }
+    std::string name() const { return (isOfCopies() ? "D" : "C") + std::to_string(number); }
+
+    /// The name of its desk, as C1 or C1.2.
+    std::string deskName() const { return edge::deskName(name(), desk); }
 };
 
 /// The folders of names, store and log.
@@ -58,7 +82,8 @@ struct Folders {
     std::string edge, store, log;
 };
 
-/// All settings of the process of one member, read and looked through.
+/// All settings of the process of one member, read and looked through: for the session of its first desk, and beside
+/// that those for each other one. What belongs to the member itself is the same in all of them.
 struct Settings {
     FIX::SessionSettings library;  // For QuickFIX, of this session alone, without what is the edge's own.
     VenuePlace venue;
@@ -72,6 +97,14 @@ struct Settings {
     std::uint64_t folderBytes;  // As many bytes in the folders are the most with which a new order is taken.
     Schedule hours, dayEnds;    // When the member's session begins and ends, and when what is Day does.
     MemberSettings member;
+    std::vector<Settings> desks;  // The other desks, by their numbers.
+
+    /// The sessions of all desks.
+    std::vector<const MemberSettings *> sessions() const {
+        std::vector<const MemberSettings *> all{&member};
+        for (const Settings &it : desks) all.push_back(&it.member);
+        return all;
+    }
 };
 
 /// Where the process of a member keeps what it has.
@@ -80,18 +113,25 @@ struct MemberFolder {
     std::string settings;  // The file that says so.
 };
 
-/// Whether a symbol or a member may have this name: 1 to 8 capitals and digits, and C1 to C8.
+/// Whether a symbol, a member or a session of copies may have this name: 1 to 8 capitals and digits, C1 to C8, and D1
+/// to D8.
 bool isSymbol(const std::string &it);
 bool isMember(const std::string &it);
+bool isOfCopies(const std::string &it);
 
 /// The folders of the members of a file, whatever else its settings say.
 std::vector<MemberFolder> readFolders(const std::string &path);
+
+/// What the sessions of a file of one member have, as it stands there, whatever else is wrong in it; a BadSetting where
+/// it has several members.
+std::vector<FIX::Dictionary> readPlain(const std::string &path);
 
 /// Reads the settings of each member of a file. What is wrong in them, or keeps the members from being served side by
 /// side, is a BadSetting with the name of the setting.
 std::vector<Settings> readAll(const std::string &path);
 
-/// Reads the settings of this member, as C1, out of a file; without a name the file has to have one session.
+/// Reads the settings of this member, as C1, out of a file; without a name the file has to have one member. A file of
+/// one member that is called C1.cfg is of that member, so that a service is none of another one.
 Settings readOne(const std::string &path, const std::string &member);
 
 }

@@ -1,23 +1,14 @@
 #include "status.h"
 
-#include <poll.h>
-#include <sys/socket.h>
-
+#include <ctime>
 #include <sstream>
 
-#include "door.h"
+#include "hours.h"
 #include "seconds.h"
 
 namespace edge {
 
 namespace {
-
-constexpr int PATIENCE = 500;  // Milliseconds for a request.
-
-bool waits(int fd, int milliseconds) {
-    pollfd it{fd, POLLIN, 0};
-    return ::poll(&it, 1, milliseconds) > 0;
-}
 
 /// How many requests each limit has refused, of those that have refused any.
 std::string refusalsOf(const Member &member) {
@@ -28,65 +19,86 @@ std::string refusalsOf(const Member &member) {
     return words.empty() ? words : words + ")";
 }
 
+/// What a session of copies says in the place of requests and orders.
+std::string wordsOf(const Copies &copies, const MemberSettings &settings) {
+    std::string members;
+    for (const CopiedMember &it : settings.copied) members += " " + it.name;
+    const std::string waiting = copies.waiting();
+    return std::to_string(copies.count()) + " copies of" + members + ", the last " + std::to_string(copies.last()) +
+           (copies.isCutOff() ? ", doesn't read the journal" : "") + (waiting.empty() ? "" : ", waits for" + waiting);
+}
+
+/// What a desk's client hasn't taken, its day, and whether it is being told again what it wasn't sent: of copies the
+/// state says that.
+std::string wordsOf(const MemberSession &it) {
+    const bool isOwed = it.isOwed() && !it.settings().isOfCopies();
+    return std::to_string(it.unsent()) + " bytes not taken, numbers since " + timeOf(it.dayBegan()) +
+           (isOwed ? ", is told again what it wasn't sent" : "");
+}
+
+/// The desks beside the first one.
+std::string othersOf(const Member &member) {
+    std::string words;
+    for (const MemberSession &it : member.sessions())
+        if (it.desk() != FIRST_DESK)
+            words += "; " + it.settings().deskName() + " (" + it.settings().session.getTargetCompID().getString() +
+                     "): " + (it.isLoggedOn() ? "logged on, " : "away, ") + wordsOf(it);
+    return words;
+}
+
+/// What a member has asked for, and what it was told.
+std::string wordsOf(const Counts &counts, const Member &member) {
+    return std::to_string(counts.requests) + " requests, " + std::to_string(counts.refusals) + " refused by the edge" +
+           refusalsOf(member) + ", " + std::to_string(counts.reports) + " reports, the last " +
+           std::to_string(counts.lastReport) + ", " + std::to_string(counts.openOrders) + " open orders worth " +
+           textOf(member.openValue());
+}
+
 }
 
 std::string statusOf(const Member &member) {
-    const Counts &counts = member.counts();
-    const std::string off = member.switches().words();
+    const std::string off = member.switches().words(), outside = outsideOf(member.hours(), std::time(nullptr));
+    const MemberSettings &settings = member.settings();
+    const MemberSession &first = member.sessions().front();
     std::ostringstream line;
-    line << member.settings().name() << " (" << member.settings().session.getTargetCompID().getString()
-         << "): " << wordsOf(member.state()) << ", " << (member.isLoggedOn() ? "logged on" : "away") << ", "
-         << counts.requests << " requests, " << counts.refusals << " refused by the edge" << refusalsOf(member) << ", "
-         << counts.reports << " reports, the last " << counts.lastReport << ", " << counts.openOrders
-         << " open orders worth " << textOf(member.openValue()) << ", " << member.unsent()
-         << " bytes not taken, numbers since " << timeOf(member.dayBegan()) << (off.empty() ? "" : ", ") << off;
+    line << settings.name() << " (" << settings.session.getTargetCompID().getString()
+         << "): " << wordsOf(member.state()) << (outside.empty() ? "" : ", ") << outside << ", "
+         << (first.isLoggedOn() ? "logged on" : "away") << ", "
+         << (member.copies() ? wordsOf(*member.copies(), settings) : wordsOf(member.counts(), member)) << ", "
+         << wordsOf(first) << othersOf(member) << (off.empty() ? "" : ", ") << off;
     return line.str();
 }
 
 StatusPage::StatusPage(int port, const Member &member)
-    : member_(member), listener_(listener("127.0.0.1", port)), thread_([this] { run(); }) {}
-
-StatusPage::~StatusPage() {
-    isStopping_ = true;
-    thread_.join();
-}
-
-void StatusPage::run() {
-    while (!isStopping_) {
-        if (!waits(listener_.get(), PATIENCE)) continue;
-        const Descriptor socket(::accept4(listener_.get(), nullptr, nullptr, SOCK_NONBLOCK | SOCK_CLOEXEC));
-        if (socket) answer(socket.get());
-        else ::poll(nullptr, 0, PATIENCE);
-    }
-}
-
-void StatusPage::answer(int socket) const {
-    char asked[8192];  // A browser's whole request: what isn't read of it would cut the answer short.
-    if (!waits(socket, PATIENCE)) return;
-    const ssize_t count = ::recv(socket, asked, sizeof asked, 0);
-    if (count <= 0) return;
-    const bool isFigures = !std::string(asked, static_cast<std::size_t>(count)).compare(0, 12, "GET /metrics");
-    const std::string body = isFigures ? figures() : statusOf(member_) + "\n";
-    const std::string page =
-        "HTTP/1.0 200 OK\r\nContent-Type: text/plain; charset=utf-8\r\nContent-Length: " + std::to_string(body.size()) +
-        "\r\n\r\n" + body;
-    if (::send(socket, page.data(), page.size(), MSG_NOSIGNAL) < 0) return;  // Who asked has gone.
-}
+    : member_(member),
+      page_(
+          port, [this] { return statusOf(member_) + "\n"; }, [this] { return figures(); }) {}
 
 std::string StatusPage::figures() const {
     const Counts &counts = member_.counts();
+    const MemberSession &first = member_.sessions().front();
     const std::string member = "{member=\"" + member_.settings().name() + "\"} ";
     std::ostringstream page;
     page << "gikvand_edge_serves" << member << (member_.state() == Member::State::Serves) << "\n"
-         << "gikvand_edge_logged_on" << member << member_.isLoggedOn() << "\n"
+         << "gikvand_edge_within_hours" << member << member_.hours().isOpen(std::time(nullptr)) << "\n"
+         << "gikvand_edge_logged_on" << member << first.isLoggedOn() << "\n"
          << "gikvand_edge_requests_total" << member << counts.requests << "\n"
          << "gikvand_edge_refusals_total" << member << counts.refusals << "\n"
-         << "gikvand_edge_reports_total" << member << counts.reports << "\n"
+         << "gikvand_edge_reports_total" << member
+         << (member_.copies() ? member_.copies()->count() : counts.reports.load()) << "\n"
          << "gikvand_edge_open_orders" << member << counts.openOrders << "\n"
          << "gikvand_edge_open_value" << member << textOf(member_.openValue()) << "\n"
-         << "gikvand_edge_day_began_seconds" << member << member_.dayBegan() << "\n"
-         << "gikvand_edge_unsent_bytes" << member << member_.unsent() << "\n"
+         << "gikvand_edge_day_began_seconds" << member << first.dayBegan() << "\n"
+         << "gikvand_edge_unsent_bytes" << member << first.unsent() << "\n"
          << "gikvand_edge_stopped" << member << member_.switches().showsStopped() << "\n";
+    for (const MemberSession &it : member_.sessions()) {
+        if (it.desk() == FIRST_DESK) continue;
+        const std::string desk =
+            "{member=\"" + it.settings().name() + "\",desk=\"" + std::to_string(it.desk()) + "\"} ";
+        page << "gikvand_edge_logged_on" << desk << it.isLoggedOn() << "\n"
+             << "gikvand_edge_day_began_seconds" << desk << it.dayBegan() << "\n"
+             << "gikvand_edge_unsent_bytes" << desk << it.unsent() << "\n";
+    }
     for (const auto &it : member_.switches().shownHalted())
         page << "gikvand_edge_halted{member=\"" << member_.settings().name() << "\",symbol=\"" << it.first << "\"} "
              << it.second << "\n";

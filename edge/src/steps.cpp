@@ -1,14 +1,8 @@
 #include "steps.h"
 
-#include <fcntl.h>
-#include <unistd.h>
-
-#include <cerrno>
-#include <cstdio>
 #include <fstream>
 #include <sstream>
 
-#include "descriptor.h"
 #include "files.h"
 #include "lines.h"
 
@@ -28,18 +22,6 @@ std::string lineOf(const Settings &settings) {
     for (const std::string &symbol : settings.venue.symbols)
         line += (line.empty() ? "" : " ") + symbol + ":" + settings.ticks.at(symbol).text();
     return line;
-}
-
-/// Writes a whole file, or none: a power cut leaves no part of one.
-void write(const std::string &path, const std::string &line) {
-    const std::string part = path + ".new";
-    Descriptor file(::open(part.c_str(), O_RDWR | O_CREAT | O_TRUNC | O_CLOEXEC, 0600));
-    if (!file) throw std::runtime_error("can't make " + part + ": " + reason());
-    writeAll(file.get(), line + "\n", part);
-    if (::fsync(file.get())) throw std::runtime_error("can't sync " + part + ": " + reason());
-    if (std::rename(part.c_str(), path.c_str()))
-        throw std::runtime_error("can't rename " + part + " to " + path + ": " + reason());
-    syncFolder(path.substr(0, path.rfind('/')));
 }
 
 /// What differs between the kept line and the settings, in words.
@@ -75,7 +57,7 @@ void needSameSteps(const Settings &settings) {
 }
 
 void keepSteps(const Settings &settings) {
-    if (!areKept(settings)) write(pathOf(settings), lineOf(settings));
+    if (!areKept(settings)) writeWhole(pathOf(settings), lineOf(settings) + "\n");
 }
 
 }

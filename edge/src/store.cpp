@@ -4,6 +4,8 @@
 
 #include <ctime>
 
+#include "message_types.h"
+
 namespace edge {
 
 namespace {
@@ -11,12 +13,15 @@ constexpr long DAY = 24 * 60 * 60;  // Seconds for which a name is kept at least
 constexpr int HOUR = 60 * 60;       // In front of each moment that the library looks at.
 }
 
-Store::Store(Record &record, const FIX::SessionID &session)
-    : record_(record),
+Store::Store(Record &record, int desk, const FIX::SessionID &session)
+    : own_(record, desk),
+      record_(record),
       session_(session),
       range_(record.database(), "SELECT number, bytes FROM messages WHERE number >= ? AND number <= ? ORDER BY number"),
-      empty_(record.database(), "DELETE FROM messages WHERE number >= ?"),
-      drop_(record.database(), "DELETE FROM messages WHERE number = ?") {
+      next_(record.database(), "SELECT number FROM messages WHERE number >= ? AND number < ? ORDER BY number LIMIT 1"),
+      count_(record.database(), "SELECT count(*) FROM messages WHERE number >= ? AND number <= ?"),
+      empty_(record.database(), "DELETE FROM messages WHERE number >= ? AND number < ?"),
+      drop_(record.database(), "DELETE FROM messages WHERE number >= ? AND number < ?") {
     try {
         refresh();
     } catch (const FIX::IOException &) {
@@ -37,8 +42,11 @@ void Store::noting(Act act) const {
     }
 }
 
+/// What is of its moment has its number, and isn't kept: who asks for it again is told that there is nothing there.
 bool Store::set(int number, const std::string &message) throw(FIX::IOException) {
-    noting([&] { record_.put(number, message); });
+    noting([&] {
+        if (!isOfItsMoment(message)) own_.put(number, message);
+    });
     return true;
 }
 
@@ -49,11 +57,11 @@ void Store::get(int from, int to, std::vector<std::string> &messages) const thro
         messages.clear();
         record_.fillTables();
         long last = 0;
-        for (Rows rows = range_.of(static_cast<long>(from), static_cast<long>(to)); rows.next();) {
-            last = rows.number(0);
+        for (Rows rows = range_.of(own_.place(from), own_.place(to)); rows.next();) {
+            last = numberAt(rows.number(0));
             messages.push_back(rows.bytes(1));
         }
-        if (last && last < to && to < record_.state().sender) messages.push_back(fillerOf(to));
+        if (last && last < to && to < own_.state().sender) messages.push_back(fillerOf(to));
     });
 }
 
@@ -69,27 +77,27 @@ std::string Store::fillerOf(int number) const {
 }
 
 int Store::getNextSenderMsgSeqNum() const throw(FIX::IOException) {
-    return static_cast<int>(record_.state().sender);
+    return static_cast<int>(own_.state().sender);
 }
 
 int Store::getNextTargetMsgSeqNum() const throw(FIX::IOException) {
-    return static_cast<int>(record_.state().target);
+    return static_cast<int>(own_.state().target);
 }
 
 void Store::setNextSenderMsgSeqNum(int number) throw(FIX::IOException) {
-    noting([&] { record_.change().sender = number; });
+    noting([&] { own_.change().sender = number; });
 }
 
 void Store::setNextTargetMsgSeqNum(int number) throw(FIX::IOException) {
-    noting([&] { record_.change().target = number; });
+    noting([&] { own_.change().target = number; });
 }
 
 void Store::incrNextSenderMsgSeqNum() throw(FIX::IOException) {
-    noting([&] { record_.change().sender++; });
+    noting([&] { own_.change().sender++; });
 }
 
 void Store::incrNextTargetMsgSeqNum() throw(FIX::IOException) {
-    noting([&] { record_.change().target++; });
+    noting([&] { own_.change().target++; });
 }
 
 /// The library takes it before or behind the moment that it compares it with: it is behind both.
@@ -113,31 +121,51 @@ void Store::reset() throw(FIX::IOException) {
 
 void Store::beginDay() {
     noting([&] {
-        State &state = record_.change();
+        SessionState &state = own_.change();
         state.sender = state.target = state.heard = 1;
         state.created = FIX::UtcTimeStamp();
-        state.dropBefore = std::time(nullptr) - DAY;
+        record_.change().dropBefore = std::time(nullptr) - DAY;
     });
 }
 
 void Store::dropRest() {
     noting([&] {
         record_.changeTables();
-        empty_.run(record_.state().sender);
-        record_.numbersBegan();
+        empty_.run(own_.place(own_.state().sender), placeOf(own_.desk() + 1, 0));
+        own_.numbersBegan();
     });
 }
 
-void Store::drop(int number) {
+long Store::nextKept(long from) const {
+    long first = 0;
+    noting([&] {
+        record_.fillTables();
+        Rows rows = next_.of(own_.place(from), placeOf(own_.desk() + 1, 0));
+        if (rows.next()) first = numberAt(rows.number(0));
+    });
+    return first ? first : own_.state().sender;
+}
+
+long Store::keptOf(long from, long to) const {
+    long count = 0;
+    noting([&] {
+        record_.fillTables();
+        Rows rows = count_.of(own_.place(from), own_.place(to));
+        if (rows.next()) count = rows.number(0);
+    });
+    return count;
+}
+
+void Store::drop(long from, long end) {
     noting([&] {
         record_.changeTables();
-        drop_.run(static_cast<long>(number));
+        drop_.run(own_.place(from), own_.place(end));
     });
 }
 
 void Store::refresh() throw(FIX::IOException) {
     fault_.clear();
-    noting([&] { record_.open(); });
+    noting([&] { own_.open(); });
 }
 
 }

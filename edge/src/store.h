@@ -8,15 +8,15 @@
 #include <string>
 #include <vector>
 
-#include "record.h"
+#include "session_record.h"
 
 namespace edge {
 
-/// The store of a session, in its member's record: what it takes in is committed at the end of the turn.
+/// The store of a desk's session, in its member's record: what it takes in is committed at the end of the turn.
 class Store : public FIX::MessageStore {
 public:
     /// Opens the record. Where that can't be done, the store is empty, and has a fault.
-    Store(Record &record, const FIX::SessionID &session);
+    Store(Record &record, int desk, const FIX::SessionID &session);
 
     bool set(int number, const std::string &message) throw(FIX::IOException) override;
     void get(int from, int to, std::vector<std::string> &messages) const throw(FIX::IOException) override;
@@ -44,8 +44,13 @@ public:
     /// Drops what stands behind the messages that were put since the numbers began.
     void dropRest();
 
-    /// Drops the message of this number, as one that is told again under another one.
-    void drop(int number);
+    /// The first number from this one on of which a message is kept, and how many are up to another one: what is of its
+    /// moment isn't. Where there is none the first number is that of no message yet.
+    long nextKept(long from) const;
+    long keptOf(long from, long to) const;
+
+    /// Drops the messages from this number to in front of another one, as what is told again under others.
+    void drop(long from, long end);
 
     /// Why something couldn't be kept or read, or nothing. Nothing is put behind that until the record is read anew, by
     /// `refresh`.
@@ -56,11 +61,12 @@ private:
     void noting(Act act) const;
     std::string fillerOf(int number) const;
 
+    SessionRecord own_;
     Record &record_;
     const FIX::SessionID session_;
     mutable std::string fault_;
     bool mayReset_ = false;
-    mutable Statement range_, empty_, drop_;
+    mutable Statement range_, next_, count_, empty_, drop_;
 };
 
 }

@@ -1,6 +1,6 @@
 #pragma once
 
-// What an operator has switched off: the whole of a member, or a symbol. desk.h switches, and trader.h looks here
+// What an operator has switched off: the whole of a member, or a symbol. operators.h switches, and trader.h looks here
 // before it takes a member's order.
 
 #include <map>

@@ -8,7 +8,7 @@
 
 #include <string>
 
-#include "record.h"
+#include "session_record.h"
 
 namespace edge {
 
@@ -16,7 +16,7 @@ namespace edge {
 /// in the same order, but makes no message of the library.
 class Teller {
 public:
-    explicit Teller(Record &record) : record_(record) {}
+    Teller(Record &record, int desk) : record_(record, desk) {}
 
     void attach(FIX::Session &session) { session_ = &session; }
 
@@ -30,7 +30,7 @@ public:
 private:
     std::string written(char type, const std::string &body) const;
 
-    Record &record_;
+    SessionRecord record_;
     FIX::Session *session_ = nullptr;
     FIX::Responder *client_ = nullptr;
 };

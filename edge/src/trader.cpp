@@ -9,6 +9,7 @@
 
 #include "lines.h"
 #include "seconds.h"
+#include "told_names.h"
 
 namespace edge {
 
@@ -27,6 +28,13 @@ constexpr std::size_t SHOWN = 20;            // Orders of which the names are sa
 // clocks of a member and of the edge are no further apart than the library lets them be.
 constexpr long OLDEST = 12 * 60 * 60, MOST_APART = 120;
 
+/// An order that is under way, as far as its cancel needs it.
+OpenOrder orderOf(const std::string &symbol, char side, const std::string &sent, int desk) {
+    OpenOrder it{"", symbol, side, false, sent};
+    it.desk = it.owner = desk;
+    return it;
+}
+
 /// The second that a text of FIX says, or 0 where it says none.
 long secondOf(const std::string &text) {
     try {
@@ -38,66 +46,81 @@ long secondOf(const std::string &text) {
 
 }
 
-Trader::Trader(const Settings &settings, const MemberSettings &member, Record &record, Names &names, VenueLink &link)
+Trader::Trader(const Settings &settings, Record &record, Names &names, VenueLink &link)
     : settings_(settings),
-      member_(member),
+      member_(settings.member),
       record_(record),
       names_(names),
       link_(link),
-      orders_(settings.ticks, member.limits.dropped),
-      reports_(settings.ticks, names, member.limits.lastCapacity),
-      teller_(record),
       cancels_(names, link),
       switches_(record, settings.venue.symbols),
       exposure_(settings.ticks),
-      market_(settings.ticks, member.limits.orders.desks),
-      limiter_(member.limits.orders, settings.ticks, exposure_, market_),
-      rate_(member.limits.messagesPerSecond),
+      market_(settings.ticks, settings.member.limits.orders.desks),
+      rate_(settings.member.limits.membersPerSecond),
       room_(settings.folder, settings.diskReserve),
-      quota_({settings.folder, settings.logFolder}, settings.folderBytes) {}
+      quota_({settings.folder, settings.logFolder}, settings.folderBytes) {
+    for (const MemberSettings *it : settings.sessions())
+        seats_[it->desk].reset(new Seat(*it, settings.ticks, record, names, exposure_, market_));
+}
 
-void Trader::attach(FIX::Session &session) {
-    session_ = &session;
-    teller_.attach(session);
+void Trader::attach(int desk, FIX::Session &session, const Day &day) {
+    Seat &seat = seatOf(desk);
+    seat.session = &session;
+    seat.day = &day;
+    seat.teller.attach(session);
+    if (desk != FIRST_DESK) return;
     counts_.lastReport = record_.state().told.report;
     if (!record_.database().isOpen()) return;  // It is tried again.
     cancels_.attach();
     switches_.attach();
 }
 
-void Trader::asked(const FIX::Message &message) {
+/// Whether the limits of a desk need that.
+bool Trader::needsMarket() const {
+    return std::any_of(seats_.begin(), seats_.end(),
+                       [](const auto &it) { return it.second->limiter.limits().needsMarket(); });
+}
+
+long Trader::refusalsBy(Limit limit) const {
+    long count = 0;
+    for (const auto &it : seats_) count += it.second->limiter.refusalsBy(limit);
+    return count;
+}
+
+void Trader::asked(int desk, const FIX::Message &message) {
     try {
-        pass(message);
+        pass(seatOf(desk), message);
     } catch (const std::exception &why) {  // The library wants none of them out of a callback.
         fault_ = why.what();
     }
 }
 
-void Trader::pass(const FIX::Message &message) {
-    const Request head = Orders::headOf(message);
+void Trader::pass(Seat &seat, const FIX::Message &message) {
+    const int desk = seat.settings.desk;
+    const Request head = Orders::headOf(message, desk);
     counts_.requests++;
     try {
-        const bool isKnown = names_.isKnown(head.name), isAgain = isSentAgain(message);
+        const bool isKnown = names_.isKnown(head.name, desk), isAgain = isSentAgain(message);
         if (isKnown && isAgain) {
             const char *const what =
-                names_.numberOf(head.name) ? "has been passed on before: " : "was refused before: ";
-            say(member_.name(), "a request that was sent again " + (what + shown(head.name)));
+                names_.numberOf(head.name, desk) ? "has been passed on before: " : "was refused before: ";
+            say(seat.settings.deskName(), "a request that was sent again " + (what + shown(head.name)));
             return;
         }
-        if (isAgain) needSure(message);
-        else if (record_.state().isDoubtful) record_.change().isDoubtful = false;
+        if (isAgain) needSure(seat, message);
+        else if (seat.record.state().isDoubtful) seat.record.change().isDoubtful = false;
         needRate(head);
         if (isKnown) throw Refused(DUPLICATE, "ClOrdID (11) was used before");
-        const Request it = orders_.read(message);
+        const Request it = seat.orders.read(message, desk);
         if (!isReady_) throw Refused(CLOSED, "the venue isn't there");
         needFewUnderWay(it);
         if (it.isMassCancel()) {
-            massCancel(message, it);
+            massCancel(seat, message, it);
             return;
         }
         passWhereAllowed(it);
     } catch (const Refused &why) {
-        refuse(message, head, why);
+        refuse(seat, message, head, why);
     }
 }
 
@@ -105,7 +128,7 @@ void Trader::pass(const FIX::Message &message) {
 void Trader::passWhereAllowed(const Request &it) {
     needAllowed(it);
     needRoom(it);
-    if (it.isOrder()) needFewOrders();
+    if (it.isOrder()) needFewOrders(it);
     const long original = originalOf(it);
     if (it.mayRest()) needWithinLimits(it, original);
     passOn(it, original);
@@ -119,10 +142,9 @@ bool Trader::isSentAgain(const FIX::Message &message) {
 
 /// A request that is sent again and isn't known is taken only where its name would be known: names of before may have
 /// been dropped, or be lost with the end of a record.
-void Trader::needSure(const FIX::Message &message) const {
-    const State &state = record_.state();
-    const long time = secondOf(textOf(message, FIX::FIELD::TransactTime));
-    if (state.isDoubtful || time < state.doubtedAt + MOST_APART)
+void Trader::needSure(const Seat &seat, const FIX::Message &message) const {
+    const long time = secondOf(textOf(message, FIX::FIELD::TransactTime)), doubtedAt = record_.state().doubtedAt;
+    if (seat.record.state().isDoubtful || time < doubtedAt + MOST_APART)
         throw Refused(OTHER, "it may have been passed on before, and its name lost: send a new one");
     if (time < std::time(nullptr) - OLDEST)
         throw Refused(OTHER, "it may have been passed on before, and is older than 12 hours: send a new one");
@@ -132,39 +154,52 @@ void Trader::needSure(const FIX::Message &message) const {
 void Trader::passOn(const Request &it, long original) {
     if (!hasNumber()) throw Refused(OTHER, "the venue takes no greater number");
     const std::string time = timeNow();
-    const long number = names_.add(it.name, it.isGoodTillCancel() ? Names::Kind::GoodTillCancel : Names::Kind::Request);
+    const Names::Kind kind = it.isGoodTillCancel() ? Names::Kind::GoodTillCancel : Names::Kind::Request;
+    const long number = names_.add(it.name, kind, it.desk);
     const char type[] = {it.type, '\0'};
-    Request &sent = underWay_[number] = it;
+    Request &sent = underWay_.add(number, it);
     sent.time = time;
-    if (it.mayRest()) exposure_.sent(number, original, it, limiter_.priceOf(it));
+    Seat &seat = seatOf(it.desk);
+    if (it.mayRest()) exposure_.sent(number, original, it, seat.limiter.priceOf(it));
     sent.sequence = link_.send(type, bodyFor(it, number, original, time), time);
-    if (underWay_.size() >= member_.limits.underWay) heardAt_ = Bucket::Clock::now();
+    if (hasManyUnderWay(seat)) seat.fullAt = Bucket::Clock::now();
 }
 
 long Trader::originalOf(const Request &it) const {
     if (it.isOrder()) return 0;
-    const long number = names_.numberOf(it.original);
+    const long number = names_.numberOf(it.original, it.desk);
     if (!number) throw Refused(UNKNOWN_ORDER, "OrigClOrdID (41) is of no order");
     return number;
 }
 
 void Trader::needRate(const Request &it) {
+    Bucket &own = seatOf(it.desk).rate;
+    const int reason = it.isOrder() ? OTHER : EXCHANGE_OPTION, most = seatOf(it.desk).settings.limits.messagesPerSecond;
+    if (!own.hasRoom()) throw Refused(reason, "more than " + std::to_string(most) + " requests a second");
     if (!rate_.hasRoom())
-        throw Refused(it.isOrder() ? OTHER : EXCHANGE_OPTION,
-                      "more than " + std::to_string(member_.limits.messagesPerSecond) + " requests a second");
+        throw Refused(
+            reason, "more than " + std::to_string(member_.limits.membersPerSecond) + " requests a second of all desks");
+    own.take();
     rate_.take();
 }
 
-void Trader::needFewUnderWay(const Request &it) const {
-    if (underWay_.size() >= member_.limits.underWay)
-        throw Refused(it.isOrder() ? OTHER : EXCHANGE_OPTION,
-                      std::to_string(underWay_.size()) + " requests wait for the venue, which doesn't answer");
+/// Whether as many requests of a desk as may be are under way.
+bool Trader::hasManyUnderWay(const Seat &seat) const {
+    return underWay_.sizeOf(seat.settings.desk) >= seat.settings.limits.underWay;
 }
 
-/// While the venue answers nothing for long its member is read all the same, for its heartbeats.
-bool Trader::isBusy() const {
-    const bool waits = underWay_.size() >= member_.limits.underWay || isInDoubt() || cancels_.isEndOwed();
-    return isReady_ && waits && Bucket::Clock::now() - heardAt_ < PATIENCE;
+void Trader::needFewUnderWay(const Request &it) const {
+    if (hasManyUnderWay(seatOf(it.desk)))
+        throw Refused(it.isOrder() ? OTHER : EXCHANGE_OPTION,
+                      std::to_string(underWay_.sizeOf(it.desk)) + " requests wait for the venue, which doesn't answer");
+}
+
+/// While the venue answers nothing for long its member is read all the same, for its heartbeats. Each desk waits for as
+/// long by itself: what another one sends meanwhile keeps none of them waiting.
+bool Trader::isBusy(int desk) const {
+    const Seat &seat = seatOf(desk);
+    const bool waits = hasManyUnderWay(seat) || isInDoubt(seat) || cancels_.isEndOwed();
+    return isReady_ && waits && Bucket::Clock::now() - std::max(heardAt_, seat.fullAt) < PATIENCE;
 }
 
 void Trader::needRoom(const Request &it) {
@@ -182,25 +217,26 @@ void Trader::needAllowed(const Request &it) const {
 
 /// What a limit refuses has no number yet, so the venue never hears of it.
 void Trader::needWithinLimits(const Request &it, long original) {
-    if (isInDoubt()) limiter_.refuseUnknown(it);
-    limiter_.judge(it, original);
+    Seat &seat = seatOf(it.desk);
+    if (isInDoubt(seat)) seat.limiter.refuseUnknown(it);
+    seat.limiter.judge(it, original);
     const bool isTaken = it.isOrder() || (it.mayStay() && exposure_.isOf(original, it));  // The venue refuses others.
     if (isTaken && member_.limits.orders.selfTrade == SelfTrade::CancelOld) cancelCrossed(it);
 }
 
-/// Cancels the member's own orders that this one would trade with. The venue takes these cancels first, as it takes a
-/// member's requests in their order.
+/// Cancels the member's own orders that this one would trade with, of whichever desk. The venue takes these cancels
+/// first, as it takes a member's requests in their order.
 void Trader::cancelCrossed(const Request &it) {
     const char other = it.side == '1' ? '2' : '1';
     Cancels::Orders crossed;
     for (const long number : exposure_.crossedBy(it.symbol, it.side, it.price))
-        crossed[number] = {"", it.symbol, other, false, ""};
+        crossed[number] = orderOf(it.symbol, other, "", names_.deskOf(number));
     cancels_.send(crossed);
 }
 
 /// Whether what is open has to be known, and the venue hasn't said what it has taken of before.
-bool Trader::isInDoubt() const {
-    return limiter_.limits().needsOpen() && record_.state().settled < doubtTo_;
+bool Trader::isInDoubt(const Seat &seat) const {
+    return seat.limiter.limits().needsOpen() && !knowsAll();
 }
 
 bool Trader::hasRoom() {
@@ -213,23 +249,29 @@ bool Trader::hasRoom() {
     return hasRoom_;
 }
 
-void Trader::needFewOrders() {
-    if (!member_.limits.openOrders) return;
-    const auto isOrder = [](const std::pair<const long, Request> &sent) { return sent.second.isOrder(); };
-    const auto underWay = std::count_if(underWay_.begin(), underWay_.end(), isOrder);
-    if (open_.size() + static_cast<std::size_t>(underWay) >= static_cast<std::size_t>(member_.limits.openOrders))
-        throw Refused(OTHER, "more than " + std::to_string(member_.limits.openOrders) + " open orders");
+void Trader::needFewer(std::size_t count, int most, const std::string &who) {
+    if (most && count >= static_cast<std::size_t>(most))
+        throw Refused(OTHER, "more than " + std::to_string(most) + " open orders" + who);
 }
 
-void Trader::refuse(const FIX::Message &message, const Request &it, const Refused &why) {
+/// Of a desk, and of the member's desks together.
+void Trader::needFewOrders(const Request &it) const {
+    const int most = seatOf(it.desk).settings.limits.openOrders, membersMost = member_.limits.membersOpenOrders;
+    if (most) needFewer(open_.sizeOf(it.desk) + underWay_.ordersOf(it.desk), most, "");
+    if (membersMost) needFewer(open_.size() + underWay_.ordersOf(ALL_DESKS), membersMost, " of all desks");
+}
+
+void Trader::refuse(Seat &seat, const FIX::Message &message, const Request &it, const Refused &why) {
     counts_.refusals++;
-    if (Orders::isName(it.name) && !names_.isKnown(it.name)) names_.refuse(it.name);  // Committed before it is told.
-    FIX::Message told = reports_.refusal(message, it, open_.find(names_.numberOf(it.original)), why.reason, why.what());
-    send(told);
+    if (Orders::isName(it.name) && !names_.isKnown(it.name, it.desk))
+        names_.refuse(it.name, it.desk);  // Committed before it is told.
+    const OpenOrder *const order = open_.find(names_.numberOf(it.original, it.desk));
+    FIX::Message told = seat.reports.refusal(message, it, order, why.reason, why.what());
+    send(seat, told);
 }
 
-void Trader::send(FIX::Message &message) {
-    if (!session_->send(message)) throw std::runtime_error("the store of its session takes nothing in");
+void Trader::send(const Seat &seat, FIX::Message &message) {
+    if (!seat.session->send(message)) throw std::runtime_error("the store of its session takes nothing in");
 }
 
 void Trader::beginRecovery() {
@@ -256,7 +298,7 @@ void Trader::needTold() const {
                                  ", which the journal hasn't: that is another journal, or an older copy");
 }
 
-void Trader::endRecovery(bool hasClient) {
+void Trader::endRecovery(const std::function<bool(int)> &hasClient) {
     needTold();
     if (lacking_)
         say(member_.name(), "the journal has " + std::to_string(lacking_) + " requests, up to the number " +
@@ -266,24 +308,48 @@ void Trader::endRecovery(bool hasClient) {
     record_.isRead();
     isRecovering_ = false;
     isReady_ = true;
-    const std::vector<std::string> held = std::move(held_);
-    held_.clear();
-    heldBytes_ = 0;
-    for (const std::string &message : held) take(Fields(message.data(), message.size(), '\1'));
+    takeHeld();
     if (!names_.unanswered(names_.last()).empty()) probe();
     else if (cancels_.isOwed()) probe();
     // Cancels may have been lost, too.
-    if (!hasClient && member_.limits.cancelOnDisconnect && !record_.state().isSpared) isCancelDue_ = true;
-    if (isCancelDue_) cancelAll();
+    for (const auto &it : seats_) {
+        Seat &seat = *it.second;
+        if (!hasClient(it.first) && seat.settings.limits.cancelOnDisconnect && !seat.record.state().isSpared)
+            seat.isCancelDue = true;
+        if (seat.isCancelDue) cancelAll(seat);
+    }
 }
 
 void Trader::heard(const Fields &message) {
-    if (!isReady_) {
+    if (!isReady_ || !held_.empty() || hasToWait(message)) {
         held_.push_back(message.bytes());
         heldBytes_ += message.size();
         return;
     }
     take(message);
+}
+
+void Trader::takeHeld() {
+    while (isReady_ && !held_.empty()) {
+        const std::string &bytes = held_.front();
+        const Fields message(bytes.data(), bytes.size(), '\1');
+        if (hasToWait(message)) return;
+        take(message);
+        heldBytes_ -= bytes.size();
+        held_.pop_front();
+    }
+}
+
+/// Whether a message of the venue is for a desk that is being told again what it wasn't sent: that comes first. Behind
+/// the answer to a probe, or a Reject, any desk may be told that a request is lost.
+bool Trader::hasToWait(const Fields &message) {
+    const bool isAnyOwing = std::any_of(seats_.begin(), seats_.end(), [](const auto &it) { return it.second->owes(); });
+    if (!isAnyOwing) return false;
+    const char type = message.byte(35);
+    const long number = message.number(11);
+    if (type == '8' || type == '9')
+        return seatOf(names_.deskOf(number)).owes() || names_.is(number, Names::Kind::Probe);
+    return type == '3';
 }
 
 bool Trader::holdsTooMuch() const {
@@ -299,11 +365,12 @@ void Trader::take(const Fields &report) {
     const bool isNamed = isRecovering_ ? names_.has(number) : number <= names_.last();
     if (!isNamed) lacks(number);
     const bool isBehind = isBehindTold(report);
-    if (underWay_.erase(number)) heardAt_ = Bucket::Clock::now();
-    if (type == '8' && (isBehind || isRecovering_)) open_.take(report);
-    if (isBehind || isRecovering_) exposure_.take(report);
+    const int desk = names_.deskOf(number), owner = names_.ownerOf(number);
+    if (underWay_.end(number)) heardAt_ = Bucket::Clock::now();
+    if (type == '8' && (isBehind || isRecovering_)) open_.take(report, desk, owner);
+    if (isBehind || isRecovering_) exposure_.take(report, owner);
     market_.take(report);
-    if (isBehind) tell(report);
+    if (isBehind) tell(report, seatOf(desk));
     if (isNamed) names_.answered(number);  // Behind what a probe's answer tells of those before it.
     if (isReady_) sweepOwed();
     counts_.openOrders = static_cast<long>(open_.size());
@@ -328,13 +395,13 @@ bool Trader::isBehindTold(const Fields &report) {
     return number > told.report;
 }
 
-void Trader::tell(const Fields &report) {
+void Trader::tell(const Fields &report, Seat &seat) {
     const bool isExecution = report.byte(35) == '8';
     const long number = report.number(isExecution ? 17 : 11);
     if (!isExecution && names_.is(number, Names::Kind::Probe)) {
         tellLost(number);
     } else if (isExecution || !names_.is(number, Names::Kind::Expiry)) {  // Else its order had an end of its own.
-        teller_.tell(report.byte(35), reports_.of(report));
+        seat.teller.tell(report.byte(35), seat.reports.of(report));
         counts_.reports++;
     }
     Told &told = record_.change().told;
@@ -348,20 +415,22 @@ void Trader::tellLost(long upTo) {
 }
 
 void Trader::tellLost(long number, const std::string &why) {
-    FIX::Message message = reports_.lost(number, why);
-    send(message);
-    say(member_.name(), why + ": " + shown(names_.nameOf(number)));
+    const Seat &seat = seatOf(names_.deskOf(number));
+    FIX::Message message = seat.reports.lost(number, why);
+    send(seat, message);
+    say(seat.settings.deskName(), why + ": " + shown(names_.nameOf(number)));
 }
 
 /// The venue rejects a message where it isn't of its profile, as a market order is where its journal is of version 1.
 void Trader::rejected(const Fields &reject) {
-    for (auto it = underWay_.begin(); it != underWay_.end(); ++it) {
-        if (it->second.sequence != reject.number(45)) continue;
-        tellLost(it->first,
+    for (const auto &it : underWay_.all()) {
+        if (it.second.sequence != reject.number(45)) continue;
+        const long number = it.first;
+        tellLost(number,
                  "the venue rejected field " + reject.text(371) + " of this request, by reason " + reject.text(373));
-        names_.strike(it->first);
-        exposure_.dropped(it->first);
-        underWay_.erase(it);
+        names_.strike(number);
+        exposure_.dropped(number);
+        underWay_.end(number);
         return;
     }
 }
@@ -377,21 +446,24 @@ void Trader::probe() {
     heardAt_ = Bucket::Clock::now();
 }
 
-void Trader::left() {
-    if (!member_.limits.cancelOnDisconnect || record_.state().isSpared) return;
-    isCancelDue_ = true;
-    if (isReady_) cancelAll();
+void Trader::left(int desk) {
+    Seat &seat = seatOf(desk);
+    if (!seat.settings.limits.cancelOnDisconnect || seat.record.state().isSpared) return;
+    seat.isCancelDue = true;
+    if (isReady_) cancelAll(seat);
 }
 
-void Trader::isBack() {
-    if (record_.state().isSpared) record_.change().isSpared = false;
+void Trader::isBack(int desk) {
+    SessionRecord &record = seatOf(desk).record;
+    if (record.state().isSpared) record.change().isSpared = false;
 }
 
 /// All that rest or may come to, as far as the venue has told.
 std::map<long, OpenOrder> Trader::orders() const {
     std::map<long, OpenOrder> orders = open_.all();
-    for (const auto &it : underWay_)
-        if (it.second.type != 'F') orders[it.first] = {"", it.second.symbol, it.second.side, false, it.second.time};
+    for (const auto &it : underWay_.all())
+        if (it.second.type != 'F')
+            orders[it.first] = orderOf(it.second.symbol, it.second.side, it.second.time, it.second.desk);
     return orders;
 }
 
@@ -407,14 +479,18 @@ std::map<long, OpenOrder> Trader::dayOrders() {
     return all;
 }
 
-void Trader::cancelAll() {
-    const std::map<long, OpenOrder> all = orders();
+/// Cancels all orders of a desk whose client has gone. Those of a desk that the member has no more stay, though the
+/// first one is told of them.
+void Trader::cancelAll(Seat &seat) {
+    std::map<long, OpenOrder> all = orders();
+    for (auto it = all.begin(); it != all.end();)
+        it = it->second.owner == seat.settings.desk ? std::next(it) : all.erase(it);
     const std::size_t count = cancels_.send(all), left = hasNumber() ? 0 : all.size() - count;
-    if (count) say(member_.name(), "cancels " + std::to_string(count) + " orders: the member is away");
+    const std::string who = seat.settings.deskName();
+    if (count) say(who, "cancels " + std::to_string(count) + " orders: the member is away");
     if (left)
-        say(member_.name(),
-            std::to_string(left) + " orders stay, though the member is away: the venue takes no greater number");
-    isCancelDue_ = false;
+        say(who, std::to_string(left) + " orders stay, though the member is away: the venue takes no greater number");
+    seat.isCancelDue = false;
 }
 
 /// Sends a cancel for each order of a sweep: how many.
@@ -432,11 +508,12 @@ Sweep Trader::cancelEach() {
 }
 
 /// Tells the member how many cancels go to the venue for its mass cancel: each is answered by a report of its own.
-void Trader::massCancel(const FIX::Message &message, const Request &it) {
-    Sweep those{it.symbol, it.side, it.name, ""};
+void Trader::massCancel(Seat &seat, const FIX::Message &message, const Request &it) {
+    Sweep those{it.desk, it.symbol, it.side, it.name, ""};
     const std::size_t count = sweep(those);
-    FIX::Message told = reports_.massCancelled(message, names_.add(it.name, Names::Kind::MassCancel), count);
-    send(told);
+    const long number = names_.add(it.name, Names::Kind::MassCancel, it.desk);
+    FIX::Message told = seat.reports.massCancelled(message, number, count);
+    send(seat, told);
 }
 
 /// Sends the cancels of a sweep that nobody waits for, and says so.
@@ -468,10 +545,18 @@ std::string Trader::restsOf(const Sweep &it) {
     std::string names;
     for (const auto &order : orders()) {
         if (!it.takes(order.first, order.second)) continue;
-        if (count++ < SHOWN) names += " " + names_.nameOf(order.first);
+        if (count++ >= SHOWN) continue;
+        const bool isOfFirst = order.second.desk == FIRST_DESK;
+        names +=
+            " " + names_.nameOf(order.first) + (isOfFirst ? "" : " of " + deskName(member_.name(), order.second.desk));
     }
     return std::to_string(count) + " of its orders may rest" + (count ? ":" + names : "") +
            (count > SHOWN ? " .." : "");
+}
+
+std::string Trader::namesFrom(long from) {
+    return toldNames([this](int desk) { return seatOf(desk).settings.session.getTargetCompID().getValue(); }, from,
+                     names_);
 }
 
 void Trader::tidy() {

@@ -5,7 +5,11 @@
 
 #include <atomic>
 #include <chrono>
+#include <cstddef>
+#include <deque>
+#include <functional>
 #include <map>
+#include <memory>
 #include <string>
 #include <vector>
 
@@ -18,11 +22,11 @@
 #include "open_orders.h"
 #include "orders.h"
 #include "quota.h"
-#include "reports.h"
-#include "settings.h"
 #include "room.h"
+#include "seat.h"
+#include "settings.h"
 #include "switches.h"
-#include "teller.h"
+#include "under_way.h"
 #include "venue_link.h"
 
 namespace edge {
@@ -32,27 +36,27 @@ struct Counts {
     std::atomic<long> requests{0}, reports{0}, refusals{0}, openOrders{0}, lastReport{0};
 };
 
-/// What stands between a member's session and its connection to the venue: requests go one way, reports the other, each
-/// once. It is used by the member's own thread.
+/// What stands between the sessions of a member's desks and its one connection to the venue: requests go one way,
+/// reports the other, each once, to the desk that sent the request. It is used by the member's own thread.
 class Trader {
 public:
-    Trader(const Settings &settings, const MemberSettings &member, Record &record, Names &names, VenueLink &link);
+    Trader(const Settings &settings, Record &record, Names &names, VenueLink &link);
 
-    /// Gives it its session, whose record has been read.
-    void attach(FIX::Session &session);
+    /// Gives it the session of a desk and its days, whose record has been read. The first desk comes first.
+    void attach(int desk, FIX::Session &session, const Day &day);
 
-    /// The client's connection, where there is one: what the venue reports goes there.
-    void sendsTo(FIX::Responder *client) { teller_.sendsTo(client); }
+    /// The connection of a desk's client, where there is one: what the venue reports goes there.
+    void sendsTo(int desk, FIX::Responder *client) { seatOf(desk).teller.sendsTo(client); }
 
-    /// Takes a request of the member. What goes wrong is told to the member, or is the `fault`.
-    void asked(const FIX::Message &message);
+    /// Takes a request of a desk. What goes wrong is told to the desk, or is the `fault`.
+    void asked(int desk, const FIX::Message &message);
 
-    /// The member isn't connected any longer.
-    void left();
+    /// The client of a desk isn't connected any longer.
+    void left(int desk);
 
-    /// Its orders stay until it has been logged on again: its day ends.
-    void spare() { record_.change().isSpared = true; }
-    void isBack();
+    /// A desk's orders stay until it has been logged on again: its day ends.
+    void spare(int desk) { seatOf(desk).record.change().isSpared = true; }
+    void isBack(int desk);
 
     /// Cancels what is Day and went to the venue before this end of a day. The venue is there, and has told what rests.
     void endDay(const std::string &end);
@@ -66,7 +70,7 @@ public:
     bool isSweeping() const { return cancels_.isSweeping(); }
 
     /// Whether requests of the member wait for the venue.
-    bool isWaiting() const { return isReady_ && !underWay_.empty(); }
+    bool isWaiting() const { return isReady_ && underWay_.sizeOf(ALL_DESKS); }
 
     /// Those of its orders that may still rest, in words: how many, and some of their names.
     std::string restsOf(const Sweep &it);
@@ -79,16 +83,20 @@ public:
     void beginRecovery();
     void recovered(const char *line, std::size_t size);
 
-    /// What the venue tells all members, line by line, where the limits of this one need that; and how many commands of
-    /// the journal were told so.
-    bool needsMarket() const { return limiter_.limits().needsMarket(); }
+    /// What the venue tells all members, line by line, where the limits of this one need that.
+    bool needsMarket() const;
     void seen(const char *line, std::size_t size) { market_.take(line, size); }
-    long seenCommands() const { return market_.commands(); }
 
-    void endRecovery(bool hasClient);
+    /// The journal has been read. A desk may have a client meanwhile.
+    void endRecovery(const std::function<bool(int)> &hasClient);
 
-    /// A message of the venue. It waits until what the journal tells has been taken in, which stands before it.
+    /// A message of the venue. It waits until what the journal tells has been taken in, which stands before it. So does
+    /// one to a desk that is being told again what it wasn't sent, and all that comes behind that: how far the desks
+    /// were told is one number for all of them.
     void heard(const Fields &message);
+
+    /// Takes in what doesn't have to wait any more.
+    void takeHeld();
 
     /// The connection to the venue has ended.
     void venueLost();
@@ -99,37 +107,56 @@ public:
     /// Whether requests go to the venue.
     bool isReady() const { return isReady_; }
 
+    /// Whether the venue has said what it has taken of before.
+    bool knowsAll() const { return record_.state().settled >= doubtTo_; }
+
     /// Whether as many requests as may be wait for the venue, which answers, or an end of a day does: no more are read
     /// until it has.
-    bool isBusy() const;
+    bool isBusy(int desk) const;
 
     /// Whether the disk and the bounds of its folders have room for new orders.
     bool hasRoom();
 
-    /// Whether as much of the venue waits for the journal as may be held: it isn't read now.
+    /// Whether as much of the venue waits as may be held: it isn't read now.
     bool holdsTooMuch() const;
+
+    /// The names of requests from this number on, as told_names.h tells them to who copies reports.
+    std::string namesFrom(long from);
+
+    /// What writes the reports of the first session, for copies.h.
+    Teller &teller() { return seatOf(FIRST_DESK).teller; }
 
     /// What keeps this member from being served, or nothing.
     const std::string &fault() const { return fault_; }
     void clearFault() { fault_.clear(); }
 
+    /// Its orders that rest, the last that have ended, and what the venue hasn't answered.
+    const OpenOrders &open() const { return open_; }
+    const std::map<long, Request> &underWay() const { return underWay_.all(); }
+
     const Counts &counts() const { return counts_; }
     const Exposure &exposure() const { return exposure_; }
-    const Limiter &limiter() const { return limiter_; }
+    const Limiter &limiter(int desk) const { return seatOf(desk).limiter; }
+
+    /// So many requests a limit has refused, of all desks. Of any thread.
+    long refusalsBy(Limit limit) const;
 
 private:
-    void pass(const FIX::Message &message);
-    void needSure(const FIX::Message &message) const;
+    Seat &seatOf(int desk) const { return *seats_.at(desk); }
+    void pass(Seat &seat, const FIX::Message &message);
+    void needSure(const Seat &seat, const FIX::Message &message) const;
     long originalOf(const Request &it) const;
     void needRate(const Request &it);
     void needRoom(const Request &it);
     void needFewUnderWay(const Request &it) const;
-    void needFewOrders();
+    void needFewOrders(const Request &it) const;
+    static void needFewer(std::size_t count, int most, const std::string &who);
     void needAllowed(const Request &it) const;
     void needWithinLimits(const Request &it, long original);
     void cancelCrossed(const Request &it);
-    bool isInDoubt() const;
-    void massCancel(const FIX::Message &message, const Request &it);
+    bool hasManyUnderWay(const Seat &seat) const;
+    bool isInDoubt(const Seat &seat) const;
+    void massCancel(Seat &seat, const FIX::Message &message, const Request &it);
     std::size_t sweep(Sweep &it);
     void carryOut(Sweep &it);
     std::map<long, OpenOrder> orders() const;
@@ -138,17 +165,18 @@ private:
     void passWhereAllowed(const Request &it);
     void passOn(const Request &it, long original);
     static bool isSentAgain(const FIX::Message &message);
-    void refuse(const FIX::Message &message, const Request &it, const Refused &why);
+    void refuse(Seat &seat, const FIX::Message &message, const Request &it, const Refused &why);
+    bool hasToWait(const Fields &message);
     void take(const Fields &report);
     void lacks(long number);
     bool isBehindTold(const Fields &report);
     void needTold() const;
-    void tell(const Fields &report);
+    void tell(const Fields &report, Seat &seat);
     void tellLost(long upTo);
     void tellLost(long number, const std::string &why);
     void rejected(const Fields &reject);
-    void send(FIX::Message &message);
-    void cancelAll();
+    void send(const Seat &seat, FIX::Message &message);
+    void cancelAll(Seat &seat);
     void probe();
     bool hasNumber() const { return names_.last() < Names::GREATEST; }
 
@@ -157,23 +185,19 @@ private:
     Record &record_;
     Names &names_;
     VenueLink &link_;
-    FIX::Session *session_ = nullptr;
-    Orders orders_;
-    Reports reports_;
-    Teller teller_;
     OpenOrders open_;
     Cancels cancels_;
     Switches switches_;
-    Exposure exposure_;
+    Exposure exposure_;  // Of all desks.
     Market market_;
-    Limiter limiter_;
-    std::map<long, Request> underWay_;   // Requests that no report has answered yet.
+    std::map<int, std::unique_ptr<Seat>> seats_;  // By the numbers of the desks.
+    UnderWay underWay_;
     Bucket::Clock::time_point heardAt_;  // When the venue answered last, or had what is waited for.
-    Bucket rate_;
-    std::vector<std::string> held_;  // Messages of the venue, until the journal has been read.
+    Bucket rate_;                        // Of all desks together.
+    std::deque<std::string> held_;       // Messages of the venue that wait, in their order.
     std::size_t heldBytes_ = 0;
     bool hasSeenTold_ = false;  // The journal has the last report that the store has.
-    bool isRecovering_ = false, isReady_ = false, isCancelDue_ = false;
+    bool isRecovering_ = false, isReady_ = false;
     std::string fault_;
     Room room_;  // For new orders.
     Quota quota_;

@@ -9,7 +9,7 @@ namespace edge {
 
 namespace {
 
-constexpr char MESSAGE = 'm';  // In the place of a name's kind.
+constexpr char MESSAGE = 'm', NUMBERS = 'd';  // In the place of a name's kind. The second one is of a desk.
 constexpr std::size_t DIGITS = 18;
 
 /// A part of a row: what it is, its number, how many bytes it has, and these.
@@ -44,9 +44,13 @@ void Turns::index(KeptName it) {
     names_.push_back(std::move(it));
 }
 
-void Turns::put(long number, const std::string &bytes) {
-    append(present_, MESSAGE, number, bytes);
-    messages_.push_back({number, bytes});
+void Turns::put(long place, const std::string &bytes) {
+    append(present_, MESSAGE, place, bytes);
+    messages_.push_back({place, bytes});
+}
+
+void Turns::putNumbers(int desk, const std::string &numbers) {
+    append(present_, NUMBERS, desk, numbers);
 }
 
 void Turns::kept() {
@@ -54,7 +58,7 @@ void Turns::kept() {
     rows_++;
 }
 
-bool Turns::take(const std::string &row, long at) {
+bool Turns::take(const std::string &row, long at, const TakeNumbers &takeNumbers) {
     for (std::size_t from = 0; from < row.size();) {
         const char kind = row[from++];
         long number, size;
@@ -62,6 +66,8 @@ bool Turns::take(const std::string &row, long at) {
         if (static_cast<std::size_t>(size) > row.size() - from) return false;
         std::string bytes = row.substr(from, static_cast<std::size_t>(size));
         from += static_cast<std::size_t>(size);
+        if (kind == NUMBERS && !takeNumbers(number, bytes)) return false;
+        if (kind == NUMBERS) continue;
         if (kind == MESSAGE) messages_.push_back({number, std::move(bytes)});
         else index({number, kind, std::move(bytes), at});
     }
@@ -83,7 +89,7 @@ const KeptName *Turns::ofName(const std::string &name) const {
 void Turns::each(const std::function<void(const KeptName &)> &name,
                  const std::function<void(long, const std::string &)> &message) const {
     for (const KeptName &it : names_) name(it);
-    for (const Message &it : messages_) message(it.number, it.bytes);
+    for (const Message &it : messages_) message(it.place, it.bytes);
 }
 
 void Turns::clear() {

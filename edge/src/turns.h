@@ -3,6 +3,7 @@
 // What the last turns of a member wrote, in front of the tables of names and messages. record.h keeps one row of each
 // such turn, so that its commit writes one page, and puts many of them into the tables at a quiet moment.
 
+#include <algorithm>
 #include <cstddef>
 #include <functional>
 #include <string>
@@ -23,7 +24,10 @@ struct KeptName {
 class Turns {
 public:
     void add(KeptName it);
-    void put(long number, const std::string &bytes);
+    void put(long place, const std::string &bytes);
+
+    /// Puts the numbers that the session of a desk has behind the present turn. They stand in its row alone.
+    void putNumbers(int desk, const std::string &numbers);
 
     /// What the present turn wrote, in the bytes of its row.
     const std::string &present() const { return present_; }
@@ -31,8 +35,10 @@ public:
     /// The present turn is kept, so the next one begins.
     void kept();
 
-    /// Takes in the row of a turn that was kept in this second. Whether it is whole.
-    bool take(const std::string &row, long at);
+    /// Takes in the row of a turn that was kept in this second, and calls this for the numbers of a desk's session,
+    /// which says whether it can read them. Whether the row is whole.
+    using TakeNumbers = std::function<bool(long, const std::string &)>;
+    bool take(const std::string &row, long at, const TakeNumbers &takeNumbers);
 
     /// The name of this number, or nothing; and the first one that went to the venue or was refused by this text.
     const KeptName *ofNumber(long number) const;
@@ -42,15 +48,15 @@ public:
     void each(const std::function<void(const KeptName &)> &name,
               const std::function<void(long, const std::string &)> &message) const;
 
-    /// So many rows there are, and so many names and messages in all.
+    /// So many rows there are, and so much in all: names and messages, or rows where most of them have none of these.
     long rows() const { return rows_; }
-    std::size_t size() const { return names_.size() + messages_.size(); }
+    std::size_t size() const { return std::max(names_.size() + messages_.size(), static_cast<std::size_t>(rows_)); }
 
     void clear();
 
 private:
     struct Message {
-        long number;
+        long place;
         std::string bytes;
     };
 

@@ -1,5 +1,6 @@
 #include "users.h"
 
+#include <grp.h>
 #include <pwd.h>
 
 #include <cstdio>
@@ -23,6 +24,26 @@ std::string nameOf(uid_t user) {
     return "";
 }
 
+}
+
+bool findUser(const std::string &name, User &into) {
+    const std::unique_ptr<std::FILE, Close> file(std::fopen("/etc/passwd", "re"));
+    for (const passwd *it; file && (it = ::fgetpwent(file.get()));)
+        if (name == it->pw_name) {
+            into = {it->pw_uid, it->pw_gid};
+            return true;
+        }
+    return false;
+}
+
+bool findGroup(const std::string &name, gid_t &into) {
+    const std::unique_ptr<std::FILE, Close> file(std::fopen("/etc/group", "re"));
+    for (const group *it; file && (it = ::fgetgrent(file.get()));)
+        if (name == it->gr_name) {
+            into = it->gr_gid;
+            return true;
+        }
+    return false;
 }
 
 std::string userOf(uid_t number) {

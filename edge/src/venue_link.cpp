@@ -14,8 +14,9 @@
 namespace edge {
 
 namespace {
-constexpr std::size_t LONGEST = 1 << 14;  // Of the bodies of the venue's messages.
-constexpr std::size_t USUAL = 256;        // Hardly any message to it has more bytes.
+constexpr std::size_t LONGEST = 1 << 14;     // Of the bodies of the venue's messages.
+constexpr std::size_t USUAL = 256;           // Hardly any message to it has more bytes.
+constexpr std::chrono::seconds PATIENCE(5);  // For its answer to the Logon, which needs no disk.
 }
 
 VenueLink::VenueLink(int port, const std::string &member) : port_(port), member_(member) {}
@@ -24,7 +25,7 @@ void VenueLink::connect() {
     end();
     socket_.reset(::socket(AF_INET, SOCK_STREAM | SOCK_NONBLOCK | SOCK_CLOEXEC, 0));
     if (!socket_) {
-        fail("can't connect: " + reason());
+        fail(notConnected());
         return;
     }
     const int one = 1;
@@ -35,10 +36,20 @@ void VenueLink::connect() {
     address.sin_addr.s_addr = htonl(INADDR_LOOPBACK);
     const int done = ::connect(socket_.get(), reinterpret_cast<const sockaddr *>(&address), sizeof address);
     if (done && errno != EINPROGRESS) {
-        fail("can't connect: " + reason());
+        fail(notConnected());
         return;
     }
     state_ = State::Connecting;
+}
+
+std::string VenueLink::notConnected() const {
+    return "can't connect to its port " + std::to_string(port_) + ": " + reason();
+}
+
+std::string VenueLink::waitsFor() const {
+    if (state_ != State::LoggingOn || Clock::now() - loggingOnSince_ < PATIENCE) return "";
+    return "its port " + std::to_string(port_) + " is held by another client, as a second edge of " + member_ +
+           ", or it hangs: no answer to the Logon";
 }
 
 bool VenueLink::fail(const std::string &why) {
@@ -64,9 +75,10 @@ bool VenueLink::flush() {
         ::getsockopt(socket_.get(), SOL_SOCKET, SO_ERROR, &fault, &size);
         if (fault) {
             errno = fault;
-            return fail("can't connect: " + reason());
+            return fail(notConnected());
         }
         state_ = State::LoggingOn;
+        loggingOnSince_ = Clock::now();
         send("A", "98=0\001108=0\001141=Y\1", timeNow());
         release();
     }

@@ -1,5 +1,6 @@
 #pragma once
 
+#include <chrono>
 #include <cstddef>
 #include <functional>
 #include <string>
@@ -46,7 +47,13 @@ public:
     bool hasMore() const { return hasMore_; }
     const std::string &why() const { return why_; }
 
+    /// What the connection waits for that has stood for seconds without an answer, in words; else nothing.
+    std::string waitsFor() const;
+
 private:
+    using Clock = std::chrono::steady_clock;
+
+    std::string notConnected() const;
     bool fail(const std::string &why);
     bool take(const Fields &message, const std::function<void(const Fields &)> &told);
 
@@ -59,6 +66,7 @@ private:
     std::size_t released_ = 0;  // So much of `out_` may be written.
     long number_ = 0;
     bool hasMore_ = false;
+    Clock::time_point loggingOnSince_;
 };
 
 }

@@ -6,6 +6,7 @@ import json
 import os
 import subprocess
 import sys
+from collections.abc import Iterable
 
 from differential import SHORT, Run, told_by, wanted_of
 from edges import JOURNAL, NAMES, ROOT, SYMBOLS, Trouble
@@ -18,7 +19,7 @@ REQUESTS = SHORT // 3
 LONG = 120  # Seconds for a command.
 
 
-def gikvand(*words):
+def gikvand(*words: str) -> tuple[int, list[str]]:
     """A command on the journal with the edge's settings: its status, and its lines."""
     more = ["--edge", "edge.cfg", "--symbols", ",".join(SYMBOLS)]
     it = subprocess.run([sys.executable, os.path.join(ROOT, "scripts/gikvand"), *words, *more], capture_output=True, text=True,
@@ -28,14 +29,14 @@ def gikvand(*words):
     return it.returncode, it.stdout.splitlines()
 
 
-def logged(name, messages):
+def logged(name: str, messages: Iterable[str]) -> str:
     """A log of these messages, as an engine writes one."""
     with open(name, "w", encoding="ascii") as file:
         file.write("".join(f"20260102-09:30:00.000 : {it}\n" for it in messages))
     return name
 
 
-def verified(member, log):
+def verified(member: int, log: str) -> tuple[int, int]:
     """How many reports of a log are as the journal tells them, and how many more that has. Nothing else may be wrong."""
     status, out = gikvand("verify", JOURNAL, f"C{member}={log}")
     line = next(it for it in out if it.startswith(f"C{member}: "))
@@ -45,7 +46,7 @@ def verified(member, log):
     return int(words[1]), int(words[-2])
 
 
-def test_back_office():
+def test_back_office() -> None:
     """Behind a day with kills each member's own log, and that of the edge, is found to be as the journal tells; a price, a name or a
     report that is another one is found; and reports and trades have the member's words."""
     run = Run(REQUESTS, 7)
@@ -78,7 +79,7 @@ def test_back_office():
     expect(len(list(csv.DictReader(gikvand("trades", JOURNAL, "--csv")[1]))), len(rows))
 
 
-def test_ended_order():
+def test_ended_order() -> None:
     """An order that has expired: to the venue that is a cancel by the edge, and a log and the reports have it as it was told."""
     market = Market("2030-01-01 21:59:00", hours={"DayEndTime": "22:00:00"})
     one = at_rest(market.port, "a")

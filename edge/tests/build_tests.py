@@ -13,7 +13,7 @@ from wrong_versions import WRONG
 NOT_COPIED = shutil.ignore_patterns("out", "out-*", "__pycache__")
 
 
-def test_compile_error():
+def test_compile_error() -> None:
     """Where the compiler fails edge/setup says so, with status 1, though a program of before is there."""
     shutil.copytree(f"{ROOT}/edge", "edge", ignore=NOT_COPIED)
     shutil.copy(f"{ROOT}/VERSION", ".")
@@ -34,9 +34,9 @@ def test_compile_error():
         raise Trouble(f"edge/setup said {ran.stdout[-500:]!r} {ran.stderr!r}")
 
 
-def test_hardened():
+def test_hardened() -> None:
     """The program has an address that nobody knows, tables that are written once, guards of its stack, and checked copies."""
-    def told(words):
+    def told(words: str) -> str:
         return subprocess.run(["readelf", "-W", words, EDGE], capture_output=True, text=True, check=True).stdout
 
     wanted = {"-h": ["Type:                              DYN"], "-l": ["GNU_RELRO", "GNU_STACK"],
@@ -50,7 +50,7 @@ def test_hardened():
         raise Trouble("its stack may be executed")
 
 
-def test_unbuilt():
+def test_unbuilt() -> None:
     """edge/check says what isn't built, and by which words it is; its own words it says all the same."""
     for name in ("edge", "dev", "tools", "scripts"):
         os.symlink(f"{ROOT}/{name}", name) if name != "edge" else shutil.copytree(f"{ROOT}/edge", name, ignore=NOT_COPIED)
@@ -68,7 +68,7 @@ def test_unbuilt():
         expect((ran.returncode, "edge/check [NAME...]" in ran.stdout, ran.stderr), (0, True, ""))
 
 
-def test_wrong_versions():
+def test_wrong_versions() -> None:
     """The text that a wrong version changes stands once in its source, whichever of them wrong_edges.py comes to."""
     for name, it in WRONG.items():
         with open(f"{ROOT}/edge/src/{it.source}{'.h' if it.by else '.cpp'}", encoding="utf-8") as file:

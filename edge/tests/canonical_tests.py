@@ -4,11 +4,13 @@ import contextlib
 import os
 import re
 import time
+from collections.abc import Callable
 
 import sanitized
-from edges import PATIENCE, ROOT, Trouble, pair, session_files
+from edges import PATIENCE, ROOT, Edge, Trouble, pair, session_files
 from engines import Engine, at_rest, now, order, refused
 from gikvand.fix import fields_of, framed, value
+from gikvand.words import sure
 from hostile_tests import logon, sent
 from recovery_tests import places
 from trading_tests import expect
@@ -20,7 +22,7 @@ STOCK = os.path.join(ROOT, "edge/out/FIX44.xml")
 LENGTHS = ["93=-1|89=x|", "93=2000000000|89=x|", "93=100000|89=x|", "95=-1|96=x|", "95=2000000000|96=x|", "354=9|355=x|"]
 
 
-def rejected(one, **wanted):
+def rejected(one: Engine, **wanted: str | None) -> str:
     """The next Reject, whose fields are these, by tag; None is for a field that isn't there."""
     came = one.next_of("35")
     if not came or value(came, "35") != "3":
@@ -30,22 +32,22 @@ def rejected(one, **wanted):
     return got["58"]
 
 
-def raw(one, fields, count=True):
+def raw(one: Engine, fields: str, count: bool = True) -> None:
     """Sends these fields as they are, with this engine's next number, CompIDs and time for NUMBER and HEAD."""
     head = f"49={one.sender}|52={now()}|56={one.target}"
-    one.socket.sendall(framed(fields.replace("NUMBER", str(one.out)).replace("HEAD", head)))
+    sure(one.socket).sendall(framed(fields.replace("NUMBER", str(one.out)).replace("HEAD", head)))
     one.out += count
 
 
-def memory(edge):
+def memory(edge: Edge) -> int:
     """The memory that the process of the first member has, in bytes."""
     if not sanitized.is_measured():
         return 0
     with open(f"/proc/{edge.process_of(1)}/status", encoding="ascii") as file:
-        return 1024 * int(re.search(r"VmRSS:\s+(\d+)", file.read())[1])
+        return 1024 * int(sure(re.search(r"VmRSS:\s+(\d+)", file.read()))[1])
 
 
-def until(one, holds, seconds=PATIENCE):
+def until(one: Engine, holds: Callable[[], object], seconds: float = PATIENCE) -> None:
     """Takes in what comes until this holds."""
     end = time.monotonic() + seconds
     while not holds():
@@ -54,13 +56,13 @@ def until(one, holds, seconds=PATIENCE):
         one.pump(0.1)
 
 
-def trades(one, name):
+def trades(one: Engine, name: str) -> None:
     """This member's next order is taken."""
     one.send("D", order(name, 1, 1, "50"))
     one.report(_150="0", _11=name)
 
 
-def test_lengths_of_data():
+def test_lengths_of_data() -> None:
     """A field of data, whose length isn't true: as a Logon it is let go without an answer, as an order it is rejected, and
     who trades goes on."""
     venue, edge, port = pair(2)
@@ -77,7 +79,7 @@ def test_lengths_of_data():
     trades(other, "c")
 
 
-def test_all_data():
+def test_all_data() -> None:
     """Each field that the library's own FIX44.xml has as data is refused as one, and no other field is."""
     if not os.path.exists(STOCK):
         return
@@ -98,7 +100,7 @@ def test_all_data():
     expect(sum(value(it, "35") == "3" for it in one.came) > len(fields) / 2, True)
 
 
-def test_wrapped_numbers():
+def test_wrapped_numbers() -> None:
     """Numbers and tags that are others by 2 to the 32nd: no MsgSeqNum for the edge, passed over, and soon the end."""
     venue, edge, port = pair()
     one = Engine(port, 1).log_on()
@@ -121,7 +123,7 @@ def test_wrapped_numbers():
     trades(one, "a")
 
 
-def test_far_behind_a_gap():
+def test_far_behind_a_gap() -> None:
     """More comes behind a gap than the edge keeps: its memory stays, and all of it is taken once when the gap is filled."""
     venue, edge, port = pair(2)
     one, begin = Engine(port, 1).log_on(), memory(edge)
@@ -146,7 +148,7 @@ def test_far_behind_a_gap():
     expect([value(it, "11") for it in other.history], wanted)
 
 
-def test_gaps_without_end():
+def test_gaps_without_end() -> None:
     """A member passes over numbers again and again behind which it has sent something: that isn't kept without a bound."""
     venue, edge, port = pair()
     one = Engine(port, 1).log_on()
@@ -162,7 +164,7 @@ def test_gaps_without_end():
     trades(one, "a")
 
 
-def test_byte_0_in_a_name():
+def test_byte_0_in_a_name() -> None:
     """A byte 0 in a ClOrdID is rejected, and isn't kept where it would end what is sent again."""
     venue, edge, port = pair(2)
     one, other = at_rest(port, "a", 10), Engine(port, 2).log_on()
@@ -178,7 +180,7 @@ def test_byte_0_in_a_name():
     expect([value(it, "150") for it in one.history], ["0", "F", "F", "F"])
 
 
-def test_numbers_of_the_session():
+def test_numbers_of_the_session() -> None:
     """Numbers below 0, above nine digits or in the wrong order: rejected at once, and the session's own numbers stay."""
     venue, edge, port = pair()
     one = at_rest(port, "a")
@@ -198,7 +200,7 @@ def test_numbers_of_the_session():
     trades(one, "c")
 
 
-def test_wrapped_type():
+def test_wrapped_type() -> None:
     """A Logon whose MsgType has a tag that is another by 2 to the 32nd: no way round what a reset asks for."""
     venue, edge, port = pair()
     one = at_rest(port, "a")
@@ -215,7 +217,7 @@ FORMS = [("58=|", "58", "4", "no value"), ("58=a\x80b|", "58", "6", "doesn't pri
          ("58=x|" * 200, None, "99", "more than 200 fields")]
 
 
-def test_refused_forms():
+def test_refused_forms() -> None:
     """Each kind of field that isn't canonical: a Reject with number, field, type and reason, and the session goes on."""
     venue, edge, port = pair()
     one = Engine(port, 1).log_on()
@@ -244,7 +246,7 @@ BAD_HEADERS = [("35=0|HEAD|", "field 34 is missing"), ("35=0|34=NUMBER|34=NUMBER
                *((f"35=0|34=NUMBER|HEAD|{field}|", PASSED) for field in ("+58=a", "-58=a", "x=a", "=a", "58", "", "5 8=a"))]
 
 
-def test_garbled_headers():
+def test_garbled_headers() -> None:
     """A message whose header isn't canonical is passed over, and asked for when the next one comes."""
     venue, edge, port = pair()
     one = Engine(port, 1).log_on()
@@ -257,7 +259,7 @@ def test_garbled_headers():
         expect([value(it, "11") for it in one.history[-2:]], [f"a{at}", f"b{at}"])
 
 
-def test_refused_out_of_turn():
+def test_refused_out_of_turn() -> None:
     """What isn't canonical and has another number than the next: asked for later, passed over, or the session's end."""
     venue, edge, port = pair()
     one = Engine(port, 1).log_on()

@@ -6,6 +6,7 @@ import sqlite3
 from edges import Edge, Trouble, await_that, copied, pair, path_of, rows, told
 from engines import Engine, at_rest, order
 from gikvand.fix import value
+from gikvand.words import sure
 from recovery_tests import places, restarted, settings, trade_a_little
 from trading_tests import expect
 
@@ -13,23 +14,23 @@ CUTS = 40
 PAGE = 2048  # Bytes of a page of the database.
 
 
-def await_second_alone(edge, why):
+def await_second_alone(edge: Edge, why: str) -> None:
     """Waits until C2 is served, and C1 said to be not, in any order."""
     texts = (f"C1: isn't served: edge/C1/C1.db: {why}", "C2: serves")
     await_that("C2 alone that is served", lambda: all(any(text in line for line in edge.lines) for text in texts))
 
 
-def bytes_of(path):
+def bytes_of(path: str) -> bytes:
     with open(path, "rb") as file:
         return file.read()
 
 
-def put(path, data):
+def put(path: str, data: bytes) -> None:
     with open(path, "wb") as file:
         file.write(data)
 
 
-def is_whole(many):
+def is_whole(many: int) -> int:
     """The names and the messages of a record that was cut: both are those of one commit, so the last requests of the
     member, the answers to them and the two numbers agree."""
     names = rows(1, "SELECT number, name FROM names ORDER BY number")
@@ -41,7 +42,7 @@ def is_whole(many):
     return len(names)
 
 
-def test_torn_record():
+def test_torn_record() -> None:
     """The log of a record cut at many places, as a power cut may leave it: what is there is all of some turns, in their
     order, and the rest is told and asked for again."""
     venue, edge, port = pair()
@@ -59,10 +60,10 @@ def test_torn_record():
     if found != sorted(found) or len(set(found)) < 4:
         raise Trouble(f"the names of each cut are {found}")
     edge = restarted()
-    expect(places(1), [int(value(it, "17")) for it in told(1)])
+    expect(places(1), [int(sure(value(it, "17"))) for it in told(1)])
 
 
-def test_damaged_record():
+def test_damaged_record() -> None:
     """A record whose bytes were changed, also where no start reads them: its member isn't served, in words, and another one
     is; a copy helps."""
     venue, edge, port = pair(2)
@@ -78,10 +79,10 @@ def test_damaged_record():
         edge.stop()
     put(path_of(1), whole)
     restarted(2)
-    expect(places(1), [int(value(it, "17")) for it in told(1) if value(it, "17")])
+    expect(places(1), [int(sure(value(it, "17"))) for it in told(1) if value(it, "17")])
 
 
-def test_busy_record():
+def test_busy_record() -> None:
     """Another program has a record open: its member isn't served, and is as soon as that has ended."""
     venue, edge, port = pair(2)
     edge.stop()

@@ -9,11 +9,12 @@ from canonical_tests import until
 from edges import HOST, PATIENCE, Client, again, await_that, copied, freeze, path_of, rows
 from engines import GTC, order
 from gikvand.fix import value
+from gikvand.words import sure
 from market import BEGUN, SELLER, Market, at_rest_for_long, await_heard, is_caught_up, kept, leave, of_journal, places
 from trading_tests import expect
 
 
-def test_through_the_day():
+def test_through_the_day() -> None:
     """Fills before the end of a day, at it and behind it, of a member that is there and one that is away: each is told
     once, in order, with numbers of the day that it is told in. The one that is there is logged out in words."""
     market = Market("2030-01-01 23:59:00", 2)
@@ -28,9 +29,9 @@ def test_through_the_day():
     one.report(_150="0", _11="c")
     came = market.new_day("2030-01-02 00:00:00", 1, 2)
     expect(came, {1: BEGUN, 2: f"{BEGUN}, and 2 reports that it wasn't sent are told again"})
-    expect(value(one.next_of("5"), "58"), "edge: the day ends")
+    expect(value(sure(one.next_of("5")), "58"), "edge: the day ends")
     market.sell(4)
-    expect(one.pump(30), False)
+    expect(one.pump(PATIENCE), False)
     back, other = market.engine().log_on(), market.engine(2).log_on()
     market.sell(2)
     for it in (is_caught_up(back), is_caught_up(other)):
@@ -42,7 +43,7 @@ def test_through_the_day():
     expect(len(market.lines("a new day")), 2)
 
 
-def test_at_the_end():
+def test_at_the_end() -> None:
     """What waits to be read when the day ends is told behind it: with the new numbers, and as new."""
     market = Market("2030-01-01 21:59:00", hours={"StartTime": "22:00:00", "EndTime": "22:00:00"})
     one = at_rest_for_long(market.port, "a", 9)
@@ -56,12 +57,12 @@ def test_at_the_end():
     one.next_of("5")
     await_that("a new day", lambda: market.days(1))
     expect([line.endswith(BEGUN) for line in market.days(1)], [True])
-    expect((len(one.history), one.pump(30)), (2, False))
+    expect((len(one.history), one.pump(PATIENCE)), (2, False))
     back = is_caught_up(market.engine().log_on())
     expect((places(one) + places(back), [value(it, "97") for it in back.history]), (of_journal(), [None] * 3))
 
 
-def test_held_up_at_the_end():
+def test_held_up_at_the_end() -> None:
     """A day ends while what a client has sent waits for its turn to be read: the client is let go, and the process that
     serves its member goes on."""
     market = Market("2030-01-01 23:59:00", MaxReadMessagesPerSecond="100")
@@ -72,12 +73,12 @@ def test_held_up_at_the_end():
     os.kill(process, signal.SIGCONT)
     until(one, lambda: any(value(it, "112") == "t0" for it in one.came))
     expect(market.new_day("2030-01-02 00:00:00")[1], BEGUN)
-    expect(value(one.next_of("5"), "58"), "edge: the day ends")
+    expect(value(sure(one.next_of("5")), "58"), "edge: the day ends")
     is_caught_up(market.engine().log_on())
     expect(market.edge.process_of(1), process)
 
 
-def test_stream():
+def test_stream() -> None:
     """Fills come one behind the other while the clock goes over the end of a day: each is told once, in order, and none
     that was sent before the end has a number of the new day."""
     market = Market("2030-01-01 12:00:00", 2)
@@ -87,7 +88,7 @@ def test_stream():
     while len(market.lines("a new day")) < 2:
         market.sell(5)
     market.sell(5)
-    while one.pump(30):
+    while one.pump(PATIENCE):
         pass
     back, other = is_caught_up(market.engine().log_on()), is_caught_up(market.engine(2).log_on())
     expect(places(one) + places(back), of_journal(1))
@@ -96,7 +97,7 @@ def test_stream():
     expect([it for it in again if (value(it, "122") or "2031") < "20300102"], [])
 
 
-def test_down_over_the_end():
+def test_down_over_the_end() -> None:
     """The edge is down when a day ends: what was stored and not sent, and what came meanwhile, is told in the new one.
     So it is behind a weekend of ends. Each reset is done once."""
     market = Market("2030-01-01 23:59:00")
@@ -127,7 +128,7 @@ def test_down_over_the_end():
     expect([line.endswith(BEGUN) for line in market.lines("a new day")], [True])
 
 
-def test_venue_away_at_the_end():
+def test_venue_away_at_the_end() -> None:
     """The venue isn't there when a day ends: that ends all the same, and what the venue tells later has new numbers."""
     market = Market("2030-01-01 23:59:00", 2)
     one, two = at_rest_for_long(market.port, "a", 9), at_rest_for_long(market.port, "b", 9, 2)
@@ -136,10 +137,10 @@ def test_venue_away_at_the_end():
     await_that("it is stored", lambda: kept(2)["report"] == of_journal(2)[-1])
     is_caught_up(one)
     market.venue.kill()
-    await_that("it is seen", lambda: len(market.lines("the venue: ")) == 2)
+    await_that("both see that", lambda: all(market.lines(f"C{k}: the venue: ") for k in (1, 2)))
     expect(market.new_day("2030-01-02 00:00:00", 1, 2),
            {1: BEGUN, 2: f"{BEGUN}, and 1 reports that it wasn't sent are told again"})
-    expect(value(one.next_of("5"), "58"), "edge: the day ends")
+    expect(value(sure(one.next_of("5")), "58"), "edge: the day ends")
     market.venue = again(market.port, SELLER, market.venue.port)
     for _ in range(2):
         market.edge.hears(": serves, behind report")
@@ -151,7 +152,7 @@ def test_venue_away_at_the_end():
     expect(kept(1)["sender"], back.next)
 
 
-def test_what_was_sent():
+def test_what_was_sent() -> None:
     """What an engine has asked for is told; what its Logon showed it to miss, and it didn't ask for, isn't; and what it
     was away for isn't, until it has asked. Whatever isn't told is told again in the next day, marked as such. An engine
     that asks for nothing and goes on misses nothing, also where it has asked in a connection before."""
@@ -163,7 +164,7 @@ def test_what_was_sent():
     for asks in (False, True):
         one.connect().has_asked = True  # It doesn't ask by itself.
         one.send("A", "98=0|108=30|")
-        expect(value(one.next_of("A5"), "35"), "A")
+        expect(value(sure(one.next_of("A5")), "35"), "A")
         if asks:
             one.send("2", f"7={one.next}|16={one.next}|")
             one.report(_150="F", _43="Y")
@@ -178,20 +179,21 @@ def test_what_was_sent():
     await_that("both are stored", lambda: kept()["report"] == of_journal()[-1])
     back.connect().has_asked = True
     back.send("A", "98=0|108=30|")
-    expect(value(back.next_of("A5"), "35"), "A")
+    expect(value(sure(back.next_of("A5")), "35"), "A")
     back.send("0")
     await_heard()
     back.close()
     expect(market.new_day("2030-01-03 00:00:00")[1], BEGUN)
 
 
-def test_half_sent_again():
+def test_half_sent_again() -> None:
     """A day ends while a member is sent again, by pieces, what it missed: what it wasn't sent is told in the next day."""
-    market = Market("2030-01-01 23:59:00", MaxReadMessagesPerSecond="100")
+    market = Market("2030-01-01 12:00:00", MaxReadMessagesPerSecond="100")
     one = at_rest_for_long(market.port, "a", 1200)
     leave(market, one)
     market.sell(1100)
     await_that("they are stored", lambda: kept()["report"] == of_journal()[-1])
+    market.clock.put("2030-01-01 23:59:00")  # Only now: so many take their time.
     one.log_on()
     while len(one.history) < 999:
         one.pump(1)
@@ -204,7 +206,7 @@ def test_half_sent_again():
     expect(count > 0, True)
 
 
-def deaf(port):
+def deaf(port: int) -> socket.socket:
     """A connection with hardly any room for what comes."""
     it = socket.socket()
     it.setsockopt(socket.SOL_SOCKET, socket.SO_RCVBUF, 4096)
@@ -212,10 +214,10 @@ def deaf(port):
     return it
 
 
-def test_not_taken():
+def test_not_taken() -> None:
     """What a member's connection hasn't taken when it ends wasn't sent, though the engine has asked for that once more, and
     has come again since without asking: it is told again in the next day, in pieces of the store."""
-    market = Market("2030-01-01 23:59:00", MaxUnsentBytes="4000000", MaxReadMessagesPerSecond="0")
+    market = Market("2030-01-01 12:00:00", MaxUnsentBytes="4000000", MaxReadMessagesPerSecond="0")
     one, count = market.engine(), 3000
     one.socket = deaf(market.port)
     one.send("A", "98=0|108=30|")
@@ -229,7 +231,7 @@ def test_not_taken():
     one.socket, one.rest = deaf(market.port), b""
     one.send("A", "98=0|108=30|")
     while not any(value(it, "43") == "Y" for it in one.came):
-        expect(one.pump(30), True)
+        expect(one.pump(PATIENCE), True)
     leave(market, one)
     one.connect().has_asked = True  # It doesn't ask by itself.
     one.send("A", "98=0|108=30|")
@@ -239,10 +241,10 @@ def test_not_taken():
     came = market.new_day("2030-01-02 00:00:00")[1]
     expect(came, f"{BEGUN}, and {count + 2 - heard} reports that it wasn't sent are told again")
     back = is_caught_up(market.engine().log_on())
-    expect([value(it, "11")[-4:] for it in back.history], [f"{at:04}" for at in range(heard - 2, count)])
+    expect([sure(value(it, "11"))[-4:] for it in back.history], [f"{at:04}" for at in range(heard - 2, count)])
 
 
-def test_older_copy():
+def test_older_copy() -> None:
     """An older copy of a record is put back, and a day has ended since: the journal has requests that the record lacks.
     What was told since the copy is told once more in the new day, and each report once."""
     market = Market("2030-01-01 23:59:00")

@@ -7,11 +7,12 @@ import random
 import signal
 import threading
 import time
+from collections.abc import Callable, Iterable, Mapping, Sequence
 
-from edges import JOURNAL, NAMES, PATIENCE, SYMBOLS, Edge, Trouble, Venue, await_that, free_port, members_of, settings_of
-from edges import children_of, rows, started, stored, told
+from edges import JOURNAL, NAMES, PATIENCE, SYMBOLS, Edge, Others, Settings, Trouble, Venue, await_that, free_port, members_of
+from edges import children_of, rows, settings_of, started, stored, told
 from engines import GTC, Engine, cancel, order, replace
-from gikvand.fix import fields_of
+from gikvand.fix import fields_of, value
 
 MEMBERS = 4
 SHORT, LONG = 1500, 20000
@@ -20,27 +21,30 @@ BURST = 8
 STRIKES = ["member", "both", "edge", "venue"]
 STEP = {"ABC": 100, "XYZ": 4}  # Steps of a price in one.
 TERMS = ["", "", "59=0|", GTC, "59=3|", "59=4|"]
-ENDED = "edge: the day has ended"
+ENDED, BY_OPERATOR = "edge: the day has ended", "edge: the operator has cancelled this order"
+OWED = "SELECT * FROM names WHERE kind = 'w'"  # What was asked for, and the venue hasn't answered.
 AROUND = (-1, 2)         # Seconds behind a start of the edge, between which a day ends.
 
 
 class Member(threading.Thread):
     """A member that sends so many requests, whatever is killed meanwhile."""
 
-    def __init__(self, port, number, requests, seed):
+    def __init__(self, port: int, number: int, requests: int, seed: int) -> None:
         super().__init__(daemon=True)
         self.engine, self.left, self.chance = Engine(port, number), requests, random.Random(seed)
-        self.names, self.count, self.fault, self.is_done = [], 0, None, threading.Event()
+        self.names: list[str] = []
+        self.fault: Exception | None = None
+        self.count, self.is_done = 0, threading.Event()
         self.may = float("inf")  # As many requests as it may have sent by now.
 
-    def run(self):
+    def run(self) -> None:
         try:
             while not self.is_done.is_set():
                 self.turn()
         except Exception as why:
             self.fault = why
 
-    def turn(self):
+    def turn(self) -> None:
         if not self.engine.socket:
             try:
                 self.engine.log_on()
@@ -48,12 +52,12 @@ class Member(threading.Thread):
                 self.engine.close()
                 time.sleep(0.05)
                 return
-        for _ in range(min(self.left, self.chance.randint(1, BURST), max(0, self.may - self.count))):
+        for _ in range(int(min(self.left, self.chance.randint(1, BURST), max(0, self.may - self.count)))):
             self.engine.send(*self.request())
             self.left -= 1
         self.engine.pump(0.05 if self.left else 0.2)
 
-    def request(self):
+    def request(self) -> tuple[str, str]:
         chance, self.count = self.chance, self.count + 1
         name, symbol = f"{NAMES[1 + self.count % 4]}/{self.engine.sender}-{self.count}", chance.choice(list(SYMBOLS))
         side, quantity = chance.randint(1, 2), chance.randint(1, 20)
@@ -69,10 +73,12 @@ class Member(threading.Thread):
         return "D", order(name, side, quantity, price, symbol, chance.choice(TERMS))
 
 
-def names_of(member, folder="edge"):
+def names_of(member: int, folder: str = "edge") -> tuple[dict[int, str], dict[int, str], set[str]]:
     """Kinds and names by their numbers, out of the edge's record, and those names that the edge refused; none may stand
     there twice."""
-    kinds, names, refused = {}, {}, set()
+    kinds: dict[int, str] = {}
+    names: dict[int, str] = {}
+    refused: set[str] = set()
     for number, kind, name in rows(member, "SELECT number, kind, name FROM names", folder):
         if name in refused or (kind in "grsx" and name in names.values()):
             raise Trouble(f"C{member}: a name twice: {number} {kind} {name}")
@@ -83,7 +89,7 @@ def names_of(member, folder="edge"):
     return kinds, names, refused
 
 
-def wanted_of(member, folder="edge"):
+def wanted_of(member: int, folder: str = "edge") -> list[dict[str, str]]:
     """What the member is to be told: the journal's reports by the rules of docs/EDGE.md, but for answers to probes, and to
     ends of orders that had gone."""
     lines = told(member)  # In front of the names: one that came between them is without its report.
@@ -93,6 +99,8 @@ def wanted_of(member, folder="edge"):
         it = fields_of(line)
         if it["35"] == "9" and kinds[int(it["11"])] in "ep":
             continue
+        if kinds[int(it["11"])] == "o" and it["35"] == "8":
+            it["58"] = BY_OPERATOR
         if kinds[int(it["11"])] == "e":
             it.update({"11": it.pop("41"), "150": "C", "39": "C", "58": ENDED})
         for tag in ("11", "41"):
@@ -106,7 +114,7 @@ def wanted_of(member, folder="edge"):
     return wanted
 
 
-def told_by(messages):
+def told_by(messages: Iterable[str]) -> list[dict[str, str]]:
     """The venue's reports among messages, without what a session adds."""
     told = []
     for text in messages:
@@ -117,13 +125,13 @@ def told_by(messages):
     return told
 
 
-def refused_by(messages):
+def refused_by(messages: Iterable[str]) -> list[str]:
     """The names of the requests that the edge says to have refused, but for those that never reached the venue."""
     all_of_edge = [it for it in map(fields_of, messages) if it["35"] in "89" and it.get("58", "").startswith("edge:")]
-    return [it["11"] for it in all_of_edge if not it.get("17", "").startswith("EL") and it.get("150") != "C"]
+    return [it["11"] for it in all_of_edge if not it.get("17", "").startswith("EL") and it.get("150") not in ("4", "C")]
 
 
-def are_refused(member, came, where, folder="edge"):
+def are_refused(member: int, came: Sequence[str], where: str, folder: str = "edge") -> None:
     """Each refusal is told once, and its request never taken."""
     _, names, refused = names_of(member, folder)
     if len(came) != len(set(came)) or not set(came) <= refused or set(came) & set(names.values()):
@@ -132,7 +140,7 @@ def are_refused(member, came, where, folder="edge"):
                       f"of {set(came) & set(names.values())} were taken")
 
 
-def is_same(member, came, wanted, where):
+def is_same(member: int, came: Sequence[dict[str, str]], wanted: Sequence[dict[str, str]], where: str) -> None:
     for at, (one, other) in enumerate(zip(came, wanted)):
         if one != other:
             raise Trouble(f"C{member}: report {at + 1} in {where} is {one}, where the journal has {other}")
@@ -140,11 +148,12 @@ def is_same(member, came, wanted, where):
         raise Trouble(f"C{member}: {len(came)} reports in {where}, where the journal has {len(wanted)}")
 
 
-def ended(member, end, folder="edge"):
+def ended(member: int, end: float, folder: str = "edge") -> int:
     """How many orders of a member were ended, of which each was Day, and ended by one cancel. None that is Day and was sent
     before this second, in which a day ended, rests."""
     kinds, names, _ = names_of(member, folder)
-    resting, asked = {}, []
+    resting: dict[int, str] = {}
+    asked: list[int] = []
     for it in map(fields_of, told(member)):
         number, event = int(it["11"]), it.get("150")
         if kinds[number] == "e":
@@ -163,26 +172,29 @@ def ended(member, end, folder="edge"):
     return len(asked)
 
 
-def ended_at(member=1):
+def ended_at(member: int = 1) -> int:
     """The last end of a day by which what is Day of a member was ended."""
     return rows(member, "SELECT orders_ended FROM session")[0][0]
 
 
-def look_at(members):
+def look_at(members: Iterable[Member]) -> None:
     """Trouble where one of these has ended by a fault."""
     for it in members:
         if it.fault:
             raise Trouble(f"{it.engine.sender}: {it.fault!r}")
 
 
-def settle(members, folder="edge"):
-    """Waits until these have been told all that there is to be told, and ends them."""
-    end = time.monotonic() + PATIENCE
+def settle(members: Sequence[Member], folder: str = "edge",
+           wanted_of: Callable[[int, str], list[dict[str, str]]] = wanted_of) -> None:
+    """Waits until these have been told all that there is to be told, as long as more comes, and ends them."""
+    end, before = time.monotonic() + PATIENCE, list[tuple[int, int]]()
     while time.monotonic() < end:
         look_at(members)
+        are_answered = all(set(it.names) <= {value(text, "11") for text in it.engine.reports[:]} for it in members)
         counts = [(len(told_by(it.engine.reports[:])), len(wanted_of(k, folder))) for k, it in enumerate(members, 1)]
-        if all(came >= wanted for came, wanted in counts):
+        if are_answered and all(came >= wanted for came, wanted in counts):
             break
+        end, before = time.monotonic() + PATIENCE if counts != before else end, counts
         time.sleep(0.2)
     for it in members:
         it.is_done.set()
@@ -190,7 +202,7 @@ def settle(members, folder="edge"):
         it.join()
 
 
-def compare(members, folder="edge"):
+def compare(members: Iterable[Member], folder: str = "edge") -> int:
     """What the records have, and what these were sent, is what the journal tells: how many reports that is."""
     reports = 0
     for k, it in enumerate(members, 1):
@@ -203,28 +215,41 @@ def compare(members, folder="edge"):
     return reports
 
 
+def is_killed(process: int) -> bool:
+    """Kills a process, which may have ended since it was looked for: whether it was there."""
+    try:
+        os.kill(process, signal.SIGKILL)
+    except ProcessLookupError:
+        return False
+    return True
+
+
 class Run:
     """A venue, an edge and four members, some of them with limits, until all requests are answered. With days one ends about each
     start of the edge."""
 
-    def __init__(self, requests, seed, has_days=False, limits=None):
+    def __init__(self, requests: int, seed: int, has_days: bool = False, limits: Mapping[int, Settings] | None = None,
+                 lookers: int = 0, others: Others = lambda port: []) -> None:
         self.chance, self.requests, self.kills = random.Random(seed), requests, [0, 0, 0]
         self.strikes, self.has_days, self.end = itertools.cycle(STRIKES), has_days, 0
-        self.venue = started(JOURNAL, MEMBERS, list(SYMBOLS))
-        self.port = free_port(MEMBERS)
-        self.sessions = [{**it, **(limits or {}).get(k, {})} for k, it in enumerate(members_of(MEMBERS, self.port), 1)]
-        self.edge = self.start().ready(MEMBERS)
+        self.served = MEMBERS + lookers  # Those behind the members that trade only look.
+        self.venue = started(JOURNAL, self.served, list(SYMBOLS))
+        self.port = free_port(len(NAMES))
+        self.sessions = [{**it, **(limits or {}).get(k, {})} for k, it in enumerate(members_of(self.served, self.port), 1)]
+        self.sessions += others(self.port)
+        self.processes = sorted({it["Member"] for it in self.sessions})  # A member may have several sessions.
+        self.edge = self.start().ready(len(self.processes))
         self.members = [Member(self.port, k, requests // MEMBERS, seed + k) for k in range(1, MEMBERS + 1)]
 
-    def start(self):
+    def start(self) -> Edge:
         """The edge, by settings that let a day end soon, or just before."""
-        common = {"VenuePort": self.venue.port}
+        common: Settings = {"VenuePort": self.venue.port}
         if self.has_days:
             self.end = int(time.time()) + self.chance.randint(*AROUND)
             common["DayEndTime"] = time.strftime("%H:%M:%S", time.gmtime(self.end))
         return Edge(settings_of(common, self.sessions))
 
-    def go(self):
+    def go(self) -> None:
         for it in self.members:
             it.start()
         due = self.chance.randint(*BETWEEN)
@@ -239,16 +264,20 @@ class Run:
                 self.strike()
             time.sleep(0.01)
         if self.has_days:
-            await_that("the last end of a day", lambda: all(ended_at(k) >= self.end for k in range(1, MEMBERS + 1)))
-        settle(self.members)
+            own = [int(it[1:]) for it in self.processes if it <= f"C{MEMBERS}"]
+            await_that("the last end of a day", lambda: all(ended_at(k) >= self.end and not rows(k, OWED) for k in own))
+        settle(self.members, wanted_of=self.wanted_of)
 
-    def strike(self):
+    def wanted_of(self, engine: int, folder: str) -> list[dict[str, str]]:
+        """What the engine of this place is to be told."""
+        return wanted_of(engine, folder)
+
+    def strike(self) -> None:
         """Kills the process of one member, the edge, the venue, or both, by turns."""
         which = next(self.strikes)
         if which == "member":
             if found := children_of(self.edge.process.pid):
-                os.kill(self.chance.choice(sorted(found.values())), signal.SIGKILL)
-                self.kills[2] += 1
+                self.kills[2] += is_killed(self.chance.choice(sorted(found.values())))
             return
         if which != "venue":
             self.edge.kill()
@@ -256,7 +285,7 @@ class Run:
         if which != "edge":
             self.venue.kill()
             self.kills[1] += 1
-            self.venue = Venue(self.venue.port, JOURNAL, MEMBERS, list(SYMBOLS))
+            self.venue = Venue(self.venue.port, JOURNAL, self.served, list(SYMBOLS))
             self.venue.ready()
         if which == "venue":
             return
@@ -265,10 +294,10 @@ class Run:
             time.sleep(self.chance.random() / 10)
             self.edge.kill()
             self.kills[0] += 1
-        self.edge = self.start().ready(MEMBERS)
+        self.edge = self.start().ready(len(self.processes))
 
 
-def test_differential():
+def test_differential() -> None:
     """The short form, or the long one with --long, which says its figures."""
     is_long = bool(os.environ.get("EDGE_LONG"))
     begin = time.monotonic()

@@ -8,6 +8,7 @@ import time
 from edges import PATIENCE, ROOT, Edge, Trouble, changed, copied, pair, rows, told
 from engines import Engine, at_rest, cancel, now, order
 from gikvand.fix import value
+from gikvand.words import sure
 from power_tests import powered
 from recovery_tests import places, restarted, settings
 from trading_tests import expect
@@ -16,19 +17,19 @@ STEP = 1000  # Numbers that are passed over where messages may have been lost.
 MOMENT = 5   # Seconds behind a last commit, within which a file may have been changed by it.
 
 
-def has_all(one, member=1):
+def has_all(one: Engine, member: int = 1) -> None:
     """Waits until this engine has been told each report that the journal has for it."""
-    wanted = {int(value(it, "17")) for it in told(member) if value(it, "17")}
+    wanted = {int(sure(value(it, "17"))) for it in told(member) if value(it, "17")}
     end = time.monotonic() + PATIENCE
     while True:
-        came = {int(value(it, "17")) for it in one.history if (value(it, "17") or "").isdecimal()}
+        came = {int(sure(value(it, "17"))) for it in one.history if (value(it, "17") or "").isdecimal()}
         if came == wanted:
             return
         if not one.pump(0.1) or time.monotonic() > end:
             raise Trouble(f"it was told {sorted(came)} of {sorted(wanted)}")
 
 
-def put_back(at):
+def put_back(at: int | None) -> tuple[Engine, Edge]:
     """A member trades, is away while its order trades on, and an older copy of its record is put back, whose last
     commit was in this second: the engine and the edge."""
     venue, edge, port = pair(2)
@@ -55,7 +56,7 @@ def put_back(at):
     return one, Edge(settings())
 
 
-def is_taken_up(one, edge):
+def is_taken_up(one: Engine, edge: Edge) -> None:
     """Nothing is missed by this engine, and nothing that it sends again is traded twice."""
     edge.hears("C1: the journal has 1 requests, up to the number 2, whose names aren't here")
     edge.hears("C1: serves")
@@ -69,14 +70,14 @@ def is_taken_up(one, edge):
     expect([value(it, "11") for it in told(1) if value(it, "150") == "0"], ["1", "2"])
     for name, seconds, event in (("soon", 0, "8"), ("late", 600, "0")):  # What came in front of the copy isn't known.
         text = order(name, 1, 1, "49")
-        text = text.replace(value("|" + text, "60"), now(time.time() + seconds))
+        text = text.replace(sure(value("|" + text, "60")), now(time.time() + seconds))
         one.write("D", text, head=f"43=Y|122={now()}|")
         one.out += 1
         expect(value(one.report(_11=name), "150"), event)
-    expect(places(1), [int(value(it, "17")) for it in told(1)])
+    expect(places(1), [int(sure(value(it, "17"))) for it in told(1)])
 
 
-def test_copy_put_back():
+def test_copy_put_back() -> None:
     """An older copy of a record is put back, as its file's time shows: the numbers go on behind a gap, so that the
     engine asks for what it can't know."""
     one, edge = put_back(0)
@@ -84,7 +85,7 @@ def test_copy_put_back():
     is_taken_up(one, edge)
 
 
-def test_older_record():
+def test_older_record() -> None:
     """An older copy whose time shows nothing: the journal has a request that it lacks, so the numbers go on behind a
     gap, and what was told since the start is told again behind that."""
     one, edge = put_back(None)
@@ -92,12 +93,12 @@ def test_older_record():
     is_taken_up(one, edge)
 
 
-def sender():
+def sender() -> int:
     """The number of the next message to C1."""
     return rows(1, "SELECT sender FROM session")[0][0]
 
 
-def test_another_run():
+def test_another_run() -> None:
     """The numbers go on behind a gap where the system was started anew, which engines take; and not behind a kill or a
     stop of the edge alone."""
     _, power, text, port = powered()
@@ -127,7 +128,7 @@ def test_another_run():
     expect(one.next, before + 11)
 
 
-def test_kill_of_an_idle_edge():
+def test_kill_of_an_idle_edge() -> None:
     """An edge that is started long behind its stop, and killed before it has committed anything, makes no gap."""
     venue, edge, port = pair()
     at_rest(port, "a").log_out()
@@ -139,7 +140,7 @@ def test_kill_of_an_idle_edge():
     expect((sender(), [it for it in edge.lines if "its next number" in it]), (before, []))
 
 
-def test_run_by_the_environment():
+def test_run_by_the_environment() -> None:
     """A service that can't read the words of the system's run has them in its environment, as systemd gives them."""
     with open(os.path.join(ROOT, "contrib/edge/gikvand-edge@.service"), encoding="ascii") as file:
         expect("\nEnvironment=GIKVAND_BOOT=%b\n" in file.read(), True)
@@ -147,7 +148,7 @@ def test_run_by_the_environment():
     edge.stop()
     with open("/proc/sys/kernel/random/boot_id", encoding="ascii") as file:
         same = file.read().strip()
-    for boot, steps in ((same.replace("-", ""), []), (same, []), ("other", [1 + STEP]), ("other", [])):
+    for boot, steps in ((same.replace("-", ""), ()), (same, ()), ("other", (1 + STEP,)), ("other", ())):
         edge = Edge(settings(), env={**os.environ, "GIKVAND_BOOT": boot}).ready()
         edge.stop()
         line = "gikvand-edge: C1: its next number is {}, behind a gap of 1000, since messages may be lost: the system was"

@@ -6,14 +6,16 @@ import signal
 import time
 
 from clocks import seconds_of
-from differential import ENDED, ended_at, names_of
-from edges import JOURNAL, PATIENCE, Client, Edge, Trouble, again, await_that, changed, freeze, rows, stored, told, venue_order
-from engines import GTC, cancel, order, replace
+from differential import ENDED, OWED, ended_at, names_of
+from edges import JOURNAL, PATIENCE, Client, Edge, Trouble, again, await_that, changed, freeze, is_there as is_there_yet, rows, stored, told
+from edges import venue_order
+from engines import GTC, Engine, cancel, order, replace
 from gikvand.fix import fields_of, value
+from gikvand.words import sure
 from hours_tests import FRIDAY, NIGHT, WEEK
 from kept_tests import GREATEST
 from market import SELLER, Market, await_heard, is_caught_up, kept, leave, of_journal, places
-from process_tests import STUCK, is_there as is_there_yet, other_events
+from process_tests import STUCK, other_events
 from switch_tests import Call, is_kept, mass
 from tradeclients import GTC as GTC_OF_STOCK, TradeClient
 from trading_tests import expect
@@ -22,16 +24,15 @@ EVENING, OVER, MORNING = "2030-01-01 21:59:00", "2030-01-01 22:00:00", "2030-01-
 NEXT_EVENING, NEXT_OVER = "2030-01-02 21:59:30", "2030-01-02 22:00:00"
 WAITS = "edge: the day has ended, and its orders aren't cancelled yet"
 AT_TEN = {"DayEndTime": "22:00:00"}  # The session goes on, so its member hears at once.
-OWED = "SELECT * FROM names WHERE kind = 'w'"
 
 
-def put(one, name, more="", side=1, price="50", quantity=10, symbol="ABC"):
+def put(one: Engine, name: str, more: str = "", side: int = 1, price: str = "50", quantity: int = 10, symbol: str = "ABC") -> None:
     """An order of a member that rests."""
     one.send("D", order(name, side, quantity, price, symbol, more))
     one.report(_150="0", _11=name)
 
 
-def expired(one, *names):
+def expired(one: Engine, *names: str) -> dict[str, dict[str, str]]:
     """These orders of a member have expired, each told once: what was told of each."""
     came = {}
     for _ in names:
@@ -42,34 +43,34 @@ def expired(one, *names):
     return came
 
 
-def asked(member=1):
+def asked(member: int = 1) -> list[tuple[str, bool]]:
     """The orders whose end the edge has asked for, in the venue's order, each with whether it was still there."""
     kinds, names, _ = names_of(member)
     answers = [fields_of(line) for line in told(member)]
     return [(names[int(it["41"])], it["35"] == "8") for it in answers if "41" in it and kinds.get(int(it["11"])) == "e"]
 
 
-def cancels():
+def cancels() -> int:
     """How many orders were cancelled at the venue: also where their names have been dropped."""
     return sum(value(it, "150") == "4" for it in told(1))
 
 
-def ended_once(one, *names):
+def ended_once(one: Engine, *names: str) -> None:
     """Each of these orders, and no other one, was ended at the venue by one cancel, and told by one report; no cancel of
     that was told to be refused."""
     is_caught_up(one)
     expect(sorted(asked()), sorted((name, True) for name in names))
-    expect(sorted(value(it, "11") for it in stored(1) if value(it, "150") == "C"), sorted(names))
+    expect(sorted(sure(value(it, "11")) for it in stored(1) if value(it, "150") == "C"), sorted(names))
     expect([it for it in stored(1) if value(it, "35") == "9"], [])
 
 
-def is_there(one, name, quantity=10, symbol="ABC"):
+def is_there(one: Engine, name: str, quantity: int = 10, symbol: str = "ABC") -> None:
     """An order still rests: its member cancels it."""
     one.send("F", cancel(f"{name}-x", name, 1, quantity, symbol))
     expect(value(one.report(_11=f"{name}-x"), "150"), "4")
 
 
-def over(market, now=OVER, *lines):
+def over(market: Market, now: str = OVER, *lines: str) -> None:
     """The clock goes over the end of a day, and the edge has seen that."""
     market.clock.put(now)
     await_that("an end of the day", lambda: ended_at() >= seconds_of(now))
@@ -77,13 +78,13 @@ def over(market, now=OVER, *lines):
         market.edge.hears(it)
 
 
-def back(market, now=MORNING):
+def back(market: Market, now: str = MORNING) -> Engine:
     """The member, on the next day."""
     market.clock.put(now)
     return market.engine().log_on()
 
 
-def test_day_played_through():
+def test_day_played_through() -> None:
     """QuickFIX's own client plays a day: it orders for the day and for longer, is filled in part, and is logged out at the
     end. On the next day it is told that the one has expired, and what it had been filled; the other one trades on. Its
     own dictionary takes all of it."""
@@ -121,7 +122,7 @@ def test_day_played_through():
         expect([line for line in file if "|35=3|" in line.replace("\1", "|")], [])
 
 
-def test_terms():
+def test_terms() -> None:
     """Which orders end: Day by 0 or by nothing, as the last replace says it, and not what is good till it is cancelled. The
     venue is told nothing of that. Reports have no TimeInForce, whatever was asked for."""
     market = Market(EVENING, hours=AT_TEN)
@@ -139,7 +140,7 @@ def test_terms():
     one.report(_150="4", _11="market")
     for kind, body in (("D", order("gtd", 1, 1, "50", more="59=6|")), ("G", replace("gtx", "gtc", 1, 1, "50", more="59=5|"))):
         one.send(kind, body)
-        expect(f"TimeInForce (59) {body[-2]} isn't traded: 0, 1, 3 and 4 are" in value(one.report(_11=body[3:6]), "58"), True)
+        expect(f"TimeInForce (59) {body[-2]} isn't traded: 0, 1, 3 and 4 are" in sure(value(one.report(_11=body[3:6]), "58")), True)
     over(market)
     expired(one, "none", "day", "now day", "now none", "day again")
     is_caught_up(one)
@@ -151,7 +152,7 @@ def test_terms():
     expect((b"\x0159=1\x01" in sent, sent.count(b"\x0159=0\x01"), [it for it in one.history if value(it, "59")]), (False, 3, []))
 
 
-def test_lost_for_long():
+def test_lost_for_long() -> None:
     """An order that is good till it is cancelled, and that the venue hadn't taken in when it was killed: its member is told."""
     market = Market(EVENING)
     one = market.engine().log_on()
@@ -165,12 +166,13 @@ def test_lost_for_long():
     is_there(one, "gtc")
 
 
-def down_over_the_end(stop):
+def down_over_the_end(stop: str) -> None:
     """The edge is down when a day ends, by this call: its next start ends what is Day, in front of what the member sends."""
     market = Market(EVENING, hours=NIGHT)
     one = market.engine().log_on()
     put(one, "day")
     put(one, "gtc", GTC, price="49")
+    await_heard()  # Else a kill may come in front of that, and what it was sent is told again.
     leave(market, one)
     getattr(market.edge, stop)()
     market.sell()
@@ -190,15 +192,15 @@ def down_over_the_end(stop):
     expect([it["150"] for it in lines[:sale]], ["0", "0", "F", "4"])  # It comes behind the end.
 
 
-def test_killed_over_the_end():
+def test_killed_over_the_end() -> None:
     down_over_the_end("kill")
 
 
-def test_stopped_over_the_end():
+def test_stopped_over_the_end() -> None:
     down_over_the_end("stop")
 
 
-def test_many_ends_missed():
+def test_many_ends_missed() -> None:
     """The edge is down over many ends, in each of which an order is missed: each order ends once."""
     market = Market(EVENING, hours=NIGHT)
     one = market.engine().log_on()
@@ -212,6 +214,7 @@ def test_many_ends_missed():
         one.close()
         one = market.engine().log_on()
         expired(one, f"day {day}")
+    one.settle()  # A report counts as heard once its engine goes on behind its Logon.
     await_heard()
     market.edge.kill()
     market.clock.put("2030-01-09 12:00:00")
@@ -222,7 +225,7 @@ def test_many_ends_missed():
     expect((cancels(), sum("|41=" in it for it in told(1))), (4, 4))  # That one's own among them, and none refused.
 
 
-def venue_away(is_killed):
+def venue_away(is_killed: bool) -> None:
     """The venue is down when a day ends: the end is asked for as soon as the venue is there, once, also where the edge is
     killed meanwhile. The member, which is away, is told by a resend."""
     market = Market(EVENING, hours=NIGHT)
@@ -248,15 +251,15 @@ def venue_away(is_killed):
     is_there(one, "gtc")
 
 
-def test_end_without_the_venue():
+def test_end_without_the_venue() -> None:
     venue_away(False)
 
 
-def test_end_without_the_venue_and_killed():
+def test_end_without_the_venue_and_killed() -> None:
     venue_away(True)
 
 
-def killed_before_the_answers(is_venue_killed):
+def killed_before_the_answers(is_venue_killed: bool) -> None:
     """The edge is killed when a day's end is kept, and the venue hasn't read the cancels, or loses them: they are asked for
     once, and told once, by the next start. Another kill behind that tells nothing twice."""
     market = Market(EVENING, hours=NIGHT)
@@ -291,28 +294,31 @@ def killed_before_the_answers(is_venue_killed):
         is_there(one, name)
 
 
-def test_ends_killed():
+def test_ends_killed() -> None:
     killed_before_the_answers(False)
 
 
-def test_ends_and_venue_killed():
+def test_ends_and_venue_killed() -> None:
     killed_before_the_answers(True)
 
 
-def stuck(market):
+def stuck(market: Market) -> Edge:
     """The edge again, by a program for the journal that waits while there is a file of that name."""
     return Edge(other_events(STUCK), env={**market.clock.env, "STUCK": "Y"})
 
 
-def venue_says_nothing(market):
-    """The edge reads the journal of a venue that is back, and that doesn't say what else it has taken in."""
+def venue_says_nothing(market: Market) -> float:
+    """The edge reads the journal of a venue that is back, and that doesn't say what else it has taken in: a moment in front of
+    that."""
     await_that("a look at the journal", lambda: os.path.exists("reads"))
     market.venue.pause()
+    begin = time.monotonic()
     os.remove("stuck")
     market.edge.hears("C1: serves, behind report")
+    return begin
 
 
-def test_ends_killed_twice():
+def test_ends_killed_twice() -> None:
     """The edge is killed again when the end isn't asked for anew, since the venue doesn't say what it has taken in: it is
     asked for by the start behind that, once."""
     market = Market(EVENING, hours=NIGHT)
@@ -336,7 +342,7 @@ def test_ends_killed_twice():
     ended_once(one, "day")
 
 
-def test_filled_meanwhile():
+def test_filled_meanwhile() -> None:
     """An order is filled before the cancel by the day's end comes: its fill is told, and no end, nor that a cancel was
     refused. One that was filled in part has what it was filled in its end."""
     market = Market(EVENING, hours=AT_TEN)
@@ -356,7 +362,7 @@ def test_filled_meanwhile():
            [("whole", "F")] * 3 + [("part", "F")] * 2 + [("part", "C")])
 
 
-def test_replaced_meanwhile():
+def test_replaced_meanwhile() -> None:
     """Replaces are under way when the day ends: what they make of an order is what counts, and where one is refused the order
     that it was about."""
     market = Market(EVENING, hours=AT_TEN)
@@ -381,12 +387,12 @@ def test_replaced_meanwhile():
     one.report(_150="0", _11="g")
     is_caught_up(one)
     expect(sorted(asked()), [("a", False), ("b day", True), ("c", True), ("d day", False), ("e", False), ("f", True)])
-    expect(sorted(value(it, "11") for it in one.history if value(it, "35") == "9"), ["c gtc", "d day", "f gtc"])
+    expect(sorted(sure(value(it, "11")) for it in one.history if value(it, "35") == "9"), ["c gtc", "d day", "f gtc"])
     for name in ("a gtc", "d", "g"):
         is_there(one, name)
 
 
-def test_with_other_cancels():
+def test_with_other_cancels() -> None:
     """A mass cancel and an operator's command come at the same time: each order is cancelled once, and told once, by what
     came first."""
     market = Market(EVENING, hours=AT_TEN)
@@ -411,7 +417,7 @@ def test_with_other_cancels():
     expect((asked(), [it for it in one.history if value(it, "35") == "9"]), ([("a", True)], []))
 
 
-def test_away_with_cancel_on_disconnect():
+def test_away_with_cancel_on_disconnect() -> None:
     """CancelOnDisconnect: of a member whose day ends what is Day expires, and the rest stays until it has been back and goes."""
     market = Market(EVENING, hours=NIGHT, CancelOnDisconnect="Y")
     one = market.engine().log_on()
@@ -430,13 +436,13 @@ def test_away_with_cancel_on_disconnect():
     one.log_on().report(_150="4", _41="gtc")
 
 
-def test_days_of_a_week():
+def test_days_of_a_week() -> None:
     """A session of a week with a DayEndTime: each day ends at that, while the member is logged on, and is told at once. At the
     week's own end nothing more ends. Without a DayEndTime the week is the day."""
     market = Market("2030-01-02 23:59:00", hours={**WEEK, "DayEndTime": "20:30:00"})
     one = market.engine().log_on()
     put(one, "gtc", GTC)
-    for day, before, name in (("2030-01-03 ", [], "thursday"), (FRIDAY, ["thursday night"], "friday")):
+    for day, before, name in (("2030-01-03 ", list[str](), "thursday"), (FRIDAY, ["thursday night"], "friday")):
         leave(market, one)  # A session in which nothing comes for hours is ended by the library.
         market.clock.put(day + "20:29:30")
         put(one.log_on(), name)
@@ -451,7 +457,7 @@ def test_days_of_a_week():
     is_there(one, "gtc")
 
 
-def test_whole_week():
+def test_whole_week() -> None:
     """A session of a week without a DayEndTime: the week is the day."""
     market = Market("2030-01-02 23:59:00", hours=WEEK)
     one = market.engine().log_on()
@@ -464,7 +470,7 @@ def test_whole_week():
     expired(back(market, "2030-01-06 22:00:01"), "wednesday", "friday")
 
 
-def test_ended_once():
+def test_ended_once() -> None:
     """A day ends once, whatever the clock does: put back over the end, and forward again, it ends no second time. Behind a
     clock that was years ahead, what that has sent ends with the next day."""
     market = Market(EVENING, hours=AT_TEN)
@@ -495,7 +501,7 @@ def test_ended_once():
     await_that("the end of it", lambda: cancels() == 4)
 
 
-def test_end_of_nothing():
+def test_end_of_nothing() -> None:
     """A day ends in which nothing rests. That is kept as well: what is sent when the clock is put back, behind a kill, stays."""
     market = Market(EVENING, hours=AT_TEN)
     over(market)
@@ -510,7 +516,7 @@ def test_end_of_nothing():
     expect(asked(), [])
 
 
-def test_made_anew():
+def test_made_anew() -> None:
     """The record is made anew from nothing, so nobody knows what was asked for: what was sent before the last end of the day
     ends at once, and all else, whatever it was, with the next one."""
     market = Market("2030-01-01 21:58:00", hours=AT_TEN)
@@ -541,7 +547,7 @@ def test_made_anew():
     expired(one, "4")
 
 
-def test_record_without_ends():
+def test_record_without_ends() -> None:
     """A record whose edge ended no orders with the day: what rests by it ends with the next day, and not at the start."""
     market = Market(EVENING, hours=AT_TEN)
     one = market.engine().log_on()
@@ -563,7 +569,7 @@ def test_record_without_ends():
     is_there(one, "new")
 
 
-def test_end_while_it_is_asked():
+def test_end_while_it_is_asked() -> None:
     """A day ends while the edge asks a venue that is back what that has taken in: it is kept, and nothing is sent before that is
     known."""
     market = Market(EVENING, hours=AT_TEN)
@@ -589,7 +595,7 @@ def test_end_while_it_is_asked():
     expect(asked(), [("day", True)])
 
 
-def test_waits_for_the_venue():
+def test_waits_for_the_venue() -> None:
     """The venue is back from a kill that has taken the cancels of a day's end, and doesn't say yet what it has: the member is
     held up, its orders and replaces are refused when that takes too long, and its cancels pass. Then what is Day ends."""
     market = Market(EVENING, hours=AT_TEN)
@@ -605,8 +611,7 @@ def test_waits_for_the_venue():
         os.remove("reads")
     market.venue.kill()
     market.venue = again(market.port, SELLER, market.venue.port)
-    venue_says_nothing(market)
-    begin = time.monotonic()
+    begin = venue_says_nothing(market)
     one.send("D", order("new", 1, 1, "50"))
     one.send("G", replace("other", "day", 1, 5, "50", more=GTC))
     one.send("F", cancel("gtc-x", "gtc", 1))
@@ -628,7 +633,7 @@ while [ -n "$STUCK" ] && [ -e stuck ]; do sleep 0.05; done
 """
 
 
-def reads_nothing(process):
+def reads_nothing(process: int) -> bool:
     """Whether no program at work for the journal is a child of this process."""
     children = []
     for thread in os.listdir(f"/proc/{process}/task"):
@@ -637,7 +642,7 @@ def reads_nothing(process):
     return not any(map(is_there_yet, children))
 
 
-def test_end_in_front_of_what_waits():
+def test_end_in_front_of_what_waits() -> None:
     """A day ends while the venue is away. What its member has sent by the time at which the journal is read to its end is read
     behind the day's end: a replace of an order that has ended comes too late."""
     market = Market(EVENING, hours=AT_TEN)
@@ -665,7 +670,7 @@ def test_end_in_front_of_what_waits():
     expect(asked(), [("day", True)])
 
 
-def test_end_not_kept():
+def test_end_not_kept() -> None:
     """The end of a day can't be kept: nothing is sent, and nothing told. It is ended once it can be."""
     market = Market(EVENING, hours=AT_TEN)
     one = market.engine().log_on()
@@ -688,7 +693,7 @@ def test_end_not_kept():
     ended_once(one, "day")
 
 
-def test_end_of_numbers():
+def test_end_of_numbers() -> None:
     """The venue takes no greater number than one that somebody else has used: what is Day stays, and that is said, once."""
     market = Market(EVENING, hours=AT_TEN)
     one = market.engine().log_on()

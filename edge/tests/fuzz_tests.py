@@ -15,10 +15,10 @@ SMALL = b'<fix major="4" minor="4"><header/><trailer/><messages/><components/><f
 
 # Of each target: the parsers' sources, which are compiled with its checks (the rest of the edge is as it is), and what it
 # begins with.
-TARGETS = {
+TARGETS: dict[str, tuple[tuple[str, ...], list[bytes]]] = {
     "reports": (("reports", "names", "ticks", "exposure"), [it.replace(b"|", b"\x01") for it in (REPORT, REJECT)]),
     "venue": (("venue_frame",), [it.replace(b"|", b"\x01") for it in (REPORT, REJECT)]),
-    "replay": (("replay", "reports", "names", "ticks", "exposure", "market"),
+    "replay": (("replay", "reports", "names", "ticks", "exposure", "market", "books"),
                [b"command 0 C1 D ABC -\noutput 6 C1 " + REPORT + b"\noutput 7 C1 " + REJECT + b"\nlevel ABC 2 5025 60 1\n"]),
     "ticks": (("ticks",), [b"0.01\n50.25\n100\n", b"0.000000001\n0.5\n1.00\n", b"1000\n5000\n1000000\n"]),
     "settings": (("settings", "setting_values", "order_limits", "hours", "identity", "stunnel", "schedule", "steps", "ticks"), []),
@@ -27,7 +27,7 @@ TARGETS = {
 }
 
 
-def begins_of_settings():
+def begins_of_settings() -> list[bytes]:
     """Settings that are right, with a dictionary that is read at once, and what follows one that isn't there."""
     with open("small.xml", "wb") as file:
         file.write(SMALL)
@@ -35,7 +35,7 @@ def begins_of_settings():
     return [it.encode("ascii") for it in (right, right.replace("small.xml", "none"), right.replace("00:00:00", "08:00:00"))]
 
 
-def fuzzed(name):
+def fuzzed(name: str) -> None:
     sources, begins = TARGETS[name]
     os.makedirs(f"{name}/corpus")
     os.chdir(name)
@@ -54,7 +54,7 @@ def fuzzed(name):
         raise Trouble(f"{name}: status {ran.returncode}: {ran.stderr[-3000:]}")
 
 
-def test_parsers_fuzz():
+def test_parsers_fuzz() -> None:
     """Reports of the venue, its messages as they are cut, lines of venue-events, ticks and quantities, settings, names of an edge of
     before, and what operators say."""
     if not shutil.which("clang++"):

@@ -5,9 +5,10 @@ import time
 import urllib.request
 
 from clocks import Clock
-from edges import Client, again, await_that, free_port, told
+from edges import PATIENCE, Client, again, await_that, free_port, told
 from engines import GTC, order
 from gikvand.fix import value
+from gikvand.words import sure
 from market import BEGUN, SELLER, Market, at_rest_for_long, is_caught_up, kept, leave, of_journal, places
 from tradeclients import TradeClient
 from trading_tests import expect
@@ -18,14 +19,14 @@ NIGHT = {"StartTime": "06:00:00", "EndTime": "22:00:00"}
 SECRET = "553=desk|554=secret|"
 
 
-def secrets():
+def secrets() -> str:
     with open("passwords", "w", encoding="ascii") as file:
         file.write("desk:secret\n")
     os.chmod("passwords", 0o600)
     return "passwords"
 
 
-def test_week():
+def test_week() -> None:
     """A session of a week: its numbers go on over each midnight, and begin anew at its end. Who logs on at the weekend
     is told the hours, and no number moves; what is filled there is told in the new week."""
     market = Market("2030-01-03 23:59:00", hours=WEEK)
@@ -37,7 +38,7 @@ def test_week():
     is_caught_up(one)
     expect(market.lines("a new day"), [])
     expect(market.new_day(FRIDAY + "21:00:00")[1], BEGUN)
-    expect(value(one.next_of("5"), "58"), "edge: the day ends")
+    expect(value(sure(one.next_of("5")), "58"), "edge: the day ends")
     market.clock.put(SATURDAY + "12:00:00")
     market.sell(2)
     await_that("both are stored", lambda: kept()["report"] == of_journal()[-1])
@@ -45,7 +46,7 @@ def test_week():
         early = market.engine().connect()
         early.out = number
         early.send("A", "98=0|108=30|")
-        while early.pump(30):
+        while early.pump(PATIENCE):
             pass
         expect([[value(it, tag) for tag in ("35", "34", "43", "45", "58")] for it in early.came],
                [["3", "0", "Y", str(number), "edge: the session's hours are Sunday 22:00:00 to Friday 21:00:00 UTC"]])
@@ -53,7 +54,7 @@ def test_week():
     expect(len(market.lines("is refused: the session's hours are Sunday")), 2)
     market.clock.put(SUNDAY + "21:59:00")
     early.connect().write("A", "98=0|108=30|")
-    while early.pump(30):
+    while early.pump(PATIENCE):
         pass
     market.clock.put(SUNDAY + "22:00:00")
     back = is_caught_up(market.engine().log_on())
@@ -66,7 +67,7 @@ def test_week():
     expect(len(market.lines("a new day")), 1)
 
 
-def test_once():
+def test_once() -> None:
     """A day ends once, whatever the clock does: put back over the end, and forward again, it ends no second time.
     Behind a clock that was years ahead days go on to end."""
     market = Market("2030-01-01 21:59:00", hours={"StartTime": "08:00:00", "EndTime": "22:00:00"})
@@ -88,11 +89,11 @@ def test_once():
     expect((kept()["sender"], kept()["target"]), (one.next, one.out))
     market.new_day("2036-01-01 12:00:00")
     market.clock.put("2030-01-02 21:59:30")
-    market.edge.hears("its numbers began at 20360101-12:00:0")
+    market.edge.hears("its numbers began at 20360101-12:0")
     expect(market.new_day("2030-01-02 22:00:00")[1], BEGUN)
 
 
-def test_orders_stay():
+def test_orders_stay() -> None:
     """CancelOnDisconnect: what rests stays when the day ends, also where the venue or the edge is started again, or a
     stranger comes and goes, before its member is back. When its own connection is cut in the new day it goes."""
     market = Market("2030-01-01 21:59:00", hours=NIGHT, CancelOnDisconnect="Y", Username="desk", PasswordFile=secrets())
@@ -110,7 +111,7 @@ def test_orders_stay():
     market.clock.put("2030-01-02 06:00:00")
     stranger = market.engine().connect()
     stranger.send("A", "98=0|108=30|553=desk|554=wrong|")
-    while stranger.pump(30):
+    while stranger.pump(PATIENCE):
         pass
     time.sleep(0.5)  # Longer than the edge waits behind a wrong password.
     market.seller = Client(market.venue.port, SELLER).log_on()
@@ -123,7 +124,7 @@ def test_orders_stay():
     market.edge.hears("C1: cancels 1 orders: the member is away")
 
 
-def test_stock_engine_at_night():
+def test_stock_engine_at_night() -> None:
     """QuickFIX's own client, whose clock is ahead, logs on before the hours, and is refused in words that it doesn't
     count. When the hours have begun it asks for all that was filled at night."""
     market = Market("2030-01-01 21:59:00", hours=NIGHT)
@@ -143,13 +144,13 @@ def test_stock_engine_at_night():
         client.report(_150="F", _17=number)
 
 
-def test_page():
+def test_page() -> None:
     """The page says when the numbers began."""
     page = free_port(1)
     market = Market("2030-01-01 23:59:00", HttpAcceptPort=page)
     market.new_day("2030-01-02 00:00:00")
 
-    def shown():
+    def shown() -> str:
         with urllib.request.urlopen(f"http://127.0.0.1:{page}/", timeout=10) as it:
             return it.read().decode().strip()
     expect(", numbers since 20300102-00:00:" in shown(), True)

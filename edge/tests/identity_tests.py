@@ -1,6 +1,7 @@
 """Who a member is: a port of its own, a password or a certificate of its own, and members that can't be mixed up."""
 import os
 import subprocess
+from collections.abc import Iterable
 
 from edges import ROOT, Trouble, free_port, members_of, settings_of
 from settings_tests import said
@@ -8,7 +9,7 @@ from settings_tests import said
 TEMPLATE = os.path.join(ROOT, "edge/stunnel/member.conf")
 
 
-def certificate(name, issuer=None):
+def certificate(name: str, issuer: str | None = None) -> None:
     """Makes a key and a certificate: its own issuer, or by another one."""
     words = ["openssl", "req", "-x509", "-newkey", "rsa:2048", "-nodes", "-keyout", f"{name}.key", "-out",
              f"{name}.pem", "-days", "2", "-subj", f"/CN={name}"]
@@ -16,7 +17,7 @@ def certificate(name, issuer=None):
                    capture_output=True)
 
 
-def stunnel_configuration(name, tls, port):
+def stunnel_configuration(name: str, tls: int, port: int) -> str:
     """Writes the configuration of stunnel that comes with the edge, for a member with the certificate of this name."""
     with open(TEMPLATE, encoding="ascii") as file:
         text = file.read()
@@ -31,10 +32,10 @@ def stunnel_configuration(name, tls, port):
 
 
 ALL = [["--all"], ["--check", "--all"]]
-EITHER = [[], ["--check"], *ALL]
+EITHER: list[list[str]] = [[], ["--check"], *ALL]
 
 
-def refused(wanted, settings, words_of=ALL):
+def refused(wanted: str, settings: str, words_of: Iterable[list[str]] = ALL) -> None:
     """An edge with these settings says this in one line and doesn't start, with each of these words."""
     for words in words_of:
         status, lines = said(settings, *words)
@@ -42,13 +43,13 @@ def refused(wanted, settings, words_of=ALL):
             raise Trouble(f"{words}: wanted {wanted!r}, came {status} {lines}")
 
 
-def is_right(settings, *words):
+def is_right(settings: str, *words: str) -> None:
     status, lines = said(settings, "--check", *words)
     if status or lines:
         raise Trouble(f"--check {words}: {status} {lines}")
 
 
-def test_own_places():
+def test_own_places() -> None:
     """Two members with one port, page or folder: refused by its name, in one line, and not one member is served."""
     port = free_port(3)
     common = {"VenuePort": port + 2}
@@ -70,7 +71,7 @@ def test_own_places():
         raise Trouble(f"something was made: {left}")
 
 
-def test_known_members():
+def test_known_members() -> None:
     """A member that neither a password nor a certificate of its own tells isn't served, unless anyone may come in."""
     port = free_port(2)
     with open("passwords", "w", encoding="ascii") as file:
@@ -117,7 +118,7 @@ WRONG_FILES = {  # What a file of certificates has in the place of one, and what
 }
 
 
-def test_stunnel_configurations():
+def test_stunnel_configurations() -> None:
     """A configuration of stunnel by which others than its member may come in is refused, and by what is wrong in it."""
     port = free_port(2)
     certificate("a")
@@ -127,7 +128,7 @@ def test_stunnel_configurations():
     with open("a.pem", encoding="ascii") as file:
         whole = file.read()
 
-    def tried(name, text, certificates, wanted):
+    def tried(name: str, text: str, certificates: str, wanted: str) -> None:
         for path, content in (("a.conf", text), ("a.pem", certificates)):
             with open(path, "w", encoding="ascii") as file:
                 file.write(content)
@@ -151,7 +152,7 @@ def test_stunnel_configurations():
         is_right(settings)
 
 
-def test_common_certificate():
+def test_common_certificate() -> None:
     """Two members whose stunnels take the same certificate are refused, also where it stands in two files."""
     port = free_port(3)
     certificate("a")

@@ -12,6 +12,7 @@ from edges import NAMES, PATIENCE, Client, Edge, Trouble, again, await_that, cha
 from edges import rows, stored, told, venue_order
 from engines import Engine, at_rest, cancel, now, order
 from gikvand.fix import value
+from gikvand.words import sure
 from recovery_tests import places, restarted, settings
 from trading_tests import expect
 
@@ -22,7 +23,7 @@ MEMORY = 60 << 20    # Bytes that the process of a member may take.
 AT_ONCE = 500        # Names that are looked at in one go, to be dropped.
 
 
-def memory(edge):
+def memory(edge: Edge) -> int:
     """The most bytes that the process of C1 has taken; 0 where that tells nothing."""
     if not sanitized.is_measured():
         return 0
@@ -30,7 +31,7 @@ def memory(edge):
         return next(int(line.split()[1]) * 1024 for line in file if line.startswith("VmHWM"))
 
 
-def test_far_number():
+def test_far_number() -> None:
     """Somebody else has used a member's port, with a number far above, and a request was lost before: members start,
     the lost one is told, and the foreign order can be cancelled by a name that stands for its number."""
     venue, edge, port = pair(2)
@@ -57,7 +58,7 @@ def test_far_number():
     one.report(_150="4", _11="c")
     one.send("F", cancel("d", f"edge-lost-{FAR}x", 1, 7))
     expect(value(one.report(_35="9"), "58"), "edge: OrigClOrdID (41) is of no order")
-    expect([it for it in told(1) if int(value(it, "11")) > FAR][-1].split("|11=")[1].split("|")[0], str(FAR + 2))
+    expect([it for it in told(1) if int(sure(value(it, "11"))) > FAR][-1].split("|11=")[1].split("|")[0], str(FAR + 2))
     if memory(edge) > MEMORY:
         raise Trouble(f"the process of C1 took {memory(edge)} bytes")
     at_rest(port, "other", member=2)
@@ -66,7 +67,7 @@ def test_far_number():
     expect([it for it in edge.lines if "names aren't here" in it or "its next number" in it], [])
 
 
-def test_greatest_number():
+def test_greatest_number() -> None:
     """Somebody else has used a member's port with the greatest number that the venue takes: what would have a greater one,
     as a cancel by the edge, isn't sent, and that is said."""
     venue, edge, port = pair(CancelOnDisconnect="Y")
@@ -85,7 +86,7 @@ def test_greatest_number():
     expect([it for it in edge.lines if "cancels" in it], [])
 
 
-def test_any_bytes():
+def test_any_bytes() -> None:
     """A stored message with a byte 0 is sent again as it was, and what stands behind it too."""
     venue, edge, port = pair()
     one = at_rest(port, "a")
@@ -104,7 +105,7 @@ def test_any_bytes():
     expect([value(one.report(_43="Y"), "11") for _ in range(2)], ["a", "\x00"])
 
 
-def test_refused_name():
+def test_refused_name() -> None:
     """A request that the edge refused, as its member was told, isn't taken when it is sent again and could be."""
     venue, edge, port = pair()
     one = at_rest(port, "a")
@@ -124,7 +125,7 @@ def test_refused_name():
     expect([value(it, "11") for it in told(1)], ["1"])
 
 
-def test_refused_write():
+def test_refused_write() -> None:
     """A heartbeat that the record refuses to take, in a turn that changes the tables since it also answers a ResendRequest:
     it isn't sent, nothing of its turn is kept, and that is said, though the library passes over what a store can't do."""
     venue, edge, port = pair()
@@ -144,7 +145,7 @@ def test_refused_write():
     expect(([value(it, "35") for it in one.came], sender()), (["A", "8"], 3))
 
 
-def test_name_of_a_lost_turn():
+def test_name_of_a_lost_turn() -> None:
     """A name whose turn was lost is none: somebody else's request of its number isn't told by it."""
     venue, edge, port = pair()
     edge.stop()
@@ -168,7 +169,7 @@ def test_name_of_a_lost_turn():
     expect(value(one.report(_150="0", _38="7"), "11"), "edge-lost-2")
 
 
-def test_many_names():
+def test_many_names() -> None:
     """A request is told by its name however many came behind it."""
     venue, edge, port = pair()
     one = at_rest(port, "a")
@@ -184,7 +185,7 @@ def test_many_names():
     expect(value(one.report(_150="4"), "41"), "a")
 
 
-def test_names_dropped():
+def test_names_dropped() -> None:
     """At the end of a session's day the names of finished requests go that are older than a day; others stay."""
     venue, edge, port = pair()
     one = Engine(port, 1).log_on()
@@ -215,13 +216,13 @@ def test_names_dropped():
         for hours, event in ((13, "8"), (11, "0")):
             name = f"gone-{head[:2]}-{hours}"
             text = order(name, 1, 1, "50")
-            one.write("D", text.replace(value("|" + text, "60"), now(time.time() - hours * 3600)), head=head)
+            one.write("D", text.replace(sure(value("|" + text, "60")), now(time.time() - hours * 3600)), head=head)
             one.out += 1
             report = one.report(_11=name)
             expect((value(report, "150"), "is older than 12 hours" in report), (event, event == "8"))
 
 
-def test_refused_names_dropped():
+def test_refused_names_dropped() -> None:
     """Names of refused requests go as well, though the venue has answered nothing behind them."""
     venue, edge, port = pair()
     one = Engine(port, 1).log_on()
@@ -234,7 +235,7 @@ def test_refused_names_dropped():
     await_that("an end of the name", lambda: not rows(1, "SELECT name FROM names"))
 
 
-def test_dropping_goes_on():
+def test_dropping_goes_on() -> None:
     """Names are dropped by pieces. An edge that was stopped between two of them goes on, past orders that rest."""
     venue, edge, port = pair()
     one, resting = Engine(port, 1).log_on(), AT_ONCE + 10
@@ -251,7 +252,7 @@ def test_dropping_goes_on():
     await_that("an end of the dropping", lambda: rows(1, "SELECT drop_before FROM session") == [(0,)])
 
 
-def put_old_files(member, edge, store):
+def put_old_files(member: int, edge: str, store: str) -> None:
     """Writes what a member's record has as an edge of before kept that: a file of names, and the library's store."""
     names = rows(member, "SELECT number, kind, name FROM names ORDER BY number")
     messages = rows(member, "SELECT number, bytes FROM messages ORDER BY number")
@@ -273,7 +274,7 @@ def put_old_files(member, edge, store):
         file.write(time.strftime("%Y%m%d-%H:%M:%S", time.gmtime()))
 
 
-def test_taken_over():
+def test_taken_over() -> None:
     """What an edge of before kept is taken over at the first start: names, numbers, and what was told."""
     venue, edge, port = pair(common={"FileStorePath": "store"})
     one = at_rest(port, "a b")
@@ -303,7 +304,7 @@ def test_taken_over():
     expect(len(one.came), one.next - 1)  # Nothing was sent twice, and nothing left out.
 
 
-def test_kept_by_turns():
+def test_kept_by_turns() -> None:
     """What the last turns have kept is all there behind a kill, also when they were: no number steps, the next request
     has the next number, names are known, and messages are sent again."""
     venue, edge, port = pair()
@@ -339,7 +340,7 @@ def test_kept_by_turns():
     expect(names, [(1, "r", "a"), (2, "x", "no"), (3, "r", "b")])
 
 
-def test_record_of_before():
+def test_record_of_before() -> None:
     """A record whose edge kept no turn by itself is taken as it is, and so is one whose edge had no switch, or ended no
     orders with the day."""
     venue, edge, port = pair()
@@ -368,7 +369,7 @@ def test_record_of_before():
     expect((places(1), rows(1, "SELECT * FROM switches"), rows(1, "PRAGMA user_version")), ([1, 2, 3, 4], [], [(4,)]))
 
 
-def test_growth():
+def test_growth() -> None:
     """The log of a record doesn't grow with what is committed, and memory doesn't with names."""
     venue, edge, port = pair()
     one = Engine(port, 1).log_on()

@@ -3,27 +3,33 @@ at its value, one above and one below. What a limit refuses never reaches the ve
 import os
 import re
 import signal
+import socket
+import threading
+import time
 import urllib.request
+from collections.abc import Iterator, Mapping, Sequence
 from decimal import Decimal
 
 from differential import MEMBERS, Run, are_refused, compare, is_same, refused_by, told_by, wanted_of
-from edges import EVENTS, JOURNAL, SYMBOLS, Client, Edge, Trouble, again, await_that, free_port, freeze, members_of, settings_of
-from edges import started, stored, told, venue_order
+from edges import EVENTS, JOURNAL, PATIENCE, SYMBOLS, Client, Edge, Trouble, Venue, again, await_that, free_port, freeze, members_of
+from edges import children_of, in_folders, is_there, processes_below, settings_of, started, stored, told, venue_order
 from engines import GTC, Engine, cancel, order, replace
 from gikvand.fix import fields_of, value
+from gikvand.words import sure
 from relay import Relay
 from recovery_tests import restarted
 from switch_tests import called, is_refused
 from tradeclients import TradeClient
 from trading_tests import expect, logged
-from venues import Late, in_some_try, kill_all
+from venues import Late
 
 EXCEEDS, OPTION = "3", "0"  # Reasons of 103.
-UNREAD = 1  # Seconds in which nothing is answered, of the five in which the venue is waited for.
+UNREAD, WAITED = 1, 5  # Seconds in which nothing is answered, of those in which the venue is waited for.
 MARKET = "40=1|"
 
 
-def limited(members=2, others=None, common=None, **limits):
+def limited(members: int = 2, others: Mapping[str, object] | None = None, common: Mapping[str, object] | None = None,
+            **limits: str) -> tuple[Venue, Edge, int]:
     """A venue, an edge and its port: C1 has these limits, and the other members have others."""
     venue = started(JOURNAL, members, list(SYMBOLS))
     port = free_port(members)
@@ -34,31 +40,31 @@ def limited(members=2, others=None, common=None, **limits):
     return venue, edge, port
 
 
-def desks(port, members=2):
+def desks(port: int, members: int = 2) -> list[Engine]:
     return [Engine(port, k).log_on() for k in range(1, members + 1)]
 
 
-def market(name, side, quantity, symbol="ABC", more=""):
+def market(name: str, side: int, quantity: int, symbol: str = "ABC", more: str = "") -> str:
     return order(name, side, quantity, "", symbol, more).replace("40=2|44=|", MARKET)
 
 
-def taken(one, name, side, quantity, price, symbol="ABC", more=""):
+def taken(one: Engine, name: str, side: int, quantity: int, price: str, symbol: str = "ABC", more: str = "") -> None:
     """An order that no limit refuses."""
     one.send("D", order(name, side, quantity, price, symbol, more))
     one.report(_150="0", _11=name)
 
 
-def replaced(one, name, original, side, quantity, price, symbol="ABC"):
+def replaced(one: Engine, name: str, original: str, side: int, quantity: int, price: str, symbol: str = "ABC") -> None:
     one.send("G", replace(name, original, side, quantity, price, symbol))
     one.report(_150="5", _11=name, _41=original)
 
 
-def cancelled(one, name, original, side, symbol="ABC"):
+def cancelled(one: Engine, name: str, original: str, side: int, symbol: str = "ABC") -> None:
     one.send("F", cancel(name, original, side, symbol=symbol))
     one.report(_150="4", _41=original)
 
 
-def traded(one, other, name, quantity, price, symbol="ABC", side=1):
+def traded(one: Engine, other: Engine, name: str, quantity: int, price: str, symbol: str = "ABC", side: int = 1) -> None:
     """One buys of the other, or sells where the side says so."""
     taken(one, name, side, quantity, price, symbol)
     other.send("D", order(name, 3 - side, quantity, price, symbol))
@@ -66,16 +72,16 @@ def traded(one, other, name, quantity, price, symbol="ABC", side=1):
     one.report(_150="F", _11=name)
 
 
-def no_order(one, body, text, reason=EXCEEDS):
+def no_order(one: Engine, body: str, text: str, reason: str = EXCEEDS) -> None:
     """An order that a limit refuses, in these words."""
     is_refused(one, "D", body, f"edge: {text}", _35="8", _150="8", _39="8", _103=reason)
 
 
-def no_replace(one, body, text, status="0"):
+def no_replace(one: Engine, body: str, text: str, status: str = "0") -> None:
     is_refused(one, "G", body, f"edge: {text}", _35="9", _102="2", _434="2", _39=status)
 
 
-def agrees(*engines):
+def agrees(*engines: Engine) -> None:
     """What each of these was told, and its record has, is what the journal has: no refusal is told twice, or traded."""
     for k, it in enumerate(engines, 1):
         it.settle()
@@ -86,7 +92,7 @@ def agrees(*engines):
         are_refused(k, refused_by(it.history), "what it was sent")
 
 
-def killed(venue, edge, port, *engines, is_venue=True):
+def killed(venue: Venue, edge: Edge, port: int, *engines: Engine, is_venue: bool = True) -> tuple[Venue, Edge]:
     """All processes are killed, and started again: the venue and the edge. The engines come back."""
     edge.kill()
     if is_venue:
@@ -99,7 +105,7 @@ def killed(venue, edge, port, *engines, is_venue=True):
     return venue, edge
 
 
-def sent_again(one, body):
+def sent_again(one: Engine, body: str) -> None:
     """What was refused is sent again, as engines do behind a kill: it is passed over."""
     count = len(one.history)
     one.write("D", body, head="97=Y|")
@@ -108,7 +114,7 @@ def sent_again(one, body):
     expect(one.history[count:], [])
 
 
-def test_symbols():
+def test_symbols() -> None:
     """A member trades the symbols of its settings, and no other one; another member trades all."""
     venue, edge, port = limited(TradeSymbols="XYZ")
     one, other = desks(port)
@@ -126,12 +132,12 @@ def test_symbols():
     agrees(one, other)
 
 
-def test_quantity():
+def test_quantity() -> None:
     """The greatest OrderQty, of orders and replaces."""
     venue, edge, port = limited(MaxOrderQuantity="100")
     one, other = desks(port)
 
-    def above(quantity):
+    def above(quantity: int) -> str:
         return f"OrderQty (38) {quantity} is above MaxOrderQuantity (100)"
     taken(one, "a", 1, 99, "50")
     taken(one, "b", 1, 100, "50")
@@ -148,13 +154,13 @@ def test_quantity():
     agrees(one, other)
 
 
-def test_value():
+def test_value() -> None:
     """The greatest value of an order: price times quantity. A market order has that of the market's last trade, and is
     refused before there is one."""
     venue, edge, port = limited(MaxOrderValue="5000")
     one, other = desks(port)
 
-    def above(worth):
+    def above(worth: str) -> str:
         return f"the order's value {worth} is above MaxOrderValue (5000)"
     taken(one, "a", 1, 1, "4999.99")
     taken(one, "b", 1, 1, "5000")
@@ -181,11 +187,11 @@ def test_value():
     agrees(one, other)
 
 
-def open_above(worth):
+def open_above(worth: str) -> str:
     return f"the value of all that is open would be {worth}, above MaxOpenValue (1000)"
 
 
-def test_open_value():
+def test_open_value() -> None:
     """The greatest value of all that is open, over symbols: a fill, a cancel and a smaller replace give room, and a replace
     counts in the place of its order. It is known again behind kills."""
     venue, edge, port = limited(MaxOpenValue="1000")
@@ -226,7 +232,7 @@ def test_open_value():
     agrees(one, other)
 
 
-def test_open_value_of_a_market_order():
+def test_open_value_of_a_market_order() -> None:
     """A market order counts as open while the venue hasn't answered it, by the last trade."""
     venue, edge, port = limited(MaxOpenValue="1000")
     one, other = desks(port)
@@ -245,7 +251,7 @@ def test_open_value_of_a_market_order():
     agrees(one, other)
 
 
-def test_open_under_way():
+def test_open_under_way() -> None:
     """What the venue hasn't answered is open. A replace counts as the greater one of both until it is answered, and what
     the venue refuses is open no longer."""
     venue, edge, port = limited(MaxOpenValue="1000")
@@ -274,7 +280,7 @@ def test_open_under_way():
     agrees(one, other)
 
 
-def test_open_in_doubt(is_venue_killed=False):
+def test_open_in_doubt(is_venue_killed: bool = False) -> None:
     """The edge is killed when the venue hasn't answered an order. Until it is known what became of that, no other one passes
     that would be too much together with it."""
     venue, edge, port = limited(MaxOpenValue="1000")
@@ -301,34 +307,35 @@ def test_open_in_doubt(is_venue_killed=False):
     agrees(one, other)
 
 
-def test_open_in_doubt_of_a_venue():
+def test_open_in_doubt_of_a_venue() -> None:
     test_open_in_doubt(True)
 
 
 class Silent(Relay):
     """A relay in front of the venue, which loses a new order, and holds back what tells the edge so."""
 
-    def __init__(self, venue):
+    def __init__(self, venue: Venue) -> None:
         super().__init__(free_port(1), venue.port)
-        self.held, self.is_holding = [], True
+        self.held: list[tuple[str, socket.socket]] = []
+        self.is_holding = True
         self.loses = lambda text, is_edges: is_edges and value(text, "35") == "D" and value(text, "38") == "7"
         self.start()
 
-    def pass_on(self, text, is_members, to):
+    def pass_on(self, text: str, is_members: bool, to: socket.socket) -> bool:
         with self.changed:
             if self.is_holding and not is_members and value(text, "35") == "9":
                 self.held.append((text, to))
                 return True
         return super().pass_on(text, is_members, to)
 
-    def let_go(self):
+    def let_go(self) -> None:
         with self.changed:
             self.is_holding, held = False, self.held
         for text, to in held:
             super().pass_on(text, False, to)
 
 
-def in_doubt():
+def in_doubt() -> tuple[Venue, Edge, Silent, int, Engine]:
     """An edge that was killed when the venue hadn't got an order of 350, and that isn't told so yet; the relay that holds it
     back, the venue, the edge's port, and the member, of whom an order of 500 rests."""
     venue, port = started(JOURNAL, 1, list(SYMBOLS)), free_port(1)
@@ -345,7 +352,7 @@ def in_doubt():
     return venue, edge, relay, port, one
 
 
-def test_open_unknown():
+def test_open_unknown() -> None:
     """The venue doesn't say what it has taken of before: what a limit on all that is open is about is refused, behind five
     seconds. Cancels pass. Once the venue says so the limit is judged again."""
     venue, edge, relay, port, one = in_doubt()
@@ -361,28 +368,27 @@ def test_open_unknown():
     agrees(one)
 
 
-def test_open_waits():
+def test_open_waits() -> None:
     """The member isn't read until that is known, and none of its requests is refused for it."""
-    def run(number):
-        os.makedirs(f"try-{number}")
-        os.chdir(f"try-{number}")
+    def run(number: int) -> None:
         venue, edge, relay, port, one = in_doubt()
-        count = len(one.came)
+        count, begin = len(one.came), time.monotonic()
         one.connect().send("A", "98=0|108=30|")
         one.send("D", order("c", 1, 1, "500"))
         edge.hears("C1: a client from")
         one.pump(UNREAD)
         if one.came[count:]:
-            kill_all()
-            os.chdir("..")
             raise Late(f"the relay was too late: {one.came[count:]}")
         relay.let_go()
-        expect(value(one.report(_11="c"), "150"), "0")
+        event = value(one.report(_11="c"), "150")
+        if event != "0" and time.monotonic() - begin > WAITED:
+            raise Late(f"the relay was {time.monotonic() - begin:.1f} s late")
+        expect(event, "0")
         agrees(one)
-    in_some_try(run, "test_open_waits")
+    in_folders(run, "test_open_waits")
 
 
-def with_limits(edge, *engines, **limits):
+def with_limits(edge: Edge, *engines: Engine, **limits: str) -> Edge:
     """The edge is stopped, and started with these limits of C1; the engines come back."""
     edge.stop()
     with open("edge.cfg", encoding="ascii") as file:
@@ -396,12 +402,12 @@ def with_limits(edge, *engines, **limits):
     return edge
 
 
-def closes(what, quantity, beside, position):
+def closes(what: str, quantity: int, beside: int, position: int) -> str:
     return (f"a {what} of {quantity} beside {beside} that are open would do more than close the position of {position}: "
             "OnlyClosing (Y)")
 
 
-def test_only_closing():
+def test_only_closing() -> None:
     """Only what makes a position smaller passes, together with all that is open of its side. The position is that of all
     fills in the journal, so it is known again behind kills."""
     venue, edge, port = limited()
@@ -443,7 +449,7 @@ def test_only_closing():
     agrees(one, other)
 
 
-def test_only_closing_under_way():
+def test_only_closing_under_way() -> None:
     """What the venue hasn't answered may close the position already, and no fill closes it twice."""
     venue, edge, port = limited()
     one, other = desks(port)
@@ -462,27 +468,27 @@ def test_only_closing_under_way():
     agrees(one, other)
 
 
-def outside(price, low, high, collar, reference):
+def outside(price: str, low: str, high: str, collar: str, reference: str) -> str:
     return f"Price (44) {price} isn't {low} to {high}, which is PriceCollar ({collar}) round {reference}"
 
 
-def tries(one, name, price, symbol="ABC"):
+def tries(one: Engine, name: str, price: str, symbol: str = "ABC") -> bool:
     """Whether no limit refuses an order at this price: it trades all at once, or nothing."""
     one.send("D", order(name, 1, 1000000, price, symbol, "59=4|"))
     return value(one.report(_11=name), "150") == "0"
 
 
-def awaits(one, name, price, symbol="ABC"):
+def awaits(one: Engine, name: str, price: str, symbol: str = "ABC") -> None:
     """Waits until an order at this price is taken, since the market has come there."""
     count = iter(range(10000))
     await_that(f"an order at {price}", lambda: tries(one, f"{name}{next(count)}", price, symbol))
 
 
-def no_price(one, name, price, text, symbol="ABC"):
+def no_price(one: Engine, name: str, price: str, text: str, symbol: str = "ABC") -> None:
     no_order(one, order(name, 1, 1000000, price, symbol, "59=4|"), text)
 
 
-def bounds(one, name, low, high, collar, reference, symbol="ABC", step=0.01):
+def bounds(one: Engine, name: str, low: float, high: float, collar: str, reference: str, symbol: str = "ABC", step: float = 0.01) -> None:
     """Prices at both ends of the collar pass, and those one step beyond don't."""
     for price in (low, high):
         expect((price, tries(one, f"{name}{price}", f"{price:.2f}", symbol)), (price, True))
@@ -491,7 +497,7 @@ def bounds(one, name, low, high, collar, reference, symbol="ABC", step=0.01):
                  outside(f"{price:.2f}", f"{low:.2f}", f"{high:.2f}", collar, reference), symbol)
 
 
-def test_collar():
+def test_collar() -> None:
     """Prices are within so many steps of the last trade in the market, whoever traded. A symbol without a trade has a price of
     the settings in its place, or is refused. A market order is refused."""
     venue, edge, port = limited(3, PriceCollar="500", ReferencePrices="ABC:50")
@@ -518,7 +524,7 @@ def test_collar():
     agrees(one, other, third)
 
 
-def test_collar_in_per_cent():
+def test_collar_in_per_cent() -> None:
     """The same by a part of the price, which is rounded down to a step. No bound is below the least price, or above the greatest."""
     venue, edge, port = limited(3, PriceCollar="10%", ReferencePrices="ABC:33.33 XYZ:0.25")
     one, other, third = desks(port, 3)
@@ -532,31 +538,13 @@ def test_collar_in_per_cent():
     agrees(one, other, third)
 
 
-def followers(edge):
-    """The processes that tell C1's process of the market."""
-    found = []
-    for entry in filter(str.isdecimal, os.listdir("/proc")):
-        try:
-            with open(f"/proc/{entry}/stat", encoding="ascii", errors="replace") as file:
-                state, parent = file.read().rpartition(")")[2].split()[:2]
-            with open(f"/proc/{entry}/cmdline", encoding="ascii", errors="replace") as file:
-                words = file.read().split("\0")
-        except OSError:
-            continue
-        if int(parent) == edge.process_of(1) and state != "Z" and "follow" in words:
-            found.append(int(entry))
-    return found
+def followers(edge: Edge, member: str = "C1") -> list[int]:
+    """The processes that tell that of C1 of the market, or that of another one of what it copies."""
+    process = int(children_of(edge.process.pid).get(member, -1))
+    return [pid for pid, words in processes_below(process) if "follow" in words]
 
 
-def has_ended(process):
-    try:
-        with open(f"/proc/{process}/stat", encoding="ascii", errors="replace") as file:
-            return file.read().rpartition(")")[2].split()[0] == "Z"
-    except OSError:
-        return True
-
-
-def test_market_followed():
+def test_market_followed() -> None:
     """What tells the market ends, and begins anew behind that: the last trade is known meanwhile, and the next one soon. A
     member without such a limit has none of it."""
     venue, edge, port = limited(3, PriceCollar="1%")
@@ -565,7 +553,7 @@ def test_market_followed():
     awaits(one, "a", "50")
     await_that("a follower", lambda: len(followers(edge)) == 1)
     os.kill(followers(edge)[0], signal.SIGKILL)
-    edge.hears("C1: the market isn't followed, and that begins anew: venue-events can't read the journal: signal 9")
+    edge.hears("C1: the market isn't followed, and that begins anew: venue-events can't read the journal venue.journal: signal 9")
     bounds(one, "b", 49.5, 50.5, "1%", "50.00")
     traded(third, other, "u", 10, "60")
     awaits(one, "c", "60.60")
@@ -573,7 +561,7 @@ def test_market_followed():
     expect(len(followers(edge)), 1)
     last, = followers(edge)
     os.kill(edge.process_of(1), signal.SIGKILL)
-    await_that("an end of what told it", lambda: has_ended(last))
+    await_that("an end of what told it", lambda: not is_there(last))
     edge.hears("C1: serves, behind report")
     one.close()
     one.log_on()
@@ -584,7 +572,7 @@ def test_market_followed():
     agrees(one, other, third)
 
 
-def events_by(text):
+def events_by(text: str) -> str:
     """A program in the place of venue-events, which does this in front of it: its path."""
     with open("events", "w", encoding="ascii") as file:
         file.write(f'#!/bin/sh\n{text}\nexec {EVENTS} "$@"\n')
@@ -592,7 +580,7 @@ def events_by(text):
     return os.path.abspath("events")
 
 
-def test_market_that_cannot_be_followed():
+def test_market_that_cannot_be_followed() -> None:
     """Where the program that tells the market can't be started the member trades by what was told last, and it is tried again."""
     events = events_by("")
     venue, edge, port = limited(2, common={"VenueEvents": events}, PriceCollar="1%", ReferencePrices="ABC:50")
@@ -608,13 +596,13 @@ def test_market_that_cannot_be_followed():
     agrees(one, other)
 
 
-def is_linked(port):
+def is_linked(port: int) -> bool:
     """Whether a client of this machine is connected to this port."""
     with open("/proc/net/tcp", encoding="ascii") as file:
         return any(words[2].endswith(f":{port:04X}") and words[3] == "01" for words in map(str.split, file))
 
 
-def test_market_behind_a_venue():
+def test_market_behind_a_venue() -> None:
     """While a member's process logs on at a venue that was started again, others trade there: what tells it of them is read no
     further, and nothing ends."""
     venue = started(JOURNAL, 2, list(SYMBOLS))
@@ -641,7 +629,7 @@ def test_market_behind_a_venue():
     expect((edge.process_of(1), [it for it in edge.lines if "ended by" in it]), (process, []))
 
 
-def no_self_trade(*members):
+def no_self_trade(*members: int) -> None:
     """No order of these members has traded with another one of the same member: such a trade tells both of its sides, one
     behind the other."""
     for member in members:
@@ -651,11 +639,11 @@ def no_self_trade(*members):
                 raise Trouble(f"C{member} traded with itself: {first}, {second}")
 
 
-def itself(words):
+def itself(words: str) -> str:
     return f"it would trade with an order of this member: SelfTrade ({words})"
 
 
-def test_self_trade_new():
+def test_self_trade_new() -> None:
     """A new order that would trade with the member's own is refused, whether that one rests or is under way; so is a replace.
     Another member's order may trade with both."""
     venue, edge, port = limited(SelfTrade="CancelNew")
@@ -689,7 +677,7 @@ def test_self_trade_new():
     no_self_trade(1)
 
 
-def test_self_trade_old():
+def test_self_trade_old() -> None:
     """The orders of the member itself that a new one would trade with are cancelled in front of it, also those under way."""
     venue, edge, port = limited(SelfTrade="CancelOld")
     one, other = desks(port)
@@ -697,7 +685,7 @@ def test_self_trade_old():
         taken(one, name, 2, 10, price)
     taken(other, "x", 2, 5, "50")
     one.send("D", order("d", 1, 10, "50.01"))
-    expect([value(one.report(_150="4", _41=name), "11")[:12] for name in "ab"], ["edge-cancel-"] * 2)
+    expect([sure(value(one.report(_150="4", _41=name), "11"))[:12] for name in "ab"], ["edge-cancel-"] * 2)
     one.report(_150="F", _11="d", _32="5")
     one.send("G", replace("e", "c", 2, 9, "50.01"))
     one.report(_150="4", _41="d")
@@ -733,7 +721,22 @@ def test_self_trade_old():
     no_self_trade(1)
 
 
-def test_self_trade_with_gtc():
+def test_self_trade_under_way() -> None:
+    """An order that the venue hasn't answered yet counts as one that may rest, whatever its term is: no order trades with it."""
+    venue, edge, port = limited(1, SelfTrade="CancelNew")
+    one, = desks(port, 1)
+    for at, more in enumerate(["", "59=0|", GTC]):
+        venue.pause()
+        one.send("D", order(f"buy-{at}", 1, 1, "50", more=more))
+        no_order(one, order(f"sell-{at}", 2, 1, "50"), itself("CancelNew"), OPTION)
+        venue.go_on()
+        one.report(_150="0", _11=f"buy-{at}")
+        cancelled(one, f"gone-{at}", f"buy-{at}", 1)
+    agrees(one)
+    no_self_trade(1)
+
+
+def test_self_trade_with_gtc() -> None:
     """What is good till it is cancelled is seen while it is under way, as an order and as a replace."""
     venue, edge, port = limited(2, SelfTrade="CancelNew")
     one, other = desks(port)
@@ -749,7 +752,7 @@ def test_self_trade_with_gtc():
     no_self_trade(1)
 
 
-def test_self_trade_old_with_gtc():
+def test_self_trade_old_with_gtc() -> None:
     """The same with CancelOld: of an order with a replace under way both names are cancelled, and one of these cancels is refused."""
     venue, edge, port = limited(2, SelfTrade="CancelOld")
     one, other = desks(port)
@@ -769,7 +772,7 @@ def test_self_trade_old_with_gtc():
     no_self_trade(1)
 
 
-def test_self_trade_of_no_replace():
+def test_self_trade_of_no_replace() -> None:
     """A replace that the venue refuses cancels nothing: by another side, by a TimeInForce that no replace has, of what isn't there."""
     venue, edge, port = limited(2, SelfTrade="CancelOld")
     one, other = desks(port)
@@ -779,18 +782,18 @@ def test_self_trade_of_no_replace():
     cancelled(one, "d", "c", 1)
     for body in (replace("e", "a", 2, 10, "40"), replace("f", "a", 1, 10, "51", more="59=3|"), replace("g", "c", 1, 10, "51")):
         one.send("G", body)
-        one.report(_35="9", _11=value(body, "11"))
+        one.report(_35="9", _11=sure(value(body, "11")))
     expect([it for it in one.history if "edge-cancel" in it], [])
     cancelled(one, "h", "a", 1)
     cancelled(one, "i", "b", 2)
     agrees(one, other)
 
 
-def of_firm(desk, words="CancelNew"):
+def of_firm(desk: str, words: str = "CancelNew") -> str:
     return f"it would trade with an order of {desk}, of the same firm: SelfTrade ({words})"
 
 
-def firm(common=None, **more):
+def firm(common: Mapping[str, object] | None = None, **more: str) -> tuple[Venue, Edge, int]:
     """Two desks of one firm, and a member of another one."""
     venue = started(JOURNAL, 3, list(SYMBOLS))
     port = free_port(3)
@@ -800,19 +803,19 @@ def firm(common=None, **more):
     return venue, Edge(settings_of({"VenuePort": venue.port, **(common or {})}, sessions)).ready(3), port
 
 
-def awaits_desk(one, name, side, price, desk, words="CancelNew"):
+def awaits_desk(one: Engine, name: str, side: int, price: str, desk: str, words: str = "CancelNew") -> None:
     """Waits until orders are refused, since what rests for the other desk is known: more is asked for than there is, and all of
     that or nothing, so that none of them trades."""
     count = iter(range(10000))
 
-    def is_known():
+    def is_known() -> bool:
         it = f"{name}{next(count)}"
         one.send("D", order(it, side, 1000000, price, more="59=4|"))
         return value(one.report(_11=it), "58") == f"edge: {of_firm(desk, words)}"
     await_that("what rests for the other desk", is_known)
 
 
-def test_self_trade_of_a_firm():
+def test_self_trade_of_a_firm() -> None:
     """What rests for another desk of the firm is known by the journal: an order that would trade with it is refused, and one of
     another firm isn't."""
     venue, edge, port = firm()
@@ -839,7 +842,7 @@ def test_self_trade_of_a_firm():
     agrees(one, other, third)
 
 
-def test_firm_behind_half_a_command():
+def test_firm_behind_half_a_command() -> None:
     """What tells the market ends behind the line of a command: what that command did is told by the next one."""
     told_of = '[ "$2" = once ] || [ -e "told.$PPID" ] || { touch "told.$PPID"; echo "command 0 C2 D ABC -"; exit 1; }'
     venue, edge, port = firm({"VenueEvents": events_by(told_of)})
@@ -850,7 +853,29 @@ def test_firm_behind_half_a_command():
     agrees(one, other, third)
 
 
-def test_self_trade_old_of_a_firm():
+def test_market_beside_a_busy_venue() -> None:
+    """What tells the market to one member lets that of the next one begin as soon as something of it has come, however much the
+    venue goes on to tell."""
+    venue, port = started(JOURNAL, 3, list(SYMBOLS)), free_port(2)
+    buyer, is_over, count = Client(venue.port, 3).log_on(), threading.Event(), 0
+
+    def buys() -> None:
+        nonlocal count
+        while not is_over.is_set():
+            count += 1
+            buyer.send("D", venue_order(count, 1, 1, 1))
+            buyer.next()
+
+    trader = threading.Thread(target=buys, daemon=True)
+    trader.start()
+    await_that("a venue that is busy", lambda: count > 100)
+    edge = Edge(settings_of({"VenuePort": venue.port}, members_of(2, port, PriceCollar="1", ReferencePrices="ABC:50"))).ready(2)
+    await_that("what tells the market to both", lambda: followers(edge) and followers(edge, "C2"))
+    is_over.set()
+    trader.join()
+
+
+def test_self_trade_old_of_a_firm() -> None:
     """With CancelOld the member's own orders go in front of a new one. Those of another desk are in other hands: the new one is
     refused."""
     venue, edge, port = firm(SelfTrade="CancelOld")
@@ -865,7 +890,7 @@ def test_self_trade_old_of_a_firm():
     agrees(one, other, third)
 
 
-def test_figures():
+def test_figures() -> None:
     """The page, the answer to `status` and the figures say what is open and what each limit has refused."""
     page = free_port(1)
     venue, edge, port = limited(1, common={"HttpAcceptPort": page}, MaxOrderQuantity="100", TradeSymbols="ABC")
@@ -876,13 +901,14 @@ def test_figures():
     is_refused(one, "D", order("e", 1, 101, "50", "XYZ"), "edge: Symbol (55) XYZ is none of TradeSymbols (ABC)")
     words = ("C1 (DESK-A): serves, logged on, 5 requests, 4 refused by the edge (1 by TradeSymbols, 3 by MaxOrderQuantity), "
              "1 reports, the last 1, 1 open orders worth 5025, 0 bytes not taken, numbers since")
+    await_that("its client has taken all", lambda: ", 0 bytes not taken, " in called("status C1")[1])
     status, out, err = called("status C1")
     expect((status, out.rpartition(" ")[0], err), (0, words, ""))
-    with urllib.request.urlopen(f"http://127.0.0.1:{page}/metrics", timeout=30) as answer:
+    with urllib.request.urlopen(f"http://127.0.0.1:{page}/metrics", timeout=PATIENCE) as answer:
         figures = answer.read().decode().splitlines()
     by = 'gikvand_edge_limit_refusals_total{{member="C1",limit="{}"}} {}'
     counts = {"TradeSymbols": 1, "MaxOrderQuantity": 3, "MaxOrderValue": 0, "PriceCollar": 0, "OnlyClosing": 0,
-              "MaxOpenValue": 0, "SelfTrade": 0}
+              "MaxOpenValue": 0, "MemberMaxOpenValue": 0, "SelfTrade": 0}
     expect([it for it in figures if "_limit_" in it], [by.format(name, count) for name, count in counts.items()])
     expect([it for it in figures if "open_value" in it], ['gikvand_edge_open_value{member="C1"} 5025'])
     replaced(one, "f", "a", 1, 99, "50.25")
@@ -891,19 +917,19 @@ def test_figures():
     expect("0 open orders worth 0," in called("status C1")[1], True)
 
 
-def test_tradeclient_with_limits():
+def test_tradeclient_with_limits() -> None:
     """QuickFIX's own client, with its own dictionary and validation, takes what a limit refuses as it takes the venue's reports. All
     processes but the client's are killed in between."""
     venue, edge, port = limited(1, TradeSymbols="ABC", MaxOrderQuantity="100", MaxOrderValue="5000", MaxOpenValue="6000",
                                 PriceCollar="10%", ReferencePrices="ABC:50", SelfTrade="CancelNew")
     one = TradeClient(port).logged_on()
 
-    def no(name, side, quantity, price, reason, text, symbol="ABC"):
+    def no(name: str, side: int, quantity: int, price: str, reason: str, text: str, symbol: str = "ABC") -> None:
         one.order(name, side, quantity, price, symbol)
         got = fields_of(one.report(_11=name))
         expect([got[tag] for tag in ("35", "150", "39", "103", "58")], ["8", "8", "8", reason, f"edge: {text}"])
 
-    def refuses(names):
+    def refuses(names: Sequence[str]) -> None:
         no(names[0], 1, 101, "45", EXCEEDS, "OrderQty (38) 101 is above MaxOrderQuantity (100)")
         no(names[1], 1, 1, "50", OPTION, "Symbol (55) XYZ is none of TradeSymbols (ABC)", "XYZ")
         no(names[2], 1, 100, "50.01", EXCEEDS, "the order's value 5001 is above MaxOrderValue (5000)")
@@ -943,20 +969,20 @@ LIMITS = {  # Of each member of the differential.
 REQUESTS = 1000
 
 
-def open_values(member):
+def open_values(member: int) -> Iterator[Decimal | int]:
     """The values of all that rests for a member, behind each of its reports in the journal."""
-    rests = {}
+    rests: dict[str, Decimal] = {}
     for it in map(fields_of, told(member)):
         if it["35"] != "8" or it["150"] == "8":
             continue
-        rests.pop(it.get("41"), None)
+        rests.pop(it.get("41", ""), None)
         rests.pop(it["11"], None)
         if it["150"] != "4" and it["39"] != "2" and "44" in it:
             rests[it["11"]] = int(it["44"]) * Decimal(SYMBOLS[it["55"]]) * int(it["151"])
         yield sum(rests.values())
 
 
-def keeps_limits(member, limits):
+def keeps_limits(member: int, limits: Mapping[str, str]) -> None:
     """What the journal has of a member keeps its limits: of each order that the venue took, and of all that was open."""
     orders = [it for it in map(fields_of, told(member)) if it.get("150") in ("0", "5")]
     for it in orders:
@@ -970,7 +996,7 @@ def keeps_limits(member, limits):
         no_self_trade(member)
 
 
-def test_limited_differential():
+def test_limited_differential() -> None:
     """Members with limits trade by chance while edge, venue and single processes are killed: what each is told is what the
     journal has, what a limit refused is told once, and the journal keeps all limits."""
     run = Run(REQUESTS, 20261128, limits=LIMITS)
@@ -989,6 +1015,6 @@ TESTS = [test_symbols, test_quantity, test_value, test_open_value, test_open_val
          test_open_under_way, test_open_in_doubt, test_open_in_doubt_of_a_venue, test_open_unknown, test_open_waits,
          test_only_closing, test_only_closing_under_way, test_collar, test_collar_in_per_cent, test_market_followed,
          test_market_that_cannot_be_followed, test_market_behind_a_venue, test_self_trade_new, test_self_trade_old,
-         test_self_trade_with_gtc, test_self_trade_old_with_gtc, test_self_trade_of_no_replace,
-         test_self_trade_of_a_firm, test_firm_behind_half_a_command, test_self_trade_old_of_a_firm,
+         test_self_trade_under_way, test_self_trade_with_gtc, test_self_trade_old_with_gtc, test_self_trade_of_no_replace,
+         test_self_trade_of_a_firm, test_firm_behind_half_a_command, test_market_beside_a_busy_venue, test_self_trade_old_of_a_firm,
          test_tradeclient_with_limits, test_figures, test_limited_differential]

@@ -9,15 +9,17 @@ from canonical_tests import rejected, trades, until
 from edges import PATIENCE, Edge, Trouble, pair, session_files
 from engines import Engine, at_rest, order
 from gikvand.fix import value
+from gikvand.words import sure
 from hostile_tests import sent
 from recovery_tests import restarted, settings
 from trading_tests import expect
 
-PIECE = 1000       # Messages of a resend that are sent in one go.
+PIECE = 1000       # Messages of a resend that are sent in one go,
+A_RATE = 500       # and in a second: a busy machine reads more of them than that, so that a test tells who sends at any rate.
 LOGGED_AGAIN = 20  # Messages of a resend that are logged again.
 
 
-def test_lines():
+def test_lines() -> None:
     """Lines of one kind are said some times in a second, and those that aren't are counted."""
     venue, edge, port = pair()
     begin = time.monotonic()
@@ -31,13 +33,13 @@ def test_lines():
         raise Trouble(f"{len(said())} lines in {took:.1f} s, and {counts()} weren't said")
 
 
-def test_lines_of_many_kinds():
+def test_lines_of_many_kinds() -> None:
     """However many kinds of lines a client brought forth, lines of a later second are counted by their own kind."""
     venue, edge, port = pair(MaxReadMessagesPerSecond="0")
     one = Engine(port, 1).log_on()
 
-    def junk(word):
-        one.socket.sendall(word.encode())
+    def junk(word: str) -> None:
+        sure(one.socket).sendall(word.encode())
         one.send("0")
     for first in "abcdefghij":
         for second in "abcdefghij":
@@ -51,7 +53,7 @@ def test_lines_of_many_kinds():
             raise Trouble(f"the lines are {edge.lines[-4:]}")
 
 
-def log_lines(kind="messages"):
+def log_lines(kind: str = "messages") -> tuple[list[str], list[bytes]]:
     """The files of a log from the oldest on, and all their lines."""
     front = f"{session_files(1, 'log')}{kind}."
     paths = [path for at in range(20, 0, -1) if os.path.exists(path := f"{front}backup.{at}.log")] + [f"{front}current.log"]
@@ -62,13 +64,13 @@ def log_lines(kind="messages"):
     return paths, lines
 
 
-def moment_of(line):
+def moment_of(line: bytes) -> float:
     """When a line of a log says that it was written, in seconds."""
     there = datetime.datetime.strptime(line[:24].decode(), "%Y%m%d-%H:%M:%S.%f")
     return there.replace(tzinfo=datetime.timezone.utc).timestamp()
 
 
-def test_log_times():
+def test_log_times() -> None:
     """Each line of a log begins with the moment in which it was written."""
     begin = time.time()
     venue, edge, port = pair()
@@ -81,7 +83,7 @@ def test_log_times():
     expect((moments, begin <= moments[0], middle <= moments[-1] <= time.time()), (sorted(moments), True, True))
 
 
-def test_log_bounds():
+def test_log_bounds() -> None:
     """A log begins anew at its size, keeps so many files and no more, and the last lines are all there."""
     venue, edge, port = pair(MaxLogBytes="65536", MaxLogFiles="3")
     one = Engine(port, 1).log_on()
@@ -92,7 +94,7 @@ def test_log_bounds():
     sizes = [os.path.getsize(it) for it in paths]
     if len(paths) != 3 or not all(50000 < it <= 65536 for it in sizes[:-1]) or sizes[-1] > 65536:
         raise Trouble(f"the log has files of {sizes}")
-    numbers = [int(re.search(rb"\x0134=(\d+)\x01", it)[1]) for it in lines if b"\x0135=0\x01" in it and b"49=DESK-A" in it]
+    numbers = [int(sure(re.search(rb"\x0134=(\d+)\x01", it))[1]) for it in lines if b"\x0135=0\x01" in it and b"49=DESK-A" in it]
     expect((numbers, len(numbers) > 1000), (list(range(numbers[0], numbers[0] + len(numbers))), True))
     edge.stop()
     edge = restarted()
@@ -105,7 +107,7 @@ def test_log_bounds():
     expect((len(paths), max(map(os.path.getsize, paths)) <= 65536), (3, True))
 
 
-def test_log_forgery():
+def test_log_forgery() -> None:
     """What doesn't print is in the log by its number, so that nobody writes a line of its own."""
     venue, edge, port = pair()
     one = Engine(port, 1).log_on()
@@ -117,7 +119,7 @@ def test_log_forgery():
     expect([it for it in lines if not re.fullmatch(rb"\d{8}-[0-9:.]+ : 8=FIX[ -~\x01]*", it)], [])
 
 
-def test_long_resend():
+def test_long_resend() -> None:
     """A ResendRequest of many messages: they come in pieces at a bounded rate, a new report between two of them, hardly any
     is logged again, and none of it is held in memory."""
     venue, edge, port = pair(2, MaxReadMessagesPerSecond="0", MaxUnsentBytes="65536")
@@ -130,7 +132,7 @@ def test_long_resend():
     one.settle()
     one.close()
     edge.stop()
-    edge = Edge(settings().replace("MaxReadMessagesPerSecond=0", "MaxReadMessagesPerSecond=1000")).ready(2)
+    edge = Edge(settings().replace("MaxReadMessagesPerSecond=0", f"MaxReadMessagesPerSecond={A_RATE}")).ready(2)
     begin, logged = most_memory(edge), bytes_of(1, "log")
     other.close()
     other.log_on()
@@ -141,17 +143,17 @@ def test_long_resend():
     begin_time = time.monotonic()
     until(one, lambda: any(value(it, "43") == "Y" for it in one.came[begin_at:]))
     other.send("D", order("b", 2, 1, "50"))
-    ends = lambda it: value(it, "43") == "Y" and (int(value(it, "34")) >= last - 2 or int(value(it, "36") or 0) >= last)
+    ends = lambda it: value(it, "43") == "Y" and (int(sure(value(it, "34"))) >= last - 2 or int(value(it, "36") or 0) >= last)
     until(one, lambda: any(ends(it) for it in one.came[begin_at:]) and any(value(it, "150") == "F" for it in one.came),
           4 * PATIENCE)
-    if (took := time.monotonic() - begin_time) < count / 1000 - 2:
-        raise Trouble(f"a resend of {count} messages took {took:.2f} s, where 1000 are sent in a second")
+    if (took := time.monotonic() - begin_time) < count / A_RATE - 2:
+        raise Trouble(f"a resend of {count} messages took {took:.2f} s, where {A_RATE} are sent in a second")
     came = one.came[begin_at:]
     fill = next(at for at, it in enumerate(came) if value(it, "150") == "F")
     again = [at for at, it in enumerate(came) if value(it, "43") == "Y"]
     if fill > again[-1]:
         raise Trouble(f"a report came behind {len(again)} messages that were sent again")
-    numbers = sorted({int(value(came[at], "34")) for at in again if value(came[at], "35") == "8"})
+    numbers = sorted({int(sure(value(came[at], "34"))) for at in again if value(came[at], "35") == "8"})
     expect(len(numbers), count + 1)
     one.settle()
     if (grown := most_memory(edge) - begin) > 4 << 20:
@@ -160,7 +162,7 @@ def test_long_resend():
         raise Trouble(f"a resend of {count} messages is {grown >> 10} KB of log")
 
 
-def test_resends_logged():
+def test_resends_logged() -> None:
     """The log has the first messages of each resend, also of one that comes behind another."""
     venue, edge, port = pair()
     one = at_rest(port, "a")
@@ -173,7 +175,7 @@ def test_resends_logged():
         expect(sum(b"\x0143=Y\x01" in it for it in log_lines()[1]), at * LOGGED_AGAIN)
 
 
-def test_resend_while_resending():
+def test_resend_while_resending() -> None:
     """Who asks again while a long resend is under way is answered from there on, and all comes in the end."""
     venue, edge, port = pair(MaxReadMessagesPerSecond="0")
     one, count = at_rest(port, "a"), 3 * PIECE
@@ -187,7 +189,7 @@ def test_resend_while_resending():
     one.send("2", f"7={expected - 10}|16=0|")
     one.settle()
     until(one, lambda: any(value(it, "43") == "Y" and int(value(it, "36") or 0) >= expected for it in one.came) or
-          any(value(it, "43") == "Y" and int(value(it, "34")) >= expected - 1 for it in one.came))
+          any(value(it, "43") == "Y" and int(sure(value(it, "34"))) >= expected - 1 for it in one.came))
     trades(one, "z")
     expect([it for it in one.came if value(it, "35") == "2"], [])  # Each of them was counted, so that none is asked for.
 

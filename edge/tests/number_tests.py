@@ -6,11 +6,13 @@ import re
 import shutil
 import signal
 import subprocess
+from collections.abc import Iterable, Iterator
 
-from edges import DICTIONARY, EDGE, JOURNAL, PATIENCE, SYMBOLS, Edge, Trouble, again, changed, copied, free_port, freeze, members_of
-from edges import pair, path_of, rows, settings_of, started, stored, told
-from engines import at_rest, order
+from edges import DICTIONARY, EDGE, JOURNAL, PATIENCE, SYMBOLS, Edge, Trouble, Venue, again, await_that, changed, copied, free_port, freeze
+from edges import members_of, pair, path_of, rows, settings_of, started, stored, told
+from engines import Engine, at_rest, order
 from gikvand.fix import value
+from gikvand.words import sure
 from process_tests import Undisturbed, sell_to_first, with_others
 from recovery_tests import places, restarted, settings, two_members
 from switch_tests import UNCHANGED, audited, called, done, failed, resting
@@ -22,7 +24,7 @@ TOO_LOW = "58=MsgSeqNum too low|"
 NOBODY = 65534
 
 
-def shown(member=1):
+def shown(member: int = 1) -> tuple[int, int]:
     """The numbers of a member's session, as the command shows them."""
     status, out, err = called(f"numbers C{member}")
     found = re.fullmatch(r"C(\d): DESK-(.): next out (\d+), next in (\d+)\n", out)
@@ -31,15 +33,15 @@ def shown(member=1):
     return int(found[3]), int(found[4])
 
 
-def not_asked(before):
+def not_asked(before: int) -> str:
     return f", and what its engine sent from {before} on isn't asked for"
 
 
-def told_again(count, first):
+def told_again(count: int, first: int) -> str:
     return f"; {count} reports that it wasn't sent are told again as {first} to {first + count - 1}" if count else ""
 
 
-def changes(out, in_, before, count=0):
+def changes(out: int, in_: int, before: tuple[int, int], count: int = 0) -> str:
     """What a command says that sets both numbers, which were these before."""
     more = not_asked(before[1]) if in_ > before[1] else ""
     first = f"{out} instead of {before[0]}" if out != before[0] else f"{out}, as it was"
@@ -47,14 +49,14 @@ def changes(out, in_, before, count=0):
     return f"DESK-A: next out {first}; next in {second}{more}{told_again(count, out)}"
 
 
-def set_to(out, in_, count=0):
+def set_to(out: int, in_: int, count: int = 0) -> str:
     """Sets the numbers of C1, whose process runs, and so many reports come again: what was said."""
     said = changes(out, in_, shown(), count)
     done(f"numbers C1 {out} {in_}", f"C1: {said}")
     return said
 
 
-def set_alone(out, in_, before, count=0):
+def set_alone(out: int, in_: int, before: tuple[int, int], count: int = 0) -> str:
     """Sets the numbers of C1, whose process doesn't run: the line of the log that the command prints as well."""
     status, printed, err = called(f"numbers C1 {out} {in_}")
     said = changes(out, in_, before, count)
@@ -65,19 +67,24 @@ def set_alone(out, in_, before, count=0):
     return lines[0].partition("C1: ")[2]
 
 
-def is_in_the_log(line):
-    """Whether a line stands once among the events of C1's session."""
+def in_the_log(line: str) -> int:
+    """How often a line stands among the events of C1's session."""
     with open("log/C1/FIX.4.4-GIKVAND-DESK-A.event.current.log", encoding="ascii") as file:
-        expect(sum(it.rstrip("\n").endswith(f" : {line}") for it in file), 1)
+        return sum(it.rstrip("\n").endswith(f" : {line}") for it in file)
 
 
-def left(edge, one):
+def is_in_the_log(line: str) -> None:
+    """Whether a line stands once among these events."""
+    expect(in_the_log(line), 1)
+
+
+def left(edge: Edge, one: Engine) -> None:
     """A member's engine has gone, and its edge knows that."""
     one.close()
     edge.hears(f"C{one.member}: the client from")
 
 
-def goes_on(one, out, name):
+def goes_on(one: Engine, out: int, name: str) -> None:
     """An engine whose edge has numbers from this one on sees the gap in front of that, asks for all of it, and trades on."""
     before, since = one.next, one.out
     one.log_on().settle()
@@ -86,11 +93,11 @@ def goes_on(one, out, name):
     resting(one, name)
 
 
-def ids(lines):
-    return [int(value(it, "17")) for it in lines if (value(it, "17") or "").isdecimal()]
+def ids(lines: Iterable[str]) -> list[int]:
+    return [int(sure(value(it, "17"))) for it in lines if (value(it, "17") or "").isdecimal()]
 
 
-def test_shown_and_set():
+def test_shown_and_set() -> None:
     """Both numbers are shown, and set while the member is away. Its engine sees the gap, asks for it, and trades on; the edge
     asks for what is below its own expected number. The set ones stand over a kill, and a line of the log says who, when, from
     what to what. Other members' stay."""
@@ -104,6 +111,7 @@ def test_shown_and_set():
     said = set_to(2000, 50)
     audited(edge, "numbers 2000 50", re.escape(f"done: {said}"))
     line = next(it for it in edge.lines if "numbers 2000 50" in it).partition("C1: ")[2]
+    await_that("its line in the log", lambda: in_the_log(line))
     edge.kill()
     edge = restarted(2)
     is_in_the_log(line)
@@ -124,12 +132,12 @@ def test_shown_and_set():
     expect(len(other.sent), 3)  # Two Logons and an order: it has missed nothing.
 
 
-def test_numbers_not_set():
+def test_numbers_not_set() -> None:
     """Numbers that can't be set change nothing, say why, and end with status 1; wrong words end with status 2. While its engine
     is there a member's numbers stay."""
     venue, edge, port = pair(2)
     one = at_rest(port, "a")
-    client = re.search(r"C1: a client from (\S+)", "\n".join(edge.lines))[1]
+    client = sure(re.search(r"C1: a client from (\S+)", "\n".join(edge.lines)))[1]
     failed("numbers C1 2000 50", f"C1: its engine is there, from {client}, and has to log out first: {UNCHANGED}")
     one.log_out()
     edge.hears("is gone")
@@ -152,7 +160,19 @@ def test_numbers_not_set():
     expect(shown(), (GREATEST, 4))
 
 
-def test_numbers_not_kept():
+def test_in_behind_all_numbers() -> None:
+    """Where the edge's own numbers are used up, and stay as they are, the engine's one is set all the same."""
+    venue, edge, port = pair()
+    at_rest(port, "a").log_out()
+    edge.stop()
+    changed(1, f"UPDATE session SET sender = {GREATEST + 5}")
+    edge = restarted()
+    set_to(GREATEST + 5, 7)
+    expect(shown(), (GREATEST + 5, 7))
+    failed(f"numbers C1 {GREATEST + 6} 7", f"C1: next out can't be {GREATEST + 6}, which is above {GREATEST}: {UNCHANGED}")
+
+
+def test_numbers_not_kept() -> None:
     """Numbers that can't be committed are told as that, and stay."""
     venue, edge, port = pair()
     at_rest(port, "a").log_out()
@@ -166,17 +186,18 @@ def test_numbers_not_kept():
     set_to(1999, 4)
 
 
-def away_while_sold(count):
+def away_while_sold(count: int) -> tuple[Edge, int, Engine, Engine]:
     """An edge, its port, a member that has gone while its order trades, so often, and the other side."""
     _, edge, port, one, other = two_members()
     left(edge, one)
     for at in range(count):
         other.send("D", order(f"s{at}", 2, 10, "50"))
         other.report(_150="F", _11=f"s{at}")
+    await_that("all of its fills", lambda: sum(value(it, "150") == "F" for it in stored(1)) == count)
     return edge, port, one, other
 
 
-def test_unsent_reports():
+def test_unsent_reports() -> None:
     """What a member wasn't sent goes on behind the numbers that were set, once: also to an engine that expects these already,
     and so never asks for what is below them."""
     edge, port, one, other = away_while_sold(3)
@@ -184,20 +205,20 @@ def test_unsent_reports():
     edge = restarted(2)
     out, _ = shown()
     set_to(5000, 7, 3)
-    expect((shown(), [int(value(it, "34")) for it in stored(1) if value(it, "150") == "F"]), ((5003, 7), [5000, 5001, 5002]))
+    expect((shown(), [int(sure(value(it, "34"))) for it in stored(1) if value(it, "150") == "F"]), ((5003, 7), [5000, 5001, 5002]))
     expect(rows(1, "SELECT heard FROM session"), [(5000,)])  # Nothing below is looked through at the end of a day.
     one.next, one.out = 5000, 7
     one.log_on()
     for left_over in ("90", "80", "70"):
         expect(value(one.report(_150="F", _151=left_over), "97"), "Y")
-    expect((out < 5000, places(1), ids(one.history)), (True, [int(value(it, "17")) for it in told(1)], ids(told(1))))
+    expect((out < 5000, places(1), ids(one.history)), (True, [int(sure(value(it, "17"))) for it in told(1)], ids(told(1))))
     left(edge, one)
     set_to(6000, shown()[1])
     goes_on(one, 6000, "b")
     expect(ids(one.history), ids(told(1)))
 
 
-def test_too_low_told():
+def test_too_low_told() -> None:
     """An engine whose Logon is answered by a number that it has had says so by a Logout, and goes. That is no sign that it has
     got what it wasn't sent, which is told behind the numbers that are set then."""
     edge, port, one, other = away_while_sold(1)
@@ -212,7 +233,92 @@ def test_too_low_told():
     expect(ids(one.history), ids(told(1)))
 
 
-def test_in_front_of_the_journal():
+def too_low(one: Engine, wanted: object, more: str = "") -> None:
+    """An engine that expects this number refuses the number of its Logon's answer, as engines do, and goes."""
+    with contextlib.suppress(Trouble):
+        one.log_on()
+    one.send("5", f"58=MsgSeqNum too low, expecting {wanted} but received {value(one.came[-1], '34')}{more}|")
+    with contextlib.suppress(Trouble):
+        one.next_of("5")
+    one.close()
+
+
+def test_engine_of_another_day() -> None:
+    """An engine whose numbers are above ours, as its day is another one, would pass over what it is told below them without a word: the
+    numbers go on with what it expects at once, and it is told again there what it wasn't sent, each report once."""
+    edge, port, one, other = away_while_sold(2)
+    out, in_ = shown()
+    one.next = 5000
+    too_low(one, 5000, ": 8=FIX.4.4")
+    edge.hears(f"C1: its engine expects number 5000 where {out + 2} is next, as if in another day: the numbers go on with 5000, and 2 "
+               "reports that it wasn't sent are told again")
+    expect((shown(), rows(1, "SELECT heard FROM session")), ((5002, in_ + 2), [(5000,)]))
+    edge.kill()
+    edge = restarted(2)
+    one.log_on()
+    for left_over in ("90", "80"):
+        expect(value(one.report(_150="F", _151=left_over), "97"), "Y")
+    expect((ids(one.history), places(1)), (ids(told(1)), [int(sure(value(it, "17"))) for it in told(1)]))
+    resting(one, "b")
+
+
+def test_engine_a_little_ahead() -> None:
+    """The same where the engine's numbers are so little above ours that the end of its session has used them up."""
+    edge, port, one, other = away_while_sold(2)
+    out, _ = shown()
+    one.next = out + 1
+    too_low(one, out + 1)
+    edge.hears(f"C1: its engine expects number {out + 1} where {out + 2} is next, as if in another day: the numbers go on with {out + 2}, and "
+               "2 reports that it wasn't sent are told again")
+    one.log_on()
+    for left_over in ("90", "80"):
+        expect(value(one.report(_150="F", _151=left_over), "97"), "Y")
+    expect(ids(one.history), ids(told(1)))
+    resting(one, "b")
+
+
+def test_told_before_too_low() -> None:
+    """What is told behind a Logon's answer that its engine refuses, before the engine says so, hasn't reached it. Where the engine says so
+    once more, and has heard nothing since, nothing is told again."""
+    _, edge, port, one, other = two_members()
+    one.settle()
+    left(edge, one)
+    one.next = 5000
+    with contextlib.suppress(Trouble):
+        one.log_on()
+    number = value(one.came[-1], "34")
+    other.send("D", order("s", 2, 10, "50"))
+    other.report(_150="F", _11="s")
+    one.send("5", f"58=MsgSeqNum too low, expecting 5000 but received {number}|")
+    edge.hears("the numbers go on with 5000, and 1 reports that it wasn't sent are told again")
+    one.close()
+    one.next = 6000
+    too_low(one, 6000)
+    edge.hears("is gone")
+    expect((shown()[0] < 6000, [it for it in edge.lines if "its engine expects number 6000" in it]), (True, []))
+    one.next = 5000
+    one.log_on().report(_150="F", _97="Y")
+    expect(ids(one.history), ids(told(1)))
+
+
+def test_words_of_another_day() -> None:
+    """Numbers go by an engine's word alone where that is a number above ours, and not too far; else the session ends as it does."""
+    edge, port, one, other = away_while_sold(1)
+    out, in_ = shown()
+    for count, wanted in enumerate((2, 10 ** 8 + 100, 9 * 10 ** 8 + 1, 10 ** 9, 10 ** 20, "", "x", "-9", "70 but received 5000", "7 0",
+                                    f"{out} but received 3"), 1):
+        one.next = 4000
+        too_low(one, wanted)
+        edge.hears("C1: the client from")
+        expect((wanted, shown()), (wanted, (out + 2 * count, in_ + 2 * count)))
+    far = [it.partition("is next, ")[2] for it in edge.lines if "its engine expects" in it]
+    expect(far, ["as if in another day: that is too far away"] * 2)
+    one.next = out - 1
+    one.log_on().report(_150="F")
+    expect(ids(one.history), ids(told(1)))
+
+
+def test_in_front_of_the_journal() -> None:
     """Numbers are set while the venue isn't there, on a record that an older copy has taken the place of. What the journal
     tells behind that comes with numbers above the set ones."""
     venue, edge, port = pair()
@@ -236,14 +342,14 @@ def test_in_front_of_the_journal():
     set_to(9000, one.out)
     again(port, 1, venue.port)
     edge.hears("C1: serves, behind report")
-    expect([int(value(it, "34")) >= 9000 for it in stored(1) if value(it, "11") == "edge-lost-3"], [True])
+    expect([int(sure(value(it, "34"))) >= 9000 for it in stored(1) if value(it, "11") == "edge-lost-3"], [True])
     one.next = 9000
     one.log_on().settle()
     expect((ids(one.history[-2:]), shown()[0] < 9100), (ids(told(1))[-2:], True))
     resting(one, "d")
 
 
-def test_numbers_over_a_day():
+def test_numbers_over_a_day() -> None:
     """A day has ended since the process stopped. Numbers that are set then are those of the day that has begun."""
     venue, edge, port = pair()
     at_rest(port, "a").log_out()
@@ -254,7 +360,7 @@ def test_numbers_over_a_day():
     expect((shown(), rows(1, NUMBERS)), ((2000, 50), [(2000, 50)]))
 
 
-def alone():
+def alone() -> tuple[Venue, Edge, Edge, str, int, Engine, Undisturbed]:
     """A venue, an edge of C2 and C3, one of C1 in a process that nobody starts again, all their settings, the port of C1,
     C1's engine with an order at rest, and two who trade."""
     venue, port = started(JOURNAL, 3, list(SYMBOLS)), free_port(3)
@@ -266,7 +372,7 @@ def alone():
     return venue, others, edge, text, port, at_rest(port, "a", 100), Undisturbed(others, port)
 
 
-def lost(one):
+def lost(one: Engine) -> tuple[int, int]:
     """The engine of C1 knows more of its session than the edge, which has lost its record. Its numbers: what it is told next,
     and what it sends next."""
     one.close()
@@ -275,14 +381,14 @@ def lost(one):
     return one.next, one.out
 
 
-def told_as_the_journal(one, since):
+def told_as_the_journal(one: Engine, since: int) -> None:
     """What this engine was told from a place of its history on is what the journal has, report by report, and each once."""
     one.settle()
     got = [(value(it, "17"), value(it, "150"), value(it, "39"), value(it, "32"), value(it, "151")) for it in one.history[since:]]
     expect(got, [(value(it, "17"), value(it, "150"), value(it, "39"), value(it, "32"), value(it, "151")) for it in told(1)])
 
 
-def test_lost_store():
+def test_lost_store() -> None:
     """A member's process stops, and its folder is lost, while others trade. Its numbers are set as docs/OPERATING.md has it, and
     the next start tells its engine all that the journal has. The others have noticed nothing."""
     venue, others, edge, text, port, one, traders = alone()
@@ -311,7 +417,7 @@ def test_lost_store():
     expect([it for it in edge.lines if "passed on before" in it], [])
 
 
-def test_lost_store_beside_others():
+def test_lost_store_beside_others() -> None:
     """The same where one process keeps those of all members, and starts the one anew that has lost its folder: its engine may
     come in front of the operator, and is told that its numbers are others. They are set while the process runs."""
     venue, edge, port, one, traders = with_others()
@@ -340,7 +446,7 @@ def test_lost_store_beside_others():
     traders.look()
 
 
-def test_numbers_without_a_process():
+def test_numbers_without_a_process() -> None:
     """Where no process runs the record itself is looked at, and set. A look changes nothing; where there is no record it says
     so. A process that starts at the same time and the command keep one another away. What is made is its folder's owner's."""
     shutil.copy(DICTIONARY, "dictionary.xml")  # Which its folder's owner may read.
@@ -379,17 +485,20 @@ def test_numbers_without_a_process():
 
 
 @contextlib.contextmanager
-def edge_that_holds(folder):
+def edge_that_holds(folder: str) -> Iterator[None]:
     """Within this another process has the lock of a member's folder."""
     script = "import fcntl, sys; file = open(sys.argv[1], 'a'); fcntl.flock(file, fcntl.LOCK_EX); print(flush=True); sys.stdin.read()"
     with subprocess.Popen(["python3", "-c", script, os.path.join(folder, "lock")], stdin=subprocess.PIPE,
                           stdout=subprocess.PIPE) as it:
-        it.stdout.readline()
+        sure(it.stdout).readline()
         try:
             yield
         finally:
             it.kill()
 
 
-TESTS = [test_shown_and_set, test_numbers_not_set, test_numbers_not_kept, test_unsent_reports, test_too_low_told,
-         test_in_front_of_the_journal, test_numbers_over_a_day, test_lost_store, test_lost_store_beside_others, test_numbers_without_a_process]
+TESTS = [test_shown_and_set, test_numbers_not_set, test_in_behind_all_numbers, test_numbers_not_kept, test_unsent_reports,
+         test_too_low_told,
+         test_engine_of_another_day, test_engine_a_little_ahead,
+         test_told_before_too_low, test_words_of_another_day, test_in_front_of_the_journal, test_numbers_over_a_day, test_lost_store,
+         test_lost_store_beside_others, test_numbers_without_a_process]

@@ -4,7 +4,7 @@ import shutil
 import signal
 import subprocess
 
-from edges import ROOT, Edge, Trouble, await_that
+from edges import ROOT, Edge, Trouble, await_that, is_there
 
 SOURCE = os.path.join(ROOT, "edge/tests/power.c")
 
@@ -12,14 +12,14 @@ SOURCE = os.path.join(ROOT, "edge/tests/power.c")
 class Power:
     """The disk of an edge whose power is cut, in the present folder; `folder` is to be the EdgePath of all members."""
 
-    def __init__(self):
+    def __init__(self) -> None:
         self.folder, self.library, self.runs = os.path.abspath("edge"), os.path.abspath("power.so"), 0
         words = ["cc", "-O1", "-shared", "-fPIC", "-o", self.library, SOURCE, "-ldl"]
         made = subprocess.run(words, capture_output=True, text=True)
         if made.returncode:
             raise Trouble(f"{SOURCE} can't be compiled: {made.stderr}")
 
-    def start(self, settings, **more):
+    def start(self, settings: str, **more: int | str) -> Edge:
         """Starts an edge on what the disk has. `at` and others are those of power.c."""
         self.runs += 1
         self.disk = os.path.abspath(f"disk-{self.runs}")
@@ -38,11 +38,11 @@ class Power:
         return Edge(settings, env={**os.environ, "LD_PRELOAD": self.library, "POWER_FOLDER": self.folder,
                                    "POWER_DISK": self.disk, **words})
 
-    def names(self, folder):
+    def names(self, folder: str) -> str:
         """Where the disk has the names of a member's files."""
         return os.path.join(self.disk, f"names-{folder}")
 
-    def is_cut(self, edge):
+    def is_cut(self, edge: Edge) -> bool:
         """Whether the power has been cut: then only what the disk has is left."""
         status = edge.process.poll()
         if status is None:
@@ -59,12 +59,3 @@ class Power:
                 shutil.copytree(self.names(folder), os.path.join(self.folder, folder))
         shutil.rmtree(self.disk)
         return True
-
-
-def is_there(process):
-    """Whether this process is still there."""
-    try:
-        os.kill(process, 0)
-    except ProcessLookupError:
-        return False
-    return True

@@ -6,7 +6,7 @@ import threading
 import time
 
 from differential import Member, compare, look_at, settle
-from edges import JOURNAL, PATIENCE, SYMBOLS, Trouble, free_port, members_of, settings_of, started, told
+from edges import JOURNAL, PATIENCE, SYMBOLS, Trouble, Venue, free_port, members_of, settings_of, started, told
 from engines import Engine, order
 from power import Power
 from trading_tests import expect
@@ -16,7 +16,7 @@ MEMBERS = 2             # That trade while the power is cut.
 UNDER_WAY = 4           # Requests that a member has under way when the power is cut.
 
 
-def powered(members=1, **more):
+def powered(members: int = 1, **more: str) -> tuple[Venue, Power, str, int]:
     """A venue, the power of an edge in front of it, the edge's settings and its port."""
     power, venue = Power(), started(JOURNAL, members, list(SYMBOLS))
     port = free_port(members)
@@ -24,7 +24,7 @@ def powered(members=1, **more):
     return venue, power, settings_of(common, members_of(members, port, **more)), port
 
 
-def test_order_of_calls():
+def test_order_of_calls() -> None:
     """Each request and each message to a member is sent behind the sync of all that its turn wrote."""
     _, power, text, port = powered()
     edge = power.start(text, told=os.path.abspath("calls")).ready()
@@ -57,7 +57,7 @@ class Trading(Member):
     """A member that comes to the edge where its door is open."""
     door = threading.Event()
 
-    def turn(self):
+    def turn(self) -> None:
         if self.engine.socket or self.door.wait(0.05):
             super().turn()
 
@@ -66,17 +66,17 @@ class Cuts:
     """Members that trade by chance, while the power of the edge is cut again and again: first while the records are
     made, and then while members trade."""
 
-    def __init__(self, seed):
+    def __init__(self, seed: int) -> None:
         self.chance = random.Random(seed)
         _, self.power, self.text, self.port = powered(MEMBERS)
         self.cuts = 0
         self.members = [Trading(self.port, k, 0, seed + k) for k in range(1, MEMBERS + 1)]
 
-    def go(self):
+    def go(self) -> None:
         for it in self.members:
             it.start()
         while self.cuts < CUTS:
-            more = {"some": self.cuts} if self.cuts % 2 else {}
+            more: dict[str, int | str] = {"some": self.cuts} if self.cuts % 2 else {}
             if self.cuts < AT_FIRST:
                 edge = self.power.start(self.text, at=6 * self.cuts + 1, **more)
             else:
@@ -104,13 +104,13 @@ class Cuts:
             it.left = 0
         settle(self.members, self.power.folder)
 
-    def look(self):
+    def look(self) -> None:
         look_at(self.members)
         for it in self.members:
             it.left = max(it.left, UNDER_WAY)  # They go on as long as there are cuts.
 
 
-def test_power_cuts():
+def test_power_cuts() -> None:
     """The power of the edge is cut at many places of its calls. What its disk has kept is enough: each report is in the
     record once and comes to its member once, each request of the journal has its name, and none that was refused is
     taken later."""

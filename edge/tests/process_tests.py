@@ -6,13 +6,16 @@ import shutil
 import signal
 import stat
 import time
+from collections.abc import Iterator
 
 import slices
-from edges import EVENTS, PATIENCE, Edge, Trouble, again, children_of, freeze, pair, path_of, settings_of, told
+from edges import EVENTS, PATIENCE, Edge, Trouble, Venue, again, children_of, freeze, is_there, pair, path_of, settings_of, told
 from engines import Engine, at_rest, cancel, order, refused
 from gikvand.fix import value
+from gikvand.words import sure
 from kept_tests import put_old_files
 from recovery_tests import places, restarted, settings
+from takers import ONCE, asks
 from trading_tests import expect
 from venues import await_that
 
@@ -20,24 +23,15 @@ BOUND = 30  # Seconds that the processes have to end in order.
 MOST = 16 << 20  # Bytes of a member's folders.
 
 
-def is_there(process):
-    """Whether this process runs, as the system says."""
-    try:
-        with open(f"/proc/{process}/stat", encoding="ascii", errors="replace") as file:
-            return file.read().rpartition(")")[2].split()[0] not in "ZX"
-    except FileNotFoundError:
-        return False
-
-
 class Undisturbed:
     """Two members that trade with one another, and who must not notice what happens to a third."""
 
-    def __init__(self, edge, port):
+    def __init__(self, edge: Edge, port: int) -> None:
         self.edge, self.count = edge, 0
         self.one, self.other = (Engine(port, member).log_on() for member in (2, 3))
         self.processes = {name: it for name, it in children_of(edge.process.pid).items() if name != "C1"}
 
-    def trade(self, times=1):
+    def trade(self, times: int = 1) -> None:
         """Lets one buy from the other, each told of it by a fill."""
         for _ in range(times):
             self.count += 1
@@ -47,7 +41,7 @@ class Undisturbed:
             for it, name in ((self.one, "u"), (self.other, "v")):
                 it.report(_150="F", _11=f"{name}{self.count}")
 
-    def look(self):
+    def look(self) -> None:
         """Each was told all, once and in one session of one process."""
         found = {name: it for name, it in children_of(self.edge.process.pid).items() if name != "C1"}
         expect(found, self.processes)
@@ -55,25 +49,25 @@ class Undisturbed:
             lines = [line for line in self.edge.lines if f": C{member}: " in line and "client from" in line]
             expect((len(lines), bool(it.socket), [kind for kind, _ in it.sent.values() if kind == "2"]), (1, True, []))
             expect(sum(value(text, "150") == "F" for text in it.history), len(told_fills(member)))
-            expect(places(member), [int(value(text, "17")) for text in told(member)])
+            expect(places(member), [int(sure(value(text, "17"))) for text in told(member)])
 
 
-def told_fills(member):
+def told_fills(member: int) -> list[str]:
     return [it for it in told(member) if value(it, "150") == "F"]
 
 
-def with_others():
+def with_others() -> tuple[Venue, Edge, int, Engine, Undisturbed]:
     """A venue, an edge of three members, its port, the first one with an order at rest, and two who trade."""
     venue, edge, port = pair(3)
     return venue, edge, port, at_rest(port, "a", 100), Undisturbed(edge, port)
 
 
-def sell_to_first(others, name, quantity):
+def sell_to_first(others: Undisturbed, name: str, quantity: int) -> None:
     others.other.send("D", order(name, 2, quantity, "50"))
     others.other.report(_150="F", _11=name)
 
 
-def test_killed_process():
+def test_killed_process() -> None:
     """The process of one member is killed: the others trade on in their sessions; it comes back, and its member is told
     what it missed. Each time it ends the pause before its next start is longer."""
     venue, edge, port, one, others = with_others()
@@ -84,7 +78,7 @@ def test_killed_process():
         sell_to_first(others, f"s{at}", 10)
         others.trade(5)
         edge.hears("gikvand-edge: C1: ready")
-        if not pause <= time.monotonic() - begin <= pause + PATIENCE:
+        if time.monotonic() - begin < pause:
             raise Trouble(f"it was started again behind {time.monotonic() - begin:.1f} s")
         edge.hears("C1: serves, behind report")
         one.close()
@@ -97,7 +91,7 @@ def test_killed_process():
     expect(edge.lines[-1], "gikvand-edge: stopped")
 
 
-def test_stuck_process():
+def test_stuck_process() -> None:
     """The process of one member is stopped, and so never answers: the others trade on. It goes on, and tells all."""
     venue, edge, port, one, others = with_others()
     stuck = edge.process_of(1)
@@ -114,7 +108,7 @@ def test_stuck_process():
     others.look()
 
 
-def test_bounded_stop():
+def test_bounded_stop() -> None:
     """A process that doesn't end in order is killed, and the status says so; the others have ended in order."""
     venue, edge, port = pair(2)
     one, other = at_rest(port, "a"), Engine(port, 2).log_on()
@@ -131,7 +125,7 @@ def test_bounded_stop():
     one.log_on()
 
 
-def test_crash_at_the_stop():
+def test_crash_at_the_stop() -> None:
     """A process that crashes while all are stopped has a line, and the status says so; the others have ended in order."""
     venue, edge, port = pair(2)
     crashes = edge.process_of(1)
@@ -143,7 +137,7 @@ def test_crash_at_the_stop():
            (1, ["gikvand-edge: C1: its process ended by signal 9", "gikvand-edge: stopped"]))
 
 
-def test_stop_within_a_start():
+def test_stop_within_a_start() -> None:
     """A process that SIGTERM ends before it listens has ended in order: a start leaves nothing half done."""
     venue, edge, port = pair()
     edge.stop()
@@ -160,14 +154,14 @@ def test_stop_within_a_start():
     expect(edge.lines, ["gikvand-edge: stopped"])
 
 
-def test_sessions_of_their_own():
+def test_sessions_of_their_own() -> None:
     """Each member's process leads a session: a kernel that shares out its processors by sessions gives each a share."""
     venue, edge, port = pair(2)
     processes = list(children_of(edge.process.pid).values())
     expect([os.getsid(it) for it in processes], processes)
 
 
-def test_short_slices():
+def test_short_slices() -> None:
     """Each thread of a member's process has the shortest slices of a core, where the system has slices to give."""
     slices.put_default()  # Else the edge has those that this process has.
     venue, edge, port = pair(2)
@@ -176,7 +170,7 @@ def test_short_slices():
     expect((len(found) > 4, set(found)), (True, {slices.LEAST if slices.slice_of(0) else 0}))
 
 
-def test_killed_supervisor():
+def test_killed_supervisor() -> None:
     """What keeps the members' processes is killed: they end in order, and the next one finds their folders free."""
     venue, edge, port = pair(2)
     one, other = at_rest(port, "a"), Engine(port, 2).log_on()
@@ -188,15 +182,15 @@ def test_killed_supervisor():
             it.close()
         await_that("an end of the members' processes", lambda: not any(map(is_there, processes)))
     finally:  # Nobody else knows them any more.
-        for it in filter(is_there, processes):
-            os.kill(it, signal.SIGKILL)
+        for process in filter(is_there, processes):
+            os.kill(process, signal.SIGKILL)
     await_that("lines of both", lambda: sum(line.endswith(": stopped") for line in edge.lines) == 2)
     restarted(2)
     one.log_on().send("F", cancel("c", "a", 1))
     one.report(_150="4")
 
 
-def test_damaged_member():
+def test_damaged_member() -> None:
     """The record of one member is damaged: it isn't served, and says so once; the others are. With a copy it is, too,
     as soon as that is there."""
     venue, edge, port = pair(3)
@@ -223,7 +217,7 @@ def test_damaged_member():
     others.look()
 
 
-def ordered_until(one, event, numbers):
+def ordered_until(one: Engine, event: str, numbers: Iterator[int]) -> str:
     """Sends orders until one is answered so, and gives its report; what is taken before that is cancelled."""
     end = time.monotonic() + PATIENCE
     while time.monotonic() < end:
@@ -239,7 +233,7 @@ def ordered_until(one, event, numbers):
     raise Trouble(f"no order was answered by {event}")
 
 
-def test_full_folder():
+def test_full_folder() -> None:
     """The folders of one member are full: its new orders are refused in words, and its cancels and the others pass."""
     venue, edge, port = pair(3, common={"MaxFolderBytes": str(MOST)})
     one, others, numbers = at_rest(port, "o", 100), Undisturbed(edge, port), itertools.count()
@@ -254,11 +248,11 @@ def test_full_folder():
         one.report(_150="4", _41=rests)
         others.trade(2)
         os.remove(f"{folder}/C1/ballast")
-        rests = value(ordered_until(one, "0", numbers), "11")
+        rests = sure(value(ordered_until(one, "0", numbers), "11"))
     others.look()
 
 
-def test_private_files():
+def test_private_files() -> None:
     """What the edge makes is for its user alone, whatever the mask of who starts it says."""
     before = os.umask(0)
     try:
@@ -273,7 +267,7 @@ def test_private_files():
     expect(len(made) > 10, True)
 
 
-def to_older_layout(member):
+def to_older_layout(member: int) -> None:
     """Puts what there is of a member where an edge of all members in one process had that, and as it had it."""
     put_old_files(member, "edge", "store")
     shutil.rmtree(f"edge/C{member}")
@@ -283,7 +277,7 @@ def to_older_layout(member):
     shutil.rmtree(f"log/C{member}")
 
 
-def test_older_layout():
+def test_older_layout() -> None:
     """What an edge of all members in one process has left is taken over, also where that was broken off; nothing of it
     is forgotten. Where two files would be one, nothing is moved over either."""
     venue, edge, port = pair(2, common={"FileStorePath": "store"})
@@ -312,7 +306,7 @@ def test_older_layout():
     expect((edge.status(), os.path.exists("edge/C1.names")), (1, True))
 
 
-def test_one_of_one_file():
+def test_one_of_one_file() -> None:
     """A file of one member alone, which has no other part: one process, with folders as they stand there."""
     venue, edge, port = pair(2)
     edge.stop()
@@ -337,6 +331,13 @@ sleep 0.2
 rmdir busy
 cat told.$$
 """
+FOLLOWS_BY_TURNS = """#!/bin/sh
+[ "$2" = once ] && exec '{events}' "$@"
+mkdir busy 2>/dev/null || touch together
+sleep 0.5
+rmdir busy
+exec '{events}' "$@"
+"""
 STUCK = """#!/bin/sh
 touch reads
 while [ -n "$STUCK" ] && [ -e stuck ]; do sleep 0.05; done
@@ -344,7 +345,7 @@ exec '{events}' "$@"
 """
 
 
-def other_events(text):
+def other_events(text: str) -> str:
     """The settings with this script in the place of venue-events."""
     with open("other-events", "w", encoding="ascii") as file:
         file.write(text.format(events=EVENTS))
@@ -352,7 +353,7 @@ def other_events(text):
     return settings().replace(EVENTS, os.path.abspath("other-events"))
 
 
-def test_readings_by_turns():
+def test_readings_by_turns() -> None:
     """Members of one folder read the journal one after another, at the start and behind the venue's return."""
     venue, edge, port = pair(3)
     edge.stop()
@@ -364,7 +365,30 @@ def test_readings_by_turns():
     expect(os.path.exists("together"), False)
 
 
-def test_stuck_reading():
+def test_markets_by_turns() -> None:
+    """What tells the market to several members reads the journal for one of them after another, at the start and behind the
+    venue's return. No member is served later by that."""
+    venue, edge, port = pair(3, MarketData="Y")
+    engines = [at_rest(port, "a"), Engine(port, 2), Engine(port, 3)]
+    engines[0].log_out()
+    edge.stop()
+    edge = Edge(other_events(FOLLOWS_BY_TURNS)).ready(3)
+    for turn in ("start", "return"):
+        for it in engines:
+            it.log_on().send("V", asks(turn, ONCE, update=None, symbols=("ABC",)))
+        for it in engines:
+            it.report(_35="W", _262=turn)
+            it.log_out()
+        if turn == "return":
+            break
+        venue.kill()
+        again(port, 3, venue.port)
+        for _ in engines:
+            edge.hears(": serves, behind report")
+    expect(os.path.exists("together"), False)
+
+
+def test_stuck_reading() -> None:
     """A reading that never ends holds up its own member, and another one for half a minute alone."""
     venue, edge, port = pair(2)
     edge.stop()
@@ -389,7 +413,7 @@ while [ -e stuck ]; do sleep 0.05; done
 """
 
 
-def test_reading_that_stays():
+def test_reading_that_stays() -> None:
     """A venue-events that has told all and doesn't end holds up nobody but its member, whose client is answered."""
     venue, edge, port = pair()
     edge.stop()
@@ -407,7 +431,7 @@ exec '{events}' "$@"
 """
 
 
-def is_turn_free():
+def is_turn_free() -> bool:
     """Whether nobody has the turn to read the journal."""
     with open("edge/reading.lock", encoding="ascii") as file:
         try:
@@ -417,7 +441,7 @@ def is_turn_free():
         return True
 
 
-def test_reading_that_fails():
+def test_reading_that_fails() -> None:
     """A venue-events that can't be started for one member leaves the turn to others; once it is there that one is served."""
     venue, edge, port = pair(2)
     edge.stop()
@@ -434,7 +458,7 @@ def test_reading_that_fails():
     one.hears("C1: serves, behind report")
 
 
-def test_served_for_a_minute():
+def test_served_for_a_minute() -> None:
     """Who has listened for a minute is started again behind the first pause, however often its process ended before."""
     venue, edge, port = pair(1)
     for pause in (1, 2):
@@ -448,6 +472,6 @@ def test_served_for_a_minute():
 
 TESTS = [test_killed_process, test_stuck_process, test_bounded_stop, test_crash_at_the_stop, test_stop_within_a_start,
          test_sessions_of_their_own, test_short_slices, test_killed_supervisor, test_damaged_member, test_full_folder,
-         test_private_files, test_older_layout, test_one_of_one_file, test_readings_by_turns, test_stuck_reading,
+         test_private_files, test_older_layout, test_one_of_one_file, test_readings_by_turns, test_markets_by_turns, test_stuck_reading,
          test_reading_that_stays, test_reading_that_fails]
 LONG_TESTS = [test_served_for_a_minute]

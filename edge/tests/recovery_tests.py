@@ -1,37 +1,39 @@
 """Members, edge and venue end at any moment and come back: what was missed is told once, and no name is used twice."""
 import os
 import signal
+import socket
 import time
 
-from edges import EVENTS, JOURNAL, PATIENCE, SYMBOLS, Client, Edge, again, changed, free_port, freeze, pair, started
+from edges import EVENTS, JOURNAL, PATIENCE, SYMBOLS, Client, Edge, Venue, again, changed, free_port, freeze, pair, started
 from edges import rows, stored, told, venue_order
 from engines import Engine, at_rest, cancel, order, refused
 from gikvand.fix import fields_of, value
+from gikvand.words import sure
 from relay import Relay
 from trading_tests import expect
 
 
-def settings():
+def settings() -> str:
     with open("edge.cfg", encoding="ascii") as file:
         return file.read()
 
 
-def restarted(members=1):
+def restarted(members: int = 1) -> Edge:
     return Edge(settings()).ready(members)
 
 
-def places(member):
+def places(member: int) -> list[int]:
     """The ExecIDs of the venue's reports in a member's store."""
-    return [int(value(it, "17")) for it in stored(member) if (value(it, "17") or "").isdecimal()]
+    return [int(sure(value(it, "17"))) for it in stored(member) if (value(it, "17") or "").isdecimal()]
 
 
-def two_members():
+def two_members() -> tuple[Venue, Edge, int, Engine, Engine]:
     """A venue, an edge, its port and two members that are logged on; an order of the first one rests."""
     venue, edge, port = pair(2)
     return venue, edge, port, at_rest(port, "a", 100), Engine(port, 2).log_on()
 
 
-def unread_order(first, second):
+def unread_order(first: str, second: str) -> tuple[Venue, Edge, int, Engine]:
     """An edge, its port, a member and the venue, which is stopped: the member's first order rests there, and the second
     one waits to be read."""
     venue, edge, port = pair()
@@ -42,7 +44,7 @@ def unread_order(first, second):
     return venue, edge, port, one
 
 
-def test_away():
+def test_away() -> None:
     """A member is away while its orders trade, and the edge is killed meanwhile: it is told all of it, once."""
     _, edge, _, one, other = two_members()
     one.close()
@@ -57,13 +59,13 @@ def test_away():
     other.report(_150="F", _11="b3")
     one.log_on().report(_150="F", _151="60")
     expect([value(it, "32") for it in one.history if value(it, "150") == "F"], ["10"] * 4)
-    expect(places(1), [int(value(it, "17")) for it in told(1)])
+    expect(places(1), [int(sure(value(it, "17"))) for it in told(1)])
     edge.stop()
     edge = restarted(2)
     expect(len(places(1)), len(told(1)))
 
 
-def test_venue_restarts():
+def test_venue_restarts() -> None:
     """The venue is killed while members are logged on: they stay, hear that it isn't there, and go on when it is."""
     venue, edge, port, one, other = two_members()
     venue.kill()
@@ -83,7 +85,7 @@ def test_venue_restarts():
     one.report(_150="F", _11="back", _39="2")
 
 
-def test_edge_first():
+def test_edge_first() -> None:
     """The edge starts before the venue, and a member that logs on meanwhile is refused in words."""
     venue, edge, port = pair()
     venue.stop()
@@ -98,7 +100,7 @@ def test_edge_first():
     one.report(_150="0")
 
 
-def test_lost_request():
+def test_lost_request() -> None:
     """A request that the venue hadn't taken in when it was killed: its member is told, once; the name stays used."""
     venue, edge, port, one = unread_order("kept", "lost")
     venue.kill()
@@ -116,7 +118,7 @@ def test_lost_request():
     expect([value(it, "11") for it in stored(1) if value(it, "150") == "0"], ["kept", "next"])
 
 
-def test_request_under_way():
+def test_request_under_way() -> None:
     """The edge is killed when a request is at the venue, which hasn't read it yet: its report is told all the same."""
     venue, edge, port, one = unread_order("first", "second")
     edge.kill()
@@ -130,12 +132,12 @@ def test_request_under_way():
     expect(sum("never reached" in it for it in stored(1)), 0)
 
 
-def forget(count):
+def forget(count: int) -> None:
     """Lets the session of C1 expect the last messages of the member once more, so many of them."""
     changed(1, f"UPDATE session SET target = target - {count}")
 
 
-def test_many_sent_again():
+def test_many_sent_again() -> None:
     """More requests that are sent again than the rate allows: none is refused, since each was passed on before."""
     venue, edge, port = pair(MaxMessagesPerSecond="3")
     one = at_rest(port, "a")
@@ -152,7 +154,7 @@ def test_many_sent_again():
     expect([value(it, "11") for it in one.history if value(it, "150") == "8"], [])
 
 
-def test_sent_again():
+def test_sent_again() -> None:
     """What is sent again with PossDupFlag, since the edge was killed before it noted the number, is taken once."""
     venue, edge, port = pair()
     one = at_rest(port, "a")
@@ -166,7 +168,7 @@ def test_sent_again():
     expect([value(it, "11") for it in told(1)], ["1", "2"])
 
 
-def test_possible_resend():
+def test_possible_resend() -> None:
     """A PossResend of a name that is known is passed over, as its order rests; one of a new name is taken."""
     venue, edge, port = pair()
     one = at_rest(port, "a")
@@ -182,12 +184,12 @@ def test_possible_resend():
     expect([value(it, "11") for it in one.history], ["a", "b", "b"])
 
 
-def refusals(name):
+def refusals(name: str) -> list[str | None]:
     """What the store of C1 has of this name."""
     return [value(it, "58") for it in stored(1) if value(it, "11") == name]
 
 
-def full_of(port, edge, name):
+def full_of(port: int, edge: Edge, name: str) -> Engine:
     """A member that has as many open orders as it may, and one more, of this name, that was refused; the edge is killed
     before it noted that request's number."""
     one = at_rest(port, "a")
@@ -198,7 +200,7 @@ def full_of(port, edge, name):
     return one
 
 
-def test_refusal_sent_again():
+def test_refusal_sent_again() -> None:
     """The edge is killed when a refusal has been told and its request's number isn't noted: the request, which is sent
     again, stays refused, though nothing speaks against it any more, and its name stays used."""
     venue, edge, port = pair(MaxOpenOrders="1")
@@ -226,7 +228,7 @@ def test_refusal_sent_again():
     expect(value(one.report(_11="no"), "103"), "6")
 
 
-def test_refusal_untold():
+def test_refusal_untold() -> None:
     """The record takes a refused name and not its refusal: neither is kept, and the member isn't told. Sent again, the
     request is taken, once."""
     venue, edge, port = pair(MaxOpenOrders="1")
@@ -248,7 +250,7 @@ def test_refusal_untold():
     expect((refusals("no"), len(told(1))), ([None], 2))
 
 
-def test_name_not_taken():
+def test_name_not_taken() -> None:
     """The record doesn't take a request's name, in a turn that changes the tables since it also answers a ResendRequest:
     nothing of that turn is kept, so the request isn't counted, and is taken once when it is sent again."""
     venue, edge, port = pair()
@@ -273,7 +275,7 @@ def test_name_not_taken():
     expect((len(told(1)), len(one.history)), (3, 3))
 
 
-def trade_a_little(port):
+def trade_a_little(port: int) -> Engine:
     one = Engine(port, 1).log_on()
     for at in range(6):
         one.send("D", order(f"n{at}", 1, 1, "50"))
@@ -284,10 +286,10 @@ def trade_a_little(port):
     return one
 
 
-def sell(other, name, quantity):
+def sell(other: Client, name: int, quantity: int) -> None:
     """Lets a member of the venue itself sell so many at 50, and waits until it has."""
     other.send("D", venue_order(name, 2, quantity, 5000))
-    while value(other.next(), "150") != "F":
+    while value(sure(other.next()), "150") != "F":
         pass
 
 
@@ -295,7 +297,7 @@ class Together(Relay):
     """A relay that keeps the venue's Logon, and passes it on in one piece with what comes behind."""
     kept = ""
 
-    def pass_on(self, text, is_members, to):
+    def pass_on(self, text: str, is_members: bool, to: socket.socket) -> bool:
         if is_members:
             return super().pass_on(text, is_members, to)
         if value(text, "35") == "A":
@@ -307,7 +309,7 @@ class Together(Relay):
         return super().pass_on(text, is_members, to)
 
 
-def test_behind_logon():
+def test_behind_logon() -> None:
     """A report that comes in one piece with the venue's Logon is told behind what the journal has in front of it."""
     venue, edge, port = pair(1, started(JOURNAL, 2, list(SYMBOLS)))
     one, other = at_rest(port, "a", 100), Client(venue.port, 2).log_on()
@@ -321,7 +323,7 @@ def test_behind_logon():
     edge.ready()
     one.close()
     one.log_on().report(_150="F", _151="80")
-    expect(places(1), [int(value(it, "17")) for it in told(1)])
+    expect(places(1), [int(sure(value(it, "17"))) for it in told(1)])
 
 
 SLOW_EVENTS = """#!/bin/sh
@@ -332,7 +334,7 @@ cat told.$$
 """
 
 
-def test_meanwhile():
+def test_meanwhile() -> None:
     """What the venue tells while the journal is being read waits, and is told behind that, once."""
     venue, edge, port = pair()
     edge.stop()
@@ -355,10 +357,10 @@ def test_meanwhile():
     expect(value(one.report(_11="b"), "103"), "2")
     open("go", "w", encoding="ascii").close()
     one.report(_150="F", _32="4")
-    expect(places(1), [int(value(it, "17")) for it in told(1)])
+    expect(places(1), [int(sure(value(it, "17"))) for it in told(1)])
 
 
-def test_other_journal():
+def test_other_journal() -> None:
     """A journal that lacks what the store has told isn't gone on from: it is another one, or an older copy. Nothing of
     it is told, not even what has greater numbers."""
     venue, edge, port = pair(1, started(JOURNAL, 2, list(SYMBOLS)))
@@ -368,11 +370,11 @@ def test_other_journal():
     os.remove(JOURNAL)
     again(port, 2, venue.port)
     for member, orders in ((2, 6), (1, 1)):
-        one = Client(venue.port, member).log_on()
+        client = Client(venue.port, member).log_on()
         for name in range(1, orders + 1):
-            one.send("D", venue_order(name, 1, 1, 5000))
-            one.next()
-        one.close()
+            client.send("D", venue_order(name, 1, 1, 5000))
+            client.next()
+        client.close()
     edge = Edge(settings())
     edge.hears("C1: isn't served: its store has report 6, which the journal hasn't")
     time.sleep(2.5)  # It tries again each second.
@@ -382,7 +384,7 @@ def test_other_journal():
     expect((places(1), [it for it in edge.lines if ": serves" in it]), ([1, 2, 3, 4, 5, 6], []))
 
 
-def test_new_day():
+def test_new_day() -> None:
     """A day has ended while the edge was down: nothing that was told before is told again, and nothing is missed."""
     venue, edge, port = pair()
     one = at_rest(port, "a")

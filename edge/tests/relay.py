@@ -3,9 +3,14 @@ import select
 import socket
 import threading
 import time
+from collections.abc import Callable
+from typing import TypeVar
 
 from edges import HOST, PATIENCE
 from gikvand.fix import parted
+
+T = TypeVar("T")
+Picks = Callable[[str, bool], object]  # Of a message, and whether the member says it: whether it is meant.
 
 AWAY = 1.0  # Seconds in which nobody is taken in, behind a cut.
 
@@ -13,15 +18,17 @@ AWAY = 1.0  # Seconds in which nobody is taken in, behind a cut.
 class Relay(threading.Thread):
     """One that listens at this port and passes on to the edge's."""
 
-    def __init__(self, port, edge):
+    def __init__(self, port: int, edge: int) -> None:
         super().__init__(daemon=True)
         self.edge, self.closed_until = edge, 0.0
-        self.said, self.told = [], []  # By the member, and to it: whole messages in their order, those lost among them.
-        self.loses = self.cuts = None  # Of a message and whether the member says it: whether it is lost, or the last.
+        self.said: list[str] = []  # By the member: whole messages in their order, those lost among them.
+        self.told: list[str] = []  # To the member, likewise.
+        self.loses: Picks | None = None  # The message that is lost.
+        self.cuts: Picks | None = None  # The last message of the connection.
         self.changed = threading.Condition()
         self.door = socket.create_server((HOST, port))
 
-    def run(self):
+    def run(self) -> None:
         while True:
             member = self.door.accept()[0]
             if time.monotonic() < self.closed_until:
@@ -33,7 +40,7 @@ class Relay(threading.Thread):
             except OSError:  # One of both went, or the edge isn't there yet: the member connects anew.
                 pass
 
-    def serve(self, member, edge):
+    def serve(self, member: socket.socket, edge: socket.socket) -> None:
         rests = {member: b"", edge: b""}
         while True:
             for it in select.select([member, edge], [], [])[0]:
@@ -46,7 +53,7 @@ class Relay(threading.Thread):
                     if not self.pass_on(text, is_members, edge if is_members else member):
                         return
 
-    def pass_on(self, text, is_members, to):
+    def pass_on(self, text: str, is_members: bool, to: socket.socket) -> bool:
         """Passes a message on, or loses it. Whether the connection goes on behind it."""
         with self.changed:
             is_lost = self.loses and self.loses(text, is_members)
@@ -60,7 +67,7 @@ class Relay(threading.Thread):
             to.sendall(text.replace("|", "\x01").encode())
         return not is_last
 
-    def wait(self, look, patience):
+    def wait(self, look: Callable[[], T | None], patience: float) -> T | None:
         """Waits until this finds something among what was said and told, and gives it, or None."""
         end = time.monotonic() + patience
         with self.changed:

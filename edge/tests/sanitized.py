@@ -8,12 +8,13 @@ import shutil
 import tempfile
 
 from edges import EDGE, Trouble
+from venues import Test
 
 MARKS = {"address": b"__asan_init", "thread": b"__tsan_init"}
 SHOWN = 1500  # Bytes of a report that are told.
 
 
-def kind():
+def kind() -> str:
     """What the edge that is tried is sanitized with: address, thread or nothing."""
     with open(EDGE, "rb") as file:
         program = file.read()
@@ -21,17 +22,17 @@ def kind():
 
 
 @functools.lru_cache(maxsize=1)
-def is_measured():
+def is_measured() -> bool:
     """Whether memory can be measured: a sanitizer takes many times what the edge takes, and the test says so."""
     if found := kind():
         print(f"edge/check: no memory is measured of an edge that is sanitized ({found})", flush=True)
     return not found
 
 
-def looked_through(test, folder):
+def looked_through(test: Test, folder: str) -> Test:
     """The test, which fails where a report came, too."""
     @functools.wraps(test)
-    def run(*given):
+    def run(*given: object) -> None:
         fault = None
         try:
             test(*given)
@@ -49,7 +50,7 @@ def looked_through(test, folder):
     return run
 
 
-def prepared(tests):
+def prepared(tests: list[Test]) -> list[Test]:
     """These tests, for the edge that there is. What keeps a sanitizer's reports is in the environment from here on."""
     if not kind():
         return tests

@@ -1,6 +1,7 @@
 // Reckons with the hours of a session, for tests: a line of standard input has the settings, as
 // "06:00:00 22:00:00 - -" or "06:00:00 22:00:00 Monday Friday", and a moment in seconds behind the beginning of 1970.
-// It answers each by the last end of the hours and whether they are open, or by what is wrong with the settings.
+// It answers each by the last end of the hours, whether they are open, and their next start, or by what is wrong with the
+// settings.
 #include <iostream>
 
 #include "hours.h"
@@ -18,7 +19,7 @@ int main() {
         try {
             const edge::Schedule hours = edge::hoursOf(settings);
             std::cout << hours.lastEnd(now) << " " << hours.isOpen(now) << " " << hours.isOver(now - 1, now)
-                      << hours.isOver(now, now) << "\n";
+                      << hours.isOver(now, now) << " " << hours.nextStart(now) << "\n";
         } catch (const edge::BadSetting &why) {
             std::cout << why.what() << "\n";
         }

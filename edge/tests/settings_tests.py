@@ -1,18 +1,20 @@
 """What is wrong in a settings file is said in one line with its name, and nothing starts."""
 import fcntl
 import os
+import pwd
 import shutil
 import subprocess
 import time
+from collections.abc import Iterator
 
-from edges import DICTIONARY, EDGE, ROOT, Edge, Trouble, free_port, members_of, pair, settings_of
+from edges import DICTIONARY, EDGE, PATIENCE, ROOT, Edge, Settings, Trouble, free_port, members_of, pair, settings_of
 from engines import Engine, cancel, order
 from gikvand.fix import value
 from trading_tests import expect
 
 SECRETS, DATA = "passwords", "data.xml"
 # What is wrong of a setting of all sessions, or of one, and what is said behind its name. None: it is left out.
-WRONG = {
+WRONG: dict[str, dict[str | None, str]] = {
     "VenuePort": {None: "is missing", "0": "isn't 1 to 65528", "nine": "is no number"},
     "VenueJournal": {None: "is missing"},
     "VenueEvents": {None: "is missing", "/nowhere": "can't be used"},
@@ -34,13 +36,14 @@ WRONG = {
     "ConnectionType": {"initiator": "isn't acceptor"},
     "BeginString": {"FIX.4.2": "isn't FIX.4.4"},
     "ResetOnLogon": {"Y": "would drop"},
+    "RefreshOnLogon": {"Y": "would read the record anew"},
     "PersistMessages": {"N": "has to be Y"},
     "ValidateLengthAndChecksum": {"N": "has to be Y"},
     "ValidateFieldsHaveValues": {"N": "has to be Y"},
     "SyncNames": {"Y": "is always so", "N": "is always so"},
     "CANCELONDISCONECT": {"Y": "is no setting"},
 }
-WRONG_OF_ONE = {
+WRONG_OF_ONE: dict[str, dict[str | None, str]] = {
     "Member": {None: "is missing", "C9": "isn't C1 to C8"},
     "SocketAcceptPort": {None: "is missing", "70000": "isn't 1 to 65535"},
     "MaxOpenOrders": {"many": "is no number"},
@@ -76,16 +79,17 @@ WRONG_HOURS = {"StartDay: is missing beside the other of the two": {"EndDay": "F
                "EndDay: is no day, as Monday: Funday": {"StartDay": "Monday", "EndDay": "Funday"},
                "EndDay: is StartDay, with an EndTime behind StartTime": {"StartDay": "Monday", "EndDay": "Monday",
                                                                          "EndTime": "17:00:00"}}
-WRONG_USERS = {"PasswordFile: is missing": {}, "PasswordFile: can't be read": {"PasswordFile": "/nowhere"},
-               "PasswordFile: may be used by others": {"PasswordFile": SECRETS}}
+WRONG_USERS: dict[str, Settings] = {
+    "PasswordFile: is missing": {}, "PasswordFile: isn't there": {"PasswordFile": "/nowhere"},
+    "PasswordFile: may be used by others": {"PasswordFile": SECRETS}}
 
 
-def wrong_settings():
+def wrong_settings() -> Iterator[tuple[Settings, Settings, str]]:
     """Each wrong setting: those of all sessions, those of the one, and what is said."""
     for is_of_all, those in ((True, WRONG), (False, WRONG_OF_ONE)):
         for name, values in those.items():
             for wrong, fault in values.items():
-                it = {name: wrong}
+                it: Settings = {name: wrong}
                 yield (it, {}, f"{name}: {fault}") if is_of_all else ({}, it, f"{name}: {fault}")
     for fault, it in WRONG_HOURS.items():
         yield it, {}, fault
@@ -95,15 +99,15 @@ def wrong_settings():
         yield {}, {"Username": "desk", **it}, fault
 
 
-def said(settings, *words):
+def said(settings: str, *words: str) -> tuple[int, list[str]]:
     """The status and the lines of an edge with these settings, which doesn't start."""
     with open("edge.cfg", "w", encoding="ascii") as file:
         file.write(settings)
-    ran = subprocess.run([EDGE, *words, "edge.cfg"], capture_output=True, text=True, timeout=30)
+    ran = subprocess.run([EDGE, *words, "edge.cfg"], capture_output=True, text=True, timeout=PATIENCE)
     return ran.returncode, ran.stderr.splitlines()
 
 
-def test_wrong_settings():
+def test_wrong_settings() -> None:
     """Each wrong or missing value: one line with its name, status 1, and no file made."""
     with open(SECRETS, "w", encoding="ascii") as file:
         file.write("desk:secret\n")
@@ -121,7 +125,7 @@ def test_wrong_settings():
         raise Trouble(f"something was made: {left}")
 
 
-def test_more_settings():
+def test_more_settings() -> None:
     """Two sessions of a member, no session, a user without a password, a file of passwords that others may use, other
     symbols than the journal's, no file."""
     port = free_port(2)
@@ -149,18 +153,18 @@ def test_more_settings():
     for mode in (0o640, 0o620, 0o610, 0o604, 0o602, 0o601, 0o600):  # Its owner alone may use it in any way.
         os.chmod(SECRETS, mode)
         status, lines = said(text, "--check")
-        wanted = [f"gikvand-edge: PasswordFile: may be used by others than its owner: chmod 0600 {SECRETS}"]
-        expect((oct(mode), lines), (oct(mode), wanted if mode & 0o077 else []))
+        fault = f"gikvand-edge: PasswordFile: may be used by others than its owner: chmod 0600 {SECRETS}"
+        expect((oct(mode), lines), (oct(mode), [fault] if mode & 0o077 else []))
     for words, wanted in (("nowhere.cfg", "nowhere.cfg: can't be read"), ("", "usage:"), ("--no x", "usage:"), ("--mend x", "usage:"),
                           ("--all", "usage:"), ("--member C1", "usage:"), ("--all --check x", "usage:"),
                           ("--all --member C1 x", "usage:"), ("a b", "usage:"), ("--version x", "usage:"),
                           ("--check --version", "usage:")):
-        ran = subprocess.run([EDGE, *words.split()], capture_output=True, text=True, timeout=30)
+        ran = subprocess.run([EDGE, *words.split()], capture_output=True, text=True, timeout=PATIENCE)
         if ran.returncode != 1 or wanted not in ran.stderr:
             raise Trouble(f"{words}: {ran.returncode} {ran.stderr}")
 
 
-def test_firms():
+def test_firms() -> None:
     """Desks of one firm that a file has name the same members; others may have firms of their own, and right limits are right."""
     port = free_port(3)
     right = [{"PriceCollar": "1000%", "MaxOrderValue": "999999999999999", "ReferencePrices": "ABC:10000 XYZ:0.25"},
@@ -177,7 +181,7 @@ def test_firms():
             raise Trouble(f"{firms}: wanted {fault!r}, came {status} {lines}")
 
 
-def test_second_edge():
+def test_second_edge() -> None:
     """A second edge with the same folder, or with a port that is taken, ends; one whose folder is left soon starts."""
     venue, edge, port = pair()
     with open("edge.cfg", encoding="ascii") as file:
@@ -192,16 +196,17 @@ def test_second_edge():
     others[-1].hears(f"can't listen on 127.0.0.1:{port}")
     if any(it.status() != 1 for it in others):
         raise Trouble("another edge started")
+    user = f"{pwd.getpwuid(os.geteuid()).pw_name} (uid {os.geteuid()})"
     for words in (["--check"], ["--check", "--all"], ["--check", "--member", "C1"]):
-        ran = subprocess.run([EDGE, *words, "edge.cfg"], capture_output=True, text=True, timeout=30)
-        if (ran.returncode, ran.stdout) != (0, "the settings are right\n"):
+        ran = subprocess.run([EDGE, *words, "edge.cfg"], capture_output=True, text=True, timeout=PATIENCE)
+        if (ran.returncode, ran.stdout) != (0, f"the settings are right, as {user} reads them\n"):
             raise Trouble(f"{words}: {ran}")
     edge.stop()
-    for lock, words in (("edge/lock", ()), ("edge/C1/lock", ()), ("edge/lock", ("--all",)),
+    for lock, begun in (("edge/lock", ()), ("edge/C1/lock", ()), ("edge/lock", ("--all",)),
                         ("edge/all.lock", ("--all",))):
         with open(lock, encoding="ascii") as file:  # The first one is what an edge of before holds.
             fcntl.flock(file, fcntl.LOCK_EX)
-            last = Edge(settings, words=words)
+            last = Edge(settings, words=begun)
             last.hears("EdgePath: is another edge's: edge")
             if last.status() != 1:
                 raise Trouble(f"an edge started beside the holder of {lock}")
@@ -212,14 +217,14 @@ def test_second_edge():
     last.ready()
 
 
-def test_version():
+def test_version() -> None:
     """It tells the project's version, and fails where that can't be told."""
     with open(os.path.join(ROOT, "VERSION"), encoding="ascii") as file:
         wanted = f"gikvand-edge {file.read()}"
-    ran = subprocess.run([EDGE, "--version"], capture_output=True, text=True, timeout=30)
+    ran = subprocess.run([EDGE, "--version"], capture_output=True, text=True, timeout=PATIENCE)
     expect((ran.returncode, ran.stdout, ran.stderr), (0, wanted, ""))
     with open("/dev/full", "w", encoding="ascii") as full:
-        expect(subprocess.run([EDGE, "--version"], stdout=full, timeout=30).returncode, 1)
+        expect(subprocess.run([EDGE, "--version"], stdout=full, timeout=PATIENCE).returncode, 1)
 
 
 # Starts the edge where the system's folder of what is shared is another one.
@@ -228,7 +233,7 @@ exec unshare -rm sh -c 'mount --bind "$0" /usr/share && exec "$@"' {} {} "$@"
 """
 
 
-def test_dictionary_of_the_package():
+def test_dictionary_of_the_package() -> None:
     """Without DataDictionary a member is served by the one that the package installs; where that isn't, nothing starts."""
     for name in ("bare", "share/gikvand-edge"):
         os.makedirs(name)
@@ -258,7 +263,7 @@ OTHER_STEPS = {"ABC:0.05 XYZ:0.25": "have ABC:0.05, whose step was 0.01", "ABC:0
                "ABC:0.01 XYZ:0.25 DEF:1": "are others, or in another order, than they were: ABC:0.01 XYZ:0.25"}
 
 
-def test_other_steps():
+def test_other_steps() -> None:
     """Behind a member's first start no other step is taken, nor are other symbols, by a start or a look: an order that
     rests would have another price. With its own ones the member is served again."""
     venue, edge, port = pair()
@@ -295,5 +300,24 @@ def test_other_steps():
         raise Trouble("the order's price is another one")
 
 
+def test_what_is_not_there() -> None:
+    """A look through the settings says that the venue's journal isn't there, which is no fault of these. A file of passwords that
+    isn't there is told from one that can't be read."""
+    def looked(**more: object) -> tuple[int, list[str]]:
+        with open("edge.cfg", "w", encoding="ascii") as file:
+            file.write(settings_of({"VenuePort": 9001}, members_of(2, 9801, **more)))
+        ran = subprocess.run([EDGE, "--check", "--all", "edge.cfg"], capture_output=True, text=True, timeout=30)
+        return ran.returncode, (ran.stdout + ran.stderr).splitlines()
+
+    status, (right, *lines) = looked()
+    expect((status, right.partition(", as ")[0], lines), (0, "the settings are right", ["VenueJournal: isn't there now: venue.journal"]))
+    open("venue.journal", "w", encoding="ascii").close()
+    expect(looked(), (0, [right]))
+    expect(looked(Username="desk", PasswordFile="none/of/these"), (1, ["gikvand-edge: PasswordFile: isn't there: none/of/these"]))
+    expect(looked(Username="desk", PasswordFile="edge.cfg/x"), (1, ["gikvand-edge: PasswordFile: isn't there: edge.cfg/x"]))
+    os.symlink("loop", "loop")
+    expect(looked(Username="desk", PasswordFile="loop"), (1, ["gikvand-edge: PasswordFile: can't be read: loop"]))
+
+
 TESTS = [test_wrong_settings, test_more_settings, test_firms, test_version, test_dictionary_of_the_package, test_second_edge,
-         test_other_steps]
+         test_other_steps, test_what_is_not_there]

@@ -16,29 +16,34 @@ class Attributes(ctypes.Structure):
                 ("period", ctypes.c_uint64)]
 
 
-def called(number, tid, it, *more):
+def called(number: int, tid: int, it: Attributes, *more: int) -> Attributes:
     if libc.syscall(ctypes.c_long(number), ctypes.c_int(tid), ctypes.byref(it), *more) < 0:
         error = ctypes.get_errno()
         raise OSError(error, os.strerror(error))
     return it
 
 
-def attributes(tid):
+def attributes(tid: int) -> Attributes:
     return called(GET, tid, Attributes(), ctypes.sizeof(Attributes), 0)
 
 
-def slice_of(tid):
+def slice_of(tid: int) -> int:
     """The slice of a thread, 0 for the one that calls, in microseconds; 0 where the system gives none."""
     return attributes(tid).runtime // A_MICRO
 
 
-def put_default():
-    """Gives the thread that calls the system's own slice, and what it starts."""
+def put(micros: int) -> None:
+    """Gives the thread that calls a slice of so many microseconds, and what it starts; for 0 the system's own."""
     it = attributes(0)
-    it.size, it.runtime = ctypes.sizeof(it), 0
+    it.size, it.runtime = ctypes.sizeof(it), micros * A_MICRO
     called(SET, 0, it, 0)
 
 
-def of_process(pid):
+def put_default() -> None:
+    """Gives the thread that calls the system's own slice, and what it starts."""
+    put(0)
+
+
+def of_process(pid: int) -> list[int]:
     """The slice of each thread of a process."""
     return [slice_of(int(tid)) for tid in os.listdir(f"/proc/{pid}/task")]

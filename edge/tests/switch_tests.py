@@ -13,9 +13,11 @@ import threading
 import time
 import urllib.request
 
-from edges import EDGE, PATIENCE, Edge, Trouble, again, await_that, changed, free_port, freeze, pair, rows, stored, told
+from differential import BY_OPERATOR
+from edges import EDGE, PATIENCE, Edge, Trouble, Venue, again, await_that, changed, free_port, freeze, is_there, pair, rows, stored, told
 from engines import Engine, at_rest, cancel, now, order, replace
 from gikvand.fix import fields_of, value
+from gikvand.words import sure
 from market import Market, is_caught_up
 from process_tests import STUCK, Undisturbed, other_events
 from protection_tests import figure
@@ -27,7 +29,7 @@ CONTROL = "edge/C1/C1.control"
 BOUND = 10    # Seconds that a command waits for the venue.
 SILENCE = 2   # Seconds behind which who says nothing is let go.
 CALLERS = 8   # Of one process, at a time.
-MOST_SENT = 600  # Orders: refusals are told at 200 in a second.
+MOST_AT_ONCE = 400  # Orders, and behind them one after the other: refusals are told at 200 in a second.
 STOPPED, HALTED = "edge: the operator has stopped this member", "edge: the operator has halted ABC"
 UNCHANGED = "nothing was changed"
 
@@ -35,73 +37,75 @@ UNCHANGED = "nothing was changed"
 class Call:
     """A command that an operator gives in a shell."""
 
-    def __init__(self, words, *paths, program=EDGE):
+    def __init__(self, words: str, *paths: str, program: str = EDGE) -> None:
         self.words = words
         self.process = subprocess.Popen([program, *words.split(), *(paths or ("edge.cfg",))], stdout=subprocess.PIPE,
                                         stderr=subprocess.PIPE, text=True)
 
-    def end(self):
+    def end(self) -> tuple[int, str, str]:
         """Its status, and what it printed, on both sides."""
         out, err = self.process.communicate(timeout=PATIENCE + BOUND)
         return self.process.returncode, out, err
 
 
-def called(words, *paths):
+def called(words: str, *paths: str) -> tuple[int, str, str]:
     return Call(words, *paths).end()
 
 
-def done(words, *wanted):
+def done(words: str, *wanted: str) -> None:
     """A command that is done, and prints these lines."""
     expect(called(words), (0, "".join(f"{it}\n" for it in wanted), ""))
 
 
-def failed(words, *wanted, status=1):
+def failed(words: str, *wanted: str, status: int = 1) -> None:
     """A command that can't be carried out, and says so."""
     expect(called(words), (status, "", "".join(f"gikvand-edge: {it}\n" for it in wanted)))
 
 
-def resting(one, *names, symbol="ABC", side=1, price="50"):
+def resting(one: Engine, *names: str, symbol: str = "ABC", side: int = 1, price: str = "50") -> None:
     """Orders of a member that rest."""
     for name in names:
         one.send("D", order(name, side, 10, price, symbol))
         one.report(_150="0", _11=name)
 
 
-def cancelled(one, *names):
-    """These orders of a member are cancelled, each told once: the ClOrdIDs of their cancels."""
+def cancelled(one: Engine, *names: str) -> list[str]:
+    """These orders of a member are cancelled, each told once: the ClOrdIDs of their cancels. Where an operator has had that done the text
+    says so."""
     came = {}
     for _ in names:
         it = fields_of(one.report(_150="4"))
         came[it["41"]] = it["11"]
+        expect(it.get("58"), BY_OPERATOR if it["11"].startswith("edge-cancel-") else None)
     expect(sorted(came), sorted(names))
     return [came[name] for name in names]
 
 
-def is_refused(one, kind, body, text, **wanted):
+def is_refused(one: Engine, kind: str, body: str, text: str, **wanted: str | None) -> None:
     """A request of a member is refused in these words."""
     one.send(kind, body)
-    name = re.search(r"11=([^|]*)", body)[1]
+    name = sure(re.search(r"11=([^|]*)", body))[1]
     got = fields_of(one.report(_11=name))
     expect((got["58"], {tag: got.get(tag[1:]) for tag in wanted}), (text, wanted))
 
 
-def mass(name, kind=7, more=""):
+def mass(name: str, kind: int = 7, more: str = "") -> str:
     return f"11={name}|530={kind}|{more}60={now()}|"
 
 
-def audit(edge, words, outcome, member="C1"):
+def audit(edge: Edge, words: str, outcome: str, member: str = "C1") -> list[str]:
     """The one line of the log of a command."""
     user = f"{pwd.getpwuid(os.getuid()).pw_name} \\(uid {os.getuid()}\\)"
     line = re.compile(rf"gikvand-edge: {member}: operator {user} at \d{{8}}-\d\d:\d\d:\d\d: {words}: {outcome}")
     return [it for it in edge.lines if line.fullmatch(it)]
 
 
-def audited(edge, words, outcome, member="C1", count=1):
+def audited(edge: Edge, words: str, outcome: str, member: str = "C1", count: int = 1) -> None:
     await_that(f"a line of {words}", lambda: len(audit(edge, words, outcome, member)) >= count)
     expect(len(audit(edge, words, outcome, member)), count)
 
 
-def test_stop_and_resume():
+def test_stop_and_resume() -> None:
     """A member is stopped: what rests for it is cancelled, its orders and replaces are refused, and its cancels pass, as
     do others. It trades again once it is resumed. Each command is a line of the log, and one of its events."""
     venue, edge, port = pair(2)
@@ -120,10 +124,10 @@ def test_stop_and_resume():
     done("resume C1", "C1: trades again")
     done("resume C1", "C1: wasn't stopped")
     resting(one, "f")
-    done("cancel C1", "C1: the venue has answered the cancels of 1 orders")
+    done("cancel C1", "C1: the venue has answered the cancel of 1 order")
     cancelled(one, "f")
     resting(one, "g")
-    done("cancel all", "C1: the venue has answered the cancels of 1 orders",
+    done("cancel all", "C1: the venue has answered the cancel of 1 order",
          "C2: the venue has answered the cancels of 2 orders")
     cancelled(one, "g")
     cancelled(other, "x", "y")
@@ -135,12 +139,13 @@ def test_stop_and_resume():
     audited(edge, "stop", "done: stopped, and the venue has answered the cancels of 2 orders")
     audited(edge, "resume", "done: trades again", count=2)
     audited(edge, "cancel", "done: the venue has answered the cancels of 2 orders", "C2")
+    await_that("the lines of all", lambda: sum("operator" in it for it in edge.lines) >= 11)
     expect(sum("operator" in it for it in edge.lines), 11)
     with open("log/C1/FIX.4.4-GIKVAND-DESK-A.event.current.log", encoding="ascii") as file:
         expect(sum(" : operator " in line for line in file), 8)
 
 
-def test_halt():
+def test_halt() -> None:
     """A symbol is halted for all members: orders and replaces of it are refused, its cancels pass, and other symbols
     trade. What rests stays."""
     venue, edge, port = pair(2)
@@ -163,7 +168,7 @@ def test_halt():
     audited(edge, "halt ABC", "done: ABC is halted", "C2")
 
 
-def test_status():
+def test_status() -> None:
     """What is switched off stands on the page and in the answer to `status`, with since when and by whom."""
     page = free_port(2)
     venue, edge, port = pair(2, common={"HttpAcceptPort": str(page)})
@@ -175,7 +180,7 @@ def test_status():
     wanted = [f"C1 {line.format('A', 'logged on', f'XYZ halted {who}')}", f"C2 {line.format('B', 'away', f'XYZ halted {who}')}"]
     if status or err or not all(map(re.fullmatch, wanted, out.splitlines())):
         raise Trouble(f"status: {status} {out} {err}")
-    done("stop C1", "C1: stopped, and the venue has answered the cancels of 1 orders")
+    done("stop C1", "C1: stopped, and the venue has answered the cancel of 1 order")
     cancelled(one, "a")
     with urllib.request.urlopen(f"http://127.0.0.1:{page}/", timeout=PATIENCE) as answer:
         words = answer.read().decode()
@@ -192,7 +197,7 @@ def test_status():
     expect(called("status C1")[1].partition("numbers since ")[2].count(","), 0)
 
 
-def test_not_carried_out():
+def test_not_carried_out() -> None:
     """What can't be carried out changes nothing, says so, and ends with status 1; wrong words end with status 2. What is
     asked of all is done where it can be."""
     venue, edge, port = pair(2)
@@ -207,17 +212,21 @@ def test_not_carried_out():
         expect((words, ran.returncode, ran.stdout, ran.stderr.partition(":")[0]), (words, 2, "", "usage"))
     status, out, err = called("stop C1", "nowhere.cfg")
     expect((status, out, err), (1, "", "gikvand-edge: nowhere.cfg: can't be read\n"))
-    os.kill(edge.process_of(2), signal.SIGKILL)
-    edge.hears("C2: its process ended by signal 9")
+    process = edge.process_of(2)
+    freeze(edge.process.pid)  # It starts the process that ends now anew behind the command, however long that takes.
+    os.kill(process, signal.SIGKILL)
+    await_that("its end", lambda: not is_there(process))
     status, out, err = called("cancel all")
-    expect((status, out), (1, "C1: the venue has answered the cancels of 1 orders\n"))
+    expect((status, out), (1, "C1: the venue has answered the cancel of 1 order\n"))
     expect(err, "gikvand-edge: C2: its process doesn't run: edge/C2/C2.control: Connection refused\n")
+    os.kill(edge.process.pid, signal.SIGCONT)
+    edge.hears("C2: its process ended by signal 9")
     cancelled(one, "a")
     edge.hears("C2: serves, behind report")
     venue.kill()
     edge.hears("C1: the venue:")
-    for words in ("stop C1", "cancel C1"):
-        failed(words, f"C1: the venue isn't there: {UNCHANGED}")
+    for command in ("stop C1", "cancel C1"):
+        failed(command, f"C1: the venue isn't there: {UNCHANGED}")
     audited(edge, "stop", f"failed: the venue isn't there: {UNCHANGED}")
     done("halt ABC", "C1: ABC is halted", "C2: ABC is halted")
     again(port, 2, venue.port)
@@ -230,12 +239,12 @@ def test_not_carried_out():
     failed("resume C1", "C1: its process doesn't run: edge/C1/C1.control: No such file or directory")
 
 
-def test_kept():
+def test_kept() -> None:
     """What is switched off stays so over a kill and over a stop, with who switched it and when; what was resumed stays so
     as well. A member that is stopped may log on."""
     venue, edge, port = pair(2)
     one, other = at_rest(port, "a"), Engine(port, 2).log_on()
-    done("stop C1", "C1: stopped, and the venue has answered the cancels of 1 orders")
+    done("stop C1", "C1: stopped, and the venue has answered the cancel of 1 order")
     done("halt ABC", "C1: ABC is halted", "C2: ABC is halted")
     before = rows(1, "SELECT * FROM switches ORDER BY what")
     expect([it[0] for it in before], ["", "ABC"])
@@ -264,20 +273,20 @@ def test_kept():
     resting(one, "e")
 
 
-def is_kept(query):
+def is_kept(query: str) -> None:
     """Waits until the record of C1 has a row of this query."""
     await_that(query, lambda: rows(1, query))
 
 
-def told_once(one, *names):
+def told_once(one: Engine, *names: str) -> None:
     """Each of these orders was cancelled once, as the journal has it, and no cancel was refused."""
     one.settle()
-    expect(sorted(value(it, "41") for it in stored(1) if value(it, "150") == "4"), sorted(names))
+    expect(sorted(sure(value(it, "41")) for it in stored(1) if value(it, "150") == "4"), sorted(names))
     expect([it for it in stored(1) if value(it, "35") == "9"], [])
-    expect(places(1), [int(value(it, "17")) for it in told(1) if value(it, "35") == "8"])
+    expect(places(1), [int(sure(value(it, "17"))) for it in told(1) if value(it, "35") == "8"])
 
 
-def stopped_in_the_midst():
+def stopped_in_the_midst() -> tuple[Venue, Edge, int, Engine, Call]:
     """A venue that doesn't answer, an edge, its port, a member of whom two orders rest, and the call that stops that member: it
     is kept, and waits."""
     venue, edge, port = pair()
@@ -289,7 +298,7 @@ def stopped_in_the_midst():
     return venue, edge, port, one, call
 
 
-def goes_on_stopped(one):
+def goes_on_stopped(one: Engine) -> Edge:
     """The next start of an edge goes on with what stopped a member: its two orders are cancelled, each told once, and it stays
     stopped. The edge."""
     edge = restarted()
@@ -301,7 +310,7 @@ def goes_on_stopped(one):
     return edge
 
 
-def killed_before_the_answers(is_venue_killed):
+def killed_before_the_answers(is_venue_killed: bool) -> None:
     """The edge is killed when a command is kept, and the venue hasn't answered. Its operator is told that nothing is known.
     The next start goes on with it: the member stays stopped, and each order is cancelled, and told, once."""
     venue, edge, port, one, call = stopped_in_the_midst()
@@ -327,15 +336,15 @@ def killed_before_the_answers(is_venue_killed):
     told_once(one, "a", "b")
 
 
-def test_killed_before_the_answers():
+def test_killed_before_the_answers() -> None:
     killed_before_the_answers(False)
 
 
-def test_killed_with_the_venue():
+def test_killed_with_the_venue() -> None:
     killed_before_the_answers(True)
 
 
-def test_killed_again():
+def test_killed_again() -> None:
     """The edge is killed again when what was asked for before isn't sent anew yet, since the venue doesn't say what it has
     taken in. It is sent anew all the same by the start behind that."""
     venue, edge, port = pair()
@@ -359,13 +368,13 @@ def test_killed_again():
     told_once(one, "a", "b")
 
 
-def test_venue_comes_back():
+def test_venue_comes_back() -> None:
     """The venue is killed when it hasn't answered a command's cancels, and comes back: they are sent anew, and the command is
     done then. An order that comes behind the command stays."""
     venue, edge, port = pair()
     one = Engine(port, 1).log_on()
 
-    def run(number):
+    def run(number: int) -> list[str]:
         nonlocal venue
         names = [f"{name}{number}" for name in "ab"]
         resting(one, *names)
@@ -388,7 +397,7 @@ def test_venue_comes_back():
     expect([value(it, "41") for it in stored(1) if value(it, "150") == "4"][-2:], names)
 
 
-def test_no_answer():
+def test_no_answer() -> None:
     """A venue that doesn't answer: the command says so behind its bound, and what may still rest. The cancels go on."""
     venue, edge, port = pair()
     one = Engine(port, 1).log_on()
@@ -410,7 +419,7 @@ def test_no_answer():
     told_once(one, "a", "b")
 
 
-def test_edge_stops():
+def test_edge_stops() -> None:
     """The edge is stopped in order while a command waits for the venue: its operator is told what may still rest. The next
     start goes on with it."""
     venue, edge, port, one, call = stopped_in_the_midst()
@@ -422,7 +431,7 @@ def test_edge_stops():
     goes_on_stopped(one)
 
 
-def test_not_kept():
+def test_not_kept() -> None:
     """What a command has switched can't be committed: it is told that nothing was changed, and nothing is."""
     venue, edge, port = pair()
     one = at_rest(port, "a")
@@ -441,22 +450,37 @@ def test_not_kept():
     expect([value(it, "11") for it in told(1)], ["1", "2", "3"])
 
 
-def caller():
+def caller(path: str = CONTROL) -> socket.socket:
     """A connection to the process of C1, as a command makes one."""
     it = socket.socket(socket.AF_UNIX)
     it.settimeout(PATIENCE)
-    it.connect(CONTROL)
+    it.connect(path)
     return it
 
 
-def answer(it, words):
+def answer(it: socket.socket, words: bytes) -> bytes:
     it.sendall(words)
     with contextlib.suppress(ConnectionResetError), it:
         return it.recv(4096)
     return b""
 
 
-def can_call_as(user):
+def answered(*pieces: bytes, path: str = CONTROL) -> bytes:
+    """What these pieces bring, by a caller of their own, who says none of them so late that it is let go for that."""
+    def run(number: int) -> bytes:
+        begin, came = time.monotonic(), b""
+        with contextlib.suppress(BrokenPipeError):
+            it = caller(path)
+            for piece in pieces[:-1]:
+                it.sendall(piece)
+            came = answer(it, pieces[-1])
+        if not came and time.monotonic() - begin >= SILENCE:
+            raise Late(f"{pieces} took {time.monotonic() - begin:.1f} s")
+        return came
+    return in_some_try(run, "a caller")
+
+
+def can_call_as(user: int) -> bool:
     """Whether another user can connect, whom the folders don't keep away."""
     child = os.fork()
     if not child:
@@ -474,7 +498,7 @@ def can_call_as(user):
     return {0: True, 1: False}[os.waitstatus_to_exitcode(os.waitpid(child, 0)[1])]
 
 
-def test_callers():
+def test_callers() -> None:
     """The socket is for the process's user alone. Who says nothing, or no command, is let go; no number of callers takes
     more than their places, and a command passes behind them."""
     venue, edge, port = pair()
@@ -495,17 +519,14 @@ def test_callers():
     expect([one.recv(1) for one in silent], [b""] * CALLERS)
     for words in (b"", b"stop", b"C1", b"C1 ", b"C2 stop", b"C1 stop C1", b"C1 halt", b"C1 halt abc", b"C1 halt ", b"C1 stopp",
                   b"\0\xff", b"C1 halt " + b"A" * 9):
-        expect((words, answer(caller(), words + b"\n")), (words, b"failed: these are no words to the process of C1\n"))
-    expect(answer(caller(), b"x" * 100 + b"\n"), b"")
-    one = caller()
-    for byte in b"C1 halt XY":
-        one.sendall(bytes([byte]))
-    expect(answer(one, b"Z\n"), b"done: XYZ is halted\n")
-    await_that("an end of all", lambda: len(os.listdir(f"/proc/{process}/fd")) == before)
+        expect((words, answered(words + b"\n")), (words, b"failed: these are no words to the process of C1\n"))
+    expect(answered(b"x" * 100 + b"\n"), b"")
+    expect(answered(*(bytes([byte]) for byte in b"C1 halt XYZ\n")), b"done: XYZ is halted\n")
+    await_that("an end of all", lambda: len(os.listdir(f"/proc/{process}/fd")) <= before)
     at_rest(port, "a")
 
 
-def test_false_process():
+def test_false_process() -> None:
     """What answers in the place of a process, without an end or by no answer, makes an operator's command print one line."""
     venue, edge, port = pair()
     edge.stop()
@@ -523,7 +544,7 @@ def test_false_process():
             expect((len(words), call.end()), (len(words), (1, "", "gikvand-edge: C1: its process gives no answer\n")))
 
 
-def test_operator_gone():
+def test_operator_gone() -> None:
     """A process that stands still answers no operator, who is told so. What was asked of it meanwhile isn't carried out when
     it goes on, since nobody knows of that any more."""
     venue, edge, port = pair()
@@ -540,11 +561,14 @@ def test_operator_gone():
     expect([it for it in edge.lines if "operator root" in it], [])
 
 
-def stopped_as_it_sends(one):
+def stopped_as_it_sends(one: Engine) -> int:
     """A member that is stopped while it sends orders without an end: how many it has sent by then. The command is done."""
-    sent, call = 0, None
-    while not call or call.process.poll() is None:
-        for _ in range(20 if sent < MOST_SENT else 0):
+    sent, call, end = 0, None, time.monotonic() + PATIENCE + BOUND
+
+    def is_told() -> bool:
+        return any(value(it, "58") == STOPPED for it in one.history) or time.monotonic() > end
+    while not call or call.process.poll() is None or not is_told():
+        for _ in range(20 if sent < MOST_AT_ONCE else 1):  # The command may take its time to begin.
             sent += 1
             one.send("D", order(f"o{sent}", 1, 1, "50"))
         one.pump()
@@ -557,7 +581,7 @@ def stopped_as_it_sends(one):
     return sent
 
 
-def test_stopped_while_it_sends():
+def test_stopped_while_it_sends() -> None:
     """A member is stopped while it sends orders without an end. Once that is done nothing of it rests, and all that it sends
     further is refused. Others trade on."""
     venue, edge, port = pair(2)
@@ -565,14 +589,14 @@ def test_stopped_while_it_sends():
     sent = stopped_as_it_sends(one)
     resting(other, "x")
     is_refused(one, "D", order("last", 1, 1, "50"), STOPPED)
-    taken = [value(it, "11") for it in one.history if value(it, "150") == "0"]
-    refused = [value(it, "11") for it in one.history if value(it, "150") == "8"]
+    taken = [sure(value(it, "11")) for it in one.history if value(it, "150") == "0"]
+    refused = [sure(value(it, "11")) for it in one.history if value(it, "150") == "8"]
     expect(taken + refused, [f"o{at}" for at in range(1, sent + 1)] + ["last"])
     told_once(one, *taken)
     expect(len(refused) > 1, True)
 
 
-def test_mass_cancel():
+def test_mass_cancel() -> None:
     """A member cancels all its orders, those of a symbol, those of a side of one. The answer says how many, and each order is
     told by a report of its own under the name of the mass cancel. Orders of others stay."""
     venue, edge, port = pair(2)
@@ -601,7 +625,7 @@ def test_mass_cancel():
     other.send("F", cancel("y", "x", 1, 10))
     other.report(_150="4")
     one.settle()
-    expect([it for it in one.history if value(it, "35") in "9j3"], [])
+    expect([it for it in one.history if sure(value(it, "35")) in "9j3"], [])
 
 
 REFUSED = [  # A body, the reason of 532, and a word of the text.
@@ -617,7 +641,7 @@ REFUSED = [  # A body, the reason of 532, and a word of the text.
 ]
 
 
-def test_mass_cancel_refused():
+def test_mass_cancel_refused() -> None:
     """What the edge hasn't of mass cancels is refused in words, and cancels nothing. One without a needed field is rejected;
     names are used once, those of mass cancels as well, and no order is of one."""
     venue, edge, port = pair()
@@ -629,7 +653,7 @@ def test_mass_cancel_refused():
                (body, "0", reason, "NONE", True, "edge: ", None))
     for body, tag in ((mass("m7").replace("530=7|", ""), "530"), (mass("m8").replace("11=m8|", ""), "11")):
         one.send("q", body)
-        got = fields_of(one.next_of("3"))
+        got = fields_of(sure(one.next_of("3")))
         expect((got["372"], got["371"], got["373"]), ("q", tag, "1"))
     one.send("r", mass("m9"))
     expect(value(one.report(_35="j"), "380"), "3")
@@ -649,7 +673,7 @@ def test_mass_cancel_refused():
     expect((got["531"], got.get("532"), got["58"]), ("0", None, "edge: the venue isn't there"))
 
 
-def test_mass_cancel_while_stopped():
+def test_mass_cancel_while_stopped() -> None:
     """A mass cancel passes while the member is stopped, as a cancel does."""
     venue, edge, port = pair()
     one = at_rest(port, "a")
@@ -662,7 +686,7 @@ def test_mass_cancel_while_stopped():
     one.report(_35="r", _533="0")
 
 
-def test_mass_cancel_of_what_is_under_way():
+def test_mass_cancel_of_what_is_under_way() -> None:
     """Orders and replaces that the venue hasn't answered are cancelled as well. A second mass cancel, and a command, find
     cancels under way and send none again; the command waits for these."""
     venue, edge, port = pair()
@@ -689,7 +713,7 @@ def test_mass_cancel_of_what_is_under_way():
                         ("8", "4", "m", "c"), ("8", "0", name, None)])
 
 
-def test_mass_cancel_sent_again():
+def test_mass_cancel_sent_again() -> None:
     """A mass cancel that is sent again is passed over where it is known, and taken once where the edge was killed before it
     was read. The answer that was told is told again by a resend."""
     venue, edge, port = pair()
@@ -725,7 +749,7 @@ def test_mass_cancel_sent_again():
     one.log_on().report(_35="r", _11="m", _43="Y")
 
 
-def test_mass_cancel_killed():
+def test_mass_cancel_killed() -> None:
     """Edge and venue are killed when the answer to a mass cancel has been told, and its cancels haven't been read: they are
     sent anew, under its name, and each order is told once. What the member orders behind it stays."""
     venue, edge, port = pair()
@@ -755,7 +779,7 @@ def test_mass_cancel_killed():
     one.report(_150="4", _41="x")
 
 
-def test_ordered_behind():
+def test_ordered_behind() -> None:
     """A mass cancel is sent anew when the venue has come back, and has answered what came before. An order that comes
     meanwhile stays."""
     venue, edge, port = pair()
@@ -783,7 +807,7 @@ def test_ordered_behind():
     one.report(_150="4", _41="b")
 
 
-def test_mass_cancel_of_the_day_before():
+def test_mass_cancel_of_the_day_before() -> None:
     """The answer to a mass cancel that its member wasn't sent before the day ended is told again, as reports are."""
     market = Market("2030-01-01 23:59:00")
     one = at_rest(market.port, "a")
@@ -799,10 +823,10 @@ def test_mass_cancel_of_the_day_before():
     expect([(value(it, "35"), value(it, "97")) for it in back.history], [("8", "Y"), ("r", "Y"), ("8", "Y")])
 
 
-def measured(port, rounds, count=1000):
+def measured(port: int, rounds: int, count: int = 1000) -> dict[str, list[float]]:
     """How long commands and mass cancels take, in milliseconds: until the last cancel of so many orders was told."""
     one = Engine(port, 1).log_on()
-    figures = {}
+    figures: dict[str, list[float]] = {}
     for turn in range(rounds):
         for kind in ("command", "mass cancel"):
             for at in range(count):
@@ -819,7 +843,7 @@ def measured(port, rounds, count=1000):
                 one.send("q", mass(f"m{turn}"))
             came, at, found = bytearray(), 0, 0
             while found < count:
-                data = one.socket.recv(1 << 20)
+                data = sure(one.socket).recv(1 << 20)
                 if not data:
                     raise Trouble("the connection ended")
                 came += data
@@ -839,12 +863,12 @@ def measured(port, rounds, count=1000):
     return figures
 
 
-def test_thousand_cancels():
+def test_thousand_cancels() -> None:
     """How long it takes until a thousand orders that rest are cancelled, and told, while two others trade."""
     venue, edge, port = pair(3)
     others, is_over = Undisturbed(edge, port), threading.Event()
 
-    def trade():
+    def trade() -> None:
         while not is_over.is_set():
             others.trade()
 

@@ -4,9 +4,14 @@ import re
 import subprocess
 import threading
 import time
+from collections.abc import Callable, Sequence
+from typing import TypeVar
 
 from edges import NAMES, PATIENCE, ROOT, Trouble, running
 from gikvand.fix import printed, value
+from gikvand.words import sure
+
+T = TypeVar("T")
 
 CLIENT = os.path.join(ROOT, "edge/out/tradeclient")
 STOCK = os.path.join(ROOT, "edge/out/FIX44.xml")
@@ -39,7 +44,8 @@ IN = re.compile(rb"\nIN: (8=FIX[^\n]*)\n")
 class TradeClient:
     """One that runs, as a member of the edge."""
 
-    def __init__(self, port, member=1, hours=("00:00:00", "00:00:00"), env=None):
+    def __init__(self, port: int, member: int = 1, hours: Sequence[str] = ("00:00:00", "00:00:00"),
+                 env: dict[str, str] | None = None) -> None:
         self.name = NAMES[member]
         config = f"client-{self.name}.cfg"
         with open(config, "w", encoding="ascii") as file:
@@ -52,11 +58,11 @@ class TradeClient:
         self.out, self.at, self.seen = b"", 0, 0
         threading.Thread(target=self.read, daemon=True).start()
 
-    def read(self):
-        while piece := os.read(self.process.stdout.fileno(), 65536):
+    def read(self) -> None:
+        while piece := os.read(sure(self.process.stdout).fileno(), 65536):
             self.out += piece
 
-    def until(self, look):
+    def until(self, look: Callable[[], T | None]) -> T:
         """Waits until this finds something, and gives it."""
         end = time.monotonic() + PATIENCE
         while time.monotonic() < end:
@@ -65,11 +71,11 @@ class TradeClient:
             time.sleep(0.01)
         raise Trouble(f"{self.name}: its last words are {printed(self.out[-600:])}")
 
-    def logged_on(self, times=1):
+    def logged_on(self, times: int = 1) -> "TradeClient":
         self.until(lambda: self.out.count(b"\nLogon - ") >= times)
         return self
 
-    def answer(self, last, **answers):
+    def answer(self, last: str, **answers: int | str) -> None:
         """Answers its questions until this one has been answered."""
         answers = {"BeginString": "5", "SenderCompID": self.name, "TargetCompID": "GIKVAND", "Use a TargetSubID?": "N",
                    **{name.replace("_", " "): it for name, it in answers.items()}}
@@ -77,24 +83,24 @@ class TradeClient:
         while name != last:
             found = self.until(lambda: QUESTIONS.search(self.out, self.at))
             self.at, name = found.end(), found[1].decode()
-            self.process.stdin.write(f"{answers.get(name, 'Y')}\n".encode())
-            self.process.stdin.flush()
+            sure(self.process.stdin).write(f"{answers.get(name, 'Y')}\n".encode())
+            sure(self.process.stdin).flush()
 
-    def order(self, name, side, quantity, price, symbol="ABC", term=DAY):
+    def order(self, name: str, side: int, quantity: int | str, price: str, symbol: str = "ABC", term: int = DAY) -> None:
         self.answer("Send order?", Action="1", ClOrdID=name, Side=side, OrderQty=quantity, OrdType=2, Price=price,
                     Symbol=symbol, TimeInForce=term)
 
-    def cancel(self, name, original, side, quantity, symbol="ABC"):
+    def cancel(self, name: str, original: str, side: int, quantity: int | str, symbol: str = "ABC") -> None:
         self.answer("Send cancel?", Action="2", ClOrdID=name, OrigClOrdID=original, Side=side, OrderQty=quantity,
                     Symbol=symbol)
 
-    def replace(self, name, original, side, quantity, price, symbol="ABC"):
+    def replace(self, name: str, original: str, side: int, quantity: int | str, price: str, symbol: str = "ABC") -> None:
         self.answer("Send replace?", Action="3", ClOrdID=name, OrigClOrdID=original, Side=side, OrderQty=quantity,
                     OrdType=2, Price=price, Symbol=symbol)
 
-    def report(self, **wanted):
+    def report(self, **wanted: int | str) -> str:
         """Waits for a report whose fields, by tag, are these, behind those that were waited for; gives it."""
-        def look():
+        def look() -> str | None:
             for found in IN.finditer(self.out, self.seen):
                 text = printed(found[1])
                 if all(value(text, tag[1:]) == str(wants) for tag, wants in wanted.items()):
@@ -103,6 +109,14 @@ class TradeClient:
             return None
         return self.until(look)
 
-    def kill(self):
+    def has_counted(self, report: str) -> None:
+        """Waits until its store has counted a message that it has shown: killed before that it would ask for the message again."""
+        def look() -> bool:
+            with open(f"client-{self.name}/FIX.4.4-{self.name}-GIKVAND.seqnums", encoding="ascii") as file:
+                found = re.match(r"\d+ : (\d+)", file.read())
+            return bool(found) and int(sure(found)[1]) > int(sure(value(report, "34")))
+        self.until(look)
+
+    def kill(self) -> None:
         self.process.kill()
         self.process.wait()

@@ -5,17 +5,20 @@ import re
 from edges import DICTIONARY, ROOT, Trouble, pair, session_files, stored, told
 from engines import Engine, cancel, order, replace
 from gikvand.fix import fields_of, value
+from gikvand.words import sure
 from tradeclients import STOCK, TradeClient
 from venues import expect
 
+TOLD = ["r", "W", "X", "Y", "y", "f", "AE", "AQ"]  # Types that the edge alone sends.
 
-def logged(member):
+
+def logged(member: int) -> list[str]:
     """What passed between a member and the edge, by the edge's log."""
     with open(session_files(member, "log") + "messages.current.log", encoding="ascii") as file:
         return file.read().replace("\x01", "|").splitlines()
 
 
-def is_as_documented(lines):
+def is_as_documented(lines: list[str]) -> None:
     """The first messages of the day are those that docs/EDGE.md shows, but for times, lengths and sums."""
     with open(os.path.join(ROOT, "docs/EDGE.md"), encoding="utf-8") as file:
         shown = [line for line in file.read().splitlines() if line.startswith("8=FIX.4.4|")]
@@ -25,7 +28,7 @@ def is_as_documented(lines):
         expect(vary.sub("", other), vary.sub("", one))
 
 
-def test_tradeclients():
+def test_tradeclients() -> None:
     """The unchanged client trades with another one, is killed, comes back, and is sent again what it missed."""
     venue, edge, port = pair(2)
     one, other = TradeClient(port, 1).logged_on(), TradeClient(port, 2).logged_on()
@@ -35,9 +38,11 @@ def test_tradeclients():
     other.order("first", 2, 40, "50.2")
     other.report(_150="0", _11="first", _44="50.20")
     expect(value(other.report(_150="F"), "31"), "50.25")
-    got = fields_of(one.report(_150="F"))
+    fill = one.report(_150="F")
+    got = fields_of(fill)
     expect([got[tag] for tag in ("11", "39", "32", "31", "151", "14", "6")],
            ["ORD-7", "1", "40", "50.25", "60", "40", "50.25"])
+    one.has_counted(fill)
     one.kill()
     edge.hears("C1: the client from")
     other.order("second", 2, 60, "50.25")
@@ -59,7 +64,7 @@ def test_tradeclients():
             raise Trouble(f"something was rejected: {wrong[0]}")
 
 
-def test_each_report():
+def test_each_report() -> None:
     """Each kind of report, as the venue tells it, with the member's names and prices."""
     venue, edge, port = pair(2)
     one, other = Engine(port, 1).log_on(), Engine(port, 2).log_on()
@@ -114,7 +119,7 @@ REFUSED = [  # A body, tags of the refusal, and a word of its text.
 COPIED = ("11", "38", "54", "55")  # Fields that a refusal of an order has out of the order, as they are.
 
 
-def test_refused_fields():
+def test_refused_fields() -> None:
     """What the venue doesn't have is refused in words, and never reaches it; what the settings drop is dropped. Each
     refusal has an ExecID of its own, and what the order said of itself."""
     venue, edge, port = pair()
@@ -147,16 +152,16 @@ def test_refused_fields():
     expect([len(told(1)), len([it for it in one.came if "|35=j|" in it or "|35=3|" in it])], [2, 1])
 
 
-def test_other_types():
+def test_other_types() -> None:
     """Each type of FIX 4.4 that the edge has nothing to do with, or only sends, is answered by a BusinessMessageReject, and
     counts; what is no type of FIX by a Reject."""
     with open(DICTIONARY, encoding="utf-8") as file:
         own = re.findall(r'<message [^>]*msgtype="([^"]*)"', file.read())
-    types = ["6", "B", "R", "V", "AE", "BH", "n"]
+    types = ["6", "B", "R", "W", "AE", "BH", "n"]
     if os.path.exists(STOCK):
         with open(STOCK, encoding="utf-8") as file:
-            types = [it for it in re.findall(r"<message [^>]*msgtype='([^']*)'", file.read()) if it not in own or it == "r"]
-        expect(len(types), 79)
+            types = [it for it in re.findall(r"<message [^>]*msgtype='([^']*)'", file.read()) if it not in own or it in TOLD]
+        expect(len(types), 74)
     venue, edge, port = pair()
     one = Engine(port, 1).log_on()
     for it in types:
@@ -165,13 +170,13 @@ def test_other_types():
         expect((got["45"], got["372"], got["380"]), (str(one.out - 1), it, "3"))
     for it in ("I", "O", "U", "BI", "ZZ", "AAA", "a1"):
         one.send(it)
-        expect(value(one.next_of("3"), "373"), "11")
+        expect(value(sure(one.next_of("3")), "373"), "11")
     one.send("D", order("a", 1, 10, "50"))
     one.report(_150="0")
     expect([it for it in one.came if "|35=2|" in it], [])
 
 
-def test_last_capacity():
+def test_last_capacity() -> None:
     """LastCapacity stands in reports of fills where the settings ask for it, and not elsewhere."""
     venue, edge, port = pair(2, LastCapacity="1")
     one, other = Engine(port, 1).log_on(), Engine(port, 2).log_on()
@@ -181,13 +186,13 @@ def test_last_capacity():
     expect(value(other.report(_150="F"), "29"), "1")
 
 
-def tags(report):
+def tags(report: str) -> tuple[list[int], list[int]]:
     """The tags of a report: those of its header, and those of its body."""
     those = [int(tag) for tag in fields_of(report)]
     return those[:7], those[7:-1]
 
 
-def test_written_as_by_the_session():
+def test_written_as_by_the_session() -> None:
     """Reports of the venue, which the edge writes itself, have the header of what the library writes, the form of its times,
     and the fields of their bodies in its order."""
     venue, edge, port = pair(TimestampPrecision="6", LastCapacity="1")
@@ -199,7 +204,7 @@ def test_written_as_by_the_session():
     one.send("F", cancel("c", "a", 1))
     for it in (librarys, one.report(_150="0"), one.report(_150="F"), one.report(_35="9")):
         head, body = tags(it)
-        expect((head, body, len(value(it, "52"))), (tags(librarys)[0], sorted(body), len(value(librarys, "52"))))
+        expect((head, body, len(sure(value(it, "52")))), (tags(librarys)[0], sorted(body), len(sure(value(librarys, "52")))))
 
 
 TESTS = [test_tradeclients, test_each_report, test_refused_fields, test_other_types, test_last_capacity,

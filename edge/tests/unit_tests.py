@@ -14,13 +14,13 @@ OPERATORS = FAMILIES + " AF_UNIX"  # By which no operator asks the venue.
 EXPOSED = 15  # The greatest exposure of a service that is taken, in tenths, as systemd-analyze reckons it.
 
 
-def lines_of(path):
+def lines_of(path: str) -> list[str]:
     """The lines of a unit that say something."""
     with open(os.path.join(ROOT, "contrib", path), encoding="utf-8") as file:
         return [line for line in file.read().splitlines() if line and not line.startswith("#")]
 
 
-def test_unit():
+def test_unit() -> None:
     """What the venue's service keeps from the venue, that of the edge keeps from the edge, but for the calls by which it asks
     for short slices, and the socket of its operators; each member is bounded."""
     venues, own = lines_of("venued@.service"), lines_of(f"edge/{UNIT}")
@@ -35,7 +35,7 @@ def test_unit():
     expect([line.split()[1] for line in users], [f"gikvand-edge-C{k}" for k in range(1, 9)])
 
 
-def test_unit_by_systemd():
+def test_unit_by_systemd() -> None:
     """systemd takes the service and the venue's with its drop-in, and reckons little exposure; it makes the users."""
     if not shutil.which("systemd-analyze"):
         print("edge/check: the services aren't tried: that needs systemd-analyze, of Debian's systemd", flush=True)

@@ -16,18 +16,18 @@ OPENING = "2030-01-01 08:00:00"
 MACHINE = "another"  # The folder of what the other machine has.
 
 
-def fail_over(market):
+def fail_over(market: Market) -> None:
     """Venue and edge are killed, and go on at another machine: with what stood on the disk, at the addresses that they had."""
     market.edge.kill()
     market.venue.kill()
-    shutil.copytree(".", MACHINE, ignore=shutil.ignore_patterns(MACHINE, "client-*", "*.control"))
+    shutil.copytree(".", MACHINE, ignore=shutil.ignore_patterns(MACHINE, "client-*", "*.control", "*.copies"))
     os.chdir(MACHINE)
     market.venue = again(market.port, venue_port=market.venue.port, gateways=SELLER)
     market.start_again()
     market.seller = Client(market.venue.port, SELLER).log_on()
 
 
-def test_whole_day():
+def test_whole_day() -> None:
     """One member has QuickFIX's own client. It is told of each fill as if nothing had happened, its Day order expires, and its GTC
     order trades on the next day. The other one is stopped as it sends, and nothing of that rests; its Day order goes, too."""
     market = Market(OPENING, 2, hours=NIGHT)

@@ -4,9 +4,11 @@ import socket
 import ssl
 import struct
 import subprocess
+from collections.abc import Iterable
 
 from edges import HOST, JOURNAL, PATIENCE, SYMBOLS, Edge, Trouble, free_port, members_of, running, settings_of, started
 from engines import Engine, cancel, order, replace
+from gikvand.words import sure
 from identity_tests import certificate, stunnel_configuration
 from relay import Relay
 from trading_tests import expect
@@ -15,15 +17,17 @@ from venues import await_that
 PCAP = struct.pack("<IHHiIII", 0xA1B2C3D4, 2, 4, 0, 0, 65535, 101)  # Of packets that begin with their IP header.
 MEMBERS_PORT, VENUES_PORT = 9800, 9001
 
+Conversation = tuple[int, list[str], list[str]]  # A port, what was said to that port, and what was told by that.
 
-def packet(source, target, number, data):
+
+def packet(source: int, target: int, number: int, data: bytes) -> bytes:
     """A TCP segment with these bytes, from one port to the other."""
     tcp = struct.pack(">HHIIBBHHH", source, target, number, 0, 0x50, 0x18, 65535, 0, 0) + data
     ip = struct.pack(">BBHHHBBH", 0x45, 0, 20 + len(tcp), 0, 0, 64, 6, 0) + 2 * socket.inet_aton(HOST)
     return struct.pack("<IIII", 0, 0, 20 + len(tcp), 20 + len(tcp)) + ip + tcp
 
 
-def capture(name, conversations):
+def capture(name: str, conversations: Iterable[Conversation]) -> None:
     """Writes a capture of conversations, each a server's port, what its client said and what it was told."""
     with open(name, "wb") as file:
         file.write(PCAP)
@@ -36,7 +40,7 @@ def capture(name, conversations):
                     at += len(data)
 
 
-def tshark(name, *words):
+def tshark(name: str, *words: str) -> list[str]:
     ports = [it for port in (MEMBERS_PORT, VENUES_PORT) for it in ("-d", f"tcp.port=={port},fix")]
     ran = subprocess.run(["tshark", "-r", name, *ports, "-o", "tcp.check_checksum:FALSE", *words], capture_output=True,
                          text=True)
@@ -45,7 +49,7 @@ def tshark(name, *words):
     return ran.stdout.splitlines()
 
 
-def test_dissected():
+def test_dissected() -> None:
     """tshark reads each message on both sides of the edge as FIX, with a right sum and without a warning."""
     if not shutil.which("tshark"):
         raise Trouble("tshark isn't there: edge/setup --tests installs it")
@@ -85,24 +89,24 @@ def test_dissected():
 
 
 class Stunnel:
-    """stunnel by the configuration of the edge for one member, with ports and files of this test."""
+    """stunnel by this configuration, that of the edge for one member or another one, which listens at this port."""
 
-    def __init__(self, name, tls, port):
-        words = ["stunnel", stunnel_configuration(name, tls, port)]
+    def __init__(self, configuration: str, tls: int) -> None:
+        words = ["stunnel", configuration]
         nothing = subprocess.DEVNULL
         self.process = subprocess.Popen(words, stdout=nothing, stderr=nothing)
         running.append(self)
         await_that("a stunnel that listens", lambda: self.listens(tls))
 
     @staticmethod
-    def listens(tls):
+    def listens(tls: int) -> bool:
         try:
             socket.create_connection((HOST, tls), 5).close()
             return True
         except OSError:
             return False
 
-    def kill(self):
+    def kill(self) -> None:
         self.process.kill()
         self.process.wait()
 
@@ -110,21 +114,21 @@ class Stunnel:
 class TlsEngine(Engine):
     """An engine that speaks TLS to this port, with this certificate or with none."""
 
-    def __init__(self, port, name, sender):
+    def __init__(self, port: int, name: str | None, sender: str) -> None:
         super().__init__(port, 1, sender=sender)
         self.context = ssl.create_default_context(cafile="edge.pem")
         self.context.check_hostname = False
         if name:
             self.context.load_cert_chain(f"{name}.pem", f"{name}.key")
 
-    def connect(self):
+    def connect(self) -> "TlsEngine":
         super().connect()
-        self.socket = self.context.wrap_socket(self.socket)
+        self.socket = self.context.wrap_socket(sure(self.socket))
         self.socket.settimeout(PATIENCE)
         return self
 
 
-def test_tls():
+def test_tls() -> None:
     """A member trades through its own stunnel with its own certificate. With another's, with none, with one of the same
     issuer, or by the stunnel of another one with that one's certificate, nobody logs on as it."""
     if not shutil.which("stunnel"):
@@ -138,15 +142,15 @@ def test_tls():
                for at, (it, name) in enumerate(zip(members_of(2, port), "ab"))]
     edge = Edge(settings_of({"VenuePort": venue.port, "AllowAnyone": None}, members)).ready(2)
     for at, name in enumerate("ab"):
-        Stunnel(name, tls + at, port + at)
-    wrong = [(tls, name, "DESK-A") for name in (None, "stranger", "b", "c", "issuer")]
+        Stunnel(stunnel_configuration(name, tls + at, port + at), tls + at)
+    wrong: list[tuple[int, str | None, str]] = [(tls, name, "DESK-A") for name in (None, "stranger", "b", "c", "issuer")]
     wrong += [(tls + 1, "a", "DESK-A"), (tls + 1, "a", "DESK-B"), (tls, "a", "DESK-B"), (tls + 1, "b", "DESK-A")]
-    for door, name, sender in wrong:
+    for door, whose, sender in wrong:
         try:
-            TlsEngine(door, name, sender).log_on()
+            TlsEngine(door, whose, sender).log_on()
         except (OSError, Trouble):
             continue
-        raise Trouble(f"{sender} came in with the certificate {name}")
+        raise Trouble(f"{sender} came in with the certificate {whose}")
     logons = lambda: sorted(line[:17] for line in edge.lines if "whose first message is no Logon of a member" in line)
     await_that("each of the two says what came", lambda: len(logons()) >= 2)
     expect(logons(), ["gikvand-edge: C1:", "gikvand-edge: C2:"])

@@ -17,19 +17,23 @@ import subprocess
 import sys
 import tempfile
 import time
+from collections.abc import Callable, Iterable
 
 import slices
-from wrong_versions import WRONG
+from wrong_versions import WRONG, Wrong
 
 EDGE = os.path.dirname(os.path.dirname(os.path.abspath(__file__)))
 ROOT = os.path.dirname(EDGE)
 FRAMER = os.path.join(ROOT, "crates/edge_frames_c/out/libedge_frames_c.a")
 RIGHT = os.path.join(EDGE, "out/gikvand-edge")
+CHECK, VARIABLE = os.path.join(EDGE, "check"), "GIKVAND_EDGE"  # The tests, and by what they are told of a program.
+TRIES = 3  # Of a test with a wrong version.
 PATIENCE = 6  # Seconds that a test waits for what has to come, and mostly doesn't come of a wrong version.
+LEAST = 10    # So many are tried, however long that takes: the check counts on them on a busy machine, too.
 OF_SLICES = "slices as all others have them"  # Before Linux 6.12 all others have none, and so have those of the edge.
 
 
-def build(wrong, place):
+def build(wrong: Wrong, place: str) -> str:
     """Compiles the wrong version in this folder: its program."""
     sources, program = os.path.join(place, "src"), os.path.join(place, "wrong-edge")
     shutil.rmtree(sources, ignore_errors=True)
@@ -51,11 +55,11 @@ def build(wrong, place):
     return program
 
 
-def refusal(program, test):
+def refusal(program: str, test: str) -> str:
     """How this test of edge/check fails with this program, or nothing."""
-    environment = {**os.environ, "GIKVAND_EDGE": program, "VENUE_PATIENCE": str(PATIENCE)}
+    environment = {**os.environ, VARIABLE: program, "VENUE_PATIENCE": str(PATIENCE)}
     with tempfile.TemporaryFile("w+") as said:  # A process that is left may hold a pipe for ever.
-        ran = subprocess.run([os.path.join(EDGE, "check"), test], env=environment, stdout=said, stderr=subprocess.STDOUT)
+        ran = subprocess.run([CHECK, test], env=environment, stdout=said, stderr=subprocess.STDOUT)
         said.seek(0)
         lines = said.read().splitlines() or ["it said nothing"]
     if not lines[-1].endswith(" failed") or lines[-1].startswith("0 passed, 0"):
@@ -63,32 +67,32 @@ def refusal(program, test):
     return "\n".join(lines) if ran.returncode else ""
 
 
-def need_refused(name, place):
-    """The test of this version has to fail with it."""
-    if not refusal(build(WRONG[name], place), WRONG[name].test):
+def need_refused(name: str, place: str) -> None:
+    """The test of this version has to fail with it, in one of some tries: where a machine is slow, a wrong version may do right by chance."""
+    program = build(WRONG[name], place)
+    if not any(refusal(program, WRONG[name].test) for _ in range(TRIES)):
         raise ValueError(f"{WRONG[name].test} doesn't see it")
 
 
-def need_taken(test, _):
+def need_taken(test: str, _: str) -> None:
     """A test may not fail with the right edge."""
     if words := refusal(RIGHT, test):
         raise ValueError(f"it fails with the right edge: {words}")
 
 
-def drawn(names):
+def drawn(names: Iterable[str]) -> list[str]:
     """These names in an order that the commit decides, so that each comes first at some time."""
-    words = {"stdout": subprocess.PIPE, "stderr": subprocess.DEVNULL, "text": True}
-    head = subprocess.run(["git", "rev-parse", "HEAD"], cwd=EDGE, **words).stdout
+    head = subprocess.run(["git", "rev-parse", "HEAD"], cwd=EDGE, stdout=subprocess.PIPE, stderr=subprocess.DEVNULL, text=True).stdout
     return sorted(names, key=lambda name: hashlib.sha256((head + name).encode()).digest())
 
 
-def tried(names, need, minutes):
-    """Tries each of these, for so long: how many there were, and how many of them aren't as they need to be."""
+def tried(names: Iterable[str], need: Callable[[str, str], None], minutes: float) -> tuple[int, int]:
+    """Tries each of these, for so long, and the least count: how many there were, and how many of them aren't as they need to be."""
     count = failed = 0
     end = time.monotonic() + 60 * minutes
     with tempfile.TemporaryDirectory(prefix="wrong-edges-") as place:
         for name in names:
-            if time.monotonic() > end:
+            if time.monotonic() > end and count >= LEAST:
                 break
             count += 1
             try:
@@ -99,10 +103,10 @@ def tried(names, need, minutes):
     return count, failed
 
 
-def main():
+def main() -> int:
     parser = argparse.ArgumentParser(description=__doc__, formatter_class=argparse.RawDescriptionHelpFormatter)
     parser.add_argument("names", nargs="*", metavar="NAME", help="those whose names have this word in them")
-    parser.add_argument("--minutes", type=float, metavar="N", help="begin no further one behind so many minutes")
+    parser.add_argument("--minutes", type=float, metavar="N", help="begin no further one behind so many minutes, and the least count")
     parser.add_argument("--right", action="store_true", help="put the right edge to their tests")
     asked = parser.parse_args()
     names = [it for it in WRONG if not asked.names or any(word in it for word in asked.names)]

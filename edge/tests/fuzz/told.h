@@ -33,7 +33,7 @@ public:
     /// Takes in a report, as the edge does: one of 8 or 9 becomes a message, or the venue's price is refused.
     void take(const edge::Fields &report) {
         for (const int tag : {11, 17, 41, 45}) want(report.number(tag) >= 0);
-        if (report.byte(35) == '8') open_.take(report);
+        if (report.byte(35) == '8') open_.take(report, edge::FIRST_DESK);
         exposure_.take(report);
         want(exposure_.shownValue() >= 0);
         if (report.byte(35) != '8' && report.byte(35) != '9') return;

@@ -1,4 +1,4 @@
-#include "desk.h"
+#include "operators.h"
 
 #include <utility>
 
@@ -16,13 +16,14 @@ const char *const UNCHANGED = ": nothing was changed";
 
 /// The orders of a sweep that the venue has answered for.
 std::string cancelled(const Sweep &it) {
-    return it.count ? "the venue has answered the cancels of " + std::to_string(it.count) + " orders"
-                    : "no order rested";
+    if (!it.count) return "no order rested";
+    if (it.count == 1) return "the venue has answered the cancel of 1 order";
+    return "the venue has answered the cancels of " + std::to_string(it.count) + " orders";
 }
 
 }
 
-void Desk::take(Asked asked) {
+void Operators::take(Asked asked) {
     if (Clock::now() >= asked.until) {
         refuse(asked, "its thread was held up for too long");
         return;
@@ -38,11 +39,15 @@ void Desk::take(Asked asked) {
     }
 }
 
-void Desk::act(Entry &it) {
+void Operators::act(Entry &it) {
     Switches &switches = trader_.switches();
     const Command &command = it.asked.command;
     if (!command.symbol.empty() && !switches.knows(command.symbol))
         throw Refused(0, command.symbol + " isn't a symbol of the venue");
+    if (!takesOrders_ && !command.isQuestion() && !command.isOfNumbers())
+        throw Refused(0, "it is sent copies, and trades nothing");
+    if (command.desk && !command.isOfNumbers())
+        throw Refused(0, "it is about a whole member, and not about one desk: name " + member_);
     it.isOver = it.isDone = true;
     switch (command.kind) {
         case Command::Kind::Stop:
@@ -59,14 +64,33 @@ void Desk::act(Entry &it) {
             it.what = command.symbol + (switches.isHalted(command.symbol) ? " trades again" : " wasn't halted");
             switches.resume(command.symbol);
             break;
-        case Command::Kind::Numbers: it.what = numbering_.words(); break;
-        case Command::Kind::SetNumbers: it.what = numbering_.set(command.out, command.in); break;
+        case Command::Kind::Numbers: it.what = numbersOf(command.desk); break;
+        case Command::Kind::SetNumbers: it.what = numberingOf(command.desk).set(command.out, command.in); break;
+        case Command::Kind::Names: it.what = trader_.namesFrom(command.from); break;
         case Command::Kind::Status: break;  // The page's words are the answer to that.
     }
 }
 
+/// The numbers of a desk's session. Of several desks one has to be named.
+Numbering &Operators::numberingOf(int desk) {
+    if (!desk && sessions_.size() > 1)
+        throw Refused(
+            0, "it has several desks: name one, as " + member_ + ".1 or " + sessions_.back().settings().deskName());
+    for (MemberSession &it : sessions_)
+        if (it.desk() == (desk ? desk : FIRST_DESK)) return it.numbering();
+    throw Refused(0, "it has no desk " + std::to_string(desk));
+}
+
+/// The same in words, and without a desk those of all.
+std::string Operators::numbersOf(int desk) {
+    if (desk) return numberingOf(desk).words();
+    std::string words;
+    for (MemberSession &it : sessions_) words += (words.empty() ? "" : "; ") + it.numbering().words();
+    return words;
+}
+
 /// Cancels what rests, and stops the member before that where this is asked for.
-void Desk::cancel(Entry &it) {
+void Operators::cancel(Entry &it) {
     if (!trader_.isReady()) throw Refused(0, "the venue isn't there");
     it.sweep = trader_.cancelEach();
     if (it.asked.command.kind == Command::Kind::Stop) {
@@ -77,7 +101,7 @@ void Desk::cancel(Entry &it) {
     if (it.isOver) it.what += cancelled(it.sweep);
 }
 
-void Desk::look() {
+void Operators::look() {
     for (Entry &it : entries_) {
         if (it.isOver) continue;
         it.isDone = trader_.isOver(it.sweep);
@@ -89,7 +113,7 @@ void Desk::look() {
     }
 }
 
-void Desk::release() {
+void Operators::release() {
     for (auto it = entries_.begin(); it != entries_.end();) {
         it->isKept = true;
         if (it->isOver) tell(it->asked, it->isDone, it->what);
@@ -98,27 +122,27 @@ void Desk::release() {
 }
 
 /// A command that was kept by a turn before goes on: the venue's answers come again.
-void Desk::drop(const std::string &why) {
+void Operators::drop(const std::string &why) {
     for (auto it = entries_.begin(); it != entries_.end();) {
         if (!it->isKept) refuse(it->asked, "it isn't served: " + why);
         it = it->isKept ? std::next(it) : entries_.erase(it);
     }
 }
 
-void Desk::refuse(const Asked &asked, const std::string &why) {
+void Operators::refuse(const Asked &asked, const std::string &why) {
     tell(asked, false, why + UNCHANGED);
 }
 
-void Desk::end() {
+void Operators::end() {
     for (const Entry &it : entries_) tell(it.asked, false, it.what + "the edge stops; " + trader_.restsOf(it.sweep));
     entries_.clear();
 }
 
-void Desk::tell(const Asked &asked, bool isDone, const std::string &what) {
+void Operators::tell(const Asked &asked, bool isDone, const std::string &what) {
     const std::string line = "operator " + asked.who + " at " + timeOf(asked.at) + ": " + asked.command.words() + ": " +
                              (isDone ? DONE : FAILED) + what;
     if (!asked.command.isQuestion()) {
-        say(member_, line, LINES);
+        say(deskName(member_, asked.command.desk ? asked.command.desk : FIRST_DESK), line, LINES);
         log_->onEvent(line);
     }
     asked.tell(isDone, what);

@@ -7,20 +7,20 @@
 #include <string>
 
 #include "commands.h"
-#include "log.h"
-#include "numbering.h"
+#include "member_session.h"
+#include "settings.h"
 #include "trader.h"
 
 namespace edge {
 
 /// The commands for one member that aren't done yet, and what became of each. One that cancels orders is done once the
 /// venue has answered the cancels. Each that changes something has a line that says who, when, what, and the outcome.
-class Desk {
+class Operators {
 public:
-    Desk(const std::string &member, Trader &trader, Numbering &numbering)
-        : member_(member), trader_(trader), numbering_(numbering) {}
+    Operators(const MemberSettings &member, Trader &trader, std::list<MemberSession> &sessions)
+        : member_(member.name()), takesOrders_(!member.isOfCopies()), trader_(trader), sessions_(sessions) {}
 
-    /// Gives it the log of the session.
+    /// Gives it the log of the first session.
     void attach(Log &log) { log_ = &log; }
 
     /// Carries a command out, or begins to.
@@ -51,11 +51,14 @@ private:
 
     void act(Entry &it);
     void cancel(Entry &it);
+    Numbering &numberingOf(int desk);
+    std::string numbersOf(int desk);
     void tell(const Asked &asked, bool isDone, const std::string &what);
 
     const std::string member_;
+    const bool takesOrders_;
     Trader &trader_;
-    Numbering &numbering_;
+    std::list<MemberSession> &sessions_;
     Log *log_ = nullptr;
     std::list<Entry> entries_;
 };

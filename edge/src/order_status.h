@@ -1,0 +1,61 @@
+#pragma once
+
+// Answers what a member asks of its own orders (35=H, 35=AF), by what trader.h knows of them.
+
+#include <quickfix/Session.h>
+
+#include <cstddef>
+#include <map>
+#include <set>
+#include <string>
+#include <vector>
+
+#include "names.h"
+#include "open_orders.h"
+#include "settings.h"
+#include "ticks.h"
+#include "trader.h"
+
+namespace edge {
+
+/// How a member's orders are. Each answer is an ExecutionReport of ExecType (150) I, which tells nothing new.
+class OrderStatus {
+public:
+    static constexpr std::size_t MOST_ORDERS = 1000;
+
+    OrderStatus(const MemberSettings &member, const std::map<std::string, Tick> &ticks, Names &names,
+                const Trader &trader)
+        : member_(member), ticks_(ticks), names_(names), trader_(trader) {}
+
+    void attach(FIX::Session &session) { session_ = &session; }
+
+    /// Answers a question about one order (H), or about many (AF).
+    void asked(const FIX::Message &message);
+
+private:
+    using Numbers = std::vector<long>;
+
+    void refuse(const FIX::Message &asked, int nameField, int reason, const std::string &why) const;
+    void askedOne(const FIX::Message &message);
+    void askedMany(const FIX::Message &message);
+    std::string refusalOf(const FIX::Message &many) const;
+    Numbers numbersFor(const FIX::Message &many) const;
+    std::size_t mostOrders() const;
+    bool isKnown(long number) const;
+    FIX::Message statusOf(long number) const;
+    FIX::Message statusOf(long number, const OpenOrder &order) const;
+    FIX::Message statusOf(long number, const Request &underWay) const;
+    std::string nameFaultOf(const FIX::Message &asked, bool isOfOne) const;
+    void tellOne(const FIX::Message &asked, long number) const;
+    FIX::Message noneOf(const FIX::Message &asked, int reason, const std::string &why) const;
+    std::string priceOf(const std::string &symbol, long steps) const;
+    void send(FIX::Message &message) const;
+
+    const MemberSettings &member_;
+    const std::map<std::string, Tick> &ticks_;
+    Names &names_;
+    const Trader &trader_;
+    FIX::Session *session_ = nullptr;
+};
+
+}
