@@ -1,6 +1,6 @@
 -- The taking of an output: a load of marshalled that shows one, other loads, and the store of the taken word.
-use Rattle.std.proofs.Common.{◌≡◌, ℕ, suc, ◌<◌, List, [], ◌∷◌, ◌++◌, length, take, refl, sym, ap, subst, ◌∙◌, arith}
-use Rattle.std.proofs.Common.{append_assoc}
+use Rattle.std.proofs.Common.{◌≡◌, ℕ, suc, ◌+◌, ◌^◌, ◌<◌, ◌≤◌, List, [], ◌∷◌, ◌++◌, length, take, refl, sym, ap, subst}
+use Rattle.std.proofs.Common.{◌∙◌, append_assoc, arith}
 use Rattle.std.proofs.Math.Seq.{take-append_seam}
 use mathlib.Core.Option.{some}
 use lib.ListN.{get_elem?}
@@ -11,8 +11,9 @@ use Rattle.ring_words.specs.declared.view.Load.{Load}
 use Rattle.ring_words.specs.Places.{marshalled}
 use Rattle.ring_words.specs.Seats.{load_of, loading, looked, knowing, moved}
 use Rattle.ring_words.specs.At.{At, seated}
-use Rattle.ring_words.specs.Steps.{Shows}
-use Rattle.barrier.specs.Taking.{OnlyLoads, after_taking}
+use Rattle.ring_words.specs.Steps.{IsLegal, Shows}
+use Rattle.barrier.specs.Taking.{OnlyLoads, TakesNext, after_taking}
+use Rattle.barrier.proofs.TextReading.{still_shows}
 
 -- what was known begins what is known
 pub begins : (seen rest : List Message) → seen ≡ take (length seen) (seen ++ rest)
@@ -55,6 +56,30 @@ module _ {L : Type 0} (v u : At L) (r : ℕ) (rest : List Message)
       (subst (λ (y : At L). z ≡ seated y (moved y.who (suc y.who.sequence))) only.1 step)
       ∙ ap (λ (l : List Load). seated v (record v.who { seen = v.who.seen ++ rest; sequence = suc v.who.sequence; loads = l }))
       (append_assoc v.who.loads (load_of marshalled r ∷ []) only.0)
+
+  -- behind other loads it may be taken
+  pub may_take : (w : At L) → OnlyLoads u w → v.who.sequence < r → r < 18446744073709551616
+      → Shows marshalled w.who w.who.sequence × (w.who.sequence + 1 < 18446744073709551616)
+  may_take w loads below small =
+      let own = own_kept in
+      let kept : w.who.sequence ≡ u.who.sequence = ap (λ (y : At L). y.who.sequence) loads.1 in (
+        still_shows u w loads marshalled w.who.sequence (shown w.who.sequence (omega arith)),
+        omega arith,
+      )
+
+  -- and then it is the next one of a history that goes on from what was seen
+  pub takes_next : (start : ℕ) (w z : At L) → OnlyLoads u w → v.who.sequence < r
+      → IsLegal start v.who (v.who.seen ++ rest) → length (v.who.seen ++ rest) ≤ 2 ^ 48
+      → z ≡ seated w (moved w.who (suc w.who.sequence)) → TakesNext start v.who (v.who.seen ++ rest) z.who
+  takes_next start w z loads below legal few step = record {
+    value = r;
+    loads = loads.0;
+    shown = below;
+    begins = begins v.who.seen rest;
+    legal = legal;
+    few = few;
+    taken = ap (λ (y : At L). y.who) (taken_now w z loads step);
+  }
 
   -- the role is the same
   pub role_same : (w : At L) (only : OnlyLoads u w) → w.who.role ≡ v.who.role

@@ -1,6 +1,6 @@
 -- The words of a text, stored one after another.
-use Rattle.std.proofs.Common.{◌≡◌, ℕ, zero, suc, ◌+◌, ◌/◌, ◌%◌, List, [], ◌∷◌, ◌++◌, length, take, min, refl, ap, sym}
-use Rattle.std.proofs.Common.{subst, inr, ◌∙◌, arith, length-append, add-one}
+use Rattle.std.proofs.Common.{◌≡◌, ℕ, zero, suc, ◌+◌, ◌≤◌, ◌/◌, ◌%◌, List, [], ◌∷◌, ◌++◌, length, take, min, refl, ap}
+use Rattle.std.proofs.Common.{sym, subst, inr, ◌∙◌, arith, length-append, add-one}
 use Rattle.std.proofs.Math.Seq.{take-length}
 use Rattle.std.specs.Int.{from_be_bytes}
 use mir.Syntax.{w64}
@@ -8,9 +8,10 @@ use Rattle.venue_model.specs.Texts.{Text}
 use Rattle.ring_words.specs.declared.view.Person.{Person}
 use Rattle.ring_words.specs.Raw.{eight}
 use Rattle.ring_words.specs.Texts.{eights, text_head, text_words}
+use Rattle.ring_words.specs.Places.{published}
 use Rattle.ring_words.specs.Seats.{stored, wrote}
 use Rattle.ring_words.specs.At.{At, seated}
-use Rattle.ring_words.specs.Steps.{GoesOnRow}
+use Rattle.ring_words.specs.Steps.{GoesOnRow, Shows}
 
 -- head, time, and the first k words of the body
 abbrev pub first_words : Text → ℕ → List ℕ
@@ -22,8 +23,14 @@ length-eights bs zero = refl
 length-eights bs (suc k) = let before = length-eights bs k in simp length-append (omega arith)
 
 -- behind head, time and the first k words of the body comes word k + 2
-pub goes_on : (p : Person) (q : ℕ) (t : Text) (k : ℕ) → GoesOnRow (wrote p q (first_words t k)).row q (k + 2)
+goes_on : (p : Person) (q : ℕ) (t : Text) (k : ℕ) → GoesOnRow (wrote p q (first_words t k)).row q (k + 2)
 goes_on p q t k = let long = length-eights t.body k in inr (refl, omega arith)
+
+-- the row of those words is under way, so word k of the body may be stored next
+pub may_store : {L : Type 0} (v u : At L) (q : ℕ) (t : Text) (k : ℕ) → u ≡ seated v (wrote v.who q (first_words t k))
+    → v.who.sequence ≤ q → Shows published v.who q
+    → (u.who.sequence ≤ q) × Shows published u.who q × GoesOnRow u.who.row q (k + 2) × (q ≡ u.who.row.sequence)
+may_store v u q t k so_far from to = rw so_far (from, to, goes_on v.who q t k, refl)
 
 -- a store of word k of the body behind the words before it
 store_after : (p : Person) (q : ℕ) (t : Text) (k x : ℕ) → x ≡ from_be_bytes w64 (eight t.body k)

@@ -14,3 +14,4 @@ mod Added
 mod Reported
 mod StartLemmas
 pub mod Staying
+mod ReadingOn

@@ -1,12 +1,12 @@
 -- A seat whose one person changed is in use as before.
 use Rattle.std.proofs.Common.{◌≡◌, ◌≢◌, ℕ, List, [], ◌∷◌, Option, None, refl, ap, sym, subst, ◌∙◌}
 use Rattle.ring_words.specs.declared.view.Role.{Role}
-use Rattle.ring_words.specs.declared.view.Role.TheVariants.{Gateway}
+use Rattle.ring_words.specs.declared.view.Role.TheVariants.{Gateway, Process}
 use Rattle.ring_words.specs.declared.view.Person.{Person}
 use Rattle.atomic_table.specs.Seated.{TableId}
 use Rattle.ring_words.specs.declared.view.View.{View}
-use Rattle.ring_words.specs.Places.{processed}
-use Rattle.ring_words.specs.Seats.{person, IsAlone, together, looked, last_load, AreTaken}
+use Rattle.ring_words.specs.Places.{processed, unmarshalled}
+use Rattle.ring_words.specs.Seats.{person, IsAlone, together, looked, last_load, last_from, AreTaken}
 use Rattle.ring_words.specs.At.{Opened, At, IsAt, Steps, seat_of}
 use Rattle.ring_words.specs.SeatLaws.{last_stays}
 use Rattle.ring_words.specs.Meeting.{first_alone, second_alone}
@@ -48,16 +48,39 @@ gateway_sits {S} {L} me me' q is bare number role numbered count own kept last =
       ),
     )
 
--- that value stays where another word is loaded
-pub kept_behind : (p : Person) (j x : ℕ) (kept : Option ℕ) → j ≢ processed → kept ≡ last_load processed None p.loads
-    → kept ≡ last_load processed None (looked p j x).loads
-kept_behind p j x kept ne last = last ∙ sym (last_stays processed j None x p.loads ne)
-
 -- the processor's seat keeps the taken values loaded last, where they are those of the person that it has now
-pub still_taken : {S L : Type 0} (me me' : Seated S L) (q : Person) → Became me q me' → (values : List (Option ℕ))
+still_taken : {S L : Type 0} (me me' : Seated S L) (q : Person) → Became me q me' → (values : List (Option ℕ))
     → AreTaken values q.loads → AreTaken values (person me'.0).loads
 still_taken {S} {L} me me' q is values kept = subst (λ (z : Seated S L). AreTaken values (person z.0).loads) (sym is)
     kept
+
+-- so does the processor's seat: what it counts, the unmarshalled value that was loaded last, how many outputs it
+-- published, the taken values that were loaded last, and what it says of them
+pub process_sits : {S L Counts Below : Type 0} (me me' : Seated S L) (q : Person) → Became me q me' → me.1 ≡ []
+    → q.role ≡ Process → Counts → (unmarshalled' : ℕ) → unmarshalled' ≡ last_from unmarshalled 0 q.loads
+    → (published : ℕ) → published ≡ q.row.sequence → (values : List (Option ℕ)) → AreTaken values q.loads
+    → q.out ≡ None → Below
+    → IsAlone me'.0 × ((me'.1 ≡ [])
+    × (((person me'.0).role ≡ Process)
+    × (Counts × ((unmarshalled' ≡ last_from unmarshalled 0 (person me'.0).loads)
+    × ((published ≡ (person me'.0).row.sequence)
+    × (AreTaken values (person me'.0).loads × (((person me'.0).out ≡ None) × (Below × Unit {0}))))))))
+process_sits {S} {L} me me' q is bare role counts loaded' loaded published put values taken home below =
+    still_sits me me' q is bare Process role (
+      counts,
+      (
+        loaded ∙ sym (ap (λ (z : Seated S L). last_from unmarshalled 0 (person z.0).loads) is),
+        (
+          put ∙ sym (ap (λ (z : Seated S L). (person z.0).row.sequence) is),
+          (still_taken me me' q is values taken, (still_home me me' q is home, (below, tt))),
+        ),
+      ),
+    )
+
+-- the processed value that a gateway's seat keeps stays where another word is loaded
+pub kept_behind : (p : Person) (j x : ℕ) (kept : Option ℕ) → j ≢ processed → kept ≡ last_load processed None p.loads
+    → kept ≡ last_load processed None (looked p j x).loads
+kept_behind p j x kept ne last = last ∙ sym (last_stays processed j None x p.loads ne)
 
 -- Two seats came together, their persons became p and q, and the seat was split again: the first has p, the second q,
 -- each beside what the first had.

@@ -182,7 +182,7 @@ module _ {L : Type 0} (terms : Terms L) (s : State Boxed (View L)) (r : Lawful t
   seen_kept i g there = subst (λ (z : Role). Depth (words_of s) z (length g.who.seen)) (numbered i g there)
       (knows_of i g there).depth
 
-  pub ends : (summary : Summary) → summary.commands ≡ words_of s processed
+  ends : (summary : Summary) → summary.commands ≡ words_of s processed
       → words_of s journalled ≡ seats.journal.who.sequence → summary.outputs ≡ words_of s published
       → seats.journal.who.sequence ≤ length seats.journal.who.seen → Ended (outputs_by terms) terms.base seats summary
   ends summary commands kept outputs released = record {
@@ -211,17 +211,29 @@ module _ {L : Type 0} (terms : Terms L) (s : State Boxed (View L)) (r : Lawful t
         ≤ length (outputs_by terms (take (suc (words_of s processed)) (take n whole)))) kept most));
   }
 
-  pub own_is : seats.process.who.role ≡ Process → words_of s processed ≡ seats.process.who.sequence
+  own_is : seats.process.who.role ≡ Process → words_of s processed ≡ seats.process.who.sequence
   own_is role = ap (λ (z : Role). words_of s (word_of_role z)) (sym role) ∙ (knows_stage 0 seats.process.who refl).sequence
 
-  pub journalled_is : seats.journal.who.role ≡ Journal → words_of s journalled ≡ seats.journal.who.sequence
+  journalled_is : seats.journal.who.role ≡ Journal → words_of s journalled ≡ seats.journal.who.sequence
   journalled_is role = ap (λ (z : Role). words_of s (word_of_role z)) (sym role)
       ∙ (knows_stage 2 seats.journal.who refl).sequence
 
-  pub published_is : seats.process.who.role ≡ Process → words_of s published ≡ seats.process.who.row.sequence
+  published_is : seats.process.who.role ≡ Process → words_of s published ≡ seats.process.who.row.sequence
   published_is role = sym (subst
       (λ (z : Role). PartOf terms.rows terms.output_rows (words_of s) r.log z seats.process.who.row) role
       (knows_stage 0 seats.process.who refl).row).0
+
+  -- what the summary says, when its words are those at the end
+  pub all_ends : seats.process.who.role ≡ Process → seats.journal.who.role ≡ Journal
+      → seats.journal.who.sequence ≤ length seats.journal.who.seen → (summary : Summary)
+      → summary.commands ≡ words_of s processed → summary.outputs ≡ words_of s published
+      → (summary.commands ≡ seats.process.who.sequence) × (summary.outputs ≡ seats.process.who.row.sequence)
+      × Ended (outputs_by terms) terms.base seats summary
+  all_ends process journal released summary commands outputs = (
+    commands ∙ own_is process,
+    outputs ∙ published_is process,
+    ends summary commands (journalled_is journal) outputs released,
+  )
 
 module _ {L : Type 0} (gs : List (At L)) (stages : List Person) where
   -- those behind the first `left` have been taken in

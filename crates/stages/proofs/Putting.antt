@@ -29,6 +29,8 @@ use Rattle.book.specs.Books.{Book}
 use Rattle.book.specs.Histories.{reads_at, state_of, outputs_of}
 use Rattle.stages.specs.Turns.{after_reading}
 use Rattle.stages.specs.Processes.{to_put, TakesUp, put_ahead, PutsRound, PutsRounds, PutsOutputs, PutsUntilFull}
+use Rattle.stages.specs.Processes.{Processes, sizes}
+use Rattle.stages.specs.declared.turn.Turn.TheVariants.{OutFull}
 use Rattle.stages.specs.Stations.{AtBook}
 use Rattle.stages.specs.Insides.{FollowsRings, IsWorking, upto}
 use Rattle.stages.proofs.Processing.{MayTake, Took, at_rest, follows_on, left_to_put}
@@ -239,7 +241,7 @@ module _ (g m : ℕ) (v u : At Limits) (room : ℕ) (looked : OnlyLooked v.who u
   looked_place = ap (λ (q : Person). q.row.sequence) looked.loads
 
   -- so many outputs have room
-  pub room_for_all : ((i : ℕ) → i < room → HasOutputRoom g m u.who (v.who.row.sequence + i)) → (k : ℕ) → k ≤ room
+  room_for_all : ((i : ℕ) → i < room → HasOutputRoom g m u.who (v.who.row.sequence + i)) → (k : ℕ) → k ≤ room
       → (i : ℕ) → i < k → HasOutputRoom g m u.who (u.who.row.sequence + i)
   room_for_all free k most i below = subst (λ (s : ℕ). HasOutputRoom g m u.who (s + i)) (sym looked_place)
       (free i (omega (arith, below, most)))
@@ -252,14 +254,14 @@ module _ (g m : ℕ) (v u : At Limits) (room : ℕ) (looked : OnlyLooked v.who u
   own_same : u.who.sequence ≡ v.who.sequence
   own_same = ap (λ (q : Person). q.sequence) looked.loads
 
-  pub still_synced : v.who.sequence < last_from journalled 0 v.who.loads → Shows journalled u.who u.who.sequence
+  still_synced : v.who.sequence < last_from journalled 0 v.who.loads → Shows journalled u.who u.who.sequence
   still_synced above = let last = last_same in let own = own_same in
       last_shows journalled u.who.sequence u.who (omega (arith, above, last, own))
 
   module _ (book : Book) (applied : ℕ) (left : List Output) (follows : FollowsRings v book applied left)
       (one : applied ≡ suc v.who.sequence) where
     -- what is left are the next outputs
-    pub are_next : (most : ℕ) (i : ℕ) (o : Output) → get_elem? (take most left) i ≡ some o
+    are_next : (most : ℕ) (i : ℕ) (o : Output) → get_elem? (take most left) i ≡ some o
         → get_elem? (outputs_of book.limits (take (suc u.who.sequence) u.who.seen)) (u.who.row.sequence + i) ≡ some o
     are_next most i o at =
         subst (λ (q : Person). get_elem? (outputs_of book.limits (take (suc q.sequence) q.seen)) (q.row.sequence + i)
@@ -268,6 +270,23 @@ module _ (g m : ℕ) (v u : At Limits) (room : ℕ) (looked : OnlyLooked v.who u
         one
         (sym (at_drop v.who.row.sequence (outputs_of book.limits (take applied v.who.seen)) i)
         ∙ ap (λ (l : List Output). get_elem? l i) follows.rest ∙ at_front most left i o at))
+
+    -- so the first of them may be put, no more than there is room for
+    pub may_put : (logic : Limits) (most k : ℕ) (first : List Output) → book.limits ≡ logic → first ≡ take most left
+        → ((i : ℕ) → i < room → HasOutputRoom g m u.who (v.who.row.sequence + i)) → k ≤ room
+        → v.who.sequence < last_from journalled 0 v.who.loads
+        → ((i : ℕ) → i < k → HasOutputRoom g m u.who (u.who.row.sequence + i)) × (Shows journalled u.who u.who.sequence
+        × ((i : ℕ) (o : Output) → get_elem? first i ≡ some o
+        → get_elem? (outputs_of logic (take (suc u.who.sequence) u.who.seen)) (u.who.row.sequence + i) ≡ some o))
+    may_put logic most k first same are free few above = (
+      room_for_all free k few,
+      (
+        still_synced above,
+        λ i o at. subst (λ (l : Limits). get_elem? (outputs_of l (take (suc u.who.sequence) u.who.seen))
+            (u.who.row.sequence + i) ≡ some o) same
+            (are_next most i o (sym (ap (λ (l : List Output). get_elem? l i) are) ∙ at)),
+      ),
+    )
 
     pub has_logic : u.logic ≡ Some book.limits
     has_logic = ap (λ (z : At Limits). z.logic) u_is ∙ follows.logic
@@ -455,7 +474,7 @@ module _ (n m g : ℕ) (limits : Limits) (p b : AtBook) (is : p.book.limits ≡ 
   put_all w t puts is = subst (λ (l : List Output). PutsOutputs m g b.seat.who l w) (sym are_left)
       (subst (λ t. MatchBool t (PutsOutputs m g b.seat.who b.left w) (PutsUntilFull m g b.seat.who b.left w)) is puts)
 
-  pub put_some : (w : Person) (t : Bool) → MatchBool t (PutsOutputs m g b.seat.who b.left w)
+  put_some : (w : Person) (t : Bool) → MatchBool t (PutsOutputs m g b.seat.who b.left w)
       (PutsUntilFull m g b.seat.who b.left w) → t ≡ false → PutsUntilFull m g b.seat.who (to_put limits b.seat.who) w
   put_some w t puts is = subst (λ (l : List Output). PutsUntilFull m g b.seat.who l w) (sym are_left)
       (subst (λ t. MatchBool t (PutsOutputs m g b.seat.who b.left w) (PutsUntilFull m g b.seat.who b.left w)) is puts)
@@ -469,3 +488,16 @@ module _ (n m g : ℕ) (limits : Limits) (p b : AtBook) (is : p.book.limits ≡ 
     pub still_left : to_put limits q.seat.who ≡ q.left
     still_left = ap (λ (s : Limits). to_put s q.seat.who) (sym (ap (λ (b : Book). b.limits) kept.1 ∙ begun.same ∙ is))
         ∙ left_to_put q.seat q.book q.applied q.left working.follows still_one
+
+    -- a poll that leaves some of them had no room for more
+    pub out_full : (t : Bool) → MatchBool t (PutsOutputs m g b.seat.who b.left q.seat.who)
+        (PutsUntilFull m g b.seat.who b.left q.seat.who) → (q.left ≡ [] → t ≡ true) → t ≡ false
+        → Processes (sizes n m g) limits OutFull (record { who = p.seat.who; applied = p.applied })
+        (record { who = q.seat.who; applied = q.applied })
+    out_full t puts all is_not = (
+      b.seat.who,
+      taken_up,
+      put_some q.seat.who t puts is_not,
+      (λ none. let whole = all (sym still_left ∙ none) in cc),
+      still_one,
+    )

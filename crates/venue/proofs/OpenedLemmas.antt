@@ -1,11 +1,19 @@
 -- The venue's rings as they are opened: their size is right, and the one gateway's seat is the first.
-use Rattle.std.proofs.Common.{◌≡◌, ◌&&◌, true, List, [], ◌∷◌, ◌++◌, length, refl, ap, ◌∙◌, arith, length-append}
+use Rattle.std.proofs.Common.{◌≡◌, ◌&&◌, ℕ, true, false, List, [], ◌∷◌, ◌++◌, length, refl, ap, sym, subst, ◌∙◌, arith}
+use Rattle.std.proofs.Common.{length-append}
 use lib.Count.{ones, ones_in}
 use lib.ListN.{get_elem?}
 use Rattle.ring_words.specs.At.{Opened, At, IsAt, Steps, seated}
 use Rattle.ring_words.specs.Crew.{AreNewGateways}
 use Rattle.ring_words.specs.Sizes.{ring_size}
+use Rattle.venue_model.specs.History.{History}
 use Rattle.venue_model.specs.Requests.{Limits}
+use Rattle.book.specs.Books.{Book}
+use Rattle.book.specs.Histories.{state_of, outputs_of}
+use Rattle.journal.specs.Journals.{OneJournal}
+use Rattle.stages.specs.Crews.{new_crew}
+use Rattle.stages.specs.Stations.{OneCrew}
+use Rattle.venue.specs.Opened.{AreBehind, IsNewCrew}
 use Rattle.venue.specs.VenueRings.{IsFirstSeat}
 
 -- the rings have a right size
@@ -20,6 +28,35 @@ pub only_seat : (rings : Opened Limits) (all front : List (At Limits)) (s : At L
 only_seat rings all [] s is one new = new 0 s (ap (λ (l : List (At Limits)). get_elem? l 0) is)
 only_seat rings all (f ∷ front) s is one new =
     let long = ap length is in let more = length-append front (s ∷ []) in absurd (omega (arith, long, more, one))
+
+-- the rings count the outputs of their history
+pub own_outputs : (limits : Limits) (base : History) (rings : Opened Limits) → AreBehind limits base rings
+    → rings.base_outputs ≡ length (outputs_of rings.logic rings.base)
+own_outputs limits base rings behind =
+    behind.base_outputs ∙ ap (λ (h : History). length (outputs_of limits h)) (sym behind.base_is)
+    ∙ ap (λ (l : Limits). length (outputs_of l rings.base)) (sym behind.logic)
+
+-- and are those of the cut that they were opened with
+pub by_own_cut : (limits at : Limits) (cut : ℕ) (base : History) (rings : Opened Limits)
+    → at ≡ record limits { cut = cut } → AreBehind at base rings
+    → AreBehind (record limits { cut = rings.logic.cut }) rings.base rings
+by_own_cut limits at cut base rings is behind =
+    let logic = behind.logic ∙ is in
+    let own : rings.logic ≡ record limits { cut = rings.logic.cut } =
+    logic ∙ ap (λ (k : ℕ). record limits { cut = k }) (sym (ap (λ (l : Limits). l.cut) logic)) in
+    record {
+      logic = own;
+      base_is = refl;
+      base_outputs = own_outputs at base rings behind ∙ ap (λ (l : Limits). length (outputs_of l rings.base)) own;
+    }
+
+-- stages that were made at them are new
+pub made_new : {D : Type 0} (rings : Opened Limits) (crew : OneCrew D) (journal : OneJournal D) (book : Book)
+    → crew ≡ new_crew rings journal book → journal.failed ≡ false → book.limits ≡ rings.logic
+    → book.state ≡ state_of rings.logic rings.base → IsNewCrew rings crew
+made_new rings crew journal book made ready limits state =
+    subst (λ (c : OneCrew _). IsNewCrew rings c) (sym made)
+    (record { crew_is = refl; ready = ready; book_is = record { limits = limits; state = state } })
 
 module _ {L : Type 0} (rings : Opened L) where
   -- and so it is after a step

@@ -6,7 +6,11 @@ use lib.ListN.{get_elem?}
 use Rattle.venue_model.specs.Counts.{Rose}
 use Rattle.venue_model.specs.History.{History}
 use Rattle.venue_model.specs.Requests.{Limits}
-use Rattle.disks.specs.Disk.{Told, LeavesOnly}
+use Rattle.std.specs.Prelude.{Result, Ok, Err, OnOk, OnErr}
+use Rattle.disks.specs.Disk.{Told, Both, LeavesOnly}
+use Rattle.journal.specs.declared.fault.JournalFault.TheVariants as faults
+use Rattle.replay.specs.declared.taking_up.StartFault.{StartFault}
+use Rattle.replay.specs.declared.taking_up.StartFault.TheVariants.{Journal, FalseSnapshot}
 use Rattle.journal.specs.Journals.{OneJournal, IsJournalFrom}
 use Rattle.disks.specs.MomentLaws.{started, joined, weaker}
 use Rattle.ring_words.specs.At.{Opened, At, IsAt, number}
@@ -16,7 +20,9 @@ use Rattle.ring_words.specs.declared.view.Person.{Person}
 use Rattle.ring_words.specs.declared.view.Role.TheVariants.{Gateway}
 use Rattle.stages.specs.declared.turn.Turn.{Turn}
 use Rattle.stages.specs.declared.turn.Turn.TheVariants.{Did, Idle, OutFull, JournalFailed}
+use Rattle.stages.specs.Crews.{AreAt}
 use Rattle.stages.specs.Kept.{Fails}
+use Rattle.stages.specs.Stations.{OneCrew}
 use Rattle.stages.specs.Turns.{Journals}
 use Rattle.gateway.specs.Gateways.{AtRings}
 use Rattle.gateway.specs.Delivers.{Start, Course, Delivers}
@@ -29,12 +35,16 @@ use Rattle.gateway.specs.declared.ending.Reason.{Reason}
 use Rattle.gateway.specs.declared.ending.Turned.{Turned}
 use Rattle.gateway.specs.declared.ending.Turned.TheVariants.{Worked, Quiet, Ended}
 use Rattle.venue.specs.Crashes.{Behind}
-use Rattle.venue.specs.Rounds.{Round, Rounds}
+use Rattle.venue.specs.Faults.{of_start, status_of, status_of_end}
+use Rattle.venue.specs.Opened.{IsNewCrew}
+use Rattle.venue.specs.Rounds.{Round, Rounds, Served}
+use Rattle.venue.specs.Serving.{IsStatus}
 use Rattle.venue.specs.VenueRings.{IsFirstSeat}
 use Rattle.stages.specs.PollLaws.{journaller_grows}
 use Rattle.venue.specs.CrashLaws.{LeftOrBehind, leaves_behind}
 use Rattle.stages.specs.Devices.{Device}
 use Rattle.venue.specs.Venues.{Venue, IsJournalBehind}
+use Rattle.venue.specs.declared.fault.ServeFault.{ServeFault}
 
 -- before the first call of the disk
 pub at_start : (old : Told) (base : History) → ((c : List ℕ) → old.left_since old.moment c → old.may_leave c)
@@ -105,6 +115,49 @@ began rings g h seat made new first =
           ∙ ap (λ (n : ℕ). begun n 0) one,
       ap (λ (a : AtRings). a.seat) new ∙ ap (λ (a : AtRings). a.seat) made,
     )
+
+-- a start that is refused ends with status 1
+pub refused_status : (fault : StartFault) → status_of (of_start fault) ≡ 1
+refused_status (Journal faults.Device) = refl
+refused_status (Journal (faults.Damaged offset)) = refl
+refused_status (Journal faults.NotAJournal) = refl
+refused_status (Journal faults.Memory) = refl
+refused_status (Journal faults.BadVersion) = refl
+refused_status (Journal faults.SnapshotsFull) = refl
+refused_status (FalseSnapshot offset) = refl
+
+-- who sits where at the start
+pub first_at : (rings : Opened Limits) (seat : At Limits) → IsFirstSeat rings seat
+    → IsAt rings seat × (seat.who.role ≡ Gateway 1) × (seat.who.claims ≡ [])
+first_at rings seat first =
+    subst (λ (s : At Limits). IsAt rings s × (s.who.role ≡ Gateway 1) × (s.who.claims ≡ [])) (sym first)
+    (refl, refl, refl)
+
+-- and the stages are at the rings that they were made at
+pub crew_at : {D : Type 0} (rings : Opened Limits) (crew : OneCrew D) → IsNewCrew rings crew → AreAt rings crew
+crew_at rings crew new =
+    subst (λ (c : OneCrew _). AreAt rings c) (sym new.crew_is)
+    (record { unmarshaller = refl; journaller = refl; processor = refl; marshaller = refl })
+
+-- honest as before, and then as before again
+pub both_on : (a b c : Type 0) → Both a b → Both b c → Both a c
+both_on a b c first second = (λ h. second.0 (first.0 h), λ h. first.1 (second.1 h))
+
+-- the status of a session that was served: 0 where it ended by itself, and else 2
+pub served_status : {D : Type 0} (device : Device D) (s t : Venue D) (result : Result (Unit {0}) ServeFault)
+    (wire wire_after : wires.Told) (status old mid new : ℕ) → status ≡ status_of_end result → Served device s t result
+    → mid ≡ old → OnErr result (Rose mid new) → OnOk result (new ≡ mid) → IsStatus wire wire_after old new status
+served_status device s t (Ok done) wire wire_after status old mid new is served same failed counts =
+    inl (is, counts ∙ same)
+served_status device s t (Err f) wire wire_after status old mid new is served same failed counts =
+    inr (inr (is ∙ ap status_of served.finale.0, subst (λ (n : ℕ). Rose n new) same failed))
+
+-- so that status isn't 1
+pub isnt_one : {D : Type 0} (device : Device D) (s t : Venue D) (result : Result (Unit {0}) ServeFault) (status : ℕ)
+    → status ≡ status_of_end result → Served device s t result → status ≡ 1 → ⊥
+isnt_one device s t (Ok done) status is served one = omega (arith, is, one)
+isnt_one device s t (Err f) status is served one =
+    let two : status ≡ 2 = is ∙ ap status_of served.finale.0 in omega (arith, two, one)
 
 -- the wire was told whether all is quiet, and nothing else moved
 pub told_quiet : {D : Type 0} (s : Venue D) (wire : wires.Told) (quiet : Bool) → wire ≡ record s.wire { quiet = quiet }

@@ -16,9 +16,8 @@ loop-index-init g c = let head = c.load_command-head.ensures in (
 )
 
 pub loop-index-preserved : goal.loop-index-preserved
-loop-index-preserved g c = let known = c.loop-index.invariant in
-    let i = c.loop-index.index in
-    let words = c.loop-index.words in
+loop-index-preserved g c =
+    let known = c.loop-index.invariant in let i = c.loop-index.index in let words = c.loop-index.words in
     let s = c.args.sequence in
     let v = c.args.seat.now in let u = c.loop-index.seat in let word = c.load_command.ensures in (
       search rules,

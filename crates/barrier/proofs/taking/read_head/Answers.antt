@@ -5,8 +5,8 @@ use Rattle.barrier.proofs.TextReading.{one_load, still_shows, still_own, still_a
 use Rattle.barrier.proofs.taking.read_head.Goals as goal
 
 pub load_text-time-requires : goal.load_text-time-requires
-load_text-time-requires g c = let v = c.args.seat.now in
-    let u = c.load_text.new.seat in
+load_text-time-requires g c =
+    let v = c.args.seat.now in let u = c.load_text.new.seat in
     let only : OnlyLoads v u = (_, c.load_text.ensures.step) in (
       omega arith,
       (
@@ -19,14 +19,12 @@ load_text-time-requires g c = let v = c.args.seat.now in
     )
 
 pub returns-clause-step : goal.returns-clause-step
-returns-clause-step g c = let v = c.args.seat.now in
-    let u = c.load_text.new.seat in
-    let only : OnlyLoads v u = (_, c.load_text.ensures.step) in
-    one_load v u only _ _ _ c.load_text-time.ensures.step
+returns-clause-step g c =
+    one_load c.args.seat.now c.load_text.new.seat (_, c.load_text.ensures.step) _ _ _ c.load_text-time.ensures.step
 
 pub returns-clause-head : goal.returns-clause-head
-returns-clause-head g c = λ o at. let v = c.args.seat.now in
-    let u = c.load_text.new.seat in
+returns-clause-head g c = λ o at.
+    let v = c.args.seat.now in let u = c.load_text.new.seat in
     let only : OnlyLoads v u = (_, c.load_text.ensures.step) in
     let t = g.L.Logic.text c.args.rings.now.logic o c.args.place in let first = c.load_text.ensures.text _ o at refl in
     let second = c.load_text-time.ensures.text _ o

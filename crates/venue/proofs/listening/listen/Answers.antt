@@ -1,9 +1,11 @@
 -- What was opened was served from there on, by the journaller's run and the members' turns.
-use Rattle.std.proofs.Common.{◌∙◌, inl, inr, refl, arith, rules, ap, subst, sym}
+use Rattle.std.proofs.Common.{◌∙◌, ℕ, Bool, List, inl, inr, refl, arith, ap, subst, sym}
+use Rattle.std.specs.Prelude.{if◌then◌else◌}
+use Rattle.disks.specs.Disk.{Both}
 use Rattle.disks.specs.MomentLaws.{weaker}
 use Rattle.replay.specs.StartsUp.{KeepsHistory}
 use Rattle.stages.specs.Stations.{OneCrew, disk_of}
-use Rattle.venue.specs.Faults.{status_of_end}
+use Rattle.venue.specs.Faults.{status_of, status_of_end}
 use Rattle.venue.specs.Listening.{end_of}
 use Rattle.venue.specs.Headline.{in_box}
 use Rattle.venue.specs.Serving.{LeavesFrom}
@@ -12,7 +14,17 @@ use Rattle.venue.specs.CrashLaws.{LeftOrBehind, leaves_behind, new_behind, kept_
 use Rattle.venue.specs.CrashLaws.{unopened_kept, serve_leaves}
 use Rattle.venue.proofs.HomeLemmas.{back_again, spent_again}
 use Rattle.venue.proofs.ListeningLemmas.{seen_listening}
+use Rattle.venue.proofs.ServingLemmas.{both_on, refused_status}
+use Rattle.venue.proofs.listening.listen.Given as given
 use Rattle.venue.proofs.listening.listen.Goals as goal
+
+-- what an honest disk left since now, it may leave
+only_now : (g : given.Over) (disk : g.row.D.Denot) → g.D.JournalDisk.honest disk → (file : List ℕ)
+    → (g.D.JournalDisk.tells disk).left_since (g.D.JournalDisk.tells disk).moment file
+    → (g.D.JournalDisk.tells disk).may_leave file
+only_now g disk honest file left =
+    (g.met.D.JournalDisk g.world.𝓛 g.world.𝓜 g.world.𝓡 ((λ s x. x), (λ x. x), (λ x. x), λ x. x)).only_now disk file
+    honest left
 
 pub close-disk-requires : goal.close-disk-requires
 close-disk-requires g c =
@@ -69,13 +81,8 @@ returns-clause-ends g c =
     })
 
 pub returns-clause-seen : goal.returns-clause-seen
-returns-clause-seen g c = seen_listening _ _ _ _ _ _ (λ disk honest file left.
-    (g.met.D.JournalDisk g.world.𝓛 g.world.𝓜 g.world.𝓡 (
-      (λ s x. x),
-      (λ x. x),
-      (λ x. x),
-      λ x. x,
-    )).only_now disk file honest left) (returns-clause-ends g c)
+returns-clause-seen g c = seen_listening _ _ _ _ _ _ (only_now g)
+    (returns-clause-ends g c)
 
 pub returns-clause-any_moment : goal.returns-clause-any_moment
 returns-clause-any_moment g c = λ honest.
@@ -95,16 +102,14 @@ returns-clause-any_moment g c = λ honest.
 pub returns-in-Err-clause-ends : goal.returns-in-Err-clause-ends
 returns-in-Err-clause-ends g c =
     let kept = unopened_kept _ _ _ _ c.args.limits c.in-Err.fault c.in-Err.ensures.refused in
-    inl (search rules, record { disk = kept; ports = refl; all = refl })
+    inl (
+      c.say.ensures ∙ ap status_of c.from.ensures ∙ refused_status c.in-Err.fault,
+      record { disk = kept; ports = refl; all = refl },
+    )
 
 pub returns-in-Err-clause-seen : goal.returns-in-Err-clause-seen
-returns-in-Err-clause-seen g c = seen_listening _ _ _ _ _ _ (λ disk honest file left.
-    (g.met.D.JournalDisk g.world.𝓛 g.world.𝓜 g.world.𝓡 (
-      (λ s x. x),
-      (λ x. x),
-      (λ x. x),
-      λ x. x,
-    )).only_now disk file honest left) (returns-in-Err-clause-ends g c)
+returns-in-Err-clause-seen g c = seen_listening _ _ _ _ _ _ (only_now g)
+    (returns-in-Err-clause-ends g c)
 
 pub returns-in-Err-clause-any_moment : goal.returns-in-Err-clause-any_moment
 returns-in-Err-clause-any_moment g c = λ honest.
@@ -115,7 +120,8 @@ pub returns-in-Err-open_members-clause-ends : goal.returns-in-Err-open_members-c
 returns-in-Err-open_members-clause-ends g c =
     let count = c.in-Err-open_members.ensures.back.1 in
     inl (
-      search rules,
+      c.say-in-Err-open_members.ensures ∙ ap (λ (served : Bool). if served then 2 else 1)
+          c.in-Err-open_members.ensures.fault,
       record {
         disk = subst (λ (d : g.row.D.Denot). KeepsHistory (g.D.JournalDisk.honest c.args.disk)
             (g.D.JournalDisk.honest d)
@@ -127,13 +133,24 @@ returns-in-Err-open_members-clause-ends g c =
     )
 
 pub returns-in-Err-open_members-clause-seen : goal.returns-in-Err-open_members-clause-seen
-returns-in-Err-open_members-clause-seen g c = seen_listening _ _ _ _ _ _ (λ disk honest file left.
-    (g.met.D.JournalDisk g.world.𝓛 g.world.𝓜 g.world.𝓡 (
-      (λ s x. x),
-      (λ x. x),
-      (λ x. x),
-      λ x. x,
-    )).only_now disk file honest left) (returns-in-Err-open_members-clause-ends g c)
+returns-in-Err-open_members-clause-seen g c = seen_listening _ _ _ _ _ _ (only_now g)
+    (returns-in-Err-open_members-clause-ends g c)
+
+pub returns-clause-honest : goal.returns-clause-honest
+returns-clause-honest g c =
+    subst (λ (d : g.row.D.Denot). Both (g.D.JournalDisk.honest c.args.disk) (g.D.JournalDisk.honest d))
+    (sym c.close-disk.ensures.disk)
+    (both_on _ _ _ (kept_honest _ _ _ _ _ c.in-Ok.ensures.disk.keeps)
+    c.serve_members-crew.ensures.crew.1.any_moment.honest)
+
+pub returns-in-Err-clause-honest : goal.returns-in-Err-clause-honest
+returns-in-Err-clause-honest g c =
+    kept_honest _ _ _ _ c.args.limits (unopened_kept _ _ _ _ c.args.limits c.in-Err.fault c.in-Err.ensures.refused)
+
+pub returns-in-Err-open_members-clause-honest : goal.returns-in-Err-open_members-clause-honest
+returns-in-Err-open_members-clause-honest g c =
+    subst (λ (d : g.row.D.Denot). Both (g.D.JournalDisk.honest c.args.disk) (g.D.JournalDisk.honest d))
+    (sym c.unserved.ensures) (kept_honest _ _ _ _ _ c.in-Ok.ensures.disk.keeps)
 
 pub returns-in-Err-open_members-clause-any_moment : goal.returns-in-Err-open_members-clause-any_moment
 returns-in-Err-open_members-clause-any_moment g c = λ honest.

@@ -19,8 +19,7 @@ returns g t c =
     let seats_ok = home.seats.ok.0 in let ports_ok = home.ports.ok.0 in let old_ok = others.ports.ok.0 in
     let all_seats_ok = result.seats.ok.0 in let all_ports_ok = result.ports.ok.0 in
     let seats = first.seats in let ports = first.ports in let one_more = whole.posts in let paired = ready.ports in
-    let number = post.0 in
-    let more_seats = ap length made.seats ∙ length-append home.seats.items (seat ∷ []) in
+    let number = post.0 in let more_seats = ap length made.seats ∙ length-append home.seats.items (seat ∷ []) in
     let more_ports = ap length made.ports ∙ length-append home.ports.items (port ∷ []) in
     record {
       back = λ i s x y in_seats in_old in_new.

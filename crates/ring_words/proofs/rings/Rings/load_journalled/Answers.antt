@@ -8,7 +8,7 @@ use Rattle.ring_words.specs.Seats.{person, last_from}
 use Rattle.ring_words.specs.Steps.{Seated, Reaches, lesser_of}
 use Rattle.ring_words.specs.SeatLaws.{kept_else, last_kept, not_reached}
 use Rattle.ring_words.proofs.Loads.{loads_journalled, lesser_low}
-use Rattle.ring_words.proofs.Becomes.{still_sits, still_taken, still_home}
+use Rattle.ring_words.proofs.Becomes.{process_sits}
 use Rattle.ring_words.proofs.rings.Rings.load_journalled.Goals as goal
 
 -- how many entries are known behind a load of journalled
@@ -42,21 +42,10 @@ invariant_of-seat-inside g c = let seat = c.seat.inside in
     let most : r ≤ 2 ^ 48 = c.load-found.ensures.2.1 in
     let small : x ≤ r = (lesser_low (last_from unmarshalled 0 p.loads) r).1 in
     let own_low : seat.sequence ≤ seat.known = seat.counts.2 in
-    still_sits seat.seat.me _ _ is seat.bare _ seat.role (
-      (omega arith, search rules, omega arith, omega arith),
-      (
-        seat.loaded ∙ sym (ap (λ (z : Seated Boxed g.row.L.Denot). last_from 16 0 (person z.0).loads) is
-            ∙ last_kept 16 24 0 r p.loads (λ (e : 24 ≡ 16). omega arith)),
-        (
-          search rules,
-          (
-            still_taken seat.seat.me _ _ is seat.taken
-                (kept_else seat.taken p.loads 24 r (λ k few. (λ (e : 24 ≡ 32 + 8 * suc k). omega arith)) seat.kept),
-            (still_home seat.seat.me _ _ is seat.home, (seat.below, tt)),
-          ),
-        ),
-      ),
-    )
+    process_sits seat.seat.me _ _ is seat.bare seat.role (omega arith, search rules, omega arith, omega arith) _
+    (seat.loaded ∙ sym (last_kept 16 24 0 r p.loads (λ (e : 24 ≡ 16). omega arith))) _ seat.put _
+    (kept_else seat.taken p.loads 24 r (λ k few. (λ (e : 24 ≡ 32 + 8 * suc k). omega arith)) seat.kept) seat.home
+    seat.below
 
 pub invariant_of-seat-inside-else-seat-reach : goal.invariant_of-seat-inside-else-seat-reach
 invariant_of-seat-inside-else-seat-reach g c = let seat = c.seat.inside in
@@ -72,18 +61,7 @@ invariant_of-seat-inside-else-seat-reach g c = let seat = c.seat.inside in
     let long : length (p.seen ++ rest) ≡ length p.seen = not_reached x p.seen rest told.1 (omega arith) in
     let new_is : length (person c.load-found.new.seat.me.0).seen
     ≡ length (p.seen ++ rest) = ap (λ (z : Seated Boxed g.row.L.Denot). length (person z.0).seen) is in
-    still_sits seat.seat.me _ _ is seat.bare _ seat.role (
-      (omega arith, search rules, seat.counts.2, seat.counts.3),
-      (
-        seat.loaded ∙ sym (ap (λ (z : Seated Boxed g.row.L.Denot). last_from 16 0 (person z.0).loads) is
-            ∙ last_kept 16 24 0 r p.loads (λ (e : 24 ≡ 16). omega arith)),
-        (
-          search rules,
-          (
-            still_taken seat.seat.me _ _ is seat.taken
-                (kept_else seat.taken p.loads 24 r (λ k few. (λ (e : 24 ≡ 32 + 8 * suc k). omega arith)) seat.kept),
-            (still_home seat.seat.me _ _ is seat.home, (seat.below, tt)),
-          ),
-        ),
-      ),
-    )
+    process_sits seat.seat.me _ _ is seat.bare seat.role (omega arith, search rules, seat.counts.2, seat.counts.3) _
+    (seat.loaded ∙ sym (last_kept 16 24 0 r p.loads (λ (e : 24 ≡ 16). omega arith))) _ seat.put _
+    (kept_else seat.taken p.loads 24 r (λ k few. (λ (e : 24 ≡ 32 + 8 * suc k). omega arith)) seat.kept) seat.home
+    seat.below

@@ -1,10 +1,8 @@
-use Rattle.std.proofs.Common.{rules, ◌≡◌, ◌-◌, ◌*◌, ◌+◌, ◌≤◌, ◌∙◌, ℕ, ap, sym, arith}
-use Rattle.ring_words.specs.Slots.{Boxed}
+use Rattle.std.proofs.Common.{rules, ◌≡◌, ◌-◌, ◌*◌, ◌+◌, ◌≤◌, ◌∙◌, ℕ, sym, arith}
 use Rattle.ring_words.specs.Terms.{terms_of}
-use Rattle.ring_words.specs.Seats.{person, last_from}
-use Rattle.ring_words.specs.Steps.{Seated}
+use Rattle.ring_words.specs.Seats.{person}
 use Rattle.ring_words.specs.SeatLaws.{kept_now, last_kept, up_to_now}
-use Rattle.ring_words.proofs.Becomes.{still_sits, still_taken, still_home}
+use Rattle.ring_words.proofs.Becomes.{process_sits}
 use Rattle.ring_words.proofs.Putting.{loads_taken_in}
 use Rattle.ring_words.proofs.rings.Rings.load_taken.Goals as goal
 
@@ -26,20 +24,8 @@ invariant_of-seat-inside g c = let seat = c.seat.inside in
     let below = up_to_now seat.published seat.taken (k - 1) c.load-found.result
     (let gateway = c.requires.gateway in let few = c.self.inside.rows in omega arith) most seat.below in
     let place : c.taken_word-place.result ≡ 32 + 8 * k = c.taken_word-place.ensures.place in
-    still_sits seat.seat.me _ _ is seat.bare _ seat.role (
-      search rules,
-      (
-        seat.loaded ∙ sym (ap (λ (z : Seated Boxed g.row.L.Denot). last_from 16 0 (person z.0).loads) is
-            ∙ last_kept 16 c.taken_word-place.result 0 c.load-found.result (person seat.seat.me.0).loads
-            (λ (e : c.taken_word-place.result ≡ 16). omega arith)),
-        (
-          search rules,
-          (
-            still_taken seat.seat.me _ _ is _
-                (kept_now seat.taken (person seat.seat.me.0).loads (k - 1) c.taken_word-place.result c.load-found.result
-                (search rules) (let low = c.requires.gateway.0 in omega arith) seat.kept),
-            (still_home seat.seat.me _ _ is seat.home, (below, tt)),
-          ),
-        ),
-      ),
-    )
+    process_sits seat.seat.me _ _ is seat.bare seat.role (search rules) _
+    (seat.loaded ∙ sym (last_kept 16 c.taken_word-place.result 0 c.load-found.result (person seat.seat.me.0).loads
+    (λ (e : c.taken_word-place.result ≡ 16). omega arith))) _ seat.put _
+    (kept_now seat.taken (person seat.seat.me.0).loads (k - 1) c.taken_word-place.result c.load-found.result
+    (search rules) (let low = c.requires.gateway.0 in omega arith) seat.kept) seat.home below

@@ -44,21 +44,7 @@ invariant_of-self g c = let p = c.self.inside in let read = c.read_command-gatew
     (working, omega arith, omega (arith, kept, same, room))
 
 pub returns-clause-working : goal.returns-clause-working
-returns-clause-working g c = let p = c.self.inside in let read = c.read_command-gateway.ensures in
-    let may = subst (λ (w : AtBook). MayTake w c.args.next) (sym c.self.view_is)
-    (record { next = c.requires.next; all = c.requires.all; known = c.requires.known; synced = c.requires.synced }) in
-    let r = c.read_command-gateway.new.seat in
-    let is = same_logic c.args.rings.now p.seat p.book.limits
-    (subst (λ (w : AtBook). IsAt c.args.rings.now w.seat) (sym c.self.view_is) c.requires.at)
-    c.self.invariant.0.follows.logic in
-    let logic = c.args.rings.now.logic in
-    let took = took p.book.limits p.seat c.args.next _ _ may.known
-    (reads_so logic p.book.limits p.seat c.args.next _ _ is read.command) g.row.N r may.next
-    (loads_so g.row.N logic p.book.limits p.seat r c.args.next is read.step) in
-    let working = works_on g.row.N _ c.read_command-gateway.new.seat c.args.next _ _ c.self.invariant.0 may took
-    c.apply.new.self c.apply.new.out.items
-    c.apply.ensures.state.limits c.apply.ensures.state.state c.apply.ensures.told in
-    working
+returns-clause-working g c = (invariant_of-self g c).0
 
 pub returns-clause-step : goal.returns-clause-step
 returns-clause-step g c = let p = c.self.inside in let read = c.read_command-gateway.ensures in
